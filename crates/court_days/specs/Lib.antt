@@ -1,0 +1,4 @@
+pub mod Number
+pub mod Calendar
+pub mod Search
+pub mod Rolled

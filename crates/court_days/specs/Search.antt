@@ -1,0 +1,46 @@
+-- The least and the greatest covered day that passes a test.
+use Rattle.std.specs.Prelude.{◌≡◌, ℕ, zero, suc, ℤ, pos, ◌+ℤ◌, ◌-ℤ◌, ◌≤ℤ◌, int_le, Bool, true, Option, Some, None, unsigned_abs, if◌then◌else◌}
+use Rattle.court_days.specs.Calendar.{Calendar, is_covered}
+
+-- the first of n days from d on that passes the test
+unfoldable pub first_passing : (ℤ → Bool) → ℕ → ℤ → Option ℤ
+first_passing test zero d = None
+first_passing test (suc n) d = if test d then Some d else first_passing test n (d +ℤ pos 1)
+
+-- the first of n days from d backward that passes the test
+unfoldable pub last_passing : (ℤ → Bool) → ℕ → ℤ → Option ℤ
+last_passing test zero d = None
+last_passing test (suc n) d = if test d then Some d else last_passing test n (d -ℤ pos 1)
+
+-- how many days there are from one day to another, both counted
+abbrev pub days_through : ℤ → ℤ → ℕ
+days_through a b = if int_le a b then suc (unsigned_abs (b -ℤ a)) else 0
+
+-- the later of two days, and the earlier
+abbrev pub later_day : ℤ → ℤ → ℤ
+later_day a b = if int_le a b then b else a
+
+abbrev pub earlier_day : ℤ → ℤ → ℤ
+earlier_day a b = if int_le a b then a else b
+
+-- the least covered day at or after d that passes the test
+unfoldable pub earliest_day : Calendar → (ℤ → Bool) → ℤ → Option ℤ
+earliest_day c test d = first_passing test (days_through (later_day d c.from) c.to) (later_day d c.from)
+
+-- the greatest covered day at or before d that passes the test
+unfoldable pub latest_day : Calendar → (ℤ → Bool) → ℤ → Option ℤ
+latest_day c test d = last_passing test (days_through c.from (earlier_day d c.to)) (earlier_day d c.to)
+
+-- r is the least covered day at or after d that passes the test
+pub record IsEarliestDay (c : Calendar) (test : ℤ → Bool) (d r : ℤ) : Type 0 where
+  pub covered : is_covered c r ≡ true
+  pub passes : test r ≡ true
+  pub at_or_after : d ≤ℤ r
+  pub least : (e : ℤ) → is_covered c e ≡ true → test e ≡ true → d ≤ℤ e → r ≤ℤ e
+
+-- r is the greatest covered day at or before d that passes the test
+pub record IsLatestDay (c : Calendar) (test : ℤ → Bool) (d r : ℤ) : Type 0 where
+  pub covered : is_covered c r ≡ true
+  pub passes : test r ≡ true
+  pub at_or_before : r ≤ℤ d
+  pub greatest : (e : ℤ) → is_covered c e ≡ true → test e ≡ true → e ≤ℤ d → e ≤ℤ r

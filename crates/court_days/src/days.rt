@@ -1,0 +1,172 @@
+//! Which days of a court are open.
+
+ghost use Rattle.std.specs.Prelude.{◌≡◌, ◌≤ℤ◌, ◌<ℤ◌, ◌+ℤ◌, ◌-ℤ◌, ℤ, pos, true, IsTrue, IfSome, IfNone, length};
+ghost use Rattle.court_days.specs.Calendar.{Calendar, IsSpan, is_covered, is_holiday, is_permitted, is_open, is_among, has_outage, dates_of};
+ghost use Rattle.court_days.specs.Search.{earliest_day, latest_day};
+ghost use Rattle.court_days.specs.Rolled.{rolled, RolledIsNearest};
+
+use crate::day::Day;
+use crate::direction::Direction;
+use crate::holiday_list::HolidayList;
+use crate::outage::Outage;
+use std::marker::Model;
+
+/// The days of a court: the span that its file covers, its two holiday lists, and the outages entered so far.
+#[derive(Debug, Drop)]
+pub struct Days {
+    from: Day,
+    to: Day,
+    federal: Vec<Day>,
+    state: Vec<Day>,
+    outages: Vec<Outage>,
+}
+
+impl Model for Days {
+    ghost Value = { Calendar };
+
+    ghost view = { λ d. record { from = d.from; to = d.to; federal = d.federal.items; state = d.state.items; outages = d.outages.items } };
+
+    ghost invariant = { λ d. IsSpan d.from d.to };
+}
+
+impl Days {
+    /// The first day that is covered.
+    pub fn from(&self) -> Day
+        ensures value { result ≡ self.now.from }
+        ensures span { IsSpan self.now.from self.now.to }
+    {
+        self.from
+    }
+
+    /// The last day that is covered.
+    pub fn to(&self) -> Day
+        ensures value { result ≡ self.now.to }
+        ensures span { IsSpan self.now.from self.now.to }
+    {
+        self.to
+    }
+
+    /// Whether the day lies in the span, both ends included.
+    pub fn covered(&self, day: Day) -> bool
+        ensures value { result ≡ is_covered self.now day }
+        ensures span { IsSpan self.now.from self.now.to }
+    {
+        let number = day.number();
+        self.from.number() <= number && number <= self.to.number()
+    }
+
+    /// Whether the day stands in the list.
+    pub fn in_list(&self, list: HolidayList, day: Day) -> bool
+        ensures { result ≡ is_among (dates_of self.now list) day }
+    {
+        match list {
+            HolidayList::Federal => self.federal.contains(&day),
+            HolidayList::State => self.state.contains(&day),
+        }
+    }
+
+    /// Whether the day is a legal holiday (Fed. R. Civ. P. 6(a)(6)): of the federal list, or, for a period
+    /// measured after an event, of the state list.
+    pub fn is_holiday(&self, day: Day, direction: Direction) -> bool
+        ensures { result ≡ is_holiday self.now direction day }
+    {
+        match direction {
+            Direction::After => self.federal.contains(&day) || self.state.contains(&day),
+            Direction::Before => self.federal.contains(&day),
+        }
+    }
+
+    /// Whether the day is covered and no Saturday, Sunday or legal holiday (Fed. R. Civ. P. 6(a)(1)(C)).
+    #[tactic(auto, unfolding(crate::specs::Calendar::is_permitted))]
+    pub fn is_permitted(&self, day: Day, direction: Direction) -> bool
+        ensures { result ≡ is_permitted self.now direction day }
+    {
+        self.covered(day) && day.weekday() < 5 && !self.is_holiday(day, direction)
+    }
+
+    /// Whether the clerk's office was inaccessible at any minute of the day.
+    pub fn has_outage(&self, day: Day) -> bool
+        ensures { result ≡ has_outage self.now day }
+    {
+        self.outages.iter().any(|outage| outage.day() == day)
+    }
+
+    /// The covered day after this one, if there is one.
+    fn day_after(&self, day: Day) -> Option<Day>
+        ensures some { IfSome result (λ d. (d ≡ day +ℤ pos 1) × (d ≤ℤ self.now.to)) }
+        ensures none { IfNone result (self.now.to ≤ℤ day) }
+    {
+        if day.number() >= self.to.number() {
+            return None;
+        }
+        Day::new(day.number() + 1)
+    }
+
+    /// The covered day before this one, if there is one.
+    fn day_before(&self, day: Day) -> Option<Day>
+        ensures some { IfSome result (λ d. (d ≡ day -ℤ pos 1) × (self.now.from ≤ℤ d)) }
+        ensures none { IfNone result (day ≤ℤ self.now.from) }
+    {
+        if day.number() <= self.from.number() {
+            return None;
+        }
+        Day::new(day.number() - 1)
+    }
+
+    /// Whether the day is permitted and, where asked, the clerk's office was accessible throughout it.
+    fn is_open(&self, day: Day, direction: Direction, accessible: bool) -> bool
+        ensures { result ≡ is_open self.now direction accessible day }
+    {
+        self.is_permitted(day, direction) && !(accessible && self.has_outage(day))
+    }
+
+    /// The least open day at or after the covered day `start`.
+    #[tactic(auto, using(crate::proofs::SearchLaws::earliest_skips, crate::proofs::SearchLaws::earliest_finds, crate::proofs::SearchLaws::earliest_stops))]
+    fn earliest(&self, start: Day, direction: Direction, accessible: bool) -> Option<Day>
+        requires { is_covered self.now start ≡ true }
+        ensures { result ≡ earliest_day self.now (is_open self.now direction accessible) start }
+    {
+        let mut current = start;
+        'days: while !self.is_open(current, direction, accessible) {
+            current = self.day_after(current)?;
+        }
+        Some(current)
+    }
+
+    /// The greatest permitted day at or before the covered day `start`.
+    #[tactic(auto, using(crate::proofs::SearchLaws::latest_skips, crate::proofs::SearchLaws::latest_finds, crate::proofs::SearchLaws::latest_stops))]
+    fn latest(&self, start: Day, direction: Direction) -> Option<Day>
+        requires { is_covered self.now start ≡ true }
+        ensures { result ≡ latest_day self.now (is_permitted self.now direction) start }
+    {
+        let mut current = start;
+        'days: while !self.is_permitted(current, direction) {
+            current = self.day_before(current)?;
+        }
+        Some(current)
+    }
+
+    /// The nearest permitted day: the least at or after `day`, or, for a period measured before an event, the
+    /// greatest at or before it (Fed. R. Civ. P. 6(a)(1)(C), (5)). None where `day` isn't covered or no covered
+    /// day qualifies.
+    #[tactic(auto, unfolding(crate::specs::Rolled::rolled))]
+    pub fn roll(&self, day: Day, direction: Direction) -> Option<Day>
+        ensures value { result ≡ rolled self.now day direction }
+        ensures span { IsSpan self.now.from self.now.to }
+    {
+        if !self.covered(day) {
+            return None;
+        }
+        match direction {
+            Direction::After => self.earliest(day, direction, false),
+            Direction::Before => self.latest(day, direction),
+        }
+    }
+}
+
+/// Rolling gives the nearest permitted day, and none only where no covered day is that: a law of the
+/// definitions, stated where the code can be read.
+#[tactic(auto, using(crate::proofs::RolledLaws::rolled_law))]
+pub fn rolled_is_nearest()
+    ensures { RolledIsNearest }
+{}
