@@ -1,2 +1,5 @@
 pub mod SearchLaws
 pub mod RolledLaws
+pub mod DistinctDates
+pub mod DateLaws
+pub mod TextLaws

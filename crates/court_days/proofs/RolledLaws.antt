@@ -1,41 +1,33 @@
 -- What the searches find is the least or the greatest day, and what rolling gives is the nearest.
 use Rattle.std.proofs.Common.{◌≡◌, ◌↔◌, ℕ, zero, suc, ◌+◌, ◌-◌, ◌<◌, ◌≤◌, ℤ, pos, ◌+ℤ◌, ◌-ℤ◌, ◌≤ℤ◌, ◌<ℤ◌, int_le, Bool, true, false, Option, Some, None, unsigned_abs, refl, sym, ◌∙◌, ap, arith, cond, if◌then◌else◌, ◌⊎◌, inl, inr}
 use Rattle.std.proofs.lemmas.Int.{ints}
-use Rattle.std.proofs.lemmas.Bool.{cases_Bool}
+use Rattle.std.proofs.lemmas.Bool.{cases_Bool, false_from_ne_true}
 use Rattle.court_days.specs.declared.direction.Direction.{Direction}
 use Rattle.court_days.specs.declared.direction.Direction.TheVariants.{After, Before}
 use Rattle.court_days.specs.Calendar.{Calendar, is_covered, is_permitted}
 use Rattle.court_days.proofs.SearchLaws.{covered_after_from, covered_before_to, covered_from_bounds}
-use Rattle.court_days.specs.Search.{first_passing, last_passing, days_through, later_day, earlier_day, earliest_day, latest_day, IsEarliestDay, IsLatestDay}
+use Rattle.court_days.specs.Search.{first_passing, last_passing, days_through, later_day, earlier_day, earliest_day, latest_day, IsEarliestDay, IsLatestDay, EarliestIsLeast, LatestIsGreatest}
 use Rattle.court_days.specs.Rolled.{rolled, IsRolled, RolledIsNearest}
 
 -- the first of n days from d on that passes
-record IsFirst (test : ℤ → Bool) (n : ℕ) (d r : ℤ) : Type 0 where
+pub record IsFirst (test : ℤ → Bool) (n : ℕ) (d r : ℤ) : Type 0 where
+  pub passes : test r ≡ true
+  pub at_or_after : d ≤ℤ r
+  pub within : r <ℤ (d +ℤ pos n)
+  pub first : (e : ℤ) → d ≤ℤ e → e <ℤ r → test e ≡ false
+
+-- the last of n days from d backward that passes
+record IsLast (test : ℤ → Bool) (n : ℕ) (d r : ℤ) : Type 0 where
   passes : test r ≡ true
-  at_or_after : d ≤ℤ r
-  within : r <ℤ (d +ℤ pos n)
-  first : (e : ℤ) → test e ≡ true → d ≤ℤ e → r ≤ℤ e
+  at_or_before : r ≤ℤ d
+  within : (d -ℤ pos n) <ℤ r
+  last : (e : ℤ) → e ≤ℤ d → r <ℤ e → test e ≡ false
 
--- days of which one passes the test and the other fails it differ
-differ : (test : ℤ → Bool) (e d : ℤ) → test e ≡ true → test d ≡ false → d ≤ℤ e → (d +ℤ pos 1) ≤ℤ e
-differ test e d passes fails after = elim (cases_Bool (int_le e d)) [
-  | inl same ↦
-      let equal : e ≡ d = omega (arith, ints) in
-      let clash : true ≡ false = sym passes ∙ ap test equal ∙ fails in
-      absurd (cc)
-  | inr later ↦ omega (arith, ints)
-]
+-- no day both passes and fails
+clash : {P : Type 0} (test : ℤ → Bool) (d e : ℤ) → d ≡ e → test d ≡ true → test e ≡ false → P
+clash test d e same passes fails = let both : true ≡ false = sym passes ∙ ap test same ∙ fails in absurd (cc)
 
-differ-before : (test : ℤ → Bool) (e d : ℤ) → test e ≡ true → test d ≡ false → e ≤ℤ d → e ≤ℤ (d -ℤ pos 1)
-differ-before test e d passes fails before = elim (cases_Bool (int_le d e)) [
-  | inl same ↦
-      let equal : e ≡ d = omega (arith, ints) in
-      let clash : true ≡ false = sym passes ∙ ap test equal ∙ fails in
-      absurd (cc)
-  | inr earlier ↦ omega (arith, ints)
-]
-
-first_passing-is : (test : ℤ → Bool) (n : ℕ) (d r : ℤ) → first_passing test n d ≡ Some r → IsFirst test n d r
+pub first_passing-is : (test : ℤ → Bool) (n : ℕ) (d r : ℤ) → first_passing test n d ≡ Some r → IsFirst test n d r
 unfolding first_passing
 first_passing-is test zero d r h = absurd cc
 first_passing-is test (suc n) d r h = elim (cases_Bool (test d)) [
@@ -46,7 +38,7 @@ first_passing-is test (suc n) d r h = elim (cases_Bool (test d)) [
         passes = rw (← same) passes;
         at_or_after = omega (arith, ints, same);
         within = omega (arith, ints, same);
-        first = λ e _ after. omega (arith, ints, same, after);
+        first = λ e after before. absurd (omega (arith, ints, same, after, before));
       }
   | inr fails ↦
       let rest = first_passing-is test n (d +ℤ pos 1) r (rw fails at h) in
@@ -54,33 +46,30 @@ first_passing-is test (suc n) d r h = elim (cases_Bool (test d)) [
         passes = rest.passes;
         at_or_after = omega (arith, ints, rest.at_or_after);
         within = omega (arith, ints, rest.within);
-        first = λ e passes after. rest.first e passes (differ test e d passes fails after);
+        first = λ e after before. elim (cases_Bool (int_le e d)) [
+          | inl same ↦ (let equal : e ≡ d = omega (arith, ints, after) in ap test equal ∙ fails)
+          | inr later ↦ rest.first e (omega (arith, ints)) before
+        ];
       }
 ]
 
--- the first that passes is found
-first_passing-finds : (test : ℤ → Bool) (n : ℕ) (d r : ℤ) → IsFirst test n d r → first_passing test n d ≡ Some r
+pub first_passing-finds : (test : ℤ → Bool) (n : ℕ) (d r : ℤ) → IsFirst test n d r → first_passing test n d ≡ Some r
 unfolding first_passing
 first_passing-finds test zero d r h = absurd (omega (arith, ints, h.at_or_after, h.within))
-first_passing-finds test (suc n) d r h = elim (cases_Bool (test d)) [
-  | inl passes ↦
-      let before : r ≤ℤ d = h.first d passes (omega (arith, ints)) in
-      let same : d ≡ r = omega (arith, ints, before, h.at_or_after) in
+first_passing-finds test (suc n) d r h = elim (cases_Bool (int_le r d)) [
+  | inl here ↦
+      let same : d ≡ r = omega (arith, ints, h.at_or_after) in
+      let passes : test d ≡ true = rw same h.passes in
       rw passes (ap Some same)
-  | inr fails ↦ rw fails (first_passing-finds test n (d +ℤ pos 1) r record {
-    passes = h.passes;
-    at_or_after = differ test r d h.passes fails h.at_or_after;
-    within = omega (arith, ints, h.within);
-    first = λ e passes after. h.first e passes (omega (arith, ints, after));
-  })
+  | inr later ↦
+      let fails : test d ≡ false = h.first d (omega (arith, ints)) (omega (arith, ints)) in
+      rw fails (first_passing-finds test n (d +ℤ pos 1) r record {
+        passes = h.passes;
+        at_or_after = omega (arith, ints);
+        within = omega (arith, ints, h.within);
+        first = λ e after before. h.first e (omega (arith, ints, after)) before;
+      })
 ]
-
--- the last of n days from d backward that passes
-record IsLast (test : ℤ → Bool) (n : ℕ) (d r : ℤ) : Type 0 where
-  passes : test r ≡ true
-  at_or_before : r ≤ℤ d
-  within : (d -ℤ pos n) <ℤ r
-  last : (e : ℤ) → test e ≡ true → e ≤ℤ d → e ≤ℤ r
 
 last_passing-is : (test : ℤ → Bool) (n : ℕ) (d r : ℤ) → last_passing test n d ≡ Some r → IsLast test n d r
 unfolding last_passing
@@ -93,7 +82,7 @@ last_passing-is test (suc n) d r h = elim (cases_Bool (test d)) [
         passes = rw (← same) passes;
         at_or_before = omega (arith, ints, same);
         within = omega (arith, ints, same);
-        last = λ e _ before. omega (arith, ints, same, before);
+        last = λ e before after. absurd (omega (arith, ints, same, before, after));
       }
   | inr fails ↦
       let rest = last_passing-is test n (d -ℤ pos 1) r (rw fails at h) in
@@ -101,34 +90,39 @@ last_passing-is test (suc n) d r h = elim (cases_Bool (test d)) [
         passes = rest.passes;
         at_or_before = omega (arith, ints, rest.at_or_before);
         within = omega (arith, ints, rest.within);
-        last = λ e passes before. rest.last e passes (differ-before test e d passes fails before);
+        last = λ e before after. elim (cases_Bool (int_le d e)) [
+          | inl same ↦ (let equal : e ≡ d = omega (arith, ints, before) in ap test equal ∙ fails)
+          | inr earlier ↦ rest.last e (omega (arith, ints)) after
+        ];
       }
 ]
 
 last_passing-finds : (test : ℤ → Bool) (n : ℕ) (d r : ℤ) → IsLast test n d r → last_passing test n d ≡ Some r
 unfolding last_passing
 last_passing-finds test zero d r h = absurd (omega (arith, ints, h.at_or_before, h.within))
-last_passing-finds test (suc n) d r h = elim (cases_Bool (test d)) [
-  | inl passes ↦
-      let after : d ≤ℤ r = h.last d passes (omega (arith, ints)) in
-      let same : d ≡ r = omega (arith, ints, after, h.at_or_before) in
+last_passing-finds test (suc n) d r h = elim (cases_Bool (int_le d r)) [
+  | inl here ↦
+      let same : d ≡ r = omega (arith, ints, h.at_or_before) in
+      let passes : test d ≡ true = rw same h.passes in
       rw passes (ap Some same)
-  | inr fails ↦ rw fails (last_passing-finds test n (d -ℤ pos 1) r record {
-    passes = h.passes;
-    at_or_before = differ-before test r d h.passes fails h.at_or_before;
-    within = omega (arith, ints, h.within);
-    last = λ e passes before. h.last e passes (omega (arith, ints, before));
-  })
+  | inr earlier ↦
+      let fails : test d ≡ false = h.last d (omega (arith, ints)) (omega (arith, ints)) in
+      rw fails (last_passing-finds test n (d -ℤ pos 1) r record {
+        passes = h.passes;
+        at_or_before = omega (arith, ints);
+        within = omega (arith, ints, h.within);
+        last = λ e before after. h.last e (omega (arith, ints, before)) after;
+      })
 ]
 
 -- the days searched from a on go through b
-days_through-within : (a b r : ℤ) → r <ℤ (a +ℤ pos (days_through a b)) → a ≤ℤ r → r ≤ℤ b
+pub days_through-within : (a b r : ℤ) → r <ℤ (a +ℤ pos (days_through a b)) → a ≤ℤ r → r ≤ℤ b
 days_through-within a b r h low = elim (cases_Bool (int_le a b)) [
   | inl some ↦ let shown = rw some at h in omega (arith, ints, shown)
   | inr none ↦ let shown = rw none at h in absurd (omega (arith, ints, shown))
 ]
 
-within-days_through : (a b r : ℤ) → a ≤ℤ r → r ≤ℤ b → r <ℤ (a +ℤ pos (days_through a b))
+pub within-days_through : (a b r : ℤ) → a ≤ℤ r → r ≤ℤ b → r <ℤ (a +ℤ pos (days_through a b))
 within-days_through a b r low high =
     grind (arith, ints)
 
@@ -171,7 +165,10 @@ earliest_day-is c test d r h =
       covered = covered_from_bounds c r (later_day-second d c.from r found.at_or_after) high;
       passes = found.passes;
       at_or_after = later_day-first d c.from r found.at_or_after;
-      least = λ e covered passes after. found.first e passes (later_day-least d c.from e after (covered_after_from c e covered));
+      least = λ e covered passes after. elim (cases_Bool (int_le r e)) [
+        | inl least ↦ omega (arith, ints)
+        | inr before ↦ clash test e e refl passes (found.first e (later_day-least d c.from e after (covered_after_from c e covered)) (omega (arith, ints)))
+      ];
     }
 
 pub earliest_day-finds : (c : Calendar) (test : ℤ → Bool) (d r : ℤ) → IsEarliestDay c test d r → earliest_day c test d ≡ Some r
@@ -183,12 +180,10 @@ earliest_day-finds c test d r h =
       passes = h.passes;
       at_or_after = low;
       within = within-days_through (later_day d c.from) c.to r low high;
-      first = λ e passes after. elim (cases_Bool (int_le e c.to)) [
-        | inl covered ↦
-            let from_below : c.from ≤ℤ e = later_day-second d c.from e after in
-            h.least e (covered_from_bounds c e from_below (omega (arith, ints))) passes (later_day-first d c.from e after)
-        | inr past ↦ omega (arith, ints, high)
-      ];
+      first = λ e after before. false_from_ne_true (test e) (λ passes.
+          let from_below = later_day-second d c.from e after in
+          let covered = covered_from_bounds c e from_below (omega (arith, ints, before, high)) in
+          omega (arith, ints, before, h.least e covered passes (later_day-first d c.from e after)));
     }
 
 -- what the search backward finds is the greatest covered day that passes
@@ -201,7 +196,10 @@ latest_day-is c test d r h =
       covered = covered_from_bounds c r low (earlier_day-second d c.to r found.at_or_before);
       passes = found.passes;
       at_or_before = earlier_day-first d c.to r found.at_or_before;
-      greatest = λ e covered passes before. found.last e passes (earlier_day-greatest d c.to e before (covered_before_to c e covered));
+      greatest = λ e covered passes before. elim (cases_Bool (int_le e r)) [
+        | inl greatest ↦ omega (arith, ints)
+        | inr after ↦ clash test e e refl passes (found.last e (earlier_day-greatest d c.to e before (covered_before_to c e covered)) (omega (arith, ints)))
+      ];
     }
 
 pub latest_day-finds : (c : Calendar) (test : ℤ → Bool) (d r : ℤ) → IsLatestDay c test d r → latest_day c test d ≡ Some r
@@ -213,12 +211,10 @@ latest_day-finds c test d r h =
       passes = h.passes;
       at_or_before = high;
       within = within-days_through_back c.from (earlier_day d c.to) r low high;
-      last = λ e passes before. elim (cases_Bool (int_le c.from e)) [
-        | inl covered ↦
-            let to_above : e ≤ℤ c.to = earlier_day-second d c.to e before in
-            h.greatest e (covered_from_bounds c e (omega (arith, ints)) to_above) passes (earlier_day-first d c.to e before)
-        | inr past ↦ omega (arith, ints, low)
-      ];
+      last = λ e before after. false_from_ne_true (test e) (λ passes.
+          let to_above = earlier_day-second d c.to e before in
+          let covered = covered_from_bounds c e (omega (arith, ints, after, low)) to_above in
+          omega (arith, ints, after, h.greatest e covered passes (earlier_day-first d c.to e before)));
     }
 
 -- a permitted day is covered
@@ -270,3 +266,9 @@ is_rolled c d r Before h = rw h.covered (latest_day-finds c (is_permitted c Befo
 
 pub rolled_law : RolledIsNearest
 rolled_law c d r direction = (rolled_is c d r direction, is_rolled c d r direction)
+
+pub earliest_law : EarliestIsLeast
+earliest_law c test d r = (earliest_day-is c test d r, earliest_day-finds c test d r)
+
+pub latest_law : LatestIsGreatest
+latest_law c test d r = (latest_day-is c test d r, latest_day-finds c test d r)

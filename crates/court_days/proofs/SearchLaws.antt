@@ -96,3 +96,11 @@ latest_stops c test d covered fails first =
 -- a day of the span is covered
 pub covered_from_bounds : (c : Calendar) (d : ℤ) → c.from ≤ℤ d → d ≤ℤ c.to → is_covered c d ≡ true
 covered_from_bounds c d low high = grind (arith, ints)
+
+-- before the span the search begins with its first day
+pub earliest_starts : (c : Calendar) (test : ℤ → Bool) (d : ℤ) → d ≤ℤ c.from → earliest_day c test d ≡ earliest_day c test c.from
+unfolding earliest_day
+earliest_starts c test d before =
+    let first : later_day d c.from ≡ c.from = grind (arith, ints) in
+    let same : later_day c.from c.from ≡ c.from = grind (arith, ints) in
+    rw (first, same) refl

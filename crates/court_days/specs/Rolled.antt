@@ -1,8 +1,8 @@
 -- The day to which a period runs whose last day may be a Saturday, Sunday or legal holiday.
-use Rattle.std.specs.Prelude.{◌≡◌, ◌↔◌, ◌≤ℤ◌, ℤ, Bool, true, Option, Some, None, if◌then◌else◌}
+use Rattle.std.specs.Prelude.{◌≡◌, ◌↔◌, ◌≤ℤ◌, ◌+ℤ◌, ℤ, pos, Bool, true, Option, Some, None, if◌then◌else◌}
 use Rattle.court_days.specs.declared.direction.Direction.{Direction}
 use Rattle.court_days.specs.declared.direction.Direction.TheVariants.{After, Before}
-use Rattle.court_days.specs.Calendar.{Calendar, is_covered, is_permitted}
+use Rattle.court_days.specs.Calendar.{Calendar, is_covered, is_permitted, is_open}
 use Rattle.court_days.specs.Search.{earliest_day, latest_day}
 
 -- The next day that is permitted (Fed. R. Civ. P. 6(a)(1)(C)), found forward for a period measured after
@@ -10,6 +10,11 @@ use Rattle.court_days.specs.Search.{earliest_day, latest_day}
 unfoldable pub rolled : Calendar → ℤ → Direction → Option ℤ
 rolled c d After = if is_covered c d then earliest_day c (is_permitted c After) d else None
 rolled c d Before = if is_covered c d then latest_day c (is_permitted c Before) d else None
+
+-- The least later day that is permitted in the direction and on which the clerk's office was accessible
+-- throughout (Fed. R. Civ. P. 6(a)(3)).
+unfoldable pub next_accessible : Calendar → Direction → ℤ → Option ℤ
+next_accessible c direction d = earliest_day c (is_open c direction true) (d +ℤ pos 1)
 
 -- e lies at d or further on in the direction
 abbrev pub IsAtOrBeyond : Direction → ℤ → ℤ → Type 0

@@ -1,5 +1,5 @@
 -- The least and the greatest covered day that passes a test.
-use Rattle.std.specs.Prelude.{◌≡◌, ℕ, zero, suc, ℤ, pos, ◌+ℤ◌, ◌-ℤ◌, ◌≤ℤ◌, int_le, Bool, true, Option, Some, None, unsigned_abs, if◌then◌else◌}
+use Rattle.std.specs.Prelude.{◌≡◌, ◌↔◌, ℕ, zero, suc, ℤ, pos, ◌+ℤ◌, ◌-ℤ◌, ◌≤ℤ◌, int_le, Bool, true, Option, Some, None, unsigned_abs, if◌then◌else◌}
 use Rattle.court_days.specs.Calendar.{Calendar, is_covered}
 
 -- the first of n days from d on that passes the test
@@ -44,3 +44,10 @@ pub record IsLatestDay (c : Calendar) (test : ℤ → Bool) (d r : ℤ) : Type 0
   pub passes : test r ≡ true
   pub at_or_before : r ≤ℤ d
   pub greatest : (e : ℤ) → is_covered c e ≡ true → test e ≡ true → e ≤ℤ d → e ≤ℤ r
+
+-- what the searches mean
+abbrev pub EarliestIsLeast : Type 0
+EarliestIsLeast = (c : Calendar) (test : ℤ → Bool) (d r : ℤ) → (earliest_day c test d ≡ Some r) ↔ IsEarliestDay c test d r
+
+abbrev pub LatestIsGreatest : Type 0
+LatestIsGreatest = (c : Calendar) (test : ℤ → Bool) (d r : ℤ) → (latest_day c test d ≡ Some r) ↔ IsLatestDay c test d r

@@ -1,14 +1,18 @@
 //! Which days of a court are open.
 
-ghost use Rattle.std.specs.Prelude.{◌≡◌, ◌≤ℤ◌, ◌<ℤ◌, ◌+ℤ◌, ◌-ℤ◌, ℤ, pos, true, IsTrue, IfSome, IfNone, length};
-ghost use Rattle.court_days.specs.Calendar.{Calendar, IsSpan, is_covered, is_holiday, is_permitted, is_open, is_among, has_outage, dates_of};
+ghost use Rattle.std.specs.Prelude.{◌≡◌, ◌≤ℤ◌, ◌<ℤ◌, ◌+ℤ◌, ◌-ℤ◌, ℤ, pos, true, IsTrue, IfSome, IfNone, IfOk, length};
+ghost use Rattle.std.specs.Ordering.{int_eq};
+ghost use Rattle.std.specs.List.{IsDistinct};
+ghost use Rattle.court_days.specs.Calendar.{Calendar, IsSpan, is_covered, is_holiday, is_permitted, is_open, is_among, has_outage, dates_of, add_holiday, add_outage};
 ghost use Rattle.court_days.specs.Search.{earliest_day, latest_day};
-ghost use Rattle.court_days.specs.Rolled.{rolled, RolledIsNearest};
+ghost use Rattle.court_days.specs.Rolled.{rolled, next_accessible};
 
+use crate::dates::Dates;
 use crate::day::Day;
 use crate::direction::Direction;
 use crate::holiday_list::HolidayList;
 use crate::outage::Outage;
+use std::alloc::{AllocError, Global};
 use std::marker::Model;
 
 /// The days of a court: the span that its file covers, its two holiday lists, and the outages entered so far.
@@ -16,15 +20,15 @@ use std::marker::Model;
 pub struct Days {
     from: Day,
     to: Day,
-    federal: Vec<Day>,
-    state: Vec<Day>,
+    federal: Dates,
+    state: Dates,
     outages: Vec<Outage>,
 }
 
 impl Model for Days {
     ghost Value = { Calendar };
 
-    ghost view = { λ d. record { from = d.from; to = d.to; federal = d.federal.items; state = d.state.items; outages = d.outages.items } };
+    ghost view = { λ d. record { from = d.from; to = d.to; federal = d.federal; state = d.state; outages = d.outages.items } };
 
     ghost invariant = { λ d. IsSpan d.from d.to };
 }
@@ -60,8 +64,8 @@ impl Days {
         ensures { result ≡ is_among (dates_of self.now list) day }
     {
         match list {
-            HolidayList::Federal => self.federal.contains(&day),
-            HolidayList::State => self.state.contains(&day),
+            HolidayList::Federal => self.federal.contains(day),
+            HolidayList::State => self.state.contains(day),
         }
     }
 
@@ -71,8 +75,8 @@ impl Days {
         ensures { result ≡ is_holiday self.now direction day }
     {
         match direction {
-            Direction::After => self.federal.contains(&day) || self.state.contains(&day),
-            Direction::Before => self.federal.contains(&day),
+            Direction::After => self.federal.contains(day) || self.state.contains(day),
+            Direction::Before => self.federal.contains(day),
         }
     }
 
@@ -162,11 +166,75 @@ impl Days {
             Direction::Before => self.latest(day, direction),
         }
     }
-}
 
-/// Rolling gives the nearest permitted day, and none only where no covered day is that: a law of the
-/// definitions, stated where the code can be read.
-#[tactic(auto, using(crate::proofs::RolledLaws::rolled_law))]
-pub fn rolled_is_nearest()
-    ensures { RolledIsNearest }
-{}
+    /// The least covered day later than `day` that is permitted in that direction and has no outage
+    /// (Fed. R. Civ. P. 6(a)(3)), which looks forward for either direction. None where there is no such day.
+    #[tactic(auto, unfolding(crate::specs::Rolled::next_accessible), using(crate::proofs::SearchLaws::earliest_ends, crate::proofs::SearchLaws::earliest_starts))]
+    pub fn first_accessible(&self, day: Day, direction: Direction) -> Option<Day>
+        ensures { result ≡ next_accessible self.now direction day }
+    {
+        if day.number() < self.from.number() {
+            return self.earliest(self.from, direction, true);
+        }
+        let next = self.day_after(day)?;
+        self.earliest(next, direction, true)
+    }
+
+    /// The outages entered so far, in the order in which they were entered.
+    pub fn outages(&self) -> &[Outage]
+        ensures { result.now ≡ self.now.outages }
+    {
+        &self.outages
+    }
+
+    /// How many different dates the list has.
+    pub fn dates(&self, list: HolidayList) -> usize
+        ensures value { result ≡ length (dates_of self.now list) }
+        ensures distinct { IsDistinct int_eq (dates_of self.now list) }
+    {
+        match list {
+            HolidayList::Federal => self.federal.len(),
+            HolidayList::State => self.state.len(),
+        }
+    }
+
+    /// These days with one more date in a holiday list, which keeps a date that it has already once. This value
+    /// stays as it is. An `Err` says that memory ran out.
+    pub fn with_holiday(
+        &self,
+        alloc: Global,
+        list: HolidayList,
+        day: Day,
+    ) -> Result<Days, AllocError>
+        ensures { IfOk result (λ d. d ≡ add_holiday self.now list day) }
+    {
+        let mut days = self.duplicate(alloc)?;
+        match list {
+            HolidayList::Federal => days.federal.add(day)?,
+            HolidayList::State => days.state.add(day)?,
+        }
+        Ok(days)
+    }
+
+    /// These days with one more outage, behind the others. This value stays as it is. An `Err` says that memory
+    /// ran out.
+    pub fn with_outage(&self, alloc: Global, outage: Outage) -> Result<Days, AllocError>
+        ensures { IfOk result (λ d. d ≡ add_outage self.now outage) }
+    {
+        let mut days = self.duplicate(alloc)?;
+        days.outages.push(outage)?;
+        Ok(days)
+    }
+
+    fn duplicate(&self, alloc: Global) -> Result<Days, AllocError>
+        ensures { IfOk result (λ d. d ≡ self.now) }
+    {
+        Ok(Days {
+            from: self.from,
+            to: self.to,
+            federal: self.federal.copy(alloc)?,
+            state: self.state.copy(alloc)?,
+            outages: Vec::from_slice(alloc, &self.outages)?,
+        })
+    }
+}

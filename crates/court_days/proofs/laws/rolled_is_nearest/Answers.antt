@@ -1,5 +1,5 @@
 use Rattle.court_days.proofs.RolledLaws.{rolled_law}
-use Rattle.court_days.proofs.days.rolled_is_nearest.Goals as goal
+use Rattle.court_days.proofs.laws.rolled_is_nearest.Goals as goal
 
 pub returns : goal.returns
 returns c = rolled_law

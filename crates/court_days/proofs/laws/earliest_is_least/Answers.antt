@@ -1,0 +1,5 @@
+use Rattle.court_days.proofs.RolledLaws.{earliest_law}
+use Rattle.court_days.proofs.laws.earliest_is_least.Goals as goal
+
+pub returns : goal.returns
+returns c = earliest_law

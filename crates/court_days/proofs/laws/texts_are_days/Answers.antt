@@ -1,0 +1,5 @@
+use Rattle.court_days.proofs.TextLaws.{texts_are_days}
+use Rattle.court_days.proofs.laws.texts_are_days.Goals as goal
+
+pub returns : goal.returns
+returns c = texts_are_days
