@@ -1,0 +1,4 @@
+pub mod DraftLemmas
+pub mod HistoryLemmas
+pub mod ReadLemmas
+pub mod StoreLemmas

@@ -1,0 +1,158 @@
+-- Reads of a history as it grows: which stay good, and why a draft whose reads are all fresh may follow.
+use Rattle.std.proofs.Common.{◌≡◌, ℕ, zero, suc, ◌+◌, ◌<◌, ◌≤◌, true, false, if◌then◌else◌, nat_lt, Some, None, option_map, List, [], ◌∷◌, ◌++◌, length, take, All, refl, ap, sym, ◌∙◌, subst, arith}
+use Rattle.std.proofs.lemmas.List.{length-append, append-nil, append_assoc, take-append-le, take_all}
+use Rattle.std.proofs.lemmas.List.Elements.{All-nil, All-cons, All-head, All-tail}
+use Rattle.std.proofs.lemmas.Option.{none-some, same_Some}
+use borrow.Author.Tests.{ltb-true, ltb-false}
+use Rattle.std.specs.Option.{option_map_or}
+use mathlib.Core.List.{IsPrefix}
+use Rattle.versioned_steps.specs.Rules.{Rules, IsLawful, AreReadAfter, AreReadsOf, AreAllReadsOf}
+use Rattle.versioned_steps.specs.History.{reads_from, reads_on, writes_on, value_of, version_of, MayFollow}
+use Rattle.versioned_steps.specs.Reads.{Read, copies_of, first_stale, read_now, IsRead, IsFresh, IsStale}
+use Rattle.versioned_steps.specs.Drafts.{Drafted, Decided, decided, MayCommit, entry_of}
+use Rattle.versioned_steps.specs.declared.entry.Entry.{Entry}
+use Rattle.versioned_steps.specs.declared.stale.Stale.{Stale}
+use Rattle.versioned_steps.proofs.HistoryLemmas.{unchanged}
+
+module _ {Part Value Command Answer : Type 0} (r : Rules Part Value Command Answer) where
+  -- one more read in the command's order
+  pub AreReadAfter-push : (command : Command) (before xs : List (Part × Value)) (x : Part × Value) → AreReadAfter r command before xs → r.next_part command (before ++ xs) ≡ Some x.0
+      → AreReadAfter r command before (xs ++ x ∷ [])
+  AreReadAfter-push command before [] x in_order next = (rw append-nil at next, tt)
+  AreReadAfter-push command before (y ∷ ys) x in_order next =
+      (in_order.0, AreReadAfter-push command (before ++ y ∷ []) ys x in_order.1 (rw append_assoc next))
+
+  -- a command's reads are no more than the most
+  pub reads_most : IsLawful r → (command : Command) (before xs : List (Part × Value)) → AreReadsOf r command before → length before ≤ r.most_reads → AreReadAfter r command before xs
+      → length (before ++ xs) ≤ r.most_reads
+  reads_most laws command before [] first few in_order = rw append-nil few
+  reads_most laws command before (x ∷ xs) first few in_order =
+      let room : length before < r.most_reads = laws.reading_ends command before first (rw in_order.0 refl) in
+      let longer : length (before ++ x ∷ []) ≤ r.most_reads = rw length-append (omega arith) in
+      let known : AreReadsOf r command (before ++ x ∷ []) = AreReadAfter-push command [] before x first in_order.0 in
+      let rest : length ((before ++ x ∷ []) ++ xs) ≤ r.most_reads = reads_most laws command (before ++ x ∷ []) xs known longer in_order.1 in
+      rw append_assoc at rest
+
+  -- a command whose reads have these values reads them again, and reading ends at the same part
+  pub reads_again : (values : Part → Value) (command : Command) (fuel : ℕ) (before xs : List (Part × Value)) → AreReadAfter r command before xs
+      → All (λ x. x.1 ≡ values x.0) xs → r.next_part command (before ++ xs) ≡ None → length xs ≤ fuel → reads_from r fuel values command before ≡ before ++ xs
+  unfolding reads_from
+  reads_again values command zero before [] in_order same ended few = sym (append-nil before)
+  reads_again values command (suc n) before [] in_order same ended few =
+      let done : r.next_part command before ≡ None = rw append-nil at ended in
+      ap (λ o. option_map_or (λ part. reads_from r n values command (before ++ (part, values part) ∷ [])) o before) done ∙ sym (append-nil before)
+  reads_again values command zero before (x ∷ xs) in_order same ended few = absurd (omega arith)
+  reads_again values command (suc n) before (x ∷ xs) in_order same ended few =
+      let value : x.1 ≡ values x.0 = All-head (λ x. x.1 ≡ values x.0) x xs same in
+      let rest : reads_from r n values command (before ++ x ∷ []) ≡ (before ++ x ∷ []) ++ xs =
+      reads_again values command n (before ++ x ∷ []) xs in_order.1 (All-tail (λ x. x.1 ≡ values x.0) x xs same) (rw append_assoc ended) (omega arith) in
+      ap (λ o. option_map_or (λ part. reads_from r n values command (before ++ (part, values part) ∷ [])) o before) in_order.0
+      ∙ ap (λ v. reads_from r n values command (before ++ (x.0, v) ∷ [])) (sym value)
+      ∙ rest
+      ∙ append_assoc before (x ∷ []) xs
+
+  -- a read that is made now
+  pub read_now_is : (h : List (Entry Command Answer)) (part : Part) → IsRead r h (read_now r h part)
+  read_now_is h part =
+      let whole : take (length h) h ≡ h = take_all (length h) h (omega arith) in
+      record { in_history = omega arith; value = ap (λ l. value_of r l part) (sym whole); version = ap (λ l. version_of r l part) (sym whole) }
+
+  -- a read of a history is a read of each longer one
+  pub read_longer : (h k : List (Entry Command Answer)) (x : Read Part Value) → IsPrefix h k → IsRead r h x → IsRead r k x
+  read_longer h k x begins made =
+      let within : x.at ≤ length h = made.in_history in
+      let cut : take x.at (h ++ begins.0) ≡ take x.at h = take-append-le x.at h begins.0 within in
+      let long : length (h ++ begins.0) ≡ length h + length begins.0 = length-append h begins.0 in
+      let P : List (Entry Command Answer) → Type 0 = λ l. IsRead r l x in
+      subst P begins.1 (record {
+        in_history = omega arith;
+        value = made.value ∙ ap (λ l. value_of r l x.part) (sym cut);
+        version = made.version ∙ ap (λ l. version_of r l x.part) (sym cut);
+      })
+
+  -- a fresh read has the value that the part has now
+  pub fresh_value : (h : List (Entry Command Answer)) (x : Read Part Value) → IsRead r h x → IsFresh r h x → x.value ≡ value_of r h x.part
+  fresh_value h x made fresh = made.value ∙ sym (unchanged r h x.at x.part made.in_history fresh)
+
+  -- so have the copies of fresh reads
+  pub fresh_copies : (h : List (Entry Command Answer)) (reads : List (Read Part Value)) → All (IsRead r h) reads → All (IsFresh r h) reads
+      → All (λ x. x.1 ≡ value_of r h x.0) (copies_of reads)
+  fresh_copies h [] made fresh = All-nil _
+  fresh_copies h (x ∷ xs) made fresh =
+      All-cons (λ c. c.1 ≡ value_of r h c.0) (x.part, x.value) (copies_of xs)
+      (fresh_value h x (All-head (IsRead r h) x xs made) (All-head (IsFresh r h) x xs fresh))
+      (fresh_copies h xs (All-tail (IsRead r h) x xs made) (All-tail (IsFresh r h) x xs fresh))
+
+  -- a command whose reads are all made and all fresh reads the same on the parts as they all are now
+  pub reads_now : IsLawful r → (h : List (Entry Command Answer)) (command : Command) (reads : List (Read Part Value)) → AreAllReadsOf r command (copies_of reads)
+      → All (IsRead r h) reads → All (IsFresh r h) reads → reads_on r (value_of r h) command ≡ copies_of reads
+  reads_now laws h command reads all_read made fresh =
+      reads_again (value_of r h) command r.most_reads [] (copies_of reads) all_read.in_order (fresh_copies h reads made fresh) all_read.ended
+      (reads_most laws command [] (copies_of reads) tt (omega arith) all_read.in_order)
+
+  -- a settled draft whose reads are all fresh may follow: its answer and its writes are those of the parts as they all are now
+  pub may_follow : IsLawful r → (h : List (Entry Command Answer)) (d : Drafted Part Value Command Answer) → MayCommit r h d → MayFollow r h (entry_of r d)
+  may_follow laws h d ready =
+      record { answer = ap (λ reads. r.answer d.command reads) (sym (reads_now laws h d.command d.reads ready.all_read ready.made ready.fresh)) }
+
+  pub may_follow_writes : IsLawful r → (h : List (Entry Command Answer)) (d : Drafted Part Value Command Answer) → MayCommit r h d
+      → writes_on r (value_of r h) d.command ≡ (decided r d.command d.reads).writes
+  may_follow_writes laws h d ready = ap (λ reads. r.writes d.command reads) (reads_now laws h d.command d.reads ready.all_read ready.made ready.fresh)
+
+  -- what is staged of such a draft is what its command writes on the parts as they all are now
+  pub staged_writes : IsLawful r → (h : List (Entry Command Answer)) (d : Drafted Part Value Command Answer) → MayCommit r h d → (writes : List (Part × Value))
+      → option_map (λ x. x.writes) d.decision ≡ Some writes → writes ≡ writes_on r (value_of r h) d.command
+  staged_writes laws h d ready writes staged =
+      sym (same_Some _ _ (sym (ap (option_map (λ (x : Decided Part Value Answer). x.writes)) ready.settled) ∙ staged)) ∙ sym (may_follow_writes laws h d ready)
+
+-- versions that agree give the same stale read
+pub first_stale_same : {Part Value : Type 0} (f g : Part → ℕ) → ((part : Part) → f part ≡ g part) → (reads : List (Read Part Value)) → first_stale f reads ≡ first_stale g reads
+first_stale_same f g same [] = refl
+first_stale_same f g same (x ∷ xs) =
+    ap (λ n. if nat_lt x.at n then Some (record { part = x.part; version = n }) else first_stale f xs) (same x.part)
+    ∙ ap (λ o. if nat_lt x.at (g x.part) then Some (record { part = x.part; version = g x.part }) else o) (first_stale_same f g same xs)
+
+-- no stale read: each part's version is at most the length at its read
+pub first_stale_none : {Part Value : Type 0} (f : Part → ℕ) (reads : List (Read Part Value)) → first_stale f reads ≡ None → All (λ x. f x.part ≤ x.at) reads
+first_stale_none f [] none = All-nil _
+first_stale_none f (x ∷ xs) none =
+    (elim (nat_lt x.at (f x.part)) as (λ b. nat_lt x.at (f x.part) ≡ b
+    → (if b then Some (record { part = x.part; version = f x.part }) else first_stale f xs) ≡ None → All (λ y. f y.part ≤ y.at) (x ∷ xs)) [
+      | true ↦ λ test some. absurd (none-some _ (sym some))
+      | false ↦ λ test rest. All-cons (λ y. f y.part ≤ y.at) x xs (ltb-false x.at (f x.part) test) (first_stale_none f xs rest)
+    ]) refl none
+
+module _ {Part Value Command Answer : Type 0} (r : Rules Part Value Command Answer) where
+  -- the first stale read is what it is called
+  pub first_stale_some : (h : List (Entry Command Answer)) (reads : List (Read Part Value)) (s : Stale Part) → first_stale (version_of r h) reads ≡ Some s → IsStale r h reads s.part s.version
+  first_stale_some h [] s some = absurd (none-some s some)
+  first_stale_some h (x ∷ xs) s some =
+      (elim (nat_lt x.at (version_of r h x.part)) as (λ b. nat_lt x.at (version_of r h x.part) ≡ b
+      → (if b then Some (record { part = x.part; version = version_of r h x.part }) else first_stale (version_of r h) xs) ≡ Some s → IsStale r h (x ∷ xs) s.part s.version) [
+        | true ↦ λ test this.
+            let found : record { part = x.part; version = version_of r h x.part } ≡ s = same_Some _ s this in
+            let part : x.part ≡ s.part = ap (λ (t : Stale Part). t.part) found in
+            let version : version_of r h x.part ≡ s.version = ap (λ (t : Stale Part). t.version) found in
+            record {
+              earlier = [];
+              read = x;
+              later = xs;
+              in_order = refl;
+              earlier_fresh = All-nil _;
+              of_part = part;
+              touched_later = omega (arith, ltb-true x.at (version_of r h x.part) test, version);
+              version_now = sym version ∙ ap (version_of r h) part;
+            }
+        | false ↦ λ test rest.
+            let tail = first_stale_some h xs s rest in
+            record {
+              earlier = x ∷ tail.earlier;
+              read = tail.read;
+              later = tail.later;
+              in_order = ap (λ l. x ∷ l) tail.in_order;
+              earlier_fresh = All-cons (IsFresh r h) x tail.earlier (ltb-false x.at (version_of r h x.part) test) tail.earlier_fresh;
+              of_part = tail.of_part;
+              touched_later = tail.touched_later;
+              version_now = tail.version_now;
+            }
+      ]) refl some

@@ -1,0 +1,6 @@
+pub mod Rules
+pub mod History
+pub mod Reads
+pub mod Drafts
+pub mod Stores
+pub mod World

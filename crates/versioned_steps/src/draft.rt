@@ -1,0 +1,141 @@
+//! A command in hand, with copies of the parts that it has read.
+ghost use Rattle.std.specs.Prelude.{◌≡◌, [], ◌∷◌, ◌++◌, None, Some, OnOk, OnErr, length, option_map};
+ghost use Rattle.versioned_steps.specs.Reads.{copies_of};
+ghost use Rattle.versioned_steps.specs.Drafts.{decided, with_marks, decision_seen};
+
+use crate::decision::Decision;
+use crate::parted::Parted;
+use std::alloc::{AllocError, Global};
+use std::marker::Model;
+
+/// The numbers noted at a read: the part's version then, and the length of the history then.
+#[derive(Clone, Copy, Debug, PartialEq, Eq)]
+pub struct Mark {
+    pub version: u64,
+    pub at: u64,
+}
+
+/// A command of a clerk, the parts read for it so far, and its decision once it is settled. The parts are copied one by
+/// one, and other commands may be finished in between.
+#[derive(Drop)]
+pub struct Draft<P: Parted> {
+    clerk: u32,
+    command: P::Command,
+    copies: Vec<(P::Part, P::Value)>,
+    marks: Vec<Mark>,
+    decision: Option<Decision<P::Part, P::Value, P::Answer>>,
+}
+
+impl<P: Parted> Model for Draft<P> {
+    ghost use Rattle.std.specs.Prelude.{◌≡◌, vec_len, option_map};
+    ghost use Rattle.versioned_steps.specs.Drafts.{Drafted, with_marks, decision_seen};
+
+    ghost Value = { Drafted P.Part P.Value P.Command P.Answer };
+
+    ghost view = { λ d. record {
+      clerk = d.clerk;
+      command = d.command;
+      reads = with_marks d.copies.items d.marks.items;
+      decision = option_map decision_seen d.decision;
+    } };
+
+    ghost invariant = { λ d. vec_len d.copies ≡ vec_len d.marks };
+}
+
+impl<P: Parted> Draft<P> {
+    /// A draft that has read nothing.
+    pub fn begin(alloc: Global, clerk: u32, command: P::Command) -> Draft<P>
+        ensures { result ≡ record { clerk = clerk; command = command; reads = []; decision = None } }
+    {
+        Draft {
+            clerk,
+            command,
+            copies: Vec::new(alloc),
+            marks: Vec::new(alloc),
+            decision: None,
+        }
+    }
+
+    pub fn clerk(&self) -> u32
+        ensures { result ≡ self.now.clerk }
+    {
+        self.clerk
+    }
+
+    pub fn command(&self) -> &P::Command
+        ensures { result.now ≡ self.now.command }
+    {
+        &self.command
+    }
+
+    #[tactic(auto, using(crate::proofs::DraftLemmas::copies_of_marked))]
+    /// What was read, in read order.
+    pub fn copies(&self) -> &[(P::Part, P::Value)]
+        ensures { result.now ≡ copies_of self.now.reads }
+    {
+        &self.copies
+    }
+
+    #[tactic(auto, using(crate::proofs::DraftLemmas::copies_of_marked, crate::proofs::DraftLemmas::length_with_marks))]
+    /// The numbers noted at each read, in read order.
+    pub fn marks(&self) -> &[Mark]
+        ensures len { length result.now ≡ length self.now.reads }
+        ensures reads { with_marks (copies_of self.now.reads) result.now ≡ self.now.reads }
+    {
+        &self.marks
+    }
+
+    /// The decision; none before the draft is settled.
+    pub fn decision(&self) -> Option<&Decision<P::Part, P::Value, P::Answer>>
+        ensures { option_map (λ d. decision_seen d.now) result ≡ self.now.decision }
+    {
+        self.decision.as_ref()
+    }
+
+    #[tactic(auto, using(crate::proofs::DraftLemmas::copies_of_marked))]
+    /// The part to read next; none where all is read. It takes no memory.
+    pub fn next(&self, parts: &P) -> Option<P::Part>
+        ensures { result ≡ (P.rules parts.now).next_part self.now.command (copies_of self.now.reads) }
+    {
+        parts.next_part(&self.command, &self.copies)
+    }
+
+    #[tactic(auto, using(crate::proofs::DraftLemmas::with_marks_push))]
+    /// Adds a read of the next part: its value and version, and the length of the history, all at one moment. A decision
+    /// made before is dropped. An Err leaves the draft as it was.
+    pub fn add(
+        &mut self,
+        parts: &P,
+        part: P::Part,
+        version: u64,
+        at: u64,
+        value: P::Value,
+    ) -> Result<(), AllocError>
+        requires { (P.rules parts.now).next_part self.old.command (copies_of self.old.reads) ≡ Some part }
+        ensures ok { OnOk result (self.new ≡ record self.old {
+          reads = self.old.reads ++ record { part = part; value = value; version = version; at = at } ∷ [];
+          decision = None;
+        }) }
+        ensures err { OnErr result (self.new ≡ self.old) }
+    {
+        self.marks.reserve(1)?;
+        self.copies.reserve(1)?;
+        self.copies.push_reserved((part, value));
+        self.marks.push_reserved(Mark { version, at });
+        self.decision = None;
+        Ok(())
+    }
+
+    #[tactic(auto, using(crate::proofs::DraftLemmas::copies_of_marked))]
+    /// Decides on what was read. An Err leaves the draft as it was.
+    pub fn settle(&mut self, alloc: Global, parts: &P) -> Result<(), AllocError>
+        requires { (P.rules parts.now).next_part self.old.command (copies_of self.old.reads) ≡ None }
+        ensures ok { OnOk result (self.new ≡ record self.old {
+          decision = Some (decided (P.rules parts.now) self.old.command self.old.reads);
+        }) }
+        ensures err { OnErr result (self.new ≡ self.old) }
+    {
+        self.decision = Some(parts.decide(alloc, &self.command, &self.copies)?);
+        Ok(())
+    }
+}

@@ -1,0 +1,54 @@
+//! Looking up a part among the recent writes, and putting these to the older parts.
+ghost use Rattle.std.specs.Prelude.{◌≡◌, ◌<◌, [], Some, OnOk, option_copied, if◌then◌else◌};
+ghost use Rattle.std.specs.HashMap.{spare};
+ghost use Rattle.std.specs.Map.{lookup};
+ghost use Rattle.versioned_steps.specs.Stores.{found_in};
+
+use crate::slot::Slot;
+use std::alloc::AllocError;
+use std::collections::HashMap;
+use std::hash::Hash;
+
+/// The value written for a part.
+pub(crate) fn value_written<T: Eq + Copy, V>(writes: &[(T, V)], part: T) -> Option<&V>
+    ensures { option_copied result ≡ lookup (T.eq part) writes.now }
+{
+    for write in writes {
+        if part == write.0 {
+            return Some(&write.1);
+        }
+    }
+    None
+}
+
+// Puts one write, which has this version, to the slots, where there is room for it.
+fn put<T: Eq + Hash + Copy, V: Drop>(older: &mut HashMap<T, Slot<V>>, write: (T, V), version: u64)
+    requires { 0 < spare older.old }
+    ensures { (q : T) → lookup (T.eq q) older.new.entries ≡
+        (if T.eq write.0 q then Some (record { version = version; value = write.1 }) else lookup (T.eq q) older.old.entries) }
+{
+    let (part, value) = write;
+    match older.insert(part, Slot { version, value }) {
+        Ok(before) => drop(before),
+        Err(_) => unreachable!(),
+    }
+}
+
+/// Puts the recent writes, which all have this version, to the older slots. Every part is found as before, also after an
+/// Err, where some of the writes may be left.
+pub(crate) fn put_away<T: Eq + Hash + Copy, V: Drop>(
+    recent: &mut Vec<(T, V)>,
+    older: &mut HashMap<T, Slot<V>>,
+    version: u64,
+) -> Result<(), AllocError>
+    ensures found { (q : T) → found_in (T.eq q) version recent.new.items older.new.entries ≡ found_in (T.eq q) version recent.old.items older.old.entries }
+    ensures ok { OnOk result (recent.new.items ≡ []) }
+{
+    while !recent.is_empty() {
+        older.reserve(1)?;
+        if let Some(write) = recent.pop() {
+            put(older, write, version);
+        }
+    }
+    Ok(())
+}
