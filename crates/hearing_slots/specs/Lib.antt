@@ -1,0 +1,4 @@
+pub mod Booking
+pub mod Calendar
+pub mod Panel
+pub mod Shared

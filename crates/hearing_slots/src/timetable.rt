@@ -1,0 +1,141 @@
+//! The bookings of a calendar in order, kept so that a day is found without a look at the others.
+
+ghost use Rattle.std.specs.Prelude.{◌≡◌, ◌+◌, ◌≤◌, [], IfOk, IfSome, IfNone, true, false, All, AllPairs, Some, find};
+ghost use Rattle.hearing_slots.specs.Booking.{begins_before, is_of, IsWithinDay, SharesSlot};
+ghost use Rattle.hearing_slots.specs.declared.booking.TheConstants.{SLOTS_PER_DAY};
+ghost use Rattle.hearing_slots.specs.Calendar.{IsCalendar, IsFree, IsLeastConflict, on_day, in_place, without_motion, with_booking, first_conflict, conflicts};
+
+use crate::booking::Booking;
+use court_days::Day;
+use std::alloc::{AllocError, Global};
+use std::marker::Model;
+
+/// The bookings of the day, out of a list that is in order.
+fn part_of_day(bookings: &[Booking], day: Day) -> &[Booking]
+    requires { AllPairs (λ a b. begins_before a b ≡ true) bookings.now }
+    ensures { result.now ≡ on_day day bookings.now }
+{
+    let number = day.number();
+    let earlier = bookings.partition_point(|booking| booking.day.number() < number);
+    let rest = &bookings[earlier..];
+    let taken = rest.partition_point(|booking| booking.day.number() <= number);
+    &rest[..taken]
+}
+
+/// The first of the bookings that conflicts with the span.
+fn first_of(
+    bookings: &[Booking],
+    day: Day,
+    first: u8,
+    count: u8,
+    except: Option<(u32, u32)>,
+) -> Option<Booking>
+    requires { first + count ≤ SLOTS_PER_DAY }
+    ensures { result ≡ find (conflicts day first count except) bookings.now }
+{
+    bookings
+        .iter()
+        .copied()
+        .find(|booking| booking.conflicts(day, first, count, except))
+}
+
+/// Bookings by day and on a day by first slot, no two of which share a slot.
+#[derive(Debug, Drop)]
+pub(crate) struct Timetable {
+    bookings: Vec<Booking>,
+}
+
+impl Model for Timetable {
+    ghost use Rattle.std.specs.Prelude.{List};
+    ghost use Rattle.hearing_slots.specs.declared.booking.Booking.{Booking};
+    ghost use Rattle.hearing_slots.specs.Calendar.{IsCalendar};
+
+    ghost Value = { List Booking };
+
+    ghost view = { λ t. t.bookings.items };
+
+    ghost invariant = { λ t. IsCalendar t.bookings.items };
+}
+
+impl Timetable {
+    /// A timetable with no bookings.
+    pub(crate) fn new(alloc: Global) -> Timetable
+        ensures { result ≡ [] }
+    {
+        Timetable {
+            bookings: Vec::new(alloc),
+        }
+    }
+
+    /// A copy, with room for one booking more.
+    pub(crate) fn duplicate(&self, alloc: Global) -> Result<Timetable, AllocError>
+        ensures { IfOk result (λ t. t ≡ self.now) }
+    {
+        let mut bookings = Vec::with_capacity(alloc, self.bookings.len().saturating_add(1))?;
+        bookings.extend_from_slice(&self.bookings)?;
+        Ok(Timetable { bookings })
+    }
+
+    /// All bookings, in order.
+    pub(crate) fn all(&self) -> &[Booking]
+        ensures value { result.now ≡ self.now }
+        ensures calendar { IsCalendar self.now }
+    {
+        &self.bookings
+    }
+
+    /// The bookings of the day, by first slot.
+    pub(crate) fn on_day(&self, day: Day) -> &[Booking]
+        ensures { result.now ≡ on_day day self.now }
+    {
+        part_of_day(&self.bookings, day)
+    }
+
+    /// The first booking, in order, that shares a slot of the day with the span, other than the excepted one.
+    pub(crate) fn conflict(
+        &self,
+        day: Day,
+        first: u8,
+        count: u8,
+        except: Option<(u32, u32)>,
+    ) -> Option<Booking>
+        requires some_slot { 1 ≤ count }
+        requires ends { first + count ≤ SLOTS_PER_DAY }
+        ensures value { result ≡ first_conflict self.now day first count except }
+        ensures some { IfSome result (IsLeastConflict self.now day first count except) }
+        ensures none { IfNone result (IsFree self.now day first count except) }
+    {
+        first_of(part_of_day(&self.bookings, day), day, first, count, except)
+    }
+
+    /// Takes out the booking of the case and motion, if there is one.
+    pub(crate) fn remove(&mut self, case: u32, motion: u32)
+        ensures { self.new ≡ without_motion case motion self.old }
+    {
+        self.bookings.retain(|booking| !booking.is_of(case, motion));
+    }
+
+    /// Puts the booking in its place, where none of its case and motion stands and none shares a slot with it.
+    fn insert(&mut self, booking: Booking) -> Result<(), AllocError>
+        requires within_day { IsWithinDay booking }
+        requires free { All (λ b. SharesSlot b booking.day booking.first booking.count → ⊥) self.old }
+        requires only { All (λ b. is_of booking.case booking.motion b ≡ false) self.old }
+        ensures { IfOk result (λ _. self.new ≡ in_place booking self.old) }
+    {
+        let place = self
+            .bookings
+            .partition_point(|other| other.begins_before(&booking));
+        self.bookings.insert(place, booking)?;
+        Ok(())
+    }
+
+    /// Puts the booking in its place, and takes out an older one of its case and motion.
+    pub(crate) fn put(&mut self, booking: Booking) -> Result<(), AllocError>
+        requires within_day { IsWithinDay booking }
+        requires free { IsFree self.old booking.day booking.first booking.count (Some (booking.case, booking.motion)) }
+        ensures { IfOk result (λ _. self.new ≡ with_booking booking self.old) }
+    {
+        self.remove(booking.case, booking.motion);
+        self.insert(booking)
+    }
+}
