@@ -1,15 +1,16 @@
 -- Reads of a history as it grows: which stay good, and why a draft whose reads are all fresh may follow.
 use Rattle.std.proofs.Common.{◌≡◌, ℕ, zero, suc, ◌+◌, ◌<◌, ◌≤◌, true, false, if◌then◌else◌, nat_lt, Some, None, option_map, List, [], ◌∷◌, ◌++◌, length, take, All, refl, ap, sym, ◌∙◌, subst, arith}
-use Rattle.std.proofs.lemmas.List.{length-append, append-nil, append_assoc, take-append-le, take_all}
-use Rattle.std.proofs.lemmas.List.Elements.{All-nil, All-cons, All-head, All-tail}
+use Rattle.std.proofs.lemmas.List.{length-append, append-nil, append_assoc, map-append, take-append-le, take_all}
+use Rattle.std.proofs.lemmas.List.Elements.{All-nil, All-cons, All-head, All-tail, All-push}
 use Rattle.std.proofs.lemmas.Option.{none-some, same_Some}
 use borrow.Author.Tests.{ltb-true, ltb-false}
 use Rattle.std.specs.Option.{option_map_or}
 use mathlib.Core.List.{IsPrefix}
 use Rattle.versioned_steps.specs.Rules.{Rules, IsLawful, AreReadAfter, AreReadsOf, AreAllReadsOf}
-use Rattle.versioned_steps.specs.History.{reads_from, reads_on, writes_on, value_of, version_of, MayFollow}
+use Rattle.versioned_steps.specs.History.{answer_on, reads_from, reads_on, writes_on, value_of, version_of, MayFollow}
 use Rattle.versioned_steps.specs.Reads.{Read, copies_of, first_stale, read_now, IsRead, IsFresh, IsStale}
-use Rattle.versioned_steps.specs.Drafts.{Drafted, Decided, decided, MayCommit, entry_of}
+use Rattle.versioned_steps.specs.Drafts.{Drafted, Decided, decided, IsDraftOf, MayCommit, entry_of}
+use Rattle.versioned_steps.specs.Moves.{IsReady}
 use Rattle.versioned_steps.specs.declared.entry.Entry.{Entry}
 use Rattle.versioned_steps.specs.declared.stale.Stale.{Stale}
 use Rattle.versioned_steps.proofs.HistoryLemmas.{unchanged}
@@ -104,6 +105,50 @@ module _ {Part Value Command Answer : Type 0} (r : Rules Part Value Command Answ
       → option_map (λ x. x.writes) d.decision ≡ Some writes → writes ≡ writes_on r (value_of r h) d.command
   staged_writes laws h d ready writes staged =
       sym (same_Some _ _ (sym (ap (option_map (λ (x : Decided Part Value Answer). x.writes)) ready.settled) ∙ staged)) ∙ sym (may_follow_writes laws h d ready)
+
+  -- a draft of a history that reads its next part as it now is stays one
+  pub draft_add : (h : List (Entry Command Answer)) (d : Drafted Part Value Command Answer) (part : Part) (value : Value) (version at : ℕ)
+      → at ≡ length h → version ≡ version_of r h part → value ≡ value_of r h part → r.next_part d.command (copies_of d.reads) ≡ Some part → IsDraftOf r h d
+      → IsDraftOf r h (record d { reads = d.reads ++ record { part = part; value = value; version = version; at = at } ∷ []; decision = None })
+  draft_add h d part value version at at_is version_is value_is next was =
+      let x : Read Part Value = record { part = part; value = value; version = version; at = at } in
+      let whole : take at h ≡ h = take_all at h (omega arith) in
+      let made : IsRead r h x = record {
+            in_history = omega arith;
+            value = value_is ∙ ap (λ l. value_of r l part) (sym whole);
+            version = version_is ∙ ap (λ l. version_of r l part) (sym whole);
+          } in
+      record {
+        in_order = rw map-append (AreReadAfter-push d.command [] (copies_of d.reads) (part, value) was.in_order next);
+        made = All-push (IsRead r h) d.reads x was.made made;
+      }
+
+  -- a ready draft that is settled may be committed
+  pub settled_ready : (h : List (Entry Command Answer)) (d settled : Drafted Part Value Command Answer) → IsReady r h d
+      → settled ≡ record d { decision = Some (decided r d.command d.reads) } → MayCommit r h settled
+  settled_ready h d settled ready same =
+      let P : Drafted Part Value Command Answer → Type 0 = λ x. MayCommit r h x in
+      subst P (sym same) (record { all_read = ready.all_read; made = ready.made; fresh = ready.fresh; settled = refl })
+
+  -- the entry of a ready draft has the answer of the parts as they all are now
+  pub ready_entry : IsLawful r → (h : List (Entry Command Answer)) (d : Drafted Part Value Command Answer) → IsReady r h d → (e : Entry Command Answer) (clerk : ℕ)
+      → e.clerk ≡ clerk → e.command ≡ d.command → e.answer ≡ r.answer d.command (copies_of d.reads)
+      → e ≡ record { clerk = clerk; command = d.command; answer = answer_on r (value_of r h) d.command }
+  ready_entry laws h d ready e clerk clerk_is command_is answer_is =
+      ap (λ n. record { clerk = n; command = e.command; answer = e.answer }) clerk_is
+      ∙ ap (λ c. record { clerk = clerk; command = c; answer = e.answer }) command_is
+      ∙ ap (λ a. record { clerk = clerk; command = d.command; answer = a })
+          (answer_is ∙ ap (λ reads. r.answer d.command reads) (sym (reads_now laws h d.command d.reads ready.all_read ready.made ready.fresh)))
+
+  -- so has the entry that is made of the settled draft
+  pub settled_entry : IsLawful r → (h : List (Entry Command Answer)) (d settled : Drafted Part Value Command Answer) → IsReady r h d
+      → settled ≡ record d { decision = Some (decided r d.command d.reads) } → (e : Entry Command Answer) (clerk : ℕ)
+      → e.clerk ≡ clerk → e.command ≡ settled.command → option_map (λ x. x.answer) settled.decision ≡ Some e.answer
+      → e ≡ record { clerk = clerk; command = d.command; answer = answer_on r (value_of r h) d.command }
+  settled_entry laws h d settled ready same e clerk clerk_is command_is answer_is =
+      ready_entry laws h d ready e clerk clerk_is
+        (command_is ∙ ap (λ (x : Drafted Part Value Command Answer). x.command) same)
+        (same_Some _ _ (sym answer_is ∙ ap (λ (x : Drafted Part Value Command Answer). option_map (λ (y : Decided Part Value Answer). y.answer) x.decision) same))
 
 -- versions that agree give the same stale read
 pub first_stale_same : {Part Value : Type 0} (f g : Part → ℕ) → ((part : Part) → f part ≡ g part) → (reads : List (Read Part Value)) → first_stale f reads ≡ first_stale g reads

@@ -4,3 +4,4 @@ pub mod Reads
 pub mod Drafts
 pub mod Stores
 pub mod World
+pub mod Moves

@@ -5,6 +5,7 @@ mod decision;
 mod draft;
 mod entry;
 mod found;
+mod moves;
 mod parted;
 mod slot;
 mod stale;

@@ -3,7 +3,7 @@ ghost use Rattle.std.specs.Prelude.{◌≡◌, ◌+◌, ◌<◌, ◌^◌, [], �
 ghost use Rattle.versioned_steps.specs.declared.entry.Entry.{Entry};
 ghost use Rattle.versioned_steps.specs.History.{value_of, version_of, writes_on};
 ghost use Rattle.versioned_steps.specs.Reads.{first_stale, IsStale, IsFresh};
-ghost use Rattle.versioned_steps.specs.Drafts.{MayCommit, entry_of, with_marks};
+ghost use Rattle.versioned_steps.specs.Drafts.{MayCommit, with_marks};
 ghost use Rattle.versioned_steps.specs.Stores.{slot_of, Replays, IsStaged};
 
 use crate::draft::{Draft, Mark};
@@ -211,9 +211,9 @@ impl<P: Parted> Store<P> {
         requires room { self.old.length + 1 < 2 ^ 64 }
         ensures owner { self.new.owner ≡ self.old.owner }
         ensures place { IfOk result (λ place. place ≡ self.old.length + 1) }
-        ensures finished { (h : List (Entry P.Command P.Answer)) → Replays (P.rules self.old.owner) h self.old →
-            MayCommit (P.rules self.old.owner) h draft.now →
-            OnOk result (Replays (P.rules self.old.owner) (h ++ entry_of (P.rules self.old.owner) draft.now ∷ []) self.new) }
+        ensures finished { (h : List (Entry P.Command P.Answer)) (e : Entry P.Command P.Answer) → Replays (P.rules self.old.owner) h self.old →
+            MayCommit (P.rules self.old.owner) h draft.now → e.command ≡ draft.now.command →
+            OnOk result (Replays (P.rules self.old.owner) (h ++ e ∷ []) self.new) }
         ensures err { (h : List (Entry P.Command P.Answer)) → Replays (P.rules self.old.owner) h self.old →
             OnErr result (Replays (P.rules self.old.owner) h self.new) }
     {
