@@ -3,3 +3,9 @@ pub mod Calendar
 pub mod Search
 pub mod Rolled
 pub mod Date
+pub mod Minute
+pub mod Key
+pub mod Zone
+pub mod Clock
+pub mod Court
+pub mod Names

@@ -1,6 +1,6 @@
 //! Which days of a court are open.
 
-ghost use Rattle.std.specs.Prelude.{◌≡◌, ◌≤ℤ◌, ◌<ℤ◌, ◌+ℤ◌, ◌-ℤ◌, ℤ, pos, true, IsTrue, IfSome, IfNone, IfOk, length};
+ghost use Rattle.std.specs.Prelude.{◌≡◌, ◌≤ℤ◌, ◌<ℤ◌, ◌+ℤ◌, ◌-ℤ◌, ℤ, pos, true, [], IsTrue, IfSome, IfNone, IfOk, length};
 ghost use Rattle.std.specs.Ordering.{int_eq};
 ghost use Rattle.std.specs.List.{IsDistinct};
 ghost use Rattle.court_days.specs.Calendar.{Calendar, IsSpan, is_covered, is_holiday, is_permitted, is_open, is_among, has_outage, dates_of, add_holiday, add_outage};
@@ -34,6 +34,22 @@ impl Model for Days {
 }
 
 impl Days {
+    /// The days from the one to the other, with these holidays and no outages.
+    pub(crate) fn new(alloc: Global, from: Day, to: Day, federal: Dates, state: Dates) -> Days
+        requires { from ≤ℤ to }
+        ensures { result ≡ record { from = from; to = to; federal = federal; state = state; outages = [] } }
+    {
+        let _first = from.number();
+        let _last = to.number();
+        Days {
+            from,
+            to,
+            federal,
+            state,
+            outages: Vec::new(alloc),
+        }
+    }
+
     /// The first day that is covered.
     pub fn from(&self) -> Day
         ensures value { result ≡ self.now.from }

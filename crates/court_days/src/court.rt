@@ -1,0 +1,194 @@
+//! A court, from its file.
+
+ghost use Rattle.std.specs.Prelude.{◌≡◌, ◌<◌, ◌≤◌, ℕ, length, slice_get, IfSome, IfOk, option_copied, Ok};
+ghost use Rattle.toml.specs.View.{table_view};
+ghost use Rattle.jiff.specs.Words.{plain_zone};
+ghost use Rattle.court_days.specs.Clock.{IsHours};
+ghost use Rattle.court_days.specs.Court.{CourtView, Gives, file_of, court_of, court_in, zone_at, hours_at, days_at, is_span};
+ghost use Rattle.court_days.specs.Names.{name_index};
+ghost use Rattle.court_days.specs.Zone.{zone_view};
+
+use crate::clock::Clock;
+use crate::day::Day;
+use crate::days::Days;
+use crate::fault::CourtFault;
+use crate::key::Key;
+use crate::names::Names;
+use crate::reading::{date_at, dates_at, minute_at, names_at, text_at};
+use crate::zone::zone_from_text;
+use jiff::tz::TimeZone;
+use std::alloc::Global;
+use std::marker::Model;
+use toml::Table;
+
+/// The most days that a calendar may cover.
+const MOST_DAYS: i32 = 36_525;
+
+/// A court: its clock, its days, and the names of its judges and rooms.
+#[derive(Drop)]
+pub struct Court {
+    clock: Clock,
+    days: Days,
+    judges: Names,
+    rooms: Names,
+}
+
+impl Model for Court {
+    ghost Value = { CourtView };
+
+    ghost view = { λ c. record { clock = c.clock; days = c.days; judges = c.judges; rooms = c.rooms } };
+
+    ghost invariant = { λ c. (length c.judges ≤ 32) × (length c.rooms ≤ 32) };
+}
+
+impl Court {
+    /// The court whose file the bytes are, or the file's first fault in the order of its keys.
+    /// `NotToml` exactly where the bytes are no TOML document, and `OutOfMemory` where memory ran out.
+    #[tactic(auto, unfolding(crate::specs::Court::court_in))]
+    pub fn from_bytes(alloc: Global, bytes: &[u8]) -> Result<Court, CourtFault>
+        ensures { Gives file_of result (court_in bytes.now) }
+    {
+        match toml::table_from_slice(alloc, bytes) {
+            Ok(file) => Court::from_table(alloc, &file),
+            Err(error) => {
+                if error.is_memory() {
+                    return Err(CourtFault::OutOfMemory);
+                }
+                Err(CourtFault::NotToml)
+            }
+        }
+    }
+
+    /// The same of a document that was read already.
+    #[tactic(auto, unfolding(crate::specs::Court::court_of))]
+    pub fn from_table(alloc: Global, file: &Table) -> Result<Court, CourtFault>
+        ensures { Gives file_of result (court_of (table_view file.now)) }
+    {
+        let zone = zone_at(file)?;
+        let (opens, closes) = hours_at(file)?;
+        let days = days_at(alloc, file)?;
+        let judges = names_at(alloc, file, Key::Judges)?;
+        let rooms = names_at(alloc, file, Key::Rooms)?;
+        Ok(Court {
+            clock: Clock::new(zone, opens, closes),
+            days,
+            judges,
+            rooms,
+        })
+    }
+
+    /// The court's zone and office hours.
+    pub fn clock(&self) -> &Clock
+        ensures { result.now ≡ self.now.clock }
+    {
+        &self.clock
+    }
+
+    /// The days that the court's file covers, with its holidays.
+    pub fn days(&self) -> &Days
+        ensures { result.now ≡ self.now.days }
+    {
+        &self.days
+    }
+
+    /// The number of the judge with this name, from 0 in the order of the file.
+    pub fn judge(&self, name: &str) -> Option<u8>
+        ensures { result ≡ name_index self.now.judges name.now }
+    {
+        number_of(&self.judges, name)
+    }
+
+    /// The number of the room with this name, from 0 in the order of the file.
+    pub fn room(&self, name: &str) -> Option<u8>
+        ensures { result ≡ name_index self.now.rooms name.now }
+    {
+        number_of(&self.rooms, name)
+    }
+
+    /// The name of the judge with this number.
+    pub fn judge_name(&self, number: u8) -> Option<&str>
+        ensures { option_copied result ≡ slice_get self.now.judges number }
+    {
+        self.judges.get(usize::from(number))
+    }
+
+    /// The name of the room with this number.
+    pub fn room_name(&self, number: u8) -> Option<&str>
+        ensures { option_copied result ≡ slice_get self.now.rooms number }
+    {
+        self.rooms.get(usize::from(number))
+    }
+
+    /// How many judges the court has: at most 32.
+    pub fn judges(&self) -> u8
+        ensures value { result ≡ length self.now.judges }
+        ensures most { result ≤ 32 }
+    {
+        self.judges.len() as u8
+    }
+
+    /// How many rooms the court has: at most 32.
+    pub fn rooms(&self) -> u8
+        ensures value { result ≡ length self.now.rooms }
+        ensures most { result ≤ 32 }
+    {
+        self.rooms.len() as u8
+    }
+}
+
+fn number_of(names: &Names, name: &str) -> Option<u8>
+    requires { length names.now ≤ 32 }
+    ensures { result ≡ name_index names.now name.now }
+{
+    let index = names.index_of(name)?;
+    Some(index as u8)
+}
+
+#[tactic(auto, unfolding(crate::specs::Court::zone_at))]
+fn zone_at(file: &Table) -> Result<TimeZone<'static>, CourtFault>
+    ensures { Gives (λ z. zone_view (plain_zone z)) result (zone_at (table_view file.now)) }
+{
+    let text = text_at(file, Key::Zone)?;
+    match zone_from_text(text) {
+        Some(zone) => Ok(zone),
+        None => Err(CourtFault::BadZone),
+    }
+}
+
+/// When the clerk's office opens and closes.
+#[tactic(auto, unfolding(crate::specs::Court::hours_at))]
+fn hours_at(file: &Table) -> Result<(u16, u16), CourtFault>
+    ensures value { Gives (λ h. (h.0, h.1)) result (hours_at (table_view file.now)) }
+    ensures hours { IfOk result (λ h. IsHours h.0 h.1) }
+{
+    let opens = minute_at(file, Key::Opens)?;
+    let closes = minute_at(file, Key::Closes)?;
+    if opens < closes {
+        Ok((opens, closes))
+    } else {
+        Err(CourtFault::BadHours)
+    }
+}
+
+#[tactic(auto, unfolding(crate::specs::Court::days_at))]
+fn days_at(alloc: Global, file: &Table) -> Result<Days, CourtFault>
+    ensures { Gives (λ d. d) result (days_at (table_view file.now)) }
+{
+    let from = date_at(alloc, file, Key::From)?;
+    let to = date_at(alloc, file, Key::To)?;
+    if !is_span(from, to) {
+        return Err(CourtFault::BadSpan);
+    }
+    let federal = dates_at(alloc, file, Key::Federal, from, to)?;
+    let state = dates_at(alloc, file, Key::State, from, to)?;
+    Ok(Days::new(alloc, from, to, federal, state))
+}
+
+/// Whether a calendar may cover the days from the one to the other.
+fn is_span(from: Day, to: Day) -> bool
+    ensures { result ≡ is_span from to }
+{
+    let first = from.number();
+    let last = to.number();
+    first <= last && last - first < MOST_DAYS
+}
