@@ -2,3 +2,5 @@ pub mod DraftLemmas
 pub mod HistoryLemmas
 pub mod ReadLemmas
 pub mod StoreLemmas
+pub mod WorldLemmas
+pub mod RunLemmas

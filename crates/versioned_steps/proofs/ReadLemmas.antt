@@ -114,10 +114,10 @@ module _ {Part Value Command Answer : Type 0} (r : Rules Part Value Command Answ
       let x : Read Part Value = record { part = part; value = value; version = version; at = at } in
       let whole : take at h ≡ h = take_all at h (omega arith) in
       let made : IsRead r h x = record {
-            in_history = omega arith;
-            value = value_is ∙ ap (λ l. value_of r l part) (sym whole);
-            version = version_is ∙ ap (λ l. version_of r l part) (sym whole);
-          } in
+        in_history = omega arith;
+        value = value_is ∙ ap (λ l. value_of r l part) (sym whole);
+        version = version_is ∙ ap (λ l. version_of r l part) (sym whole);
+      } in
       record {
         in_order = rw map-append (AreReadAfter-push d.command [] (copies_of d.reads) (part, value) was.in_order next);
         made = All-push (IsRead r h) d.reads x was.made made;
@@ -138,7 +138,7 @@ module _ {Part Value Command Answer : Type 0} (r : Rules Part Value Command Answ
       ap (λ n. record { clerk = n; command = e.command; answer = e.answer }) clerk_is
       ∙ ap (λ c. record { clerk = clerk; command = c; answer = e.answer }) command_is
       ∙ ap (λ a. record { clerk = clerk; command = d.command; answer = a })
-          (answer_is ∙ ap (λ reads. r.answer d.command reads) (sym (reads_now laws h d.command d.reads ready.all_read ready.made ready.fresh)))
+      (answer_is ∙ ap (λ reads. r.answer d.command reads) (sym (reads_now laws h d.command d.reads ready.all_read ready.made ready.fresh)))
 
   -- so has the entry that is made of the settled draft
   pub settled_entry : IsLawful r → (h : List (Entry Command Answer)) (d settled : Drafted Part Value Command Answer) → IsReady r h d
@@ -147,8 +147,8 @@ module _ {Part Value Command Answer : Type 0} (r : Rules Part Value Command Answ
       → e ≡ record { clerk = clerk; command = d.command; answer = answer_on r (value_of r h) d.command }
   settled_entry laws h d settled ready same e clerk clerk_is command_is answer_is =
       ready_entry laws h d ready e clerk clerk_is
-        (command_is ∙ ap (λ (x : Drafted Part Value Command Answer). x.command) same)
-        (same_Some _ _ (sym answer_is ∙ ap (λ (x : Drafted Part Value Command Answer). option_map (λ (y : Decided Part Value Answer). y.answer) x.decision) same))
+      (command_is ∙ ap (λ (x : Drafted Part Value Command Answer). x.command) same)
+      (same_Some _ _ (sym answer_is ∙ ap (λ (x : Drafted Part Value Command Answer). option_map (λ (y : Decided Part Value Answer). y.answer) x.decision) same))
 
 -- versions that agree give the same stale read
 pub first_stale_same : {Part Value : Type 0} (f g : Part → ℕ) → ((part : Part) → f part ≡ g part) → (reads : List (Read Part Value)) → first_stale f reads ≡ first_stale g reads

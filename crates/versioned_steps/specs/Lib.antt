@@ -5,3 +5,4 @@ pub mod Drafts
 pub mod Stores
 pub mod World
 pub mod Moves
+pub mod Serial

@@ -1,5 +1,5 @@
 -- What the calls behind the steps do, to the draft in one clerk's hand and to the history.
-use Rattle.std.specs.Prelude.{◌≡◌, ℕ, ◌+◌, [], ◌∷◌, ◌++◌, ◌⊎◌, length, Option, Some, None, IfSome, List, All, Vec}
+use Rattle.std.specs.Prelude.{◌≡◌, ℕ, ◌+◌, [], ◌∷◌, ◌++◌, ◌⊎◌, length, Option, IfSome, List, All}
 use Rattle.versioned_steps.specs.Rules.{Rules, AreAllReadsOf}
 use Rattle.versioned_steps.specs.History.{answer_on, value_of}
 use Rattle.versioned_steps.specs.Reads.{IsRead, IsFresh, copies_of}

@@ -1,4 +1,4 @@
-use Rattle.std.proofs.Common.{◌≡◌, ◌+◌, ◌++◌, ◌∷◌, [], Some, subst, ap, sym, ◌∙◌}
+use Rattle.std.proofs.Common.{◌≡◌, ◌+◌, ◌++◌, ◌∷◌, [], Some, ap, ◌∙◌}
 use Rattle.versioned_steps.specs.Drafts.{decided}
 use Rattle.versioned_steps.specs.History.{answer_on, value_of}
 use Rattle.versioned_steps.specs.Stores.{Replays}
@@ -12,10 +12,10 @@ returns-clause-ok g c =
     let h = c.args.history.now.items in
     let d = c.args.draft.now in
     let settled : c.settle.new.self ≡ record d { decision = Some (decided r d.command d.reads) } =
-        c.in_ok-settle.ensures.ok ∙ ap (λ owner. record d { decision = Some (decided (g.P.Parted.rules owner) d.command d.reads) }) c.parts.ensures in
+    c.in_ok-settle.ensures.ok ∙ ap (λ owner. record d { decision = Some (decided (g.P.Parted.rules owner) d.command d.reads) }) c.parts.ensures in
     let entry : c.in_ok-entry.entry ≡ record { clerk = c.args.clerk; command = d.command; answer = answer_on r (value_of r h) d.command } =
-        settled_entry r (g.met.P.Parted.lawful c.args.store.now.owner) h d c.settle.new.self c.requires.ready settled c.in_ok-entry.entry c.args.clerk
-          c.in_ok-entry.ensures.clerk c.in_ok-entry.ensures.command c.in_ok-entry.ensures.answer in
+    settled_entry r (g.met.P.Parted.lawful c.args.store.now.owner) h d c.settle.new.self c.requires.ready settled c.in_ok-entry.entry c.args.clerk
+    c.in_ok-entry.ensures.clerk c.in_ok-entry.ensures.command c.in_ok-entry.ensures.answer in
     record {
       place_is = c.in_ok-place.ensures.place ∙ ap (λ n. n + 1) c.requires.replays.length;
       answer_is = c.in_ok-answer.ensures ∙ ap (λ (e : Entry g.row.P-Command.Denot g.row.P-Answer.Denot). e.answer) entry;
@@ -28,7 +28,7 @@ returns-clause-replays g c =
     let h = c.args.history.now.items in
     let d = c.args.draft.now in
     let settled : c.settle.new.self ≡ record d { decision = Some (decided r d.command d.reads) } =
-        c.in_ok-settle.ensures.ok ∙ ap (λ owner. record d { decision = Some (decided (g.P.Parted.rules owner) d.command d.reads) }) c.parts.ensures in
+    c.in_ok-settle.ensures.ok ∙ ap (λ owner. record d { decision = Some (decided (g.P.Parted.rules owner) d.command d.reads) }) c.parts.ensures in
     let longer : Replays r (h ++ c.in_ok-entry.entry ∷ []) c.apply.new.self =
-        c.in_ok-place.ensures.finished h c.in_ok-entry.entry c.requires.replays (settled_ready r h d c.settle.new.self c.requires.ready settled) c.in_ok-entry.ensures.command in
+    c.in_ok-place.ensures.finished h c.in_ok-entry.entry c.requires.replays (settled_ready r h d c.settle.new.self c.requires.ready settled) c.in_ok-entry.ensures.command in
     rw c.push_reserved.ensures.items (rw c.in_ok-reserve.ensures.items longer)

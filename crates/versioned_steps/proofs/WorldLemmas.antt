@@ -1,0 +1,112 @@
+-- From what one clerk's call does to a step of the world, and from steps to a run.
+use Rattle.std.proofs.Common.{◌≡◌, ℕ, zero, suc, inl, inr, true, false, nat_lt, ◌<◌, Option, Some, None, IfSome, option_map, List, [], ◌∷◌, ◌++◌, length, map, replicate, slice_get, slice_set, All, refl, ap, sym, ◌∙◌, subst, arith}
+use Rattle.std.proofs.lemmas.List.{append-nil, map-set}
+use Rattle.std.proofs.lemmas.List.Elements.{All-set, All-weaker}
+use Rattle.std.proofs.lemmas.Option.{slice_get-map, slice_get_past, same_Some}
+use borrow.Author.Tests.{ltb-true, ltb-false, clash}
+use mathlib.Core.List.{IsPrefix}
+use Rattle.versioned_steps.specs.Rules.{Rules}
+use Rattle.versioned_steps.specs.Drafts.{Drafted, IsDraftOf}
+use Rattle.versioned_steps.specs.Reads.{IsRead}
+use Rattle.versioned_steps.specs.World.{Hand, World, Move, IsStep, IsStepOf, IsRun, clerk_of, move_of, hand_of, world_of}
+use Rattle.versioned_steps.specs.Moves.{Moves}
+use Rattle.versioned_steps.specs.declared.entry.Entry.{Entry}
+use Rattle.versioned_steps.specs.declared.step.Step.{Step}
+use Rattle.versioned_steps.specs.declared.step.Outcome.{Outcome}
+use Rattle.versioned_steps.specs.declared.step.Outcome.TheVariants.{NoClerk}
+use Rattle.versioned_steps.proofs.ReadLemmas.{read_longer}
+
+-- a list whose element at k is this stays as it is when this is put there
+pub set_same : {X : Type 0} (xs : List X) (k : ℕ) (x : X) → slice_get xs k ≡ Some x → slice_set xs k x ≡ xs
+set_same [] k x at = refl
+set_same (y ∷ ys) zero x at = ap (λ z. z ∷ ys) (sym (same_Some y x at))
+set_same (y ∷ ys) (suc k) x at = ap (λ l. y ∷ l) (set_same ys k x at)
+
+-- what isn't below the length is past the end
+pub past_end : {X : Type 0} (xs : List X) (n i : ℕ) → n ≡ length xs → (i < n → false ≡ true) → slice_get xs i ≡ None
+past_end xs n i len none =
+    (elim (nat_lt i n) as (λ b. nat_lt i n ≡ b → slice_get xs i ≡ None) [
+      | true ↦ λ test. absurd (clash (none (ltb-true i n test)))
+      | false ↦ λ test. slice_get_past xs i (omega (arith, ltb-false i n test))
+    ]) refl
+
+module _ {Part Value Command Answer : Type 0} where
+  -- a move that looks at no history, beside any history
+  pub moves_beside : (h : List (Entry Command Answer)) (move : Move Part Value Command Answer) (before : Option (Hand Part Value Command)) (outcome : Outcome Part Answer) (hand : Option (Hand Part Value Command))
+      → Moves move before [] outcome hand [] → Moves move before h outcome hand h
+  moves_beside h move before outcome hand (inl whole) =
+      inl (record { outcome_is = whole.outcome_is; hand_is = whole.hand_is; history_is = sym (append-nil h) ∙ ap (λ l. h ++ l) whole.history_is })
+  moves_beside h move before outcome hand (inr none) =
+      inr (record { takes_memory = none.takes_memory; outcome_is = none.outcome_is; hand_is = none.hand_is; history_is = refl })
+
+  -- the history only grows
+  pub moves_grow : (h k : List (Entry Command Answer)) (move : Move Part Value Command Answer) (before : Option (Hand Part Value Command)) (outcome : Outcome Part Answer) (hand : Option (Hand Part Value Command))
+      → Moves move before h outcome hand k → IsPrefix h k
+  moves_grow h k move before outcome hand (inl whole) = (move.entries, sym whole.history_is)
+  moves_grow h k move before outcome hand (inr none) = ([], append-nil h ∙ sym none.history_is)
+
+module _ {Part Value Command Answer : Type 0} (r : Rules Part Value Command Answer) where
+  -- a clerk's move is a step of the world
+  pub step_of_moves : (h k : List (Entry Command Answer)) (drafts : List (Option (Drafted Part Value Command Answer))) (step : Step Command) (before after : Option (Drafted Part Value Command Answer)) (outcome : Outcome Part Answer)
+      → slice_get drafts (clerk_of step) ≡ Some before → Moves (move_of r h step (hand_of before)) (hand_of before) h outcome (hand_of after) k
+      → IsStep r (world_of h drafts) step outcome (world_of k (slice_set drafts (clerk_of step) after))
+  step_of_moves h k drafts step before after outcome at moves =
+      let hand : Some (hand_of before) ≡ slice_get (map hand_of drafts) (clerk_of step) =
+      sym (slice_get-map hand_of drafts (clerk_of step) ∙ ap (option_map hand_of) at) in
+      let P : Option (Option (Hand Part Value Command)) → Type 0 = λ o. IsStepOf r (world_of h drafts) step o outcome (world_of k (slice_set drafts (clerk_of step) after)) in
+      let hands : map hand_of (slice_set drafts (clerk_of step) after) ≡ slice_set (map hand_of drafts) (clerk_of step) (hand_of after) = map-set hand_of drafts (clerk_of step) after in
+      subst P hand (elim moves [
+        | inl whole ↦ inl (record {
+          outcome_is = whole.outcome_is;
+          world_is =
+              ap (λ l. record { history = k; hands = l }) hands
+              ∙ ap (λ l. record { history = l; hands = slice_set (map hand_of drafts) (clerk_of step) (hand_of after) }) whole.history_is
+              ∙ ap (λ o. record { history = h ++ (move_of r h step (hand_of before)).entries; hands = slice_set (map hand_of drafts) (clerk_of step) o }) whole.hand_is;
+        })
+        | inr none ↦ inr (record {
+          takes_memory = none.takes_memory;
+          outcome_is = none.outcome_is;
+          unchanged =
+              ap (λ l. record { history = k; hands = l })
+              (hands ∙ ap (slice_set (map hand_of drafts) (clerk_of step)) none.hand_is ∙ set_same (map hand_of drafts) (clerk_of step) (hand_of before) (sym hand))
+              ∙ ap (λ l. record { history = l; hands = map hand_of drafts }) none.history_is;
+        })
+      ])
+
+  -- a step of no clerk
+  pub step_of_nobody : (h : List (Entry Command Answer)) (drafts : List (Option (Drafted Part Value Command Answer))) (step : Step Command)
+      → slice_get drafts (clerk_of step) ≡ None → IsStep r (world_of h drafts) step NoClerk (world_of h drafts)
+  step_of_nobody h drafts step at =
+      let none : None ≡ slice_get (map hand_of drafts) (clerk_of step) = sym (slice_get-map hand_of drafts (clerk_of step) ∙ ap (option_map hand_of) at) in
+      let P : Option (Option (Hand Part Value Command)) → Type 0 = λ o. IsStepOf r (world_of h drafts) step o NoClerk (world_of h drafts) in
+      subst P none (refl, refl)
+
+  -- drafts of a history are drafts of each longer one
+  pub draft_longer : (h k : List (Entry Command Answer)) → IsPrefix h k → (d : Drafted Part Value Command Answer) → IsDraftOf r h d → IsDraftOf r k d
+  draft_longer h k begins d was =
+      record { in_order = was.in_order; made = All-weaker (IsRead r h) (IsRead r k) (λ x. read_longer r h k x begins) d.reads was.made }
+
+  some_draft_longer : (h k : List (Entry Command Answer)) → IsPrefix h k → (d : Option (Drafted Part Value Command Answer)) → IfSome d (IsDraftOf r h) → IfSome d (IsDraftOf r k)
+  some_draft_longer h k begins None was = tt
+  some_draft_longer h k begins (Some d) was = draft_longer h k begins d was
+
+  -- and stay so where one of them is exchanged
+  pub drafts_after : (h k : List (Entry Command Answer)) → IsPrefix h k → (drafts : List (Option (Drafted Part Value Command Answer))) (clerk : ℕ) (after : Option (Drafted Part Value Command Answer))
+      → IfSome after (IsDraftOf r k) → All (λ d. IfSome d (IsDraftOf r h)) drafts → All (λ d. IfSome d (IsDraftOf r k)) (slice_set drafts clerk after)
+  drafts_after h k begins drafts clerk after new were =
+      All-set (λ d. IfSome d (IsDraftOf r k)) drafts clerk after new
+      (All-weaker (λ d. IfSome d (IsDraftOf r h)) (λ d. IfSome d (IsDraftOf r k)) (some_draft_longer h k begins) drafts were)
+
+  -- a run goes on by one step
+  pub run_push : (w : World Part Value Command Answer) (steps : List (Step Command)) (outcomes : List (Outcome Part Answer)) (mid : World Part Value Command Answer) (step : Step Command) (outcome : Outcome Part Answer) (after : World Part Value Command Answer)
+      → IsRun r w steps outcomes mid → IsStep r mid step outcome after → IsRun r w (steps ++ step ∷ []) (outcomes ++ outcome ∷ []) after
+  run_push w [] [] mid step outcome after run next =
+      let P : World Part Value Command Answer → Type 0 = λ x. IsStep r x step outcome after in (after, subst P run next, refl)
+  run_push w (s ∷ ss) (o ∷ os) mid step outcome after run next = (run.0, run.1, run_push run.0 ss os mid step outcome after run.2 next)
+  run_push w [] (o ∷ os) mid step outcome after run next = absurd run
+  run_push w (s ∷ ss) [] mid step outcome after run next = absurd run
+
+-- where nobody has a draft, nobody has a command in hand
+pub idle_hands : (Part Value Command Answer : Type 0) (n : ℕ) → map (hand_of {Part = Part} {Value = Value} {Command = Command} {Answer = Answer}) (replicate n None) ≡ replicate n None
+idle_hands Part Value Command Answer zero = refl
+idle_hands Part Value Command Answer (suc n) = ap (λ l. None ∷ l) (idle_hands Part Value Command Answer n)

@@ -1,0 +1,60 @@
+//! All interleavings: a list of small steps of any clerks, one after another.
+ghost use Rattle.std.specs.Prelude.{◌≡◌, true, IfOk, IfSome, All};
+ghost use Rattle.versioned_steps.specs.History.{is_legal};
+ghost use Rattle.versioned_steps.specs.Drafts.{IsDraftOf};
+ghost use Rattle.versioned_steps.specs.Stores.{Replays};
+ghost use Rattle.versioned_steps.specs.World.{IsRun, opening_world, world_of};
+
+use crate::draft::Draft;
+use crate::entry::Entry;
+use crate::parted::Parted;
+use crate::state::State;
+use crate::step::{Outcome, Step};
+use crate::store::Store;
+use std::alloc::{AllocError, Global};
+
+/// What a list of steps led to: the store, the history, what each clerk has in hand, and one outcome per step.
+#[derive(Drop)]
+pub struct World<P: Parted> {
+    pub store: Store<P>,
+    pub history: Vec<Entry<P::Command, P::Answer>>,
+    /// One for each clerk, from clerk 0 on; none where the clerk is idle.
+    pub drafts: Vec<Option<Draft<P>>>,
+    pub outcomes: Vec<Outcome<P::Part, P::Answer>>,
+}
+
+/// Makes these steps of that many clerks, from the empty history on. An Err comes only where the list of clerks or the
+/// list of outcomes found no memory; a step that finds none has the outcome NoMemory, and the next one is made.
+pub fn run_steps<P: Parted>(
+    alloc: Global,
+    parts: P,
+    clerks: u32,
+    steps: &[Step<P::Command>],
+) -> Result<World<P>, AllocError>
+    // Outcomes, history and hands are a run of the world on these steps.
+    ensures run { IfOk result (λ w. IsRun (P.rules parts) (opening_world clerks) steps.now w.outcomes.items (world_of w.history.items w.drafts.items)) }
+    // The store has each part with its version and value after the history.
+    ensures store { IfOk result (λ w. Replays (P.rules parts) w.history.items w.store) }
+    // What is in hand was read from the history.
+    ensures drafts { IfOk result (λ w. All (λ d. IfSome d (IsDraftOf (P.rules parts) w.history.items)) w.drafts.items) }
+    // Each entry's answer is the decision on the parts as the entries before it left them.
+    ensures legal { IfOk result (λ w. is_legal (P.rules parts) w.history.items ≡ true) }
+{
+    let mut outcomes = Vec::with_capacity(alloc, steps.len())?;
+    let mut state = State::open(alloc, parts, clerks)?;
+    for step in steps {
+        let outcome = state.make(alloc, step);
+        outcomes.push_reserved(outcome);
+    }
+    let State {
+        store,
+        history,
+        drafts,
+    } = state;
+    Ok(World {
+        store,
+        history,
+        drafts,
+        outcomes,
+    })
+}
