@@ -4,3 +4,4 @@ pub mod ReadLemmas
 pub mod StoreLemmas
 pub mod WorldLemmas
 pub mod RunLemmas
+pub mod TouchLemmas

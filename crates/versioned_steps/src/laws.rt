@@ -1,0 +1,34 @@
+//! Laws of the definitions, each the contract of a function that does nothing.
+ghost use Rattle.std.specs.Prelude.{ℕ, ◌<◌, ◌≤◌, List, length};
+ghost use Rattle.versioned_steps.specs.declared.entry.Entry.{Entry};
+ghost use Rattle.versioned_steps.specs.declared.step.Step.{Step};
+ghost use Rattle.versioned_steps.specs.declared.step.Outcome.{Outcome};
+ghost use Rattle.versioned_steps.specs.History.{version_of, TouchesAt, IsLastTouch};
+ghost use Rattle.versioned_steps.specs.Reads.{Read, IsFresh};
+ghost use Rattle.versioned_steps.specs.World.{World, IsRun, opening_world};
+ghost use Rattle.versioned_steps.specs.Serial.{IsSerial};
+
+use crate::parted::Parted;
+
+/// What is finished in any run, of any number of clerks, is a serial history: its commands in order, each decided alone,
+/// give the same answers and the same parts.
+pub fn serial_history<P: Parted>()
+    ensures { (parts : P) (clerks : ℕ) (steps : List (Step P.Command)) (outcomes : List (Outcome P.Part P.Answer)) (after : World P.Part P.Value P.Command P.Answer) →
+        IsRun (P.rules parts) (opening_world clerks) steps outcomes after → IsSerial (P.rules parts) after.history }
+{}
+
+/// The version of a part is the place of the last entry that touches it, and 0 where none does.
+pub fn versions_are_last_touches<P: Parted>()
+    ensures { (parts : P) (history : List (Entry P.Command P.Answer)) (part : P.Part) →
+        IsLastTouch (P.rules parts) history part (version_of (P.rules parts) history part) }
+{}
+
+/// A read is fresh exactly where no entry placed after it touches its part.
+pub fn fresh_means_untouched<P: Parted>()
+    ensures fresh { (parts : P) (history : List (Entry P.Command P.Answer)) (x : Read P.Part P.Value) →
+        IsFresh (P.rules parts) history x →
+        (later : ℕ) → x.at < later → later ≤ length history → TouchesAt (P.rules parts) history later x.part → ⊥ }
+    ensures untouched { (parts : P) (history : List (Entry P.Command P.Answer)) (x : Read P.Part P.Value) →
+        ((later : ℕ) → x.at < later → later ≤ length history → TouchesAt (P.rules parts) history later x.part → ⊥) →
+        IsFresh (P.rules parts) history x }
+{}
