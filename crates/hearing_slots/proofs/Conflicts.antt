@@ -1,54 +1,14 @@
 -- The first booking in order that conflicts with a span of slots is the one with the least first slot.
-use Rattle.std.proofs.Common.{◌≡◌, ℕ, zero, suc, ◌<◌, ◌≤◌, ℤ, Bool, true, false, not, Option, Some, None, List, [], ◌∷◌, length, get_or, sym, ap, ◌∙◌, subst, arith, inl, inr, IfSome, IfNone}
-use Rattle.std.specs.List.{All, find}
+use Rattle.std.proofs.Common.{◌≡◌, ℕ, ◌≤◌, ℤ, true, not, Option, Some, None, List, get_or, sym, ap, ◌∙◌, subst, arith, inl, inr, IfSome, IfNone}
+use Rattle.std.specs.List.{find}
 use Rattle.std.proofs.lemmas.Int.{ints}
-use Rattle.std.proofs.lemmas.Bool.{cases_Bool, cases_order, and_parts, not-true, not_from_false, and_from, both_ways}
+use Rattle.std.proofs.lemmas.Bool.{cases_order, and_parts, not-true, not_from_false, and_from, both_ways}
 use Rattle.std.proofs.lemmas.List.{get_or_default}
 use Rattle.hearing_slots.specs.declared.booking.Booking.{Booking}
 use Rattle.hearing_slots.specs.Booking.{IsWithinDay, is_excepted, begins_before, shares_slot}
 use Rattle.hearing_slots.specs.Calendar.{IsCalendar, IsConflict, IsLeastConflict, IsFree, conflicts, first_conflict}
+use Rattle.hearing_slots.proofs.Finds.{find-Some, find-None}
 use Rattle.hearing_slots.proofs.Order.{SharesSlot-from_test, test_from_SharesSlot}
-
--- r stands at a place of the list and passes the test, and no element before it does
-record IsFirst {X : Type 0} (p : X → Bool) (xs : List X) (r : X) : Type 0 where
-  place : ℕ
-  within : place < length xs
-  stands : get_or xs place r ≡ r
-  passes : p r ≡ true
-  first : (k : ℕ) (d : X) → k < place → p (get_or xs k d) ≡ false
-
-find-Some : {X : Type 0} (p : X → Bool) (xs : List X) (r : X) → find p xs ≡ Some r → IsFirst p xs r
-find-Some p [] r h = absurd cc
-find-Some p (x ∷ xs) r h = elim (cases_Bool (p x)) [
-  | inl passes ↦
-      let found : Some x ≡ Some r = rw passes at h in
-      let same : x ≡ r = cc in
-      record { place = 0; within = omega arith; stands = same; passes = rw (← same) passes; first = λ k d below. absurd (omega arith) }
-  | inr fails ↦
-      let rest = find-Some p xs r (rw fails at h) in
-      record {
-        place = suc rest.place;
-        within = omega (arith, rest.within);
-        stands = rest.stands;
-        passes = rest.passes;
-        first = front p x xs rest.place fails rest.first;
-      }
-] where
-  front : {X : Type 0} (p : X → Bool) (x : X) (xs : List X) (n : ℕ) → p x ≡ false → ((k : ℕ) (d : X) → k < n → p (get_or xs k d) ≡ false) → (k : ℕ) (d : X) → k < suc n → p (get_or (x ∷ xs) k d) ≡ false
-  front p x xs n fails rest zero d below = fails
-  front p x xs n fails rest (suc k) d below = rest k d (omega arith)
-
-find-None : {X : Type 0} (p : X → Bool) (xs : List X) → find p xs ≡ None → All (λ x. p x ≡ false) xs
-find-None p [] h k d within = absurd (omega arith)
-find-None p (x ∷ xs) h k d within = elim (cases_Bool (p x)) [
-  | inl passes ↦
-      let found : Some x ≡ None = rw passes at h in
-      absurd cc
-  | inr fails ↦ each p x xs fails (find-None p xs (rw fails at h)) k d within
-] where
-  each : {X : Type 0} (p : X → Bool) (x : X) (xs : List X) → p x ≡ false → All (λ y. p y ≡ false) xs → All (λ y. p y ≡ false) (x ∷ xs)
-  each p x xs fails rest zero d within = fails
-  each p x xs fails rest (suc k) d within = rest k d (omega arith)
 
 -- what conflicts passes the test
 conflicts-from_IsConflict : (day : ℤ) (first count : ℕ) (except : Option (ℕ × ℕ)) (b : Booking) → IsConflict day first count except b → conflicts day first count except b ≡ true
@@ -56,7 +16,7 @@ conflicts-from_IsConflict day first count except b h =
     and_from _ _ (test_from_SharesSlot b day first count h.1) (not_from_false _ h.0)
 
 -- and what passes the test conflicts
-IsConflict-from_conflicts : (day : ℤ) (first count : ℕ) (except : Option (ℕ × ℕ)) (b : Booking) → IsWithinDay b → 1 ≤ count → conflicts day first count except b ≡ true → IsConflict day first count except b
+pub IsConflict-from_conflicts : (day : ℤ) (first count : ℕ) (except : Option (ℕ × ℕ)) (b : Booking) → IsWithinDay b → 1 ≤ count → conflicts day first count except b ≡ true → IsConflict day first count except b
 IsConflict-from_conflicts day first count except b within some h =
     let parts = and_parts (shares_slot b day first count) (not (is_excepted except b)) h in
     (not-true _ parts.1, SharesSlot-from_test b day first count within.some_slot some parts.0)

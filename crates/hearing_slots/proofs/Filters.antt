@@ -4,7 +4,8 @@ use Rattle.std.specs.List.{All, AllPairs, AllWithin, filter, find}
 use Rattle.std.specs.List.Sorted.{IsPartitionPoint, IsPartitionedBy}
 use Rattle.std.proofs.lemmas.Bool.{cases_Bool, cases_eq, not_from_true, not_from_false}
 use Rattle.std.proofs.lemmas.List.{append-nil, get_or-take, get_or-drop}
-use Rattle.std.proofs.lemmas.List.Elements.{All-head, All-tail, filter-append}
+use Rattle.std.proofs.lemmas.List.Elements.{All-head, All-tail, filter-append, filter_agree}
+use Rattle.std.proofs.Math.Bool.{and_comm}
 
 -- a filter that each element passes keeps the list
 pub filter_all : {X : Type 0} (p : X → Bool) (xs : List X) → All (λ x. p x ≡ true) xs → filter p xs ≡ xs
@@ -82,3 +83,23 @@ find-filter p q weaker (x ∷ xs) = elim (cases_Bool (p x)) [
     | inr dropped ↦ rw (dropped, fails) (find-filter p q weaker xs)
   ]
 ]
+
+-- a filter makes no difference to another one that keeps no more than it does
+pub filter_kept : {X : Type 0} (p q : X → Bool) (xs : List X) → All (λ x. p x ≡ true → q x ≡ true) xs → filter p (filter q xs) ≡ filter p xs
+filter_kept p q [] h = refl
+filter_kept p q (x ∷ xs) h = elim (cases_Bool (p x)) [
+  | inl passes ↦
+      let too : q x ≡ true = All-head (λ y. p y ≡ true → q y ≡ true) x xs h passes in
+      rw (too, passes) (ap (λ ys. x ∷ ys) (filter_kept p q xs (All-tail (λ y. p y ≡ true → q y ≡ true) x xs h)))
+  | inr fails ↦ elim (cases_Bool (q x)) [
+    | inl kept ↦ rw (kept, fails) (filter_kept p q xs (All-tail (λ y. p y ≡ true → q y ≡ true) x xs h))
+    | inr dropped ↦ rw (dropped, fails) (filter_kept p q xs (All-tail (λ y. p y ≡ true → q y ≡ true) x xs h))
+  ]
+]
+
+-- two filters give the same in either order
+pub filter_comm : {X : Type 0} (p q : X → Bool) (xs : List X) → filter p (filter q xs) ≡ filter q (filter p xs)
+filter_comm p q xs =
+    filter-filter p q xs
+    ∙ filter_agree (λ x. q x && p x) (λ x. p x && q x) (λ x. and_comm (q x) (p x)) xs
+    ∙ sym (filter-filter q p xs)

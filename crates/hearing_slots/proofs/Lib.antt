@@ -3,3 +3,7 @@ pub mod Inserts
 pub mod Order
 pub mod CalendarLaws
 pub mod Conflicts
+pub mod Finds
+pub mod DayEntries
+pub mod SlotBits
+pub mod DayLaws

@@ -2,3 +2,4 @@ pub mod Booking
 pub mod Calendar
 pub mod Panel
 pub mod Shared
+pub mod Slots

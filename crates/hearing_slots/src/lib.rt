@@ -4,7 +4,9 @@
 mod booking;
 mod bookings;
 mod calendar;
+mod day_slots;
 mod need;
+mod ordered;
 mod panel;
 mod timetable;
 

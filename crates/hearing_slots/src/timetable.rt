@@ -1,60 +1,36 @@
-//! The bookings of a calendar in order, kept so that a day is found without a look at the others.
+//! The bookings of a calendar in order, and for each day the slots that are taken on it.
 
-ghost use Rattle.std.specs.Prelude.{◌≡◌, ◌+◌, ◌≤◌, [], IfOk, IfSome, IfNone, true, false, All, AllPairs, Some, find};
-ghost use Rattle.hearing_slots.specs.Booking.{begins_before, is_of, IsWithinDay, SharesSlot};
+ghost use Rattle.std.specs.Prelude.{◌≡◌, ◌+◌, ◌≤◌, [], Some, IfOk, IfSome, IfNone, false, All};
 ghost use Rattle.hearing_slots.specs.declared.booking.TheConstants.{SLOTS_PER_DAY};
-ghost use Rattle.hearing_slots.specs.Calendar.{IsCalendar, IsFree, IsLeastConflict, on_day, in_place, without_motion, with_booking, first_conflict, conflicts};
+ghost use Rattle.hearing_slots.specs.Booking.{is_of, IsWithinDay, SharesSlot};
+ghost use Rattle.hearing_slots.specs.Calendar.{IsCalendar, IsFree, IsLeastConflict, on_day, in_place, without_motion, with_booking, first_conflict};
 
 use crate::booking::Booking;
+use crate::day_slots::{DaySlots, lower, mark, slots_from, taken_on};
+use crate::ordered::{booking_of, first_of, part_of_day, place_in, slots_on, take_out};
 use court_days::Day;
 use std::alloc::{AllocError, Global};
 use std::marker::Model;
-
-/// The bookings of the day, out of a list that is in order.
-fn part_of_day(bookings: &[Booking], day: Day) -> &[Booking]
-    requires { AllPairs (λ a b. begins_before a b ≡ true) bookings.now }
-    ensures { result.now ≡ on_day day bookings.now }
-{
-    let number = day.number();
-    let earlier = bookings.partition_point(|booking| booking.day.number() < number);
-    let rest = &bookings[earlier..];
-    let taken = rest.partition_point(|booking| booking.day.number() <= number);
-    &rest[..taken]
-}
-
-/// The first of the bookings that conflicts with the span.
-fn first_of(
-    bookings: &[Booking],
-    day: Day,
-    first: u8,
-    count: u8,
-    except: Option<(u32, u32)>,
-) -> Option<Booking>
-    requires { first + count ≤ SLOTS_PER_DAY }
-    ensures { result ≡ find (conflicts day first count except) bookings.now }
-{
-    bookings
-        .iter()
-        .copied()
-        .find(|booking| booking.conflicts(day, first, count, except))
-}
 
 /// Bookings by day and on a day by first slot, no two of which share a slot.
 #[derive(Debug, Drop)]
 pub(crate) struct Timetable {
     bookings: Vec<Booking>,
+    // For each day with a booking the slots that are taken on it.
+    days: Vec<DaySlots>,
 }
 
 impl Model for Timetable {
     ghost use Rattle.std.specs.Prelude.{List};
     ghost use Rattle.hearing_slots.specs.declared.booking.Booking.{Booking};
     ghost use Rattle.hearing_slots.specs.Calendar.{IsCalendar};
+    ghost use Rattle.hearing_slots.specs.Slots.{MarksBookings};
 
     ghost Value = { List Booking };
 
     ghost view = { λ t. t.bookings.items };
 
-    ghost invariant = { λ t. IsCalendar t.bookings.items };
+    ghost invariant = { λ t. IsCalendar t.bookings.items × MarksBookings t.bookings.items t.days.items };
 }
 
 impl Timetable {
@@ -64,6 +40,7 @@ impl Timetable {
     {
         Timetable {
             bookings: Vec::new(alloc),
+            days: Vec::new(alloc),
         }
     }
 
@@ -73,7 +50,9 @@ impl Timetable {
     {
         let mut bookings = Vec::with_capacity(alloc, self.bookings.len().saturating_add(1))?;
         bookings.extend_from_slice(&self.bookings)?;
-        Ok(Timetable { bookings })
+        let mut days = Vec::with_capacity(alloc, self.days.len().saturating_add(1))?;
+        days.extend_from_slice(&self.days)?;
+        Ok(Timetable { bookings, days })
     }
 
     /// All bookings, in order.
@@ -91,7 +70,8 @@ impl Timetable {
         part_of_day(&self.bookings, day)
     }
 
-    /// The first booking, in order, that shares a slot of the day with the span, other than the excepted one.
+    /// The first booking, in order, that shares a slot of the day with the span, other than the excepted one. It is
+    /// looked for only where some slot of the span is taken.
     pub(crate) fn conflict(
         &self,
         day: Day,
@@ -105,6 +85,9 @@ impl Timetable {
         ensures some { IfSome result (IsLeastConflict self.now day first count except) }
         ensures none { IfNone result (IsFree self.now day first count except) }
     {
+        if taken_on(&self.days, day) & slots_from(first, count) == 0 {
+            return None;
+        }
         first_of(part_of_day(&self.bookings, day), day, first, count, except)
     }
 
@@ -112,7 +95,12 @@ impl Timetable {
     pub(crate) fn remove(&mut self, case: u32, motion: u32)
         ensures { self.new ≡ without_motion case motion self.old }
     {
-        self.bookings.retain(|booking| !booking.is_of(case, motion));
+        let Some(gone) = booking_of(&self.bookings, case, motion) else {
+            return;
+        };
+        take_out(&mut self.bookings, case, motion);
+        let taken = slots_on(&self.bookings, gone.day);
+        lower(&mut self.days, gone.day, taken);
     }
 
     /// Puts the booking in its place, where none of its case and motion stands and none shares a slot with it.
@@ -122,10 +110,12 @@ impl Timetable {
         requires only { All (λ b. is_of booking.case booking.motion b ≡ false) self.old }
         ensures { IfOk result (λ _. self.new ≡ in_place booking self.old) }
     {
-        let place = self
-            .bookings
-            .partition_point(|other| other.begins_before(&booking));
-        self.bookings.insert(place, booking)?;
+        let day = booking.day;
+        self.bookings.reserve(1)?;
+        self.days.reserve(1)?;
+        place_in(&mut self.bookings, booking);
+        let taken = slots_on(&self.bookings, day);
+        mark(&mut self.days, day, taken);
         Ok(())
     }
 

@@ -8,7 +8,7 @@ use Rattle.hearing_slots.specs.declared.booking.Booking.{Booking}
 use Rattle.hearing_slots.specs.Booking.{begins_before, is_on}
 use Rattle.hearing_slots.proofs.Filters.{filter_front, filter_back, filter-filter, parted}
 use Rattle.hearing_slots.proofs.Order.{begins_before-earlier, begins_before-not_later, is_on-from_bounds}
-use Rattle.hearing_slots.proofs.timetable.part_of_day.Goals as goal
+use Rattle.hearing_slots.proofs.ordered.part_of_day.Goals as goal
 
 pub returns : goal.returns
 returns c =

@@ -1,0 +1,17 @@
+use Rattle.std.proofs.Common.{◌≡◌, not, rules}
+use Rattle.std.specs.List.{filter}
+use Rattle.std.proofs.lemmas.Fn.{filter_same}
+use Rattle.hearing_slots.specs.declared.booking.Booking.{Booking}
+use Rattle.hearing_slots.specs.Booking.{is_of}
+use Rattle.hearing_slots.proofs.CalendarLaws.{IsCalendar-filter}
+use Rattle.hearing_slots.proofs.ordered.take_out.Goals as goal
+
+pub returns-clause-items : goal.returns-clause-items
+returns-clause-items c = filter_same _ _ _ (λ x b f' k. search rules) _ _ c.retain.ensures.filtered
+
+pub returns-clause-calendar : goal.returns-clause-calendar
+returns-clause-calendar c =
+    let all = c.args.bookings.now.items in
+    let other = λ (b : Booking). not (is_of c.args.case c.args.motion b) in
+    let kept : c.retain.new.self.items ≡ filter other all = filter_same _ _ _ (λ x b f' k. search rules) _ _ c.retain.ensures.filtered in
+    rw kept (IsCalendar-filter other all c.requires)
