@@ -6,3 +6,5 @@ pub mod Stores
 pub mod World
 pub mod Moves
 pub mod Serial
+pub mod Counters
+pub mod CounterLaws

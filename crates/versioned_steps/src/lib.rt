@@ -24,3 +24,6 @@ pub use run::{World, run_steps};
 pub use stale::Stale;
 pub use step::{Outcome, Step};
 pub use store::{Change, Store};
+
+#[cfg(test)]
+mod tests;

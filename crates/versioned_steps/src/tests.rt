@@ -1,0 +1,3 @@
+//! Two small instances, and runs over them.
+mod counters;
+mod pointers;

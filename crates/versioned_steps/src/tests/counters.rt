@@ -1,0 +1,81 @@
+//! Counters: a command reads a first cell, if it names one, and a second, and writes the second, unless its number grows
+//! to 100.
+ghost use Rattle.std.specs.Prelude.{◌≡◌};
+
+use crate::decision::Decision;
+use crate::parted::Parted;
+use std::alloc::{AllocError, Global};
+
+/// The first cell, if any, and the second.
+pub type Add = (Option<u8>, u8);
+
+#[derive(Drop)]
+pub struct Counters;
+
+impl Parted for Counters {
+    ghost use Rattle.versioned_steps.specs.Counters.{counters};
+    ghost use Rattle.versioned_steps.specs.CounterLaws.{counters_lawful};
+    ghost use Rattle.std.proofs.Common.{refl};
+
+    type Part = u8;
+    type Value = u64;
+    type Command = Add;
+    type Answer = Option<u64>;
+
+    ghost rules = { λ _. counters };
+
+    fn opening(&self, _alloc: Global, _cell: &u8) -> Result<u64, AllocError> {
+        Ok(0)
+    }
+
+    fn next_part(&self, command: &Add, reads: &[(u8, u64)]) -> Option<u8> {
+        match (command.0, reads) {
+            (None, []) => Some(command.1),
+            (Some(first), []) => Some(first),
+            (Some(_), [_]) => Some(command.1),
+            _ => None,
+        }
+    }
+
+    fn decide(
+        &self,
+        alloc: Global,
+        command: &Add,
+        reads: &[(u8, u64)],
+    ) -> Result<Decision<u8, u64, Option<u64>>, AllocError> {
+        let total = match (command.0, reads) {
+            (None, [x, ..]) => x.1.saturating_add(1),
+            (Some(_), [x, y, ..]) => x.1.saturating_add(y.1).saturating_add(1),
+            _ => unreachable!(),
+        };
+        let mut writes = Vec::new(alloc);
+        if total < 100 {
+            writes.reserve(1)?;
+            writes.push_reserved((command.1, total));
+            return Ok(Decision {
+                answer: Some(total),
+                writes,
+            });
+        }
+        Ok(Decision {
+            answer: None,
+            writes,
+        })
+    }
+
+    fn copy_value(&self, _alloc: Global, value: &u64) -> Result<u64, AllocError> {
+        Ok(*value)
+    }
+
+    fn copy_command(&self, _alloc: Global, command: &Add) -> Result<Add, AllocError> {
+        Ok(*command)
+    }
+
+    fn copy_answer(&self, _alloc: Global, answer: &Option<u64>) -> Result<Option<u64>, AllocError> {
+        Ok(*answer)
+    }
+
+    ghost lawful = { λ _. counters_lawful };
+
+    ghost part_eq = { λ _ x y. refl };
+}
