@@ -1,0 +1,29 @@
+# How to build, run, test and measure the clerk's office. It needs `rt`, the command of the Rattle kit, on the PATH,
+# and Python 3.8 or later.
+
+CRATE   := crates/clerk_office
+PROGRAM := $(CRATE)/out/clerk_office
+EXAMPLE := examples/smallest.txt
+
+.PHONY: build run test bench help
+
+# `rt run` proves the program and the libraries below it, builds it at $(PROGRAM), and runs it, here on the smallest
+# example. Where nothing has changed since the last time it proves nothing anew.
+build:
+	@cd $(CRATE) && rt run < ../../$(EXAMPLE) > /dev/null
+
+run: build
+	@$(PROGRAM) < $(EXAMPLE)
+
+# Everything from nothing: proofs, edits that the prover must refuse, tests, and the program's stored run.
+test:
+	@rt ci
+
+bench: build
+	@python3 bench/bench.py $(PROGRAM)
+
+help:
+	@echo "make         proves and builds the program, which is then $(PROGRAM)"
+	@echo "make run     that, and runs it on $(EXAMPLE)"
+	@echo "make test    proves and tests everything from nothing (rt ci)"
+	@echo "make bench   builds the program, and prints its rows per second and peak memory"
