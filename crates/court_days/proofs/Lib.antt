@@ -5,3 +5,5 @@ pub mod DateLaws
 pub mod TextLaws
 pub mod ReadingLaws
 pub mod NamesLaws
+pub mod CivilLaws
+pub mod SteadyLaws

@@ -15,7 +15,7 @@ use Rattle.court_days.specs.Date.{day_of_text}
 use Rattle.court_days.specs.Key.{key_name}
 use Rattle.court_days.specs.Minute.{minute_of_text}
 use Rattle.court_days.specs.Search.{days_through}
-use Rattle.court_days.specs.Clock.{ClockView}
+use Rattle.court_days.specs.Civil.{CourtClock}
 use Rattle.court_days.specs.Zone.{Zone, zone_of_text, zone_view}
 
 -- what a court's file says
@@ -29,7 +29,7 @@ pub record CourtFile : Type 0 where
 
 -- a court: its clock, its days, and the names of its judges and rooms in the order of its file
 pub record CourtView : Type 0 where
-  pub clock : ClockView
+  pub clock : CourtClock
   pub days : Calendar
   pub judges : List (List ℕ)
   pub rooms : List (List ℕ)

@@ -6,6 +6,6 @@ pub mod Date
 pub mod Minute
 pub mod Key
 pub mod Zone
-pub mod Clock
+pub mod Civil
 pub mod Court
 pub mod Names

@@ -1,9 +1,9 @@
 //! A court, from its file.
 
-ghost use Rattle.std.specs.Prelude.{◌≡◌, ◌<◌, ◌≤◌, ℕ, length, slice_get, IfSome, IfOk, option_copied, Ok};
+ghost use Rattle.std.specs.Prelude.{◌≡◌, true, ◌<◌, ◌≤◌, ℕ, length, slice_get, IfSome, IfOk, option_copied, Ok};
 ghost use Rattle.toml.specs.View.{table_view};
 ghost use Rattle.jiff.specs.Words.{plain_zone};
-ghost use Rattle.court_days.specs.Clock.{IsHours};
+ghost use Rattle.court_days.specs.Civil.{is_ruled};
 ghost use Rattle.court_days.specs.Court.{CourtView, Gives, file_of, court_of, court_in, zone_at, hours_at, days_at, is_span};
 ghost use Rattle.court_days.specs.Names.{name_index};
 ghost use Rattle.court_days.specs.Zone.{zone_view};
@@ -146,7 +146,8 @@ fn number_of(names: &Names, name: &str) -> Option<u8>
 
 #[tactic(auto, unfolding(crate::specs::Court::zone_at))]
 fn zone_at(file: &Table) -> Result<TimeZone<'static>, CourtFault>
-    ensures { Gives (λ z. zone_view (plain_zone z)) result (zone_at (table_view file.now)) }
+    ensures value { Gives (λ z. zone_view (plain_zone z)) result (zone_at (table_view file.now)) }
+    ensures ruled { IfOk result (λ z. is_ruled (plain_zone z) ≡ true) }
 {
     let text = text_at(file, Key::Zone)?;
     match zone_from_text(text) {
@@ -159,7 +160,7 @@ fn zone_at(file: &Table) -> Result<TimeZone<'static>, CourtFault>
 #[tactic(auto, unfolding(crate::specs::Court::hours_at))]
 fn hours_at(file: &Table) -> Result<(u16, u16), CourtFault>
     ensures value { Gives (λ h. (h.0, h.1)) result (hours_at (table_view file.now)) }
-    ensures hours { IfOk result (λ h. IsHours h.0 h.1) }
+    ensures ordered { IfOk result (λ h. (h.0 < h.1) × (h.1 < 1440)) }
 {
     let opens = minute_at(file, Key::Opens)?;
     let closes = minute_at(file, Key::Closes)?;

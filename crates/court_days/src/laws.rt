@@ -3,6 +3,7 @@
 ghost use Rattle.court_days.specs.Search.{EarliestIsLeast, LatestIsGreatest};
 ghost use Rattle.court_days.specs.Rolled.{RolledIsNearest};
 ghost use Rattle.court_days.specs.Date.{DaysHaveDates, TextsAreDays};
+ghost use Rattle.court_days.specs.Civil.{InstantsAreEarliest};
 
 /// Rolling gives the nearest permitted day, and none only where the day isn't covered or no covered day is that.
 pub fn rolled_is_nearest()
@@ -29,4 +30,10 @@ pub fn days_have_dates()
 /// A text is read as the day of the years 1900 to 2199 that is written so, and as no day where there is none.
 pub fn texts_are_days()
     ensures { TextsAreDays }
+{}
+
+/// The instant of a civil time is the least at which the clock shows it, and where the clock shows it at none, the
+/// civil time less the smaller of the zone's two offsets.
+pub fn instants_are_earliest()
+    ensures { InstantsAreEarliest }
 {}

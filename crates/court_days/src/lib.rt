@@ -10,6 +10,7 @@ mod direction;
 mod fault;
 mod fault_text;
 mod holiday_list;
+mod instant;
 mod key;
 mod laws;
 mod minute;
@@ -27,9 +28,11 @@ pub use direction::Direction;
 pub use fault::CourtFault;
 pub use fault_text::FaultText;
 pub use holiday_list::HolidayList;
+pub use instant::Instant;
 pub use key::Key;
 pub use laws::{
-    days_have_dates, earliest_is_least, latest_is_greatest, rolled_is_nearest, texts_are_days,
+    days_have_dates, earliest_is_least, instants_are_earliest, latest_is_greatest,
+    rolled_is_nearest, texts_are_days,
 };
 pub use minute::minute_from_text;
 pub use outage::Outage;

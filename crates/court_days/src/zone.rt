@@ -1,7 +1,8 @@
 //! The court's time zone from its text.
 
-ghost use Rattle.std.specs.Prelude.{◌≡◌, ◌<◌, ◌*◌, pos, neg_ℤ, IfSome, option_map};
+ghost use Rattle.std.specs.Prelude.{◌≡◌, true, ◌<◌, ◌*◌, pos, neg_ℤ, IfSome, option_map};
 ghost use Rattle.jiff.specs.Words.{plain_zone, IsOffsetSeconds};
+ghost use Rattle.court_days.specs.Civil.{is_ruled};
 ghost use Rattle.court_days.specs.Zone.{zone_of_text, zone_of_rule, zone_view, offset_minutes, offset};
 
 use crate::minute::minute_from_bytes;
@@ -10,7 +11,8 @@ use jiff::tz::{Offset, TimeZone};
 /// The zone that a text names: `+hh:mm` or `-hh:mm` with `hh` from 00 to 14, east of Greenwich positive, or else
 /// a POSIX rule.
 pub(crate) fn zone_from_text(text: &str) -> Option<TimeZone<'static>>
-    ensures { option_map (λ z. zone_view (plain_zone z)) result ≡ zone_of_text text.now }
+    ensures value { option_map (λ z. zone_view (plain_zone z)) result ≡ zone_of_text text.now }
+    ensures ruled { IfSome result (λ z. is_ruled (plain_zone z) ≡ true) }
 {
     match text.as_bytes() {
         [b'+', rest @ ..] => {
@@ -35,7 +37,8 @@ fn offset_minutes(text: &[u8]) -> Option<u16>
 }
 
 fn posix(text: &str) -> Option<TimeZone<'static>>
-    ensures { option_map (λ z. zone_view (plain_zone z)) result ≡ zone_of_rule text.now }
+    ensures value { option_map (λ z. zone_view (plain_zone z)) result ≡ zone_of_rule text.now }
+    ensures ruled { IfSome result (λ z. is_ruled (plain_zone z) ≡ true) }
 {
     match TimeZone::posix(text) {
         Ok(zone) => Some(zone),
@@ -46,7 +49,8 @@ fn posix(text: &str) -> Option<TimeZone<'static>>
 /// The zone that always lies so many minutes east of Greenwich.
 fn east(minutes: u16) -> TimeZone<'static>
     requires { minutes < 900 }
-    ensures { zone_view (plain_zone result) ≡ offset (pos (60 * minutes)) }
+    ensures value { zone_view (plain_zone result) ≡ offset (pos (60 * minutes)) }
+    ensures ruled { is_ruled (plain_zone result) ≡ true }
 {
     fixed(60 * i32::from(minutes))
 }
@@ -54,7 +58,8 @@ fn east(minutes: u16) -> TimeZone<'static>
 /// The zone that always lies so many minutes west of Greenwich.
 fn west(minutes: u16) -> TimeZone<'static>
     requires { minutes < 900 }
-    ensures { zone_view (plain_zone result) ≡ offset (neg_ℤ (pos (60 * minutes))) }
+    ensures value { zone_view (plain_zone result) ≡ offset (neg_ℤ (pos (60 * minutes))) }
+    ensures ruled { is_ruled (plain_zone result) ≡ true }
 {
     let seconds = 60 * i32::from(minutes);
     fixed(-seconds)
@@ -63,7 +68,8 @@ fn west(minutes: u16) -> TimeZone<'static>
 /// The zone that always lies so many seconds east of Greenwich.
 fn fixed(seconds: i32) -> TimeZone<'static>
     requires { IsOffsetSeconds seconds }
-    ensures { zone_view (plain_zone result) ≡ offset seconds }
+    ensures value { zone_view (plain_zone result) ≡ offset seconds }
+    ensures ruled { is_ruled (plain_zone result) ≡ true }
 {
     match Offset::from_seconds(seconds) {
         Ok(offset) => TimeZone::fixed(offset),

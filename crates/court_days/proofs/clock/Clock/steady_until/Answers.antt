@@ -1,0 +1,21 @@
+use Rattle.std.proofs.Common.{◌≡◌, ◌<ℤ◌, inl, inr, arith, ap, int_le}
+use Rattle.std.proofs.lemmas.Int.{ints, clamps}
+use Rattle.std.proofs.lemmas.Bool.{cases_Bool}
+use Rattle.court_days.specs.Civil.{offset_seconds}
+use Rattle.court_days.proofs.SteadyLaws.{steady}
+use Rattle.court_days.proofs.clock.Clock.steady_until.Goals as goal
+
+pub returns-in-Some-clause-steady : goal.returns-in-Some-clause-steady
+returns-in-Some-clause-steady c t low high = elim (cases_Bool (int_le t c.args.instant)) [
+  | inl now ↦
+      let same : t ≡ c.args.instant = omega (arith, ints, now) in
+      ap (offset_seconds c.args.self.now.zone) same
+  | inr after ↦
+      let before_change : t <ℤ c.in-Some.change = omega (arith, ints, clamps, high, c.clamp.ensures.value, c.seconds-now.ensures.value, after) in
+      let before_midnight : t <ℤ c.end_of_utc_day-midnight.result = omega (arith, ints, high, c.clamp.ensures.upper_bound) in
+      steady c.args.self.now.zone c.args.instant t c.next_change.ensures.ruled (rw c.seconds-now.ensures.value at c.seconds-now.ensures.in_range) low (omega (arith, ints, before_midnight, c.end_of_utc_day-midnight.ensures.bound)) (c.end_of_utc_day-midnight.ensures.same_day t low before_midnight) (c.in-Some.ensures.some t before_change)
+]
+
+pub returns-in-None-clause-steady : goal.returns-in-None-clause-steady
+returns-in-None-clause-steady c t low high =
+    steady c.args.self.now.zone c.args.instant t c.next_change.ensures.ruled (rw c.seconds-now.ensures.value at c.seconds-now.ensures.in_range) low (omega (arith, ints, high, c.end_of_utc_day-midnight.ensures.bound)) (c.end_of_utc_day-midnight.ensures.same_day t low (omega (arith, ints, high))) (rw c.in-None.ensures.none tt)
