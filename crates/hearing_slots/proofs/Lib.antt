@@ -7,3 +7,4 @@ pub mod Finds
 pub mod DayEntries
 pub mod SlotBits
 pub mod DayLaws
+pub mod Holdings

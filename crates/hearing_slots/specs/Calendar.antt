@@ -1,5 +1,5 @@
 -- The bookings of one judge or one room: by day, and on a day by first slot.
-use Rattle.std.specs.Prelude.{◌≡◌, ℕ, ◌≤◌, ℤ, Bool, true, false, ◌&&◌, not, Option, List, ◌∷◌, ◌++◌, All, AllPairs, Contains, filter, find}
+use Rattle.std.specs.Prelude.{◌≡◌, ℕ, ◌≤◌, ℤ, Bool, true, false, ◌&&◌, not, Option, List, ◌∷◌, ◌++◌, All, AllPairs, Contains, filter, find, ◌↔◌, ◌⊎◌}
 use Rattle.hearing_slots.specs.declared.booking.Booking.{Booking}
 use Rattle.hearing_slots.specs.Booking.{IsWithinDay, SharesSlot, shares_slot, is_of, is_excepted, is_on, begins_before}
 
@@ -25,6 +25,18 @@ in_place b bookings = filter (λ a. begins_before a b) bookings ++ b ∷ filter 
 -- the bookings of other cases and motions, and this one, in order
 unfoldable pub with_booking : Booking → List Booking → List Booking
 with_booking b bookings = in_place b (without_motion b.case b.motion bookings)
+
+-- new holds the booking and those of old that are of other cases and motions, and no more
+abbrev pub HoldsWith : (b : Booking) (old new : List Booking) → Type 0
+HoldsWith b old new = (x : Booking) → Contains new x ↔ ((x ≡ b) ⊎ (Contains old x × (is_of b.case b.motion x ≡ false)))
+
+-- new holds the bookings of old that are of other cases and motions, and no more
+abbrev pub HoldsWithout : (case motion : ℕ) (old new : List Booking) → Type 0
+HoldsWithout case motion old new = (x : Booking) → Contains new x ↔ (Contains old x × (is_of case motion x ≡ false))
+
+-- the part holds the bookings of the day, and no more
+abbrev pub HoldsDay : (day : ℤ) (bookings part : List Booking) → Type 0
+HoldsDay day bookings part = (x : Booking) → Contains part x ↔ (Contains bookings x × (x.day ≡ day))
 
 -- the booking conflicts with a span of slots, as a test
 abbrev pub conflicts : ℤ → (first count : ℕ) → Option (ℕ × ℕ) → Booking → Bool

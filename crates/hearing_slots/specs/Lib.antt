@@ -1,5 +1,6 @@
 pub mod Booking
 pub mod Calendar
+pub mod Laws
 pub mod Panel
 pub mod Shared
 pub mod Slots

@@ -39,6 +39,7 @@ impl Bookings {
     pub fn into_vec(self) -> Vec<Booking>
         ensures { result.items ≡ self }
     {
-        self.list
+        let Bookings { list: bookings } = self;
+        bookings
     }
 }

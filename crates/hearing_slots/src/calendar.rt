@@ -3,7 +3,7 @@
 ghost use Rattle.std.specs.Prelude.{◌≡◌, ◌+◌, ◌≤◌, [], Some, IfOk, IfSome, IfNone};
 ghost use Rattle.hearing_slots.specs.declared.booking.TheConstants.{SLOTS_PER_DAY};
 ghost use Rattle.hearing_slots.specs.Booking.{IsWithinDay};
-ghost use Rattle.hearing_slots.specs.Calendar.{IsCalendar, IsFree, IsLeastConflict, on_day, without_motion, with_booking, first_conflict};
+ghost use Rattle.hearing_slots.specs.Calendar.{IsCalendar, IsFree, IsLeastConflict, HoldsWith, HoldsWithout, HoldsDay, on_day, without_motion, with_booking, first_conflict};
 
 use crate::booking::Booking;
 use crate::bookings::Bookings;
@@ -79,7 +79,8 @@ impl Calendar {
     pub fn with(self, alloc: Global, booking: Booking) -> Result<Calendar, AllocError>
         requires within_day { IsWithinDay booking }
         requires free { IsFree self booking.day booking.first booking.count (Some (booking.case, booking.motion)) }
-        ensures { IfOk result (λ calendar. calendar ≡ with_booking booking self) }
+        ensures value { IfOk result (λ calendar. calendar ≡ with_booking booking self) }
+        ensures holds { IfOk result (HoldsWith booking self) }
     {
         let mut timetable = self.into_timetable(alloc)?;
         timetable.put(booking)?;
@@ -89,7 +90,8 @@ impl Calendar {
     /// This calendar without the booking of the case and motion; where there is none, the calendar as it is. `Err`
     /// says that memory ran out.
     pub fn without(self, alloc: Global, case: u32, motion: u32) -> Result<Calendar, AllocError>
-        ensures { IfOk result (λ calendar. calendar ≡ without_motion case motion self) }
+        ensures value { IfOk result (λ calendar. calendar ≡ without_motion case motion self) }
+        ensures holds { IfOk result (HoldsWithout case motion self) }
     {
         let mut timetable = self.into_timetable(alloc)?;
         timetable.remove(case, motion);
@@ -98,12 +100,10 @@ impl Calendar {
 
     /// The bookings of the day, by first slot.
     pub fn on_day(&self, alloc: Global, day: Day) -> Result<Bookings, AllocError>
-        ensures { IfOk result (λ bookings. bookings ≡ on_day day self.now) }
+        ensures value { IfOk result (λ bookings. bookings ≡ on_day day self.now) }
+        ensures holds { IfOk result (HoldsDay day self.now) }
     {
-        let list = match &self.timetable {
-            None => Vec::new(alloc),
-            Some(timetable) => Vec::from_slice(alloc, timetable.on_day(day))?,
-        };
+        let list = Vec::from_slice(alloc, self.part_of_day(day))?;
         Ok(Bookings::from_vec(list))
     }
 
@@ -118,6 +118,16 @@ impl Calendar {
         Ok(Calendar {
             timetable: Some(Arc::try_clone(shared)?),
         })
+    }
+
+    /// The bookings of the day.
+    fn part_of_day(&self, day: Day) -> &[Booking]
+        ensures { result.now ≡ on_day day self.now }
+    {
+        match &self.timetable {
+            None => &[],
+            Some(timetable) => timetable.on_day(day),
+        }
     }
 
     /// The bookings themselves where no copy shares them, and else a copy of them.

@@ -5,6 +5,7 @@ mod booking;
 mod bookings;
 mod calendar;
 mod day_slots;
+mod laws;
 mod need;
 mod ordered;
 mod panel;
@@ -13,5 +14,9 @@ mod timetable;
 pub use booking::{Booking, MINUTES_PER_SLOT, SLOTS_PER_DAY};
 pub use bookings::Bookings;
 pub use calendar::Calendar;
+pub use laws::{booking_keeps_calendar, overlap_is_a_shared_slot, removal_keeps_calendar};
 pub use need::Need;
 pub use panel::Panel;
+
+#[cfg(test)]
+mod tests;

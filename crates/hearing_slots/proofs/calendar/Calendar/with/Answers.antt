@@ -1,0 +1,9 @@
+use Rattle.std.proofs.Common.{◌≡◌, IfOk, rules}
+use Rattle.hearing_slots.specs.Calendar.{with_booking}
+use Rattle.hearing_slots.proofs.Holdings.{held_with}
+use Rattle.hearing_slots.proofs.calendar.Calendar.with.Goals as goal
+
+pub returns-clause-holds : goal.returns-clause-holds
+returns-clause-holds c =
+    let value : IfOk c.of.result (λ new. new ≡ with_booking c.args.booking c.args.self) = search rules in
+    held_with c.args.booking c.args.self c.of.result value

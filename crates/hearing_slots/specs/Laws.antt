@@ -1,0 +1,17 @@
+-- What the tests and the lists of this crate come to.
+use Rattle.std.specs.Prelude.{◌≡◌, ◌↔◌, ℕ, ◌≤◌, ℤ, true, Some, List}
+use Rattle.hearing_slots.specs.declared.booking.Booking.{Booking}
+use Rattle.hearing_slots.specs.Booking.{IsWithinDay, SharesSlot, shares_slot}
+use Rattle.hearing_slots.specs.Calendar.{IsCalendar, IsFree, without_motion, with_booking}
+
+-- two spans of at least one slot each overlap exactly where some slot lies in both
+abbrev pub OverlapIsASharedSlot : Type 0
+OverlapIsASharedSlot = (b : Booking) (day : ℤ) (first count : ℕ) → 1 ≤ b.count → 1 ≤ count → (shares_slot b day first count ≡ true) ↔ SharesSlot b day first count
+
+-- a calendar stays one when a booking is put in that conflicts with no other
+abbrev pub BookingKeepsCalendar : Type 0
+BookingKeepsCalendar = (b : Booking) (bookings : List Booking) → IsCalendar bookings → IsWithinDay b → IsFree bookings b.day b.first b.count (Some (b.case, b.motion)) → IsCalendar (with_booking b bookings)
+
+-- and when one is taken out
+abbrev pub RemovalKeepsCalendar : Type 0
+RemovalKeepsCalendar = (case motion : ℕ) (bookings : List Booking) → IsCalendar bookings → IsCalendar (without_motion case motion bookings)
