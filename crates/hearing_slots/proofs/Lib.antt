@@ -8,3 +8,5 @@ pub mod DayEntries
 pub mod SlotBits
 pub mod DayLaws
 pub mod Holdings
+pub mod MotionEntries
+pub mod MotionLaws

@@ -6,6 +6,7 @@ mod bookings;
 mod calendar;
 mod day_slots;
 mod laws;
+mod motion_days;
 mod need;
 mod ordered;
 mod panel;

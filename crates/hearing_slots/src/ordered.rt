@@ -1,9 +1,10 @@
 //! Lists of bookings in order: a day of them, and one booking more or less.
 
-ghost use Rattle.std.specs.Prelude.{◌≡◌, ◌+◌, ◌<◌, ◌≤◌, ℤ, true, false, All, AllPairs, Contains, find, vec_len, vec_capacity};
+ghost use Rattle.std.specs.Prelude.{◌≡◌, ◌+◌, ◌<◌, ◌≤◌, ℕ, ℤ, Some, None, true, false, All, AllPairs, Contains, find, vec_len, vec_capacity};
 ghost use Rattle.hearing_slots.specs.declared.booking.TheConstants.{SLOTS_PER_DAY};
 ghost use Rattle.hearing_slots.specs.Booking.{begins_before, is_of, IsWithinDay, SharesSlot};
 ghost use Rattle.hearing_slots.specs.Calendar.{IsCalendar, on_day, in_place, without_motion, conflicts};
+ghost use Rattle.hearing_slots.specs.Motions.{day_heard};
 ghost use Rattle.hearing_slots.specs.Slots.{slots_taken};
 
 use crate::booking::Booking;
@@ -39,16 +40,6 @@ pub(crate) fn first_of(
         .find(|booking| booking.conflicts(day, first, count, except))
 }
 
-/// The booking of the case and motion.
-pub(crate) fn booking_of(bookings: &[Booking], case: u32, motion: u32) -> Option<Booking>
-    ensures { result ≡ find (is_of case motion) bookings.now }
-{
-    bookings
-        .iter()
-        .copied()
-        .find(|booking| booking.is_of(case, motion))
-}
-
 /// The slots that the bookings take.
 fn slots_of(bookings: &[Booking]) -> u128
     requires { All IsWithinDay bookings.now }
@@ -74,6 +65,8 @@ pub(crate) fn take_out(bookings: &mut Vec<Booking>, case: u32, motion: u32)
     requires { IsCalendar bookings.old.items }
     ensures items { bookings.new.items ≡ without_motion case motion bookings.old.items }
     ensures calendar { IsCalendar bookings.new.items }
+    ensures gone { day_heard case motion bookings.new.items ≡ None }
+    ensures other_motions { (c m : ℕ) → ((c ≡ case) × (m ≡ motion) → ⊥) → day_heard c m bookings.new.items ≡ day_heard c m bookings.old.items }
 {
     bookings.retain(|booking| !booking.is_of(case, motion));
 }
@@ -88,6 +81,8 @@ pub(crate) fn place_in(bookings: &mut Vec<Booking>, booking: Booking)
     ensures items { bookings.new.items ≡ in_place booking bookings.old.items }
     ensures calendar { IsCalendar bookings.new.items }
     ensures here { Contains (on_day booking.day bookings.new.items) booking }
+    ensures heard { day_heard booking.case booking.motion bookings.new.items ≡ Some booking.day }
+    ensures other_motions { (c m : ℕ) → ((c ≡ booking.case) × (m ≡ booking.motion) → ⊥) → day_heard c m bookings.new.items ≡ day_heard c m bookings.old.items }
     ensures other_days { (day : ℤ) → (booking.day ≡ day → ⊥) → on_day day bookings.new.items ≡ on_day day bookings.old.items }
 {
     let place = bookings.partition_point(|other| other.begins_before(&booking));

@@ -1,4 +1,4 @@
-//! The bookings of a calendar in order, and for each day the slots that are taken on it.
+//! The bookings of a calendar in order, the slots that are taken on each day, and the day of each motion.
 
 ghost use Rattle.std.specs.Prelude.{◌≡◌, ◌+◌, ◌≤◌, [], Some, IfOk, IfSome, IfNone, false, All};
 ghost use Rattle.hearing_slots.specs.declared.booking.TheConstants.{SLOTS_PER_DAY};
@@ -7,7 +7,8 @@ ghost use Rattle.hearing_slots.specs.Calendar.{IsCalendar, IsFree, IsLeastConfli
 
 use crate::booking::Booking;
 use crate::day_slots::{DaySlots, lower, mark, slots_from, taken_on};
-use crate::ordered::{booking_of, first_of, part_of_day, place_in, slots_on, take_out};
+use crate::motion_days::{MotionDay, forget, note};
+use crate::ordered::{first_of, part_of_day, place_in, slots_on, take_out};
 use court_days::Day;
 use std::alloc::{AllocError, Global};
 use std::marker::Model;
@@ -18,19 +19,22 @@ pub(crate) struct Timetable {
     bookings: Vec<Booking>,
     // For each day with a booking the slots that are taken on it.
     days: Vec<DaySlots>,
+    // For each motion with a booking the day of it.
+    motions: Vec<MotionDay>,
 }
 
 impl Model for Timetable {
     ghost use Rattle.std.specs.Prelude.{List};
     ghost use Rattle.hearing_slots.specs.declared.booking.Booking.{Booking};
     ghost use Rattle.hearing_slots.specs.Calendar.{IsCalendar};
+    ghost use Rattle.hearing_slots.specs.Motions.{NotesBookings};
     ghost use Rattle.hearing_slots.specs.Slots.{MarksBookings};
 
     ghost Value = { List Booking };
 
     ghost view = { λ t. t.bookings.items };
 
-    ghost invariant = { λ t. IsCalendar t.bookings.items × MarksBookings t.bookings.items t.days.items };
+    ghost invariant = { λ t. IsCalendar t.bookings.items × MarksBookings t.bookings.items t.days.items × NotesBookings t.bookings.items t.motions.items };
 }
 
 impl Timetable {
@@ -41,6 +45,7 @@ impl Timetable {
         Timetable {
             bookings: Vec::new(alloc),
             days: Vec::new(alloc),
+            motions: Vec::new(alloc),
         }
     }
 
@@ -52,7 +57,13 @@ impl Timetable {
         bookings.extend_from_slice(&self.bookings)?;
         let mut days = Vec::with_capacity(alloc, self.days.len().saturating_add(1))?;
         days.extend_from_slice(&self.days)?;
-        Ok(Timetable { bookings, days })
+        let mut motions = Vec::with_capacity(alloc, self.motions.len().saturating_add(1))?;
+        motions.extend_from_slice(&self.motions)?;
+        Ok(Timetable {
+            bookings,
+            days,
+            motions,
+        })
     }
 
     /// All bookings, in order.
@@ -95,12 +106,12 @@ impl Timetable {
     pub(crate) fn remove(&mut self, case: u32, motion: u32)
         ensures { self.new ≡ without_motion case motion self.old }
     {
-        let Some(gone) = booking_of(&self.bookings, case, motion) else {
+        let Some(day) = forget(&mut self.motions, case, motion) else {
             return;
         };
         take_out(&mut self.bookings, case, motion);
-        let taken = slots_on(&self.bookings, gone.day);
-        lower(&mut self.days, gone.day, taken);
+        let taken = slots_on(&self.bookings, day);
+        lower(&mut self.days, day, taken);
     }
 
     /// Puts the booking in its place, where none of its case and motion stands and none shares a slot with it.
@@ -110,12 +121,14 @@ impl Timetable {
         requires only { All (λ b. is_of booking.case booking.motion b ≡ false) self.old }
         ensures { IfOk result (λ _. self.new ≡ in_place booking self.old) }
     {
-        let day = booking.day;
+        let (case, motion, day) = (booking.case, booking.motion, booking.day);
         self.bookings.reserve(1)?;
         self.days.reserve(1)?;
+        self.motions.reserve(1)?;
         place_in(&mut self.bookings, booking);
         let taken = slots_on(&self.bookings, day);
         mark(&mut self.days, day, taken);
+        note(&mut self.motions, case, motion, day);
         Ok(())
     }
 

@@ -8,6 +8,7 @@ use Rattle.hearing_slots.proofs.Filters.{parted}
 use Rattle.hearing_slots.proofs.Order.{begins_before-trans}
 use Rattle.hearing_slots.proofs.CalendarLaws.{IsCalendar-insert, in_place-at}
 use Rattle.hearing_slots.proofs.DayLaws.{on_day-insert_other, on_day-insert_here}
+use Rattle.hearing_slots.proofs.MotionLaws.{day_heard-insert, day_heard-insert_other}
 use Rattle.hearing_slots.proofs.ordered.place_in.Goals as goal
 
 -- the place that the search found
@@ -39,3 +40,9 @@ returns-clause-here c = rw (inserted c) (on_day-insert_here c.args.bookings.now.
 
 pub returns-clause-other_days : goal.returns-clause-other_days
 returns-clause-other_days c = rw (inserted c) (on_day-insert_other c.args.bookings.now.items c.partition_point-place.result c.args.booking)
+
+pub returns-clause-heard : goal.returns-clause-heard
+returns-clause-heard c = rw (inserted c) (day_heard-insert c.args.bookings.now.items c.partition_point-place.result c.args.booking c.requires.only)
+
+pub returns-clause-other_motions : goal.returns-clause-other_motions
+returns-clause-other_motions c = rw (inserted c) (day_heard-insert_other c.args.bookings.now.items c.partition_point-place.result c.args.booking)
