@@ -1,5 +1,5 @@
 -- The laws of the tests' two sets of rules.
-use Rattle.std.proofs.Common.{◌≡◌, ℕ, ◌<◌, nat_eq, nat_lt, Bool, true, false, if◌then◌else◌, Option, Some, None, IsSome, List, [], ◌∷◌, length, All, Contains, refl, ap, sym, arith}
+use Rattle.std.proofs.Common.{◌≡◌, ℕ, ◌<◌, nat_eq, nat_lt, true, false, if◌then◌else◌, Option, Some, None, IsSome, List, [], ◌∷◌, length, All, Contains, refl, ap, sym, arith}
 use Rattle.std.specs.List.{IsDistinct}
 use Rattle.std.proofs.lemmas.List.Elements.{All-nil, All-cons}
 use Rattle.std.proofs.lemmas.Option.{none-some, same_Some}
@@ -40,12 +40,12 @@ counters_lawful = record {
   reading_ends = λ command reads in_order some. counter_ends command reads some;
   writes_are_read = λ command reads all.
       elim (nat_lt (total command reads) 100) as (λ b. All (Contains (parts_of reads)) (parts_of (if b then (command.1, total command reads) ∷ [] else []))) [
-        true ↦ All-cons (Contains (parts_of reads)) command.1 [] (second_read command reads all) (All-nil _)
+        | true ↦ All-cons (Contains (parts_of reads)) command.1 [] (second_read command reads all) (All-nil _)
         | false ↦ All-nil _
       ];
   written_once = λ command reads all.
       elim (nat_lt (total command reads) 100) as (λ b. IsDistinct nat_eq (parts_of (if b then (command.1, total command reads) ∷ [] else []))) [
-        true ↦ (tt, tt)
+        | true ↦ (tt, tt)
         | false ↦ tt
       ];
 }

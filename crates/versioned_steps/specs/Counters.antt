@@ -1,5 +1,5 @@
 -- For the tests: two small sets of rules.
-use Rattle.std.specs.Prelude.{◌≡◌, ℕ, ◌+◌, ◌==◌, nat_eq, nat_lt, Bool, true, false, if◌then◌else◌, Option, Some, None, List, [], ◌∷◌}
+use Rattle.std.specs.Prelude.{ℕ, ◌+◌, ◌==◌, nat_eq, nat_lt, Bool, true, false, if◌then◌else◌, Option, Some, None, List, [], ◌∷◌}
 use Rattle.versioned_steps.specs.Rules.{Rules}
 
 -- Counters: a command reads a first cell, if it names one, and a second, and writes the second, unless its number grows to 100.

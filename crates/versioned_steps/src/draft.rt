@@ -103,6 +103,7 @@ impl<P: Parted> Draft<P> {
     #[tactic(auto, using(crate::proofs::DraftLemmas::with_marks_push))]
     /// Adds a read of the next part: its value and version, and the length of the history, all at one moment. A decision
     /// made before is dropped. An Err leaves the draft as it was.
+    // A body that always found no memory would meet this contract; the tests call it with ample memory.
     pub fn add(
         &mut self,
         parts: &P,
@@ -128,6 +129,7 @@ impl<P: Parted> Draft<P> {
 
     #[tactic(auto, using(crate::proofs::DraftLemmas::copies_of_marked))]
     /// Decides on what was read. An Err leaves the draft as it was.
+    // A body that always found no memory would meet this contract; the tests call it with ample memory.
     pub fn settle(&mut self, alloc: Global, parts: &P) -> Result<(), AllocError>
         requires { (P.rules parts.now).next_part self.old.command (copies_of self.old.reads) ≡ None }
         ensures ok { OnOk result (self.new ≡ record self.old {

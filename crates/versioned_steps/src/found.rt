@@ -36,6 +36,7 @@ fn put<T: Eq + Hash + Copy, V: Drop>(older: &mut HashMap<T, Slot<V>>, write: (T,
 
 /// Puts the recent writes, which all have this version, to the older slots. Every part is found as before, also after an
 /// Err, where some of the writes may be left.
+// A body that always found no memory would meet this contract; the tests call it with ample memory.
 pub(crate) fn put_away<T: Eq + Hash + Copy, V: Drop>(
     recent: &mut Vec<(T, V)>,
     older: &mut HashMap<T, Slot<V>>,

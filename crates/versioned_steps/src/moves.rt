@@ -77,6 +77,7 @@ pub(crate) fn discard<P: Parted>(place: &mut Option<Draft<P>>) -> Outcome<P::Par
 }
 
 /// The command is decided, and becomes the next entry. An Err leaves the history and what was read.
+// A body that always found no memory would meet this contract; the tests call it with ample memory.
 fn finish<P: Parted>(
     alloc: Global,
     store: &mut Store<P>,
@@ -102,6 +103,7 @@ fn finish<P: Parted>(
 }
 
 /// The entry that a settled draft becomes, of this clerk.
+// A body that always found no memory would meet this contract; the tests call it with ample memory.
 fn entry_of<P: Parted>(
     alloc: Global,
     parts: &P,

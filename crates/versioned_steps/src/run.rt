@@ -25,6 +25,7 @@ pub struct World<P: Parted> {
 
 /// Makes these steps of that many clerks, from the empty history on. An Err comes only where the list of clerks or the
 /// list of outcomes found no memory; a step that finds none has the outcome NoMemory, and the next one is made.
+// A body that always found no memory would meet this contract; the tests call it with ample memory.
 pub fn run_steps<P: Parted>(
     alloc: Global,
     parts: P,

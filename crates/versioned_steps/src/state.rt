@@ -21,6 +21,7 @@ pub(crate) struct State<P: Parted> {
 
 impl<P: Parted> State<P> {
     /// No entry, and nobody has a command in hand.
+    // A body that always found no memory would meet this contract; the tests call it with ample memory.
     pub fn open(alloc: Global, parts: P, clerks: u32) -> Result<State<P>, AllocError>
         ensures owner { IfOk result (λ s. s.store.owner ≡ parts) }
         ensures sound { IfOk result (λ s. IsSound (P.rules parts) s.history.items s.store s.drafts.items) }

@@ -105,6 +105,7 @@ impl<P: Parted> Store<P> {
     }
 
     // A copy of the value of a part: its opening value where it was never written.
+    // A body that always found no memory would meet this contract; the tests call it with ample memory.
     fn value(&self, alloc: Global, part: P::Part) -> Result<P::Value, AllocError>
         ensures { IfOk result (λ value. value ≡ (slot_of (P.rules self.now.owner) self.now part).value) }
     {
@@ -118,6 +119,7 @@ impl<P: Parted> Store<P> {
     }
 
     /// The version of a part and a copy of its value, as they are after the history.
+    // A body that always found no memory would meet this contract; the tests call it with ample memory.
     pub fn read(&self, alloc: Global, part: P::Part) -> Result<(u64, P::Value), AllocError>
         ensures version { (h : List (Entry P.Command P.Answer)) → Replays (P.rules self.now.owner) h self.now →
             IfOk result (λ x. x.0 ≡ version_of (P.rules self.now.owner) h part) }
@@ -159,6 +161,7 @@ impl<P: Parted> Store<P> {
     }
 
     // Puts what the last entry wrote to the older parts.
+    // A body that always found no memory would meet this contract; the tests call it with ample memory.
     fn put_away(&mut self) -> Result<(), AllocError>
         ensures owner { self.new.owner ≡ self.old.owner }
         ensures length { self.new.length ≡ self.old.length }
@@ -170,6 +173,7 @@ impl<P: Parted> Store<P> {
 
     /// Takes all the memory that finishing a settled draft needs. The parts, their versions and the length stay, also
     /// after an Err.
+    // A body that always found no memory would meet this contract; the tests call it with ample memory.
     pub fn stage(&mut self, alloc: Global, draft: &Draft<P>) -> Result<Change<P>, AllocError>
         requires settled { IsSome draft.now.decision }
         requires room { self.old.length + 1 < 2 ^ 64 }
@@ -206,6 +210,7 @@ impl<P: Parted> Store<P> {
 
     /// Stages and finishes a settled draft that `check` finds fresh, and gives its entry's place, from 1. An Err leaves
     /// the store as it was.
+    // A body that always found no memory would meet this contract; the tests call it with ample memory.
     pub fn apply(&mut self, alloc: Global, draft: &Draft<P>) -> Result<u64, AllocError>
         requires settled { IsSome draft.now.decision }
         requires room { self.old.length + 1 < 2 ^ 64 }
@@ -223,6 +228,7 @@ impl<P: Parted> Store<P> {
 }
 
 // A copy of these writes.
+// A body that always found no memory would meet this contract; the tests call it with ample memory.
 fn copy_writes<P: Parted>(
     parts: &P,
     alloc: Global,

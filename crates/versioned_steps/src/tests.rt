@@ -1,3 +1,257 @@
 //! Two small instances, and runs over them.
+use crate::draft::Draft;
+use crate::run::run_steps;
+use crate::step::{Outcome, Step};
+use crate::store::Store;
+use counters::{Add, Counters};
+use pointers::Pointers;
+use std::test::Fail;
+
 mod counters;
+mod plain;
 mod pointers;
+
+// Two clerks count in one cell: the first to commit wins, and the other begins again.
+#[test]
+fn the_second_commit_is_stale(rt: HostRuntime) -> Result<(), Fail> {
+    let steps = [
+        Step::Begin(0, (None, 1)),
+        Step::Read(0),
+        Step::Begin(1, (None, 1)),
+        Step::Commit(1),
+        Step::Read(1),
+        Step::Commit(0),
+        Step::Commit(1),
+        Step::Read(1),
+        Step::Begin(1, (None, 1)),
+        Step::Read(1),
+        Step::Read(1),
+        Step::Commit(1),
+    ];
+    let world = run_steps(rt.alloc(), Counters::ample(), 2, steps.as_slice())?;
+    let outcomes = [
+        Outcome::Began,
+        Outcome::ReadPart(1, 0),
+        Outcome::Began,
+        Outcome::NotRead,
+        Outcome::ReadPart(1, 0),
+        Outcome::Finished(1, Some(1)),
+        Outcome::WasStale(1, 1),
+        Outcome::Idle,
+        Outcome::Began,
+        Outcome::ReadPart(1, 1),
+        Outcome::Ready,
+        Outcome::Finished(2, Some(2)),
+    ];
+    assert_eq!(rt; world.outcomes.as_slice(), outcomes.as_slice());
+    assert_eq!(rt; world.store.length(), 2);
+    assert_eq!(rt; world.store.read(rt.alloc(), 1)?, (2, 2));
+    assert_eq!(rt; world.store.read(rt.alloc(), 2)?, (0, 0));
+    assert_eq!(rt; world.history.len(), 2);
+    Ok(())
+}
+
+// Different cells have different versions: neither commit is stale.
+#[test]
+fn other_cells_keep_their_versions(rt: HostRuntime) -> Result<(), Fail> {
+    let steps = [
+        Step::Begin(0, (None, 1)),
+        Step::Begin(1, (None, 2)),
+        Step::Read(0),
+        Step::Read(1),
+        Step::Commit(0),
+        Step::Commit(1),
+    ];
+    let world = run_steps(rt.alloc(), Counters::ample(), 2, steps.as_slice())?;
+    let outcomes = [
+        Outcome::Began,
+        Outcome::Began,
+        Outcome::ReadPart(1, 0),
+        Outcome::ReadPart(2, 0),
+        Outcome::Finished(1, Some(1)),
+        Outcome::Finished(2, Some(1)),
+    ];
+    assert_eq!(rt; world.outcomes.as_slice(), outcomes.as_slice());
+    Ok(())
+}
+
+// The second cell is the one that the first named when it was read, though it names another by then.
+#[test]
+fn a_read_that_depends_on_an_older_one_goes_stale(rt: HostRuntime) -> Result<(), Fail> {
+    let steps = [
+        Step::Begin(1, (3, 5)),
+        Step::Read(1),
+        Step::Read(1),
+        Step::Commit(1),
+        Step::Begin(1, (4, 3)),
+        Step::Read(1),
+        Step::Read(1),
+        Step::Commit(1),
+        Step::Begin(0, (3, 7)),
+        Step::Read(0),
+        Step::Begin(1, (4, 6)),
+        Step::Read(1),
+        Step::Read(1),
+        Step::Commit(1),
+        Step::Read(0),
+        Step::Read(0),
+        Step::Commit(0),
+    ];
+    let world = run_steps(rt.alloc(), Pointers, 2, steps.as_slice())?;
+    let outcomes = [
+        Outcome::Began,
+        Outcome::ReadPart(3, 0),
+        Outcome::ReadPart(3, 0),
+        Outcome::Finished(1, 3),
+        Outcome::Began,
+        Outcome::ReadPart(4, 0),
+        Outcome::ReadPart(4, 0),
+        Outcome::Finished(2, 4),
+        Outcome::Began,
+        Outcome::ReadPart(3, 1),
+        Outcome::Began,
+        Outcome::ReadPart(4, 2),
+        Outcome::ReadPart(3, 1),
+        Outcome::Finished(3, 5),
+        Outcome::ReadPart(5, 0),
+        Outcome::Ready,
+        Outcome::WasStale(3, 3),
+    ];
+    assert_eq!(rt; world.outcomes.as_slice(), outcomes.as_slice());
+    Ok(())
+}
+
+#[test]
+fn each_other_outcome_once(rt: HostRuntime) -> Result<(), Fail> {
+    let steps = [
+        Step::Begin(0, (None, 1)),
+        Step::Begin(0, (None, 2)),
+        Step::Commit(0),
+        Step::Read(0),
+        Step::Read(0),
+        Step::Discard(0),
+        Step::Discard(0),
+        Step::Read(1),
+    ];
+    let world = run_steps(rt.alloc(), Counters::ample(), 1, steps.as_slice())?;
+    let outcomes = [
+        Outcome::Began,
+        Outcome::Busy,
+        Outcome::NotRead,
+        Outcome::ReadPart(1, 0),
+        Outcome::Ready,
+        Outcome::Discarded,
+        Outcome::Idle,
+        Outcome::NoClerk,
+    ];
+    assert_eq!(rt; world.outcomes.as_slice(), outcomes.as_slice());
+    Ok(())
+}
+
+// A refusal is an entry that writes nothing, so the cell keeps its version.
+#[test]
+fn a_refusal_is_an_entry(rt: HostRuntime) -> Result<(), Fail> {
+    let mut store = Store::new(rt.alloc(), Counters::ample());
+    for count in [1, 3, 7, 15, 31, 63] {
+        assert!(rt; store.length() < 7);
+        let draft = doubled(&rt, &store)?;
+        assert!(rt; draft.decision().is_some());
+        assert!(rt; store.check(&draft).is_none());
+        assert_eq!(rt; draft.decision().map(|d| d.answer), Some(Some(count)));
+        store.apply(rt.alloc(), &draft)?;
+    }
+    assert!(rt; store.length() < 7);
+    let draft = doubled(&rt, &store)?;
+    assert!(rt; draft.decision().is_some());
+    assert_eq!(rt; draft.decision().map(|d| d.answer), Some(None));
+    let change = store.stage(rt.alloc(), &draft)?;
+    assert!(rt; change.writes().is_empty());
+    assert_eq!(rt; store.finish(change), 7);
+    assert_eq!(rt; store.read(rt.alloc(), 1)?, (6, 63));
+    Ok(())
+}
+
+// A settled draft that adds cell 1 to itself.
+fn doubled(rt: &HostRuntime, store: &Store<Counters>) -> Result<Draft<Counters>, Fail> {
+    let mut draft = Draft::begin(rt.alloc(), 0, (Some(1), 1));
+    for _ in 0..2 {
+        if let Some(cell) = draft.next(store.parts()) {
+            let (version, value) = store.read(rt.alloc(), cell)?;
+            draft.add(store.parts(), cell, version, store.length(), value)?;
+        }
+    }
+    if draft.next(store.parts()).is_none() {
+        draft.settle(rt.alloc(), store.parts())?;
+    }
+    Ok(draft)
+}
+
+// One of the eight steps of two clerks.
+fn step_of(code: u32) -> Step<Add> {
+    match code % 8 {
+        0 => Step::Begin(0, (Some(1), 2)),
+        1 => Step::Begin(1, (Some(2), 1)),
+        2 => Step::Read(0),
+        3 => Step::Read(1),
+        4 => Step::Commit(0),
+        5 => Step::Commit(1),
+        6 => Step::Discard(0),
+        _ => Step::Discard(1),
+    }
+}
+
+// The outcomes of a shorter list are the first of those of a longer one.
+#[test]
+fn every_list_of_six_steps_is_the_plain_replay(rt: HostRuntime) -> Result<(), Fail> {
+    for code in 0..262_144u32 {
+        let steps = [
+            step_of(code),
+            step_of(code / 8),
+            step_of(code / 64),
+            step_of(code / 512),
+            step_of(code / 4_096),
+            step_of(code / 32_768),
+        ];
+        let world = run_steps(rt.alloc(), Counters::ample(), 2, steps.as_slice())?;
+        let outcomes = plain::replay(rt.alloc(), steps.as_slice(), None)?;
+        assert_eq!(rt; world.outcomes.as_slice(), outcomes.as_slice());
+    }
+    Ok(())
+}
+
+// Each call that may find no memory finds none once: that step is NoMemory and changes nothing, and the rest runs.
+#[test]
+fn a_refused_step_changes_nothing(rt: HostRuntime) -> Result<(), Fail> {
+    let mut refusals = 0u32;
+    for left in 0..100u32 {
+        let steps = [
+            step_of(0),
+            step_of(2),
+            step_of(2),
+            step_of(1),
+            step_of(3),
+            step_of(4),
+            step_of(3),
+            step_of(5),
+            step_of(1),
+            step_of(3),
+            step_of(3),
+            step_of(5),
+        ];
+        let counters = Counters::refusing(left);
+        let world = run_steps(rt.alloc(), counters, 2, steps.as_slice())?;
+        let refused = world
+            .outcomes
+            .iter()
+            .position(|outcome| matches!(outcome, Outcome::NoMemory));
+        let outcomes = plain::replay(rt.alloc(), steps.as_slice(), refused)?;
+        assert_eq!(rt; world.outcomes.as_slice(), outcomes.as_slice());
+        if refused.is_some() {
+            refusals = refusals.saturating_add(1);
+        }
+    }
+    // Three commands are taken up and six parts read; each of the two commits that finish decides once and copies the
+    // command, the answer twice and one write.
+    assert_eq!(rt; refusals, 3 + 6 + 2 * 5);
+    Ok(())
+}

@@ -5,12 +5,35 @@ ghost use Rattle.std.specs.Prelude.{◌≡◌};
 use crate::decision::Decision;
 use crate::parted::Parted;
 use std::alloc::{AllocError, Global};
+use std::cell::Cell;
 
 /// The first cell, if any, and the second.
 pub type Add = (Option<u8>, u8);
 
+/// The counters, one of whose calls finds no memory.
 #[derive(Drop)]
-pub struct Counters;
+pub struct Counters {
+    // How many calls find memory before the one that finds none.
+    left: Cell<u32>,
+}
+
+impl Counters {
+    pub fn refusing(left: u32) -> Counters {
+        Counters {
+            left: Cell::new(left),
+        }
+    }
+
+    pub fn ample() -> Counters {
+        Counters::refusing(u32::MAX)
+    }
+
+    fn take(&self) -> Result<(), AllocError> {
+        let left = self.left.get();
+        self.left.set(left.wrapping_sub(1));
+        if left == 0 { Err(AllocError) } else { Ok(()) }
+    }
+}
 
 impl Parted for Counters {
     ghost use Rattle.versioned_steps.specs.Counters.{counters};
@@ -18,13 +41,17 @@ impl Parted for Counters {
     ghost use Rattle.std.proofs.Common.{refl};
 
     type Part = u8;
+
     type Value = u64;
+
     type Command = Add;
+
     type Answer = Option<u64>;
 
     ghost rules = { λ _. counters };
 
     fn opening(&self, _alloc: Global, _cell: &u8) -> Result<u64, AllocError> {
+        self.take()?;
         Ok(0)
     }
 
@@ -43,6 +70,7 @@ impl Parted for Counters {
         command: &Add,
         reads: &[(u8, u64)],
     ) -> Result<Decision<u8, u64, Option<u64>>, AllocError> {
+        self.take()?;
         let total = match (command.0, reads) {
             (None, [x, ..]) => x.1.saturating_add(1),
             (Some(_), [x, y, ..]) => x.1.saturating_add(y.1).saturating_add(1),
@@ -64,14 +92,17 @@ impl Parted for Counters {
     }
 
     fn copy_value(&self, _alloc: Global, value: &u64) -> Result<u64, AllocError> {
+        self.take()?;
         Ok(*value)
     }
 
     fn copy_command(&self, _alloc: Global, command: &Add) -> Result<Add, AllocError> {
+        self.take()?;
         Ok(*command)
     }
 
     fn copy_answer(&self, _alloc: Global, answer: &Option<u64>) -> Result<Option<u64>, AllocError> {
+        self.take()?;
         Ok(*answer)
     }
 

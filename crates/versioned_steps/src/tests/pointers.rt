@@ -15,8 +15,11 @@ impl Parted for Pointers {
     ghost use Rattle.std.proofs.Common.{refl};
 
     type Part = u8;
+
     type Value = u8;
+
     type Command = (u8, u8);
+
     type Answer = u8;
 
     ghost rules = { λ _. pointers };
