@@ -1,1 +1,5 @@
 pub mod LastDay
+pub mod Hours
+pub mod Access
+pub mod Service
+pub mod Timely

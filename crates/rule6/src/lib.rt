@@ -1,6 +1,16 @@
 //! Rule 6 of the Federal Rules of Civil Procedure: last days, hours, access to the clerk's office, timeliness.
 #![tactic(auto)]
 
+mod access;
 mod days;
+mod hours;
+mod laws;
+mod service;
+mod timeliness;
 
+pub use access::{extended_for_access, extended_for_access_hours};
 pub use days::last_day;
+pub use hours::end_of_hours;
+pub use laws::last_hour_is_by_seconds;
+pub use service::{ServiceKind, adds_three};
+pub use timeliness::{Act, Filing, Means, Shown, is_timely};

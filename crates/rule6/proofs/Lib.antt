@@ -1,0 +1,2 @@
+pub mod HourLaws
+pub mod AccessLaws

@@ -1,0 +1,5 @@
+use Rattle.rule6.proofs.AccessLaws.{last_hour_law}
+use Rattle.rule6.proofs.laws.last_hour_is_by_seconds.Goals as goal
+
+pub returns : goal.returns
+returns c = last_hour_law
