@@ -110,8 +110,8 @@ impl Timetable {
             return;
         };
         take_out(&mut self.bookings, case, motion);
-        let taken = slots_on(&self.bookings, day);
-        lower(&mut self.days, day, taken);
+        let left = slots_on(&self.bookings, day);
+        lower(&mut self.days, day, left);
     }
 
     /// Puts the booking in its place, where none of its case and motion stands and none shares a slot with it.
