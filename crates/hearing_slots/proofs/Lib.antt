@@ -10,3 +10,4 @@ pub mod DayLaws
 pub mod Holdings
 pub mod MotionEntries
 pub mod MotionLaws
+pub mod SameBookings

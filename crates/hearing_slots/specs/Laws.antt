@@ -1,5 +1,5 @@
 -- What the tests and the lists of this crate come to.
-use Rattle.std.specs.Prelude.{◌≡◌, ◌↔◌, ℕ, ◌≤◌, ℤ, true, Some, List}
+use Rattle.std.specs.Prelude.{◌≡◌, ◌↔◌, ℕ, ◌≤◌, ℤ, true, Some, List, Contains}
 use Rattle.hearing_slots.specs.declared.booking.Booking.{Booking}
 use Rattle.hearing_slots.specs.Booking.{IsWithinDay, SharesSlot, shares_slot}
 use Rattle.hearing_slots.specs.Calendar.{IsCalendar, IsFree, without_motion, with_booking}
@@ -15,3 +15,7 @@ BookingKeepsCalendar = (b : Booking) (bookings : List Booking) → IsCalendar bo
 -- and when one is taken out
 abbrev pub RemovalKeepsCalendar : Type 0
 RemovalKeepsCalendar = (case motion : ℕ) (bookings : List Booking) → IsCalendar bookings → IsCalendar (without_motion case motion bookings)
+
+-- a calendar is told by the bookings that it holds
+abbrev pub SameBookingsSameCalendar : Type 0
+SameBookingsSameCalendar = (xs ys : List Booking) → IsCalendar xs → IsCalendar ys → ((x : Booking) → Contains xs x ↔ Contains ys x) → xs ≡ ys

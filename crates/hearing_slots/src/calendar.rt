@@ -73,9 +73,10 @@ impl Calendar {
         }
     }
 
-    /// This calendar with the booking in its place, and without an older one of its case and motion. `Err` says that
-    /// memory ran out. The bookings are copied where a copy of the calendar shares them, and else only moved up to
-    /// make room.
+    /// This calendar with the booking in its place, and without an older one of its case and motion. The bookings are
+    /// copied where a copy of the calendar shares them, and else only moved up to make room, so that a new booking
+    /// behind all others moves none. `Err` says that memory ran out; this calendar is spent then too, so whoever
+    /// needs it makes a copy first.
     pub fn with(self, alloc: Global, booking: Booking) -> Result<Calendar, AllocError>
         requires within_day { IsWithinDay booking }
         requires free { IsFree self booking.day booking.first booking.count (Some (booking.case, booking.motion)) }
@@ -88,7 +89,7 @@ impl Calendar {
     }
 
     /// This calendar without the booking of the case and motion; where there is none, the calendar as it is. `Err`
-    /// says that memory ran out.
+    /// says that memory ran out; this calendar is spent then too, so whoever needs it makes a copy first.
     pub fn without(self, alloc: Global, case: u32, motion: u32) -> Result<Calendar, AllocError>
         ensures value { IfOk result (λ calendar. calendar ≡ without_motion case motion self) }
         ensures holds { IfOk result (HoldsWithout case motion self) }

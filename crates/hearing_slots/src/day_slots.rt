@@ -1,6 +1,7 @@
 //! Which slots are taken on each day.
 
 ghost use Rattle.std.specs.Prelude.{◌≡◌, ◌+◌, ◌<◌, ◌≤◌, IfOk, IfErr, vec_len, vec_capacity};
+ghost use Rattle.hearing_slots.specs.declared.booking.TheConstants.{SLOTS_PER_DAY};
 ghost use Rattle.hearing_slots.specs.Slots.{AreMasks, MarksOnly, IsDayAt, IsGapForDay, marked, slots_from};
 
 use court_days::Day;
@@ -16,7 +17,7 @@ pub(crate) struct DaySlots {
 
 /// The slots of the span of `count` slots from `first` on.
 pub(crate) fn slots_from(first: u8, count: u8) -> u128
-    requires { first + count ≤ 96 }
+    requires { first + count ≤ SLOTS_PER_DAY }
     ensures { result ≡ slots_from first count }
 {
     (1u128 << (first + count)) - (1u128 << first)

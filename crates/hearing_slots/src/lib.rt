@@ -15,7 +15,10 @@ mod timetable;
 pub use booking::{Booking, MINUTES_PER_SLOT, SLOTS_PER_DAY};
 pub use bookings::Bookings;
 pub use calendar::Calendar;
-pub use laws::{booking_keeps_calendar, overlap_is_a_shared_slot, removal_keeps_calendar};
+pub use laws::{
+    booking_keeps_calendar, overlap_is_a_shared_slot, removal_keeps_calendar,
+    same_bookings_same_calendar,
+};
 pub use need::Need;
 pub use panel::Panel;
 
