@@ -1,0 +1,6 @@
+pub mod DivisionLaws
+pub mod Numerals
+pub mod Slashes
+pub mod RecordsLaws
+pub mod ReadingLaws
+pub mod RowsLaws

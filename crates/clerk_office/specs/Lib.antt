@@ -1,0 +1,11 @@
+pub mod Watching
+pub mod Limits
+pub mod Division
+pub mod Numbers
+pub mod Periods
+pub mod Rows
+pub mod Records
+pub mod Answers
+pub mod Causes
+pub mod Faults
+pub mod Run

@@ -1,0 +1,200 @@
+use super::{COURT, FIRST_LINE, FIRST_ROW, input_of, told};
+use std::fmt::Write;
+use std::test::Fail;
+
+#[test]
+fn tells_the_first_fault_of_a_row(rt: HostRuntime) -> Result<(), Fail> {
+    let alloc = rt.alloc();
+    let good = "1,compute,28d/after/filing/event/plain,2025-08-04,,,\n";
+    let cases = [
+        ("1,file,1,\"1", "3 row 1 fault 2 UnknownCommand"),
+        ("1,fly", "3 row 1 fault 2 UnknownCommand"),
+        ("1", "3 row 1 fault 3 WrongCount"),
+        ("0,compute", "3 row 1 fault 1 BadClerk"),
+        ("2,fly", "3 row 1 fault 1 BadClerk"),
+        ("01,compute", "3 row 1 fault 1 BadClerk"),
+        ("+1,compute", "3 row 1 fault 1 BadClerk"),
+        (",compute", "3 row 1 fault 1 BadClerk"),
+        ("1,compute", "3 row 1 fault 3 WrongCount"),
+        (
+            "1,compute,1d/after/filing/event/plain,2025-03-03,,",
+            "3 row 1 fault 3 WrongCount",
+        ),
+        (
+            "1,compute,1d/after/filing/event/plain,2025-03-03,,,,",
+            "3 row 1 fault 3 WrongCount",
+        ),
+        (
+            "1,compute,4m,2025-02-30,24:00,x,Z",
+            "3 row 1 fault 4 BadField 3",
+        ),
+        (
+            "1,compute,1h/after/filing/event/plain,2025-03-03,,,",
+            "3 row 1 fault 4 BadField 3",
+        ),
+        (
+            "1,compute,01d/after/filing/event/plain,2025-03-03,,,",
+            "3 row 1 fault 4 BadField 3",
+        ),
+        (
+            "1,compute,1000000000d/after/filing/event/plain,2025-03-03,,,",
+            "3 row 1 fault 4 BadField 3",
+        ),
+        (
+            "1,compute,1d/over/filing/event/plain,2025-03-03,,,",
+            "3 row 1 fault 4 BadField 3",
+        ),
+        (
+            "1,compute,1d/after/filing/event/plain/,2025-03-03,,,",
+            "3 row 1 fault 4 BadField 3",
+        ),
+        (
+            "1,compute,1d/after/filing/event/plain,2025-02-30,24:00,x,Z",
+            "3 row 1 fault 4 BadField 4",
+        ),
+        (
+            "1,compute,1d/after/filing/event/plain,2025-03-03,24:00,x,Z",
+            "3 row 1 fault 4 BadField 5",
+        ),
+        (
+            "1,compute,1d/after/filing/event/plain,2025-03-03,9:30,x,Z",
+            "3 row 1 fault 4 BadField 5",
+        ),
+        (
+            "1,compute,1d/after/filing/event/plain,2025-03-03,09:30,x,Z",
+            "3 row 1 fault 4 BadField 6",
+        ),
+        (
+            "1,compute,1d/after/filing/event/plain,2025-03-03,09:30,,C",
+            "3 row 1 fault 4 BadField 7",
+        ),
+    ];
+    for (rows, line) in cases {
+        let input = input_of(alloc, COURT, rows)?;
+        assert_eq!(rt; told(alloc, input.as_bytes())?.as_str(), line, "{rows}");
+    }
+    for (rows, line) in [
+        ("\n\n1,fly\n", "3 row 2 fault 2 UnknownCommand"),
+        ("0,fly\n1\n", "3 row 2 fault 1 BadClerk"),
+    ] {
+        let after_a_good_one = format!(in alloc; "{good}{rows}")?;
+        let input = input_of(alloc, COURT, after_a_good_one.as_str())?;
+        assert_eq!(rt; told(alloc, input.as_bytes())?.as_str(), line, "{rows:?}");
+    }
+    Ok(())
+}
+
+#[test]
+fn tells_of_a_field_that_is_no_text(rt: HostRuntime) -> Result<(), Fail> {
+    let alloc = rt.alloc();
+    for (row, line) in [
+        (b"1,\xff".as_slice(), "3 row 1 fault 5 NotText"),
+        (b"\xff".as_slice(), "3 row 1 fault 5 NotText"),
+        (b"0,\"\xc3\"".as_slice(), "3 row 1 fault 5 NotText"),
+        (b"\"\xc3\",\xa9".as_slice(), "3 row 1 fault 5 NotText"),
+        (b"1,\xc3\"\xa9".as_slice(), "3 row 1 fault 5 NotText"),
+        (b"\xc3\xa9,1".as_slice(), "3 row 1 fault 1 BadClerk"),
+    ] {
+        let start = input_of(alloc, COURT, "")?;
+        let mut input = Vec::from_slice(alloc, start.as_bytes())?;
+        input.extend_from_slice(row)?;
+        assert_eq!(rt; told(alloc, input.as_slice())?.as_str(), line, "{row:?}");
+    }
+    Ok(())
+}
+
+#[test]
+fn tells_the_first_fault_of_the_courts_file(rt: HostRuntime) -> Result<(), Fail> {
+    let alloc = rt.alloc();
+    let cases = [
+        ("zone = ", "", "2 court fault 1 NotToml"),
+        (
+            "zone = \"EST5EDT,M3.2.0/2,M11.1.0/2\"\n",
+            "",
+            "2 court fault 2 Missing zone",
+        ),
+        ("rooms = []\n", "", "2 court fault 2 Missing rooms"),
+        (
+            "opens = \"08:30\"",
+            "opens = 830",
+            "2 court fault 3 WrongKind opens",
+        ),
+        (
+            "\"2025-03-28\"",
+            "\"2025-03-28\", 7",
+            "2 court fault 3 WrongKind state",
+        ),
+        (
+            "from = \"2007-01-01\"",
+            "from = \"2007-02-29\"",
+            "2 court fault 4 BadDate 2007-02-29",
+        ),
+        (
+            "EST5EDT,M3.2.0/2,M11.1.0/2",
+            "nowhere",
+            "2 court fault 5 BadZone",
+        ),
+        ("08:30", "17:00", "2 court fault 6 BadHours"),
+        ("17:00", "24:00", "2 court fault 6 BadHours"),
+        ("2026-12-31", "2006-12-31", "2 court fault 7 BadSpan"),
+        (
+            "judges = []",
+            "judges = [\"A B\"]",
+            "2 court fault 8 BadName A B",
+        ),
+        (
+            "judges = []",
+            "judges = [\"Ames\", \"Ames\"]",
+            "2 court fault 9 TwiceNamed Ames",
+        ),
+    ];
+    for (old, new, line) in cases {
+        let Some((before, after)) = COURT.split_once(old) else {
+            return Err(Fail::new("the court's file has no such part"));
+        };
+        let court = format!(in alloc; "{before}{new}{after}")?;
+        // The row has a fault too, which comes later.
+        let input = input_of(alloc, court.as_str(), "1,fly\n")?;
+        assert_eq!(rt;
+            told(alloc, input.as_bytes())?.as_str(),
+            line,
+            "{old} {new}"
+        );
+    }
+    assert_eq!(rt; told(alloc, b"")?.as_str(), "2 court fault 2 Missing zone");
+    Ok(())
+}
+
+#[test]
+fn tells_of_a_list_that_is_too_long(rt: HostRuntime) -> Result<(), Fail> {
+    let alloc = rt.alloc();
+    let mut names = String::new(alloc);
+    for number in 0..33 {
+        write!(names, "\"J{number}\",")?;
+    }
+    let Some((before, after)) = COURT.split_once("judges = []") else {
+        return Err(Fail::new("the court's file has no judges"));
+    };
+    let input = format!(in alloc; "{before}judges = [{names}]{after}")?;
+    assert_eq!(rt;
+        told(alloc, input.as_bytes())?.as_str(),
+        "2 court fault 10 TooMany judges"
+    );
+    Ok(())
+}
+
+#[test]
+fn answers_or_names_a_fault_wherever_the_input_is_cut(rt: HostRuntime) -> Result<(), Fail> {
+    let alloc = rt.alloc();
+    let input = input_of(alloc, COURT, FIRST_ROW)?;
+    let bytes = input.as_bytes();
+    for length in 0..bytes.len() {
+        let text = told(alloc, &bytes[..length])?;
+        let is_told = text.is_empty()
+            || text.as_str().starts_with("2 court fault ")
+            || text.as_str().starts_with("3 row 1 fault ")
+            || text.as_str() == FIRST_LINE;
+        assert!(rt; is_told, "{length}: {text}");
+    }
+    Ok(())
+}
