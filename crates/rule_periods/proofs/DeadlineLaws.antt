@@ -1,0 +1,49 @@
+-- One more extension.
+use Rattle.std.proofs.Common.{◌≡◌, ℕ, ◌+◌, ◌-◌, Bool, true, false, List, [], ◌∷◌, ◌++◌, length, slice_get, fold, Option, Some, None, refl, ap, ◌∙◌, arith, length-append}
+use Rattle.std.specs.Option.{option_map_or}
+use Rattle.std.proofs.lemmas.List.Sums.{fold_push}
+use Rattle.court_days.specs.declared.direction.Direction.{Direction}
+use Rattle.court_days.specs.declared.direction.Direction.TheVariants.{After, Before}
+use Rattle.court_days.specs.Calendar.{Calendar}
+use Rattle.court_days.specs.Civil.{CourtClock}
+use Rattle.rule_periods.specs.declared.grant.Grant.{Grant}
+use Rattle.rule_periods.specs.declared.period.Period.{Period}
+use Rattle.rule_periods.specs.declared.period.Period.TheVariants as period
+use Rattle.rule_periods.specs.Deadline.{DeadlineView, ends_certain, is_certain, access_direction, extended_of, granted_if_it_fits, shown_after, shown_of, base_of, base_of_period, end_of_rule}
+use Rattle.rule_periods.specs.Extension.{with_grant}
+use Rattle.rule_periods.specs.Period.{act_of, direction_of, is_hours}
+
+at_end : (grants : List Grant) (grant : Grant) → slice_get (grants ++ grant ∷ []) (length grants) ≡ Some grant
+at_end [] grant = refl
+at_end (g ∷ grants) grant = at_end grants grant
+
+last-push : (grants : List Grant) (grant : Grant) → slice_get (grants ++ grant ∷ []) (length (grants ++ grant ∷ []) - 1) ≡ Some grant
+last-push grants grant =
+    let place : length (grants ++ grant ∷ []) - 1 ≡ length grants = rw length-append (omega arith) in
+    rw place (at_end grants grant)
+
+access_direction-push : (direction : Direction) (grants : List Grant) (grant : Grant) → access_direction direction (grants ++ grant ∷ []) ≡ After
+access_direction-push direction [] grant = refl
+access_direction-push direction (g ∷ grants) grant = refl
+
+-- the end before any extension doesn't rest on them
+base_of-grants : (c : Calendar) (clock : CourtClock) (row : DeadlineView) (grant : Grant) (period : Period) → base_of_period c clock (with_grant row grant) period ≡ base_of_period c clock row period
+unfolding base_of_period end_of_rule
+base_of-grants c clock row grant (period.Rule rule) = refl
+base_of-grants c clock row grant (period.Entered entered) = refl
+
+-- the end with one more extension
+extended_of-push : (c : Calendar) (clock : CourtClock) (row : DeadlineView) (grant : Grant) → extended_of c clock (with_grant row grant) ≡ granted_if_it_fits c clock (is_hours row.period) (extended_of c clock row) grant
+unfolding extended_of
+extended_of-push c clock row grant =
+    let more = granted_if_it_fits c clock (is_hours row.period) in
+    ap (λ b. fold more b (row.grants ++ grant ∷ [])) (base_of-grants c clock row grant row.period)
+    ∙ fold_push more (base_of c clock row) row.grants grant
+
+-- what is shown with one more extension is what is shown after it
+pub shown_of-push : (c : Calendar) (clock : CourtClock) (row : DeadlineView) (grant : Grant) → shown_of c clock (with_grant row grant) ≡ shown_after c clock (act_of row.period) (is_certain grant) After (granted_if_it_fits c clock (is_hours row.period) (extended_of c clock row) grant)
+unfolding shown_of
+shown_of-push c clock row grant =
+    let certain : ends_certain (row.grants ++ grant ∷ []) ≡ is_certain grant = ap (λ g. option_map_or is_certain g false) (last-push row.grants grant) in
+    let direction = access_direction-push (direction_of row.period) row.grants grant in
+    rw (certain, direction, extended_of-push c clock row grant) refl

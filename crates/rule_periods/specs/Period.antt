@@ -1,0 +1,104 @@
+-- What a period is: its act, its side of the event, and how it may be extended.
+use Rattle.std.specs.Prelude.{ℕ, ℤ, Bool, true, false, nat_le, ◌&&◌, not, Option, Some, None, if◌then◌else◌}
+use Rattle.court_days.specs.declared.direction.Direction.{Direction}
+use Rattle.court_days.specs.declared.direction.Direction.TheVariants.{After, Before}
+use Rattle.rule6.specs.declared.timeliness.Act.{Act}
+use Rattle.rule6.specs.declared.service.ServiceKind.{ServiceKind}
+use Rattle.rule_periods.specs.declared.period.Entered.{Entered}
+use Rattle.rule_periods.specs.declared.period.Length.{Length}
+use Rattle.rule_periods.specs.declared.period.Length.TheVariants.{Days, Hours}
+use Rattle.rule_periods.specs.declared.period.Mark.{Mark}
+use Rattle.rule_periods.specs.declared.period.Mark.TheVariants as mark
+use Rattle.rule_periods.specs.declared.period.Period.{Period}
+use Rattle.rule_periods.specs.declared.period.Period.TheVariants as period
+use Rattle.rule_periods.specs.declared.rule.ExtensionRule.{ExtensionRule}
+use Rattle.rule_periods.specs.declared.rule.ExtensionRule.TheVariants.{WithoutFindings, GoodCause, Never}
+use Rattle.rule_periods.specs.declared.rule.ServiceRule.{ServiceRule}
+use Rattle.rule_periods.specs.declared.rule.ServiceRule.TheVariants as service
+use Rattle.rule_periods.specs.Rule.{terms_of}
+
+-- what must be done in time
+abbrev pub act_of : Period → Act
+act_of (period.Rule rule) = (terms_of rule).act
+act_of (period.Entered entered) = entered.act
+
+-- on which side of its event it lies; the Rules' own periods are measured after
+abbrev pub direction_of : Period → Direction
+direction_of (period.Rule rule) = After
+direction_of (period.Entered entered) = entered.direction
+
+-- an entered period may be extended for good cause, unless a rule whose time must not be extended is its mark
+abbrev pub extension_of_mark : Mark → ExtensionRule
+extension_of_mark mark.Plain = GoodCause
+extension_of_mark mark.Rule50b = Never
+extension_of_mark mark.Rule50d = Never
+extension_of_mark mark.Rule52b = Never
+extension_of_mark mark.Rule59b = Never
+extension_of_mark mark.Rule59d = Never
+extension_of_mark mark.Rule59e = Never
+extension_of_mark mark.Rule60b = Never
+
+abbrev pub extension_of : Period → ExtensionRule
+extension_of (period.Rule rule) = (terms_of rule).extension
+extension_of (period.Entered entered) = extension_of_mark entered.mark
+
+-- a length in hours
+abbrev pub is_in_hours : Length → Bool
+is_in_hours (Days n) = false
+is_in_hours (Hours h) = true
+
+-- a period counted in hours
+abbrev pub is_hours : Period → Bool
+is_hours (period.Rule rule) = false
+is_hours (period.Entered entered) = is_in_hours entered.length
+
+-- a length of 1 to 3,650 days or 1 to 8,760 hours
+abbrev pub is_days : ℕ → Bool
+is_days n = nat_le 1 n && nat_le n 3650
+
+abbrev pub is_hour_count : ℕ → Bool
+is_hour_count h = nat_le 1 h && nat_le h 8760
+
+abbrev pub is_length : Length → Bool
+is_length (Days n) = is_days n
+is_length (Hours h) = is_hour_count h
+
+abbrev pub has_length : Period → Bool
+has_length (period.Rule rule) = true
+has_length (period.Entered entered) = is_length entered.length
+
+-- measured after its event
+abbrev pub is_after : Direction → Bool
+is_after After = true
+is_after Before = false
+
+-- a value is there, or isn't
+abbrev pub is_given : {A : Type 0} → Option A → Bool
+is_given None = false
+is_given (Some x) = true
+
+-- a kind of service, as the rule of the table asks for it
+abbrev pub is_kind_for : ServiceRule → Option ServiceKind → Bool
+is_kind_for service.None None = true
+is_kind_for service.None (Some kind) = false
+is_kind_for service.Required None = false
+is_kind_for service.Required (Some kind) = true
+is_kind_for service.MayBeNoted kind = true
+
+-- a second day, where the period asks for one
+abbrev pub is_second_for : Bool → Option ℤ → Bool
+is_second_for false None = true
+is_second_for false (Some d) = false
+is_second_for true None = false
+is_second_for true (Some d) = true
+
+-- An entered period runs from service only if it is counted in days after it, with the kind of the service; else
+-- no kind is given.
+abbrev pub is_kind_for_entered : Entered → Option ServiceKind → Bool
+is_kind_for_entered entered kind =
+    if entered.served then is_given kind && (is_after entered.direction && not (is_in_hours entered.length)) else not (is_given kind)
+
+-- the kind of service and the second day suit the period
+abbrev pub suits : Period → Option ℤ → Option ServiceKind → Bool
+suits (period.Rule rule) second kind = is_kind_for (terms_of rule).service kind && is_second_for (terms_of rule).second_day second
+suits (period.Entered entered) second kind = is_kind_for_entered entered kind && is_second_for false second

@@ -1,0 +1,119 @@
+//! A deadline as the docket keeps it.
+
+ghost use Rattle.std.specs.Prelude.{◌≡◌, true, option_map};
+ghost use Rattle.std.specs.List.{list_all};
+ghost use Rattle.rule_periods.specs.Deadline.{DeadlineView, kept_filing};
+ghost use Rattle.rule_periods.specs.Extension.{is_grant_length};
+ghost use Rattle.rule_periods.specs.Period.{suits, has_length};
+
+use crate::event::Event;
+use crate::grant::Grant;
+use crate::period::Period;
+use court_days::Day;
+use rule6::{Filing, ServiceKind};
+use std::marker::Model;
+
+/// The last minute of a day.
+const LAST_MINUTE: u16 = 1439;
+
+/// A deadline: its period, the event from which it runs, the extensions that were granted in order, and the act by
+/// which it was met, or missed.
+#[derive(Debug, Drop)]
+pub struct DeadlineRow {
+    period: Period,
+    event: Event,
+    second: Option<Day>,
+    service: Option<ServiceKind>,
+    grants: Vec<Grant>,
+    filed: Option<Filing>,
+}
+
+impl Model for DeadlineRow {
+    ghost Value = { DeadlineView };
+
+    ghost view = { λ r. record { period = r.period; event = r.event; second = r.second; service = r.service; grants = r.grants.items; filed = r.filed } };
+
+    ghost invariant = { λ r. (suits r.period r.second r.service ≡ true) × (has_length r.period ≡ true) × (list_all is_grant_length r.grants.items ≡ true) };
+}
+
+impl DeadlineRow {
+    /// A deadline of that period. A minute of 1,440 or more in the act is kept as 1,439, the last of the day.
+    pub fn new(
+        period: Period,
+        event: Event,
+        second: Option<Day>,
+        service: Option<ServiceKind>,
+        grants: Vec<Grant>,
+        filed: Option<Filing>,
+    ) -> DeadlineRow
+        requires suits { suits period second service ≡ true }
+        requires length { has_length period ≡ true }
+        requires grants { list_all is_grant_length grants.items ≡ true }
+        ensures { result ≡ record { period = period; event = event; second = second; service = service; grants = grants.items; filed = option_map kept_filing filed } }
+    {
+        DeadlineRow {
+            period,
+            event,
+            second,
+            service,
+            grants,
+            filed: kept(filed),
+        }
+    }
+
+    /// The period.
+    pub fn period(&self) -> Period
+        ensures value { result ≡ self.now.period }
+        ensures suits { suits self.now.period self.now.second self.now.service ≡ true }
+        ensures length { has_length self.now.period ≡ true }
+    {
+        self.period
+    }
+
+    /// The event from which the period runs.
+    pub fn event(&self) -> Event
+        ensures { result ≡ self.now.event }
+    {
+        self.event
+    }
+
+    /// The second day, where the period takes one.
+    pub fn second(&self) -> Option<Day>
+        ensures { result ≡ self.now.second }
+    {
+        self.second
+    }
+
+    /// The kind of service, where one was given.
+    pub fn service(&self) -> Option<ServiceKind>
+        ensures { result ≡ self.now.service }
+    {
+        self.service
+    }
+
+    /// The extensions, in the order in which they were granted.
+    pub fn grants(&self) -> &[Grant]
+        ensures value { result.now ≡ self.now.grants }
+        ensures lengths { list_all is_grant_length self.now.grants ≡ true }
+    {
+        &self.grants
+    }
+
+    /// The act that was recorded for the deadline.
+    pub fn filed(&self) -> Option<Filing>
+        ensures { result ≡ self.now.filed }
+    {
+        self.filed
+    }
+}
+
+/// The act as it is kept.
+fn kept(filed: Option<Filing>) -> Option<Filing>
+    ensures { result ≡ option_map kept_filing filed }
+{
+    let filing = filed?;
+    Some(Filing {
+        minute: filing.minute.min(LAST_MINUTE),
+        ..filing
+    })
+}

@@ -1,0 +1,12 @@
+//! When a period ends, before anything is shown of it.
+
+use court_days::{Day, Instant};
+
+/// The end of a period in days, or of one in hours.
+#[derive(Clone, Copy, Debug, PartialEq, Eq)]
+pub(crate) enum Expiry {
+    /// With a last day.
+    OnDay(Day),
+    /// At an instant.
+    AtInstant(Instant),
+}

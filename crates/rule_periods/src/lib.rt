@@ -1,0 +1,27 @@
+//! Periods that the Rules set or a court enters, their extensions, and what is shown of a deadline.
+#![tactic(auto)]
+
+mod base;
+mod deadline;
+mod event;
+mod expiry;
+mod extended;
+mod extension;
+mod grant;
+mod notice;
+mod period;
+mod refusal;
+mod rule;
+mod showing;
+mod start;
+
+pub use deadline::DeadlineRow;
+pub use event::Event;
+pub use extension::may_extend;
+pub use grant::{Grant, Request};
+pub use notice::{affidavit_day, notice_day};
+pub use period::{Entered, Length, Mark, Period};
+pub use refusal::PeriodRefusal;
+pub use rule::{ExtensionRule, RulePeriod, ServiceRule, Terms};
+pub use showing::shown;
+pub use start::check_start;

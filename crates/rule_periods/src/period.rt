@@ -1,0 +1,111 @@
+//! Periods: those that the Rules set, and those that a court enters.
+
+ghost use Rattle.std.specs.Prelude.{◌≡◌};
+ghost use Rattle.rule_periods.specs.Period.{act_of, direction_of, extension_of, is_hours};
+
+use crate::rule::{ExtensionRule, RulePeriod};
+use court_days::Direction;
+use rule6::Act;
+
+/// The length of an entered period.
+#[derive(Clone, Copy, Debug, PartialEq, Eq)]
+pub enum Length {
+    /// A number of days, 1 to 3,650 (Fed. R. Civ. P. 6(a)(1)).
+    Days(u32),
+    /// A number of hours, 1 to 8,760 (Fed. R. Civ. P. 6(a)(2)).
+    Hours(u32),
+}
+
+/// The rule under which an entered period runs: no special one, or one whose time must not be extended
+/// (Fed. R. Civ. P. 6(b)(2)).
+#[derive(Clone, Copy, Debug, PartialEq, Eq)]
+pub enum Mark {
+    /// No special rule: the time may be extended for good cause (6(b)(1)).
+    Plain,
+    /// Rule 50(b), a renewed motion for judgment as a matter of law.
+    Rule50b,
+    /// Rule 50(d), a motion for a new trial by the party against whom such judgment is entered.
+    Rule50d,
+    /// Rule 52(b), a motion to amend findings.
+    Rule52b,
+    /// Rule 59(b), a motion for a new trial.
+    Rule59b,
+    /// Rule 59(d), a new trial on the court's initiative.
+    Rule59d,
+    /// Rule 59(e), a motion to alter or amend a judgment.
+    Rule59e,
+    /// Rule 60(b), a motion for relief from a judgment.
+    Rule60b,
+}
+
+/// A period that a court enters.
+#[derive(Clone, Copy, Debug, PartialEq, Eq)]
+pub struct Entered {
+    /// How long it is.
+    pub length: Length,
+    /// On which side of its event it lies.
+    pub direction: Direction,
+    /// What must be done in time.
+    pub act: Act,
+    /// Whether it runs from service under Rule 5(b)(2), so that Rule 6(d) may add three days.
+    pub served: bool,
+    /// The rule under which it runs.
+    pub mark: Mark,
+}
+
+/// A period.
+#[derive(Clone, Copy, Debug, PartialEq, Eq)]
+pub enum Period {
+    /// One that the Rules set.
+    Rule(RulePeriod),
+    /// One that a court enters.
+    Entered(Entered),
+}
+
+impl Period {
+    /// What must be done in time.
+    pub fn act(self) -> Act
+        ensures { result ≡ act_of self }
+    {
+        match self {
+            Period::Rule(rule) => rule.act(),
+            Period::Entered(entered) => entered.act,
+        }
+    }
+
+    /// On which side of its event the period lies.
+    pub fn direction(self) -> Direction
+        ensures { result ≡ direction_of self }
+    {
+        match self {
+            Period::Rule(_) => Direction::After,
+            Period::Entered(entered) => entered.direction,
+        }
+    }
+
+    /// How the time may be extended.
+    pub fn extension_rule(self) -> ExtensionRule
+        ensures { result ≡ extension_of self }
+    {
+        match self {
+            Period::Rule(rule) => rule.extension_rule(),
+            Period::Entered(entered) => match entered.mark {
+                Mark::Plain => ExtensionRule::GoodCause,
+                _ => ExtensionRule::Never,
+            },
+        }
+    }
+
+    /// Whether the period is counted in hours.
+    pub fn is_in_hours(self) -> bool
+        ensures { result ≡ is_hours self }
+    {
+        match self {
+            Period::Rule(_) => false,
+            Period::Entered(entered) => match entered.length {
+                Length::Days(_) => false,
+                Length::Hours(_) => true,
+            },
+        }
+    }
+}
