@@ -1,9 +1,10 @@
 # How to build, run, test and measure the clerk's office. It needs `rt`, the command of the Rattle kit, on the PATH,
 # and Python 3.8 or later.
 
-CRATE   := crates/clerk_office
-PROGRAM := $(CRATE)/out/clerk_office
-EXAMPLE := examples/smallest.txt
+CRATE    := crates/clerk_office
+PROGRAM  := $(CRATE)/out/clerk_office
+BOOKINGS := crates/measure_bookings
+EXAMPLE  := examples/smallest.txt
 
 .PHONY: build run test bench help
 
@@ -20,7 +21,8 @@ test:
 	@rt ci
 
 bench: build
-	@python3 bench/bench.py $(PROGRAM)
+	@cd $(BOOKINGS) && rt run > /dev/null
+	@python3 bench/bench.py $(PROGRAM) $(BOOKINGS)/out/measure_bookings
 
 help:
 	@echo "make         proves and builds the program, which is then $(PROGRAM)"

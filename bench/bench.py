@@ -1,9 +1,9 @@
 #!/usr/bin/env python3
 """Measures the program on growing numbers of rows: seconds, rows per second and peak memory.
 
-    bench.py PROGRAM
+    bench.py PROGRAM BOOKINGS
 
-Each input is the court's file examples/district.toml, a line '%%', and rows of one kind, drawn from a fixed seed, so
+PROGRAM is the clerk's office, and BOOKINGS the program that puts 100,000 bookings into calendars. Each input is the court's file examples/district.toml, a line '%%', and rows of one kind, drawn from a fixed seed, so
 that two runs of the benchmark measure the same inputs. Each input is run once. Seconds are by the wall clock, with
 about a millisecond for the start of a shell; a megabyte is 1,000,000 bytes. For a run that doesn't end with status 0,
 the first line that it wrote to standard error is shown and no rows per second. Nothing is asserted and no time is
@@ -28,6 +28,12 @@ KINDS = {
 }
 SIZES = (1000, 10000, 100000)
 SEED = 20250902
+
+# How many bookings the other program puts in, and over how many calendars it spreads them.
+BOOKINGS = 100000
+CALENDARS = (32, 1)
+
+LINE = "{:<16}{:>9}{:>10}{:>13}{:>9}  {}"
 
 COURT = pathlib.Path(__file__).resolve().parent.parent / "examples" / "district.toml"
 
@@ -91,42 +97,46 @@ def adopt_orphans():
     ctypes.CDLL(None).prctl(pr_set_child_subreaper, 1, 0, 0, 0)
 
 
-def measure(program, rows, errors):
-    """Runs the program once: its status, the seconds it took and its peak memory in megabytes.
+def measure(command, rows, errors):
+    """Runs the command, a program and its arguments, once: its status, the seconds it took and its peak memory in megabytes.
 
     Linux counts to a process's peak that of the process it was forked from, and this one is larger than most of what
     it measures. So a shell, which is small, starts the program and ends, and the program is waited for here.
     """
-    command = '"$0" < "$1" > /dev/null 2> "$2" &'
+    script = 'rows=$1; errors=$2; shift 2; "$@" < "$rows" > /dev/null 2> "$errors" &'
     start = time.perf_counter()
-    subprocess.run(["sh", "-c", command, program, rows, errors], check=True)
+    subprocess.run(["sh", "-c", script, "sh", rows, errors] + command, check=True)
     _, ended, used = os.wait4(-1, 0)
     seconds = time.perf_counter() - start
     status = os.WEXITSTATUS(ended) if os.WIFEXITED(ended) else -os.WTERMSIG(ended)
     return status, seconds, used.ru_maxrss * 1024 / 1e6
 
 
-def main(program):
-    program = os.path.abspath(program)
+def report(kind, count, ran, errors):
+    """Prints the line of one run."""
+    status, seconds, peak = ran
+    rate = "{:,.0f}".format(count / seconds) if status == 0 else "-"
+    with open(errors, errors="replace") as file:
+        ending = "{} {}".format(status, file.readline()).strip()
+    print(LINE.format(kind, "{:,}".format(count), "%.3f" % seconds, rate, "%.1f" % peak, ending), flush=True)
+
+
+def main(program, bookings):
+    program, bookings = os.path.abspath(program), os.path.abspath(bookings)
     adopt_orphans()
-    line = "{:<14}{:>9}{:>10}{:>13}{:>9}  {}"
-    print(line.format("kind", "rows", "seconds", "rows/second", "peak MB", "status"))
+    print(LINE.format("kind", "rows", "seconds", "rows/second", "peak MB", "status"))
     with tempfile.TemporaryDirectory() as folder:
         rows, errors = os.path.join(folder, "rows"), os.path.join(folder, "errors")
         for kind, row in KINDS.items():
             for count in SIZES:
                 write_input(rows, row, count)
-                status, seconds, peak = measure(program, rows, errors)
-                rate = "{:,.0f}".format(count / seconds) if status == 0 else "-"
-                with open(errors, errors="replace") as file:
-                    ending = "{} {}".format(status, file.readline()).strip()
-                print(
-                    line.format(kind, "{:,}".format(count), "%.3f" % seconds, rate, "%.1f" % peak, ending),
-                    flush=True,
-                )
+                report(kind, count, measure([program], rows, errors), errors)
+        for calendars in CALENDARS:
+            ran = measure([bookings, str(calendars)], os.devnull, errors)
+            report("bookings in %d" % calendars, BOOKINGS, ran, errors)
 
 
 if __name__ == "__main__":
-    if len(sys.argv) != 2:
-        sys.exit("usage: bench.py PROGRAM")
-    main(sys.argv[1])
+    if len(sys.argv) != 3:
+        sys.exit("usage: bench.py PROGRAM BOOKINGS")
+    main(sys.argv[1], sys.argv[2])
