@@ -4,3 +4,5 @@ pub mod Slashes
 pub mod RecordsLaws
 pub mod ReadingLaws
 pub mod RowsLaws
+pub mod MarkLaws
+pub mod FaultLaws

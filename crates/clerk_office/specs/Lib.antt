@@ -9,3 +9,5 @@ pub mod Answers
 pub mod Causes
 pub mod Faults
 pub mod Run
+pub mod Marks
+pub mod FirstFault

@@ -7,6 +7,7 @@ mod division;
 mod fault;
 mod fault_line;
 mod input;
+mod laws;
 mod numbers;
 mod office;
 mod options;
