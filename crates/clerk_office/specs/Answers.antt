@@ -1,50 +1,80 @@
 -- What rows are answered, and the text of the answers.
-use Rattle.std.specs.Prelude.{ℕ, ◌+◌, ◌&&◌, ℤ, false, not, List, [], ◌∷◌, ◌++◌, Option, Some, None, nat_le, codes, if◌then◌else◌}
+use Rattle.std.specs.Prelude.{ℕ, ◌+◌, ◌/◌, ◌%◌, List, [], ◌∷◌, ◌++◌, Option, Some, None, Result, Ok, Err, codes}
 use Rattle.std.specs.Fmt.{decimal}
-use Rattle.court_days.specs.Calendar.{Calendar, is_covered}
+use Rattle.jiff_fmt.specs.Text.{pad2}
+use Rattle.court_days.specs.Civil.{CourtClock, CivilTime, civil_of}
+use Rattle.court_days.specs.Court.{CourtView}
 use Rattle.court_days.specs.Date.{day_text}
-use Rattle.rule6.specs.LastDay.{last_day_of}
+use Rattle.rule6.specs.declared.timeliness.Shown.{Shown}
+use Rattle.rule6.specs.declared.timeliness.Shown.TheVariants as shown
+use Rattle.rule_periods.specs.Deadline.{DeadlineView, shown_of}
+use Rattle.rule_periods.specs.Start.{start_of}
+use Rattle.rule_periods.specs.declared.refusal.PeriodRefusal.{PeriodRefusal}
+use Rattle.rule_periods.specs.declared.refusal.PeriodRefusal.TheVariants.{BadDay, BadLength, WrongService, Beyond, NotExtendable, NoGoodCause, LateWithoutMotion, LateWithoutNeglect, NotLonger, WrongGrant}
 use Rattle.clerk_office.specs.declared.answer.Answer.{Answer}
-use Rattle.clerk_office.specs.declared.answer.Answer.TheVariants.{Last, Beyond, Refused}
-use Rattle.clerk_office.specs.declared.answer.Refusal.{Refusal}
-use Rattle.clerk_office.specs.declared.answer.Refusal.TheVariants.{BadDay, BadLength}
+use Rattle.clerk_office.specs.declared.answer.Answer.TheVariants.{Computed, Refused}
 use Rattle.clerk_office.specs.declared.row.ComputeRow.{ComputeRow}
 use Rattle.clerk_office.specs.declared.row.Row.{Row}
 use Rattle.clerk_office.specs.declared.row.Work.{Work}
 use Rattle.clerk_office.specs.declared.row.Work.TheVariants.{Compute}
 
--- the last day of a period, where the days covered have one
-abbrev pub shown : Option ℤ → Answer
-shown (Some day) = Last day
-shown None = Beyond
+-- the deadline that a row asks for: nothing was granted, and nothing was filed
+abbrev pub deadline_of : ComputeRow → DeadlineView
+deadline_of row = record { period = row.period; event = row.event; second = row.second; service = row.service; grants = []; filed = None }
 
--- a period's end: refused where its event isn't covered, then where it has no day or more than 3,650
-unfoldable pub computed : Calendar → ComputeRow → Answer
-computed calendar row =
-    if not (is_covered calendar row.event) then Refused BadDay
-    else if not (nat_le 1 row.period.days && nat_le row.period.days 3650) then Refused BadLength
-    else shown (last_day_of calendar row.event row.period.days row.period.direction false)
+-- the refusal, or else what is shown
+abbrev pub unless_refused : Result (Unit {0}) PeriodRefusal → Shown → Answer
+unless_refused (Ok done) end = Computed end
+unless_refused (Err refusal) end = Refused refusal
+
+-- what is shown of a period's end: refused where the period can't start with its event
+unfoldable pub computed : CourtView → ComputeRow → Answer
+computed court row =
+    unless_refused (start_of court.days row.period row.event row.second row.service)
+    (shown_of court.days court.clock (deadline_of row))
 
 -- what a row's work is answered
-abbrev pub answer_of : Calendar → Work → Answer
-answer_of calendar (Compute row) = computed calendar row
+abbrev pub answer_of : CourtView → Work → Answer
+answer_of court (Compute row) = computed court row
 
 -- a refusal's number and name
-abbrev pub refusal_text : Refusal → List ℕ
+abbrev pub refusal_text : PeriodRefusal → List ℕ
 refusal_text BadDay = codes "5 BadDay"
 refusal_text BadLength = codes "6 BadLength"
+refusal_text WrongService = codes "7 WrongService"
+refusal_text Beyond = codes "8 Beyond"
+refusal_text NotExtendable = codes "10 NotExtendable"
+refusal_text NoGoodCause = codes "11 NoGoodCause"
+refusal_text LateWithoutMotion = codes "12 LateWithoutMotion"
+refusal_text LateWithoutNeglect = codes "13 LateWithoutNeglect"
+refusal_text NotLonger = codes "14 NotLonger"
+refusal_text WrongGrant = codes "28 WrongGrant"
+
+-- `15:00:00`, of a second of the day counted from midnight
+abbrev pub time_text : ℕ → List ℕ
+time_text second = pad2 (second / 3600) ++ 58 ∷ pad2 (second / 60 % 60) ++ 58 ∷ pad2 (second % 60)
+
+-- The end of hours, as the court's clock shows it. A day covered is always a `Day`, so that an end which is shown has one.
+abbrev pub end_text : Option CivilTime → List ℕ
+end_text (Some at) = codes "until " ++ day_text at.day ++ codes " " ++ time_text at.second
+end_text None = codes "beyond"
+
+-- what is shown of a deadline
+abbrev pub shown_text : CourtClock → Shown → List ℕ
+shown_text clock (shown.Last day act) = codes "last " ++ day_text day
+shown_text clock (shown.Until end) = end_text (civil_of clock.zone end)
+shown_text clock shown.Beyond = codes "beyond"
 
 -- the text of an answer
-abbrev pub answer_text : Answer → List ℕ
-answer_text (Last day) = codes "last " ++ day_text day
-answer_text Beyond = codes "beyond"
-answer_text (Refused refusal) = codes "refused " ++ refusal_text refusal
+abbrev pub answer_text : CourtClock → Answer → List ℕ
+answer_text clock (Computed end) = shown_text clock end
+answer_text clock (Refused refusal) = codes "refused " ++ refusal_text refusal
 
 -- the line of a row: its number, counted from 1, its clerk, the answer's text, and LF
-unfoldable pub line_of : Calendar → ℕ → Row → List ℕ
-line_of calendar number row = decimal number ++ codes " " ++ decimal row.clerk ++ codes " " ++ answer_text (answer_of calendar row.work) ++ 10 ∷ []
+unfoldable pub line_of : CourtView → ℕ → Row → List ℕ
+line_of court number row = decimal number ++ codes " " ++ decimal row.clerk ++ codes " " ++ answer_text court.clock (answer_of court row.work) ++ 10 ∷ []
 
 -- the lines of rows, the first of which has this number
-unfoldable pub lines_from : Calendar → ℕ → List Row → List ℕ
-lines_from calendar number [] = []
-lines_from calendar number (row ∷ rows) = line_of calendar number row ++ lines_from calendar (number + 1) rows
+unfoldable pub lines_from : CourtView → ℕ → List Row → List ℕ
+lines_from court number [] = []
+lines_from court number (row ∷ rows) = line_of court number row ++ lines_from court (number + 1) rows

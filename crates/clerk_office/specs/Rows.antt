@@ -1,5 +1,5 @@
 -- The rows that records spell, or their first fault.
-use Rattle.std.specs.Prelude.{◌≡◌, ℕ, ◌+◌, ◌-◌, ◌==◌, ◌&&◌, not, List, [], ◌∷◌, length, nat_lt, nat_le, codes, Option, Some, None, Result, Ok, Err, unwrap_or, if◌then◌else◌}
+use Rattle.std.specs.Prelude.{◌≡◌, ℕ, ◌+◌, ◌-◌, ◌==◌, ◌&&◌, not, List, [], ◌∷◌, length, nat_lt, nat_le, codes, ℤ, min, Option, Some, None, option_map, Result, Ok, Err, unwrap_or, if◌then◌else◌}
 use Rattle.std.specs.List.{list_all}
 use Rattle.std.specs.Option.{ok_or, option_and_then}
 use Rattle.std.specs.Str.{bytes_eq, is_utf8}
@@ -7,6 +7,8 @@ use Rattle.csv.specs.Reading.{default_config, records, strip_bom}
 use Rattle.csv.specs.Records.{field_at}
 use Rattle.court_days.specs.Date.{day_of_text}
 use Rattle.court_days.specs.Minute.{minute_of_text}
+use Rattle.rule6.specs.declared.service.ServiceKind.{ServiceKind}
+use Rattle.rule6.specs.declared.service.ServiceKind.TheVariants.{HandA, LeftB, MailC, ClerkD, ElectronicE, OtherF}
 use Rattle.clerk_office.specs.declared.read_rows.TheConstants.{MAX_ROWS}
 use Rattle.clerk_office.specs.declared.row.ComputeRow.{ComputeRow}
 use Rattle.clerk_office.specs.declared.row.Row.{Row}
@@ -37,21 +39,37 @@ unfoldable pub minute_or_midnight : List ℕ → Option ℕ
 minute_or_midnight [] = Some 0
 minute_or_midnight (b ∷ field) = minute_of_text (b ∷ field)
 
--- a field that this command leaves empty
-abbrev pub nothing : List ℕ → Option (Unit {0})
-nothing [] = Some tt
-nothing (b ∷ field) = None
+-- the day that a field says, which may be empty: then there is none
+unfoldable pub day_if_given : List ℕ → Option (Option ℤ)
+day_if_given [] = Some None
+day_if_given (b ∷ field) = option_map Some (day_of_text (b ∷ field))
+
+-- the kind of service, by its letter in Rule 5(b)(2)
+unfoldable pub kind_of : List ℕ → Option ServiceKind
+kind_of letter =
+    if bytes_eq letter (codes "A") then Some HandA
+    else if bytes_eq letter (codes "B") then Some LeftB
+    else if bytes_eq letter (codes "C") then Some MailC
+    else if bytes_eq letter (codes "D") then Some ClerkD
+    else if bytes_eq letter (codes "E") then Some ElectronicE
+    else if bytes_eq letter (codes "F") then Some OtherF
+    else None
+
+-- the kind of service that a field says, which may be empty: then there is none
+unfoldable pub kind_if_given : List ℕ → Option (Option ServiceKind)
+kind_if_given [] = Some None
+kind_if_given (b ∷ field) = option_map Some (kind_of (b ∷ field))
 
 -- a row `CLERK,compute,PERIOD,DATE,TIME,SECOND,KIND`
 unfoldable pub compute_row : List (List ℕ) → Result ComputeRow RowCause
 compute_row fields =
     if not (length fields == 7) then Err WrongCount else do
       period ← in_column 3 (period_of (column fields 3))
-      event ← in_column 4 (day_of_text (column fields 4))
+      day ← in_column 4 (day_of_text (column fields 4))
       minute ← in_column 5 (minute_or_midnight (column fields 5))
-      second ← in_column 6 (nothing (column fields 6))
-      kind ← in_column 7 (nothing (column fields 7))
-      Ok (record { period = period; event = event; minute = minute })
+      second ← in_column 6 (day_if_given (column fields 6))
+      service ← in_column 7 (kind_if_given (column fields 7))
+      Ok (record { period = period; event = record { day = day; minute = minute }; second = second; service = service })
 
 -- a clerk's number, from 1 to the number of clerks
 unfoldable pub clerk_of : ℕ → List ℕ → Option ℕ

@@ -1,7 +1,7 @@
 -- What a run of the office makes of its input.
 use Rattle.std.specs.Prelude.{◌≡◌, ◌≢◌, ⊤, ℕ, Bool, true, false, List, Option, Result, Ok, Err}
 use Rattle.std.specs.Io.KnownBytes.{Appends}
-use Rattle.court_days.specs.Court.{CourtFile, court_in}
+use Rattle.court_days.specs.Court.{CourtFile, CourtView, court_in, file_of}
 use Rattle.court_days.specs.declared.fault.CourtFault.{CourtFault}
 use Rattle.court_days.specs.declared.fault.CourtFault.TheVariants as court
 use Rattle.clerk_office.specs.declared.fault.OfficeFault.{OfficeFault}
@@ -25,12 +25,24 @@ abbrev pub by_office : {A E : Type 0} → (E → OfficeFault) → Result A E →
 by_office fault_of (Ok x) = Ok x
 by_office fault_of (Err e) = Err (fault_of e)
 
--- the text of the answers to an input: the court's file and the rows behind it; or the first fault, a court's before any row's
-unfoldable pub run_of : ℕ → List ℕ → Result (List ℕ) OfficeFault
-run_of clerks input = do
-  court ← by_office Court (court_in (court_part input))
-  rows ← by_office (λ fault. Row fault.0 fault.1) (rows_of clerks (rows_part input))
-  Ok (lines_from court.days 1 rows)
+-- the court's file and the rows behind it
+pub record Input : Type 0 where
+  pub file : CourtFile
+  pub rows : List RowOf
+
+-- what an input says, or its first fault, a court's before any row's
+unfoldable pub input_of : ℕ → List ℕ → Result Input OfficeFault
+input_of clerks bytes = do
+  file ← by_office Court (court_in (court_part bytes))
+  rows ← by_office (λ fault. Row fault.0 fault.1) (rows_of clerks (rows_part bytes))
+  Ok (record { file = file; rows = rows })
+
+-- The text of the answers to an input, in the court whose file it has. The file names the court's zone, and all values
+-- of a zone that it may stand for have the same offsets.
+pub record IsTextOf (input : Input) (text : List ℕ) : Type 0 where
+  pub court : CourtView
+  pub is_court : file_of court ≡ input.file
+  pub is_text : text ≡ lines_from court 1 input.rows
 
 -- what reading the court's file answers: the court or the fault that is defined, unless memory ran out
 abbrev pub AnswersCourt : {X : Type 0} → (X → CourtFile) → Result X OfficeFault → Result CourtFile CourtFault → Type 0
@@ -51,25 +63,26 @@ AnswersRowsOf view (Err WriteFault) defined = ⊥
 AnswersRowsOf view (Err OutOfMemory) defined = ⊤
 
 -- what making the text answers: the text or the fault that is defined, unless memory ran out
-abbrev pub AnswersText : {X : Type 0} → (X → List ℕ) → Result X OfficeFault → Result (List ℕ) OfficeFault → Type 0
-AnswersText view (Ok text) run = run ≡ Ok (view text)
-AnswersText view (Err (Court fault)) run = (run ≡ Err (Court fault)) × (fault ≢ court.OutOfMemory)
-AnswersText view (Err (Row number cause)) run = run ≡ Err (Row number cause)
-AnswersText view (Err ReadFault) run = ⊥
-AnswersText view (Err WriteFault) run = ⊥
-AnswersText view (Err OutOfMemory) run = ⊤
+abbrev pub AnswersText : {X : Type 0} → (X → List ℕ) → Result X OfficeFault → Result Input OfficeFault → Type 0
+AnswersText view (Ok text) (Ok input) = IsTextOf input (view text)
+AnswersText view (Ok text) (Err fault) = ⊥
+AnswersText view (Err (Court fault)) said = (said ≡ Err (Court fault)) × (fault ≢ court.OutOfMemory)
+AnswersText view (Err (Row number cause)) said = said ≡ Err (Row number cause)
+AnswersText view (Err ReadFault) said = ⊥
+AnswersText view (Err WriteFault) said = ⊥
+AnswersText view (Err OutOfMemory) said = ⊤
 
 -- By its answer, a run has written the whole text or, where a write failed, a beginning of it; or what it read
 -- has the fault that the answer names. Where reading failed or memory ran out, the answer says nothing of them.
-abbrev pub IsRun : Option (List ℕ) → Option (List ℕ) → Result (Unit {0}) OfficeFault → Result (List ℕ) OfficeFault → Type 0
-IsRun old new (Ok done) (Ok text) = Appends old new text
+abbrev pub IsRun : Option (List ℕ) → Option (List ℕ) → Result (Unit {0}) OfficeFault → Result Input OfficeFault → Type 0
+IsRun old new (Ok done) (Ok input) = (text : List ℕ) × IsTextOf input text × Appends old new text
 IsRun old new (Ok done) (Err fault) = ⊥
-IsRun old new (Err WriteFault) (Ok text) = AppendsFront old new text
+IsRun old new (Err WriteFault) (Ok input) = (text : List ℕ) × IsTextOf input text × AppendsFront old new text
 IsRun old new (Err WriteFault) (Err fault) = ⊥
-IsRun old new (Err (Court fault)) run = run ≡ Err (Court fault)
-IsRun old new (Err (Row number cause)) run = run ≡ Err (Row number cause)
-IsRun old new (Err ReadFault) run = ⊤
-IsRun old new (Err OutOfMemory) run = ⊤
+IsRun old new (Err (Court fault)) said = said ≡ Err (Court fault)
+IsRun old new (Err (Row number cause)) said = said ≡ Err (Row number cause)
+IsRun old new (Err ReadFault) said = ⊤
+IsRun old new (Err OutOfMemory) said = ⊤
 
 -- the answer rests on the whole input
 abbrev pub rests_on_input : Result (Unit {0}) OfficeFault → Bool

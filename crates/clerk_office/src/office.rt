@@ -4,7 +4,7 @@ ghost use Rattle.std.specs.Prelude.{◌≡◌, ◌≢◌, true, false, IfSome, O
 ghost use Rattle.court_days.specs.Court.{court_in, file_of};
 ghost use Rattle.clerk_office.specs.Limits.{WasCutShort};
 ghost use Rattle.clerk_office.specs.Rows.{rows_of};
-ghost use Rattle.clerk_office.specs.Run.{AnswersCourt, AnswersRowsOf, AnswersText, IsRun, WasReadWhole, rests_on_input, run_of};
+ghost use Rattle.clerk_office.specs.Run.{AnswersCourt, AnswersRowsOf, AnswersText, IsRun, WasReadWhole, input_of, rests_on_input};
 ghost use Rattle.clerk_office.specs.Watching.{has_ended, has_failed, watched};
 
 use crate::division::divide;
@@ -37,7 +37,7 @@ pub fn run_office<R: Read, W: Write>(
     // What is written is the text of the court and the rows that were read, and nothing else; a fault of theirs
     // is the first.
     ensures run { IfSome (R.remaining (watched reader.old)) (λ input.
-        IsRun (W.contents (watched writer.old)) (W.contents (watched writer.new)) result (run_of options.clerks input)) }
+        IsRun (W.contents (watched writer.old)) (W.contents (watched writer.new)) result (input_of options.clerks input)) }
     ensures whole { rests_on_input result ≡ true → WasReadWhole reader.old reader.new }
     ensures read_fault { result ≡ Err OfficeFault.ReadFault → WasCutShort reader.old reader.new }
 
@@ -54,14 +54,14 @@ pub fn run_office<R: Read, W: Write>(
 }
 
 // The text of the answers to an input.
-#[tactic(auto, unfolding(crate::specs::Run::run_of))]
+#[tactic(auto, unfolding(crate::specs::Run::input_of))]
 fn answers_to(alloc: Global, input: &[u8], clerks: u8) -> Result<String, OfficeFault>
-    ensures { AnswersText (λ text. string_bytes text) result (run_of clerks input.now) }
+    ensures { AnswersText (λ text. string_bytes text) result (input_of clerks input.now) }
 {
     let (file, rows) = divide(input);
     let court = court_of(alloc, file)?;
     let rows = rows_behind(alloc, rows, clerks, &court)?;
-    match run_text(alloc, court.days(), rows.as_slice()) {
+    match run_text(alloc, &court, rows.as_slice()) {
         Ok(text) => Ok(text),
         Err(_) => Err(OfficeFault::OutOfMemory),
     }

@@ -1,6 +1,8 @@
 //! The rows that the office takes.
 
-use court_days::{Day, Direction};
+use court_days::Day;
+use rule_periods::{Event, Period};
+use rule6::ServiceKind;
 
 /// One row: which clerk asks, and for what.
 #[derive(Clone, Copy, Debug, PartialEq, Eq)]
@@ -22,29 +24,11 @@ pub enum Work {
 #[derive(Clone, Copy, Debug, PartialEq, Eq)]
 pub struct ComputeRow {
     /// The period.
-    pub period: DayPeriod,
-    /// The day of the event.
-    pub event: Day,
-    /// The minute of the event, counted from midnight. Periods stated in days don't look at it.
-    pub minute: u16,
-}
-
-/// A period that is stated in days (Fed. R. Civ. P. 6(a)(1)) and runs from an event.
-#[derive(Clone, Copy, Debug, PartialEq, Eq)]
-pub struct DayPeriod {
-    /// How many days it has, as written.
-    pub days: u32,
-    /// On which side of the event it lies.
-    pub direction: Direction,
-    /// What has to be done within it.
-    pub act: Act,
-}
-
-/// What has to be done within a period.
-#[derive(Clone, Copy, Debug, PartialEq, Eq)]
-pub enum Act {
-    /// A paper has to be filed with the court.
-    Filing,
-    /// A paper has to be served on a party.
-    Service,
+    pub period: Period,
+    /// The event from which it runs. Periods stated in days don't look at its minute.
+    pub event: Event,
+    /// The second day, for a period that runs from the later of two.
+    pub second: Option<Day>,
+    /// The kind of service, for a period that runs from service under Rule 5(b)(2).
+    pub service: Option<ServiceKind>,
 }

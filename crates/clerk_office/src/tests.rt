@@ -10,6 +10,7 @@ use std::test::Fail;
 
 mod answers;
 mod faults;
+mod periods;
 mod streams;
 
 const COURT: &str = r#"zone = "EST5EDT,M3.2.0/2,M11.1.0/2"

@@ -7,3 +7,4 @@ pub mod ReadingLaws
 pub mod NamesLaws
 pub mod CivilLaws
 pub mod SteadyLaws
+pub mod ZoneLaws

@@ -1,9 +1,10 @@
 -- The court's time zone, as its file writes it.
-use Rattle.std.specs.Prelude.{ℕ, ◌*◌, ◌==◌, nat_lt, List, [], ◌∷◌, ℤ, pos, neg_ℤ, Option, Some, None, option_map, option_and_then, if◌then◌else◌}
+use Rattle.std.specs.Prelude.{◌≡◌, ℕ, ◌*◌, ◌==◌, nat_lt, List, [], ◌∷◌, ℤ, pos, neg_ℤ, Option, Some, None, option_map, option_and_then, if◌then◌else◌}
 use Rattle.jiff_tz.specs.declared.timezone.TimeZone.{TimeZone}
 use Rattle.jiff_tz.specs.declared.timezone.TimeZone.TheVariants.{UTC, Unknown, Fixed, Posix, Tzif}
 use Rattle.jiff_tz.specs.PosixText.{TzText, tz_view}
 use Rattle.jiff_tz.specs.PosixReader.{read_whole}
+use Rattle.court_days.specs.Civil.{daylight_offset, offset_seconds, standard_offset}
 use Rattle.court_days.specs.Minute.{minute_of_text}
 
 -- one offset in seconds, east of Greenwich positive, or a POSIX rule
@@ -35,3 +36,13 @@ zone_view Unknown = other
 zone_view (Fixed o) = offset o.seconds
 zone_view (Posix tz) = rule (tz_view tz)
 zone_view (Tzif z) = other
+
+-- two values that stand for the same clock: it has the same offset at every instant, and the same two offsets
+pub record IsSameClock (a b : TimeZone) : Type 0 where
+  pub offsets : (t : ℤ) → offset_seconds a t ≡ offset_seconds b t
+  pub standard : standard_offset a ≡ standard_offset b
+  pub daylight : daylight_offset a ≡ daylight_offset b
+
+-- what it means that a text names a zone: all values that stand for it are one clock
+abbrev pub TextsNameClocks : Type 0
+TextsNameClocks = (text : List ℕ) (a b : TimeZone) → zone_of_text text ≡ Some (zone_view a) → zone_of_text text ≡ Some (zone_view b) → IsSameClock a b

@@ -4,6 +4,7 @@ ghost use Rattle.court_days.specs.Search.{EarliestIsLeast, LatestIsGreatest};
 ghost use Rattle.court_days.specs.Rolled.{RolledIsNearest};
 ghost use Rattle.court_days.specs.Date.{DaysHaveDates, TextsAreDays};
 ghost use Rattle.court_days.specs.Civil.{InstantsAreEarliest};
+ghost use Rattle.court_days.specs.Zone.{TextsNameClocks};
 
 /// Rolling gives the nearest permitted day, and none only where the day isn't covered or no covered day is that.
 pub fn rolled_is_nearest()
@@ -36,4 +37,9 @@ pub fn texts_are_days()
 /// civil time less the smaller of the zone's two offsets.
 pub fn instants_are_earliest()
     ensures { InstantsAreEarliest }
+{}
+
+/// The text of a zone names one clock: all values that stand for it have the same offset at every instant.
+pub fn texts_name_clocks()
+    ensures { TextsNameClocks }
 {}

@@ -32,7 +32,7 @@ pub use instant::Instant;
 pub use key::Key;
 pub use laws::{
     days_have_dates, earliest_is_least, instants_are_earliest, latest_is_greatest,
-    rolled_is_nearest, texts_are_days,
+    rolled_is_nearest, texts_are_days, texts_name_clocks,
 };
 pub use minute::minute_from_text;
 pub use outage::Outage;

@@ -1,7 +1,7 @@
 //! The periods that the Federal Rules of Civil Procedure set, and the table of what each says.
 
 ghost use Rattle.std.specs.Prelude.{◌≡◌, ◌≤◌};
-ghost use Rattle.rule_periods.specs.Rule.{terms_of, rule_code};
+ghost use Rattle.rule_periods.specs.Rule.{terms_of, rule_code, rule_of_code};
 
 use rule6::Act;
 
@@ -228,6 +228,25 @@ impl RulePeriod {
             RulePeriod::Rule12a3 => "12a3",
             RulePeriod::Rule59b => "59b",
             RulePeriod::Rule59e => "59e",
+        }
+    }
+
+    /// The period that a code names; none for any other text.
+    pub fn from_code(text: &str) -> Option<RulePeriod>
+        ensures { result ≡ rule_of_code text.now }
+    {
+        match text {
+            "4m" => Some(RulePeriod::Rule4m),
+            "12a1Ai" => Some(RulePeriod::Rule12a1Ai),
+            "12a1Aii-us" => Some(RulePeriod::Rule12a1AiiUs),
+            "12a1Aii-abroad" => Some(RulePeriod::Rule12a1AiiAbroad),
+            "12a1B" => Some(RulePeriod::Rule12a1B),
+            "12a1C" => Some(RulePeriod::Rule12a1C),
+            "12a2" => Some(RulePeriod::Rule12a2),
+            "12a3" => Some(RulePeriod::Rule12a3),
+            "59b" => Some(RulePeriod::Rule59b),
+            "59e" => Some(RulePeriod::Rule59e),
+            _ => None,
         }
     }
 }

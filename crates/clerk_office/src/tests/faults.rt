@@ -25,12 +25,37 @@ fn tells_the_first_fault_of_a_row(rt: HostRuntime) -> Result<(), Fail> {
             "3 row 1 fault 3 WrongCount",
         ),
         (
-            "1,compute,4m,2025-02-30,24:00,x,Z",
+            "1,compute,61b,2025-02-30,24:00,x,Z",
+            "3 row 1 fault 4 BadField 3",
+        ),
+        ("1,compute,4M,2025-03-03,,,", "3 row 1 fault 4 BadField 3"),
+        (
+            "1,compute,1m/after/filing/event/plain,2025-03-03,,,",
             "3 row 1 fault 4 BadField 3",
         ),
         (
-            "1,compute,1h/after/filing/event/plain,2025-03-03,,,",
+            "1,compute,1/after/filing/event/plain,2025-03-03,,,",
             "3 row 1 fault 4 BadField 3",
+        ),
+        (
+            "1,compute,h/after/filing/event/plain,2025-03-03,,,",
+            "3 row 1 fault 4 BadField 3",
+        ),
+        (
+            "1,compute,1d/after/filing/event,2025-03-03,,,",
+            "3 row 1 fault 4 BadField 3",
+        ),
+        (
+            "1,compute,1d/after/filing/mailed/plain,2025-03-03,,,",
+            "3 row 1 fault 4 BadField 3",
+        ),
+        (
+            "1,compute,1d/after/filing/event/61b,2025-03-03,,,",
+            "3 row 1 fault 4 BadField 3",
+        ),
+        (
+            "1,compute,4m,2025-02-30,24:00,x,Z",
+            "3 row 1 fault 4 BadField 4",
         ),
         (
             "1,compute,01d/after/filing/event/plain,2025-03-03,,,",
@@ -65,7 +90,19 @@ fn tells_the_first_fault_of_a_row(rt: HostRuntime) -> Result<(), Fail> {
             "3 row 1 fault 4 BadField 6",
         ),
         (
-            "1,compute,1d/after/filing/event/plain,2025-03-03,09:30,,C",
+            "1,compute,1d/after/filing/event/plain,2025-03-03,09:30,2025-02-30,Z",
+            "3 row 1 fault 4 BadField 6",
+        ),
+        (
+            "1,compute,1d/after/filing/event/plain,2025-03-03,09:30,,G",
+            "3 row 1 fault 4 BadField 7",
+        ),
+        (
+            "1,compute,1d/after/filing/event/plain,2025-03-03,09:30,,c",
+            "3 row 1 fault 4 BadField 7",
+        ),
+        (
+            "1,compute,1d/after/filing/event/plain,2025-03-03,09:30,,CC",
             "3 row 1 fault 4 BadField 7",
         ),
     ];

@@ -6,5 +6,5 @@ use Rattle.clerk_office.proofs.text.run_text.Given as goal
 abbrev pub invariant-loop-row : goal.invariant-loop-row
 invariant-loop-row l = record {
   number : l.number ≡ l.row-index + 1;
-  so_far : string_bytes l.text ++ lines_from l.days l.number (drop l.row-index l.rows) ≡ lines_from l.days 1 l.rows;
+  so_far : string_bytes l.text ++ lines_from l.court l.number (drop l.row-index l.rows) ≡ lines_from l.court 1 l.rows;
 }
