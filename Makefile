@@ -6,7 +6,7 @@ PROGRAM  := $(CRATE)/out/clerk_office
 BOOKINGS := crates/measure_bookings
 EXAMPLE  := examples/smallest.txt
 
-.PHONY: build run test bench help
+.PHONY: build run test bench refuse help
 
 # `rt run` proves the program and the libraries below it, builds it at $(PROGRAM), and runs it, here on the smallest
 # example. Where nothing has changed since the last time it proves nothing anew.
@@ -24,8 +24,13 @@ bench: build
 	@cd $(BOOKINGS) && rt run > /dev/null
 	@python3 bench/bench.py $(PROGRAM) $(BOOKINGS)/out/measure_bookings
 
+# Beside the gate, since it needs a C compiler: each growth of memory refused in turn.
+refuse: build
+	@python3 checks/refuse_memory.py $(PROGRAM) examples/smallest.txt examples/days.txt examples/deadlines.txt
+
 help:
 	@echo "make         proves and builds the program, which is then $(PROGRAM)"
 	@echo "make run     that, and runs it on $(EXAMPLE)"
 	@echo "make test    proves and tests everything from nothing (rt ci)"
+	@echo "make refuse  runs the program with each growth of its memory refused in turn; it needs a C compiler"
 	@echo "make bench   builds the program, and prints its rows per second and peak memory"

@@ -15,6 +15,8 @@ mod refusal;
 mod rule;
 mod showing;
 mod start;
+#[cfg(test)]
+mod tests;
 
 pub use deadline::DeadlineRow;
 pub use event::Event;

@@ -184,6 +184,36 @@ fn tells_the_first_fault_of_the_courts_file(rt: HostRuntime) -> Result<(), Fail>
             "judges = [\"Ames\", \"Ames\"]",
             "2 court fault 9 TwiceNamed Ames",
         ),
+        (
+            "judges = []",
+            "judges = [\"Ames\", \"\", \"Ames\"]",
+            "2 court fault 8 BadName ",
+        ),
+        (
+            "judges = []",
+            "judges = [\"a-judge-whose-name-has-33-letters\"]",
+            "2 court fault 8 BadName a-judge-whose-name-has-33-letters",
+        ),
+        (
+            "judges = []\nrooms = []",
+            "judges = [\"A/B\"]\nrooms = \"R1\"",
+            "2 court fault 8 BadName A/B",
+        ),
+        (
+            "rooms = []",
+            "rooms = \"R1\"",
+            "2 court fault 3 WrongKind rooms",
+        ),
+        (
+            "rooms = []",
+            "rooms = [1]",
+            "2 court fault 3 WrongKind rooms",
+        ),
+        (
+            "judges = []\nrooms = []",
+            "judges = [\"R1\"]\nrooms = [\"R1\", \"R1\"]",
+            "2 court fault 9 TwiceNamed R1",
+        ),
     ];
     for (old, new, line) in cases {
         let Some((before, after)) = COURT.split_once(old) else {

@@ -1,0 +1,53 @@
+#!/usr/bin/env python3
+"""Runs the program with each growth of its memory refused in turn.
+
+    refuse_memory.py PROGRAM INPUT..
+
+For each input the first growth is refused, then the second, and so on, until a run ends without a refusal. Each run
+in which one is refused must end with status 5, write nothing to standard output and `out of memory` to standard
+error. The last run must write what the file INPUT's neighbour with the ending `.out` has. The status is 0 where
+all of that is so. It needs Linux and a C compiler, `cc` or the one that CC names.
+"""
+import os
+import pathlib
+import subprocess
+import sys
+import tempfile
+
+LIBRARY = pathlib.Path(__file__).with_suffix(".c")
+
+REFUSED = (5, b"", b"out of memory\n")
+
+
+def run(program, text, library, number):
+    """The status of a run with that growth refused, and what it wrote to standard output and to standard error."""
+    surroundings = dict(os.environ, LD_PRELOAD=str(library), REFUSE=str(number))
+    ran = subprocess.run([program], input=text, capture_output=True, env=surroundings, check=False)
+    return ran.returncode, ran.stdout, ran.stderr
+
+
+def refuse_each(program, path, library):
+    """Whether each run with that input ended as it must."""
+    text = path.read_bytes()
+    wanted = (0, path.with_suffix(".out").read_bytes(), b"")
+    number = 1
+    while (ended := run(program, text, library, number)) == REFUSED:
+        number += 1
+    if ended != wanted or number == 1:
+        print(f"{path}: with growth {number} refused it ended so: {ended}")
+        return False
+    print(f"{path}: {number - 1} growths, each refused once")
+    return True
+
+
+def main():
+    program, *inputs = sys.argv[1:]
+    with tempfile.TemporaryDirectory() as folder:
+        library = pathlib.Path(folder) / "refuse_memory.so"
+        compiler = os.environ.get("CC", "cc")
+        subprocess.run([compiler, "-shared", "-fPIC", "-O1", "-o", library, LIBRARY, "-ldl"], check=True)
+        ended = [refuse_each(program, pathlib.Path(path), library) for path in inputs]
+    sys.exit(0 if all(ended) and ended else 1)
+
+
+main()
