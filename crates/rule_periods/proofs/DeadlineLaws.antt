@@ -1,9 +1,9 @@
 -- One more extension.
-use Rattle.std.proofs.Common.{◌≡◌, ℕ, ◌+◌, ◌-◌, Bool, true, false, List, [], ◌∷◌, ◌++◌, length, slice_get, fold, Option, Some, None, refl, ap, ◌∙◌, arith, length-append}
+use Rattle.std.proofs.Common.{◌≡◌, ◌-◌, false, List, [], ◌∷◌, ◌++◌, length, slice_get, fold, Some, refl, ap, ◌∙◌, arith, length-append}
 use Rattle.std.specs.Option.{option_map_or}
 use Rattle.std.proofs.lemmas.List.Sums.{fold_push}
 use Rattle.court_days.specs.declared.direction.Direction.{Direction}
-use Rattle.court_days.specs.declared.direction.Direction.TheVariants.{After, Before}
+use Rattle.court_days.specs.declared.direction.Direction.TheVariants.{After}
 use Rattle.court_days.specs.Calendar.{Calendar}
 use Rattle.court_days.specs.Civil.{CourtClock}
 use Rattle.rule_periods.specs.declared.grant.Grant.{Grant}

@@ -1,5 +1,5 @@
 -- Looking back from a day that isn't covered.
-use Rattle.std.proofs.Common.{◌≡◌, ℤ, ◌≤ℤ◌, ◌<ℤ◌, int_le, Bool, Option, None, refl, arith}
+use Rattle.std.proofs.Common.{◌≡◌, ℤ, ◌≤ℤ◌, ◌<ℤ◌, Bool, None, refl, arith}
 use Rattle.std.proofs.lemmas.Int.{ints}
 use Rattle.court_days.specs.Calendar.{Calendar}
 use Rattle.court_days.specs.Search.{latest_day, earlier_day}

@@ -1,8 +1,8 @@
 -- A deadline: when its time ends, with the extensions that were granted, and what is shown of it.
-use Rattle.std.specs.Prelude.{ℕ, ◌*◌, ◌-◌, min, length, slice_get, Bool, true, false, ◌&&◌, not, ℤ, pos, ◌+ℤ◌, int_le, List, [], ◌∷◌, fold, option_map, Option, Some, None, if◌then◌else◌}
+use Rattle.std.specs.Prelude.{ℕ, ◌*◌, ◌-◌, min, length, slice_get, Bool, true, false, ◌&&◌, not, ℤ, pos, ◌+ℤ◌, List, [], ◌∷◌, fold, option_map, Option, Some, None, if◌then◌else◌}
 use Rattle.std.specs.Option.{option_and_then, option_map_or}
 use Rattle.court_days.specs.declared.direction.Direction.{Direction}
-use Rattle.court_days.specs.declared.direction.Direction.TheVariants.{After, Before}
+use Rattle.court_days.specs.declared.direction.Direction.TheVariants.{After}
 use Rattle.court_days.specs.Calendar.{Calendar}
 use Rattle.court_days.specs.Civil.{CourtClock, instant_of}
 use Rattle.court_days.specs.Rolled.{rolled}
@@ -21,7 +21,6 @@ use Rattle.rule_periods.specs.declared.expiry.Expiry.{Expiry}
 use Rattle.rule_periods.specs.declared.expiry.Expiry.TheVariants.{OnDay, AtInstant}
 use Rattle.rule_periods.specs.declared.grant.Grant.{Grant}
 use Rattle.rule_periods.specs.declared.grant.Grant.TheVariants.{ByDays, ByHours, Until}
-use Rattle.rule_periods.specs.declared.period.Entered.{Entered}
 use Rattle.rule_periods.specs.declared.period.Length.{Length}
 use Rattle.rule_periods.specs.declared.period.Length.TheVariants.{Days, Hours}
 use Rattle.rule_periods.specs.declared.period.Period.{Period}
@@ -30,7 +29,7 @@ use Rattle.rule_periods.specs.declared.rule.RulePeriod.{RulePeriod}
 use Rattle.rule_periods.specs.declared.rule.ServiceRule.{ServiceRule}
 use Rattle.rule_periods.specs.declared.rule.ServiceRule.TheVariants as service
 use Rattle.rule_periods.specs.Moment.{Moment}
-use Rattle.rule_periods.specs.Period.{act_of, direction_of, is_hours, is_length}
+use Rattle.rule_periods.specs.Period.{act_of, direction_of, is_hours}
 use Rattle.rule_periods.specs.Rule.{terms_of}
 
 -- a deadline as the docket keeps it

@@ -1,8 +1,7 @@
 -- Whether the time may be extended (Fed. R. Civ. P. 6(b)).
-use Rattle.std.specs.Prelude.{ℕ, Bool, true, false, ◌&&◌, ◌||◌, not, ℤ, int_lt, List, [], ◌∷◌, ◌++◌, Option, Some, None, Result, Ok, Err, if◌then◌else◌}
+use Rattle.std.specs.Prelude.{Bool, true, false, ◌&&◌, ◌||◌, not, int_lt, [], ◌∷◌, ◌++◌, Result, Ok, if◌then◌else◌}
 use Rattle.court_days.specs.Calendar.{Calendar, is_covered}
 use Rattle.court_days.specs.Civil.{CourtClock}
-use Rattle.rule6.specs.declared.timeliness.Filing.{Filing}
 use Rattle.rule6.specs.declared.timeliness.Means.TheVariants.{Electronic}
 use Rattle.rule6.specs.declared.timeliness.Shown.{Shown}
 use Rattle.rule6.specs.declared.timeliness.Shown.TheVariants as shown

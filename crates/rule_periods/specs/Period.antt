@@ -12,7 +12,7 @@ use Rattle.rule_periods.specs.declared.period.Mark.TheVariants as mark
 use Rattle.rule_periods.specs.declared.period.Period.{Period}
 use Rattle.rule_periods.specs.declared.period.Period.TheVariants as period
 use Rattle.rule_periods.specs.declared.rule.ExtensionRule.{ExtensionRule}
-use Rattle.rule_periods.specs.declared.rule.ExtensionRule.TheVariants.{WithoutFindings, GoodCause, Never}
+use Rattle.rule_periods.specs.declared.rule.ExtensionRule.TheVariants.{GoodCause, Never}
 use Rattle.rule_periods.specs.declared.rule.ServiceRule.{ServiceRule}
 use Rattle.rule_periods.specs.declared.rule.ServiceRule.TheVariants as service
 use Rattle.rule_periods.specs.Rule.{terms_of}
