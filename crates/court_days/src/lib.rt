@@ -17,6 +17,8 @@ mod minute;
 mod names;
 mod outage;
 mod reading;
+#[cfg(test)]
+mod tests;
 mod text;
 mod zone;
 
