@@ -102,7 +102,8 @@ impl Clock {
     }
 
     /// A later second up to which the clock's offset stays as it is at the instant: that of the zone's next
-    /// transition, or the end of the day of UTC where that comes first.
+    /// transition, or the end of the day of UTC where that comes first. The contract asks for some later second
+    /// only, since its user goes on from there in any case; that it is a far one is tested.
     pub fn steady_until(&self, instant: Instant) -> i64
         ensures later { instant <ℤ result }
         ensures steady { (t : ℤ) → instant ≤ℤ t → t <ℤ result → offset_seconds self.now.zone t ≡ offset_seconds self.now.zone instant }

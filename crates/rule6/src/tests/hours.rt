@@ -3,11 +3,13 @@ use super::*;
 /// The zone, the day and the minute of the event, the hours, the direction, and the second of the end.
 struct Period(&'static str, &'static str, u32, u32, Direction, i64);
 
-static PERIODS: [Period; 26] = [
+static PERIODS: [Period; 27] = [
     // 10:23, until 2007-11-05 09:23:00
     Period(EASTERN, "2007-11-02", 623, 72, Direction::After, 1194272580),
     // 15:00, until 2025-03-10 15:00:00
     Period(EASTERN, "2025-03-07", 900, 24, Direction::After, 1741633200),
+    // 15:00, until 2025-03-12 15:00:00
+    Period(EASTERN, "2025-03-11", 900, 24, Direction::After, 1741806000),
     // 00:00, until 2025-03-17 00:00:00
     Period(EASTERN, "2025-03-14", 0, 24, Direction::After, 1742184000),
     // 15:00, until 2025-03-07 15:00:00
