@@ -5,7 +5,7 @@ ghost use Rattle.versioned_steps.specs.Drafts.{decided, with_marks, decision_see
 
 use crate::decision::Decision;
 use crate::parted::Parted;
-use std::alloc::{AllocError, Global};
+use std::alloc::{AllocError, Allocator, Global};
 use std::marker::Model;
 
 /// The numbers noted at a read: the part's version then, and the length of the history then.
@@ -16,17 +16,17 @@ pub struct Mark {
 }
 
 /// A command of a clerk, the parts read for it so far, and its decision once it is settled. The parts are copied one by
-/// one, and other commands may be finished in between.
+/// one, and other commands may be finished in between. What was read lies in memory of `A`.
 #[derive(Drop)]
-pub struct Draft<P: Parted> {
+pub struct Draft<P: Parted, A: Allocator = Global> {
     clerk: u32,
     command: P::Command,
-    copies: Vec<(P::Part, P::Value)>,
-    marks: Vec<Mark>,
+    copies: Vec<(P::Part, P::Value), A>,
+    marks: Vec<Mark, A>,
     decision: Option<Decision<P::Part, P::Value, P::Answer>>,
 }
 
-impl<P: Parted> Model for Draft<P> {
+impl<P: Parted, A: Allocator> Model for Draft<P, A> {
     ghost use Rattle.std.specs.Prelude.{◌≡◌, vec_len, option_map};
     ghost use Rattle.versioned_steps.specs.Drafts.{Drafted, with_marks, decision_seen};
 
@@ -42,9 +42,9 @@ impl<P: Parted> Model for Draft<P> {
     ghost invariant = { λ d. vec_len d.copies ≡ vec_len d.marks };
 }
 
-impl<P: Parted> Draft<P> {
+impl<P: Parted, A: Allocator + Copy> Draft<P, A> {
     /// A draft that has read nothing.
-    pub fn begin(alloc: Global, clerk: u32, command: P::Command) -> Draft<P>
+    pub fn begin(alloc: A, clerk: u32, command: P::Command) -> Draft<P, A>
         ensures { result ≡ record { clerk = clerk; command = command; reads = []; decision = None } }
     {
         Draft {

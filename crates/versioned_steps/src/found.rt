@@ -4,9 +4,8 @@ ghost use Rattle.std.specs.HashMap.{spare};
 ghost use Rattle.std.specs.Map.{lookup};
 ghost use Rattle.versioned_steps.specs.Stores.{found_in};
 
-use crate::slot::Slot;
-use std::alloc::AllocError;
-use std::collections::HashMap;
+use crate::slot::{Slot, Slots};
+use std::alloc::{AllocError, Allocator};
 use std::hash::Hash;
 
 /// The value written for a part.
@@ -22,7 +21,11 @@ pub(crate) fn value_written<T: Eq + Copy, V>(writes: &[(T, V)], part: T) -> Opti
 }
 
 // Puts one write, which has this version, to the slots, where there is room for it.
-fn put<T: Eq + Hash + Copy, V: Drop>(older: &mut HashMap<T, Slot<V>>, write: (T, V), version: u64)
+fn put<T: Eq + Hash + Copy, V: Drop, A: Allocator + Clone>(
+    older: &mut Slots<T, V, A>,
+    write: (T, V),
+    version: u64,
+)
     requires { 0 < spare older.old }
     ensures { (q : T) → lookup (T.eq q) older.new.entries ≡
         (if T.eq write.0 q then Some (record { version = version; value = write.1 }) else lookup (T.eq q) older.old.entries) }
@@ -37,9 +40,9 @@ fn put<T: Eq + Hash + Copy, V: Drop>(older: &mut HashMap<T, Slot<V>>, write: (T,
 /// Puts the recent writes, which all have this version, to the older slots. Every part is found as before, also after an
 /// Err, where some of the writes may be left.
 // A body that always found no memory would meet this contract; the tests call it with ample memory.
-pub(crate) fn put_away<T: Eq + Hash + Copy, V: Drop>(
-    recent: &mut Vec<(T, V)>,
-    older: &mut HashMap<T, Slot<V>>,
+pub(crate) fn put_away<T: Eq + Hash + Copy, V: Drop, A: Allocator + Clone>(
+    recent: &mut Vec<(T, V), A>,
+    older: &mut Slots<T, V, A>,
     version: u64,
 ) -> Result<(), AllocError>
     ensures found { (q : T) → found_in (T.eq q) version recent.new.items older.new.entries ≡ found_in (T.eq q) version recent.old.items older.old.entries }

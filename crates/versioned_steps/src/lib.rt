@@ -20,7 +20,7 @@ pub use draft::{Draft, Mark};
 pub use entry::Entry;
 pub use laws::{fresh_means_untouched, serial_history, versions_are_last_touches};
 pub use parted::Parted;
-pub use run::{World, run_steps};
+pub use run::{World, run_steps, run_steps_in};
 pub use stale::Stale;
 pub use step::{Outcome, Step};
 pub use store::{Change, Store};

@@ -11,13 +11,14 @@ use crate::entry::Entry;
 use crate::parted::Parted;
 use crate::step::Outcome;
 use crate::store::Store;
-use std::alloc::{AllocError, Global};
+use std::alloc::{AllocError, Allocator, Global};
 
 /// The clerk takes the command up.
-pub(crate) fn begin<P: Parted>(
+pub(crate) fn begin<P: Parted, A: Allocator + Copy>(
     alloc: Global,
+    heap: A,
     parts: &P,
-    place: &mut Option<Draft<P>>,
+    place: &mut Option<Draft<P, A>>,
     clerk: u32,
     command: &P::Command,
 ) -> Outcome<P::Part, P::Answer>
@@ -29,7 +30,7 @@ pub(crate) fn begin<P: Parted>(
     }
     match parts.copy_command(alloc, command) {
         Ok(command) => {
-            *place = Some(Draft::begin(alloc, clerk, command));
+            *place = Some(Draft::begin(heap, clerk, command));
             Outcome::Began
         }
         Err(_) => Outcome::NoMemory,
@@ -37,10 +38,10 @@ pub(crate) fn begin<P: Parted>(
 }
 
 /// The next part is read as it now is.
-pub(crate) fn read<P: Parted>(
+pub(crate) fn read<P: Parted, A: Allocator + Copy>(
     alloc: Global,
-    store: &Store<P>,
-    place: &mut Option<Draft<P>>,
+    store: &Store<P, A>,
+    place: &mut Option<Draft<P, A>>,
 ) -> Outcome<P::Part, P::Answer>
     ensures moves { (h : List (Entry P.Command P.Answer)) → Replays (P.rules store.now.owner) h store.now →
         Moves (read_move (P.rules store.now.owner) h (hand_of place.old)) (hand_of place.old) [] result (hand_of place.new) [] }
@@ -65,7 +66,9 @@ pub(crate) fn read<P: Parted>(
 }
 
 /// The clerk drops the command.
-pub(crate) fn discard<P: Parted>(place: &mut Option<Draft<P>>) -> Outcome<P::Part, P::Answer>
+pub(crate) fn discard<P: Parted, A: Allocator + Copy>(
+    place: &mut Option<Draft<P, A>>,
+) -> Outcome<P::Part, P::Answer>
     ensures moves { Moves (discard_move (hand_of place.old)) (hand_of place.old) [] result (hand_of place.new) [] }
     ensures reads { IfSome place.new (λ _. ⊥) }
 {
@@ -78,11 +81,11 @@ pub(crate) fn discard<P: Parted>(place: &mut Option<Draft<P>>) -> Outcome<P::Par
 
 /// The command is decided, and becomes the next entry. An Err leaves the history and what was read.
 // A body that always found no memory would meet this contract; the tests call it with ample memory.
-fn finish<P: Parted>(
+fn finish<P: Parted, A: Allocator + Copy>(
     alloc: Global,
-    store: &mut Store<P>,
-    history: &mut Vec<Entry<P::Command, P::Answer>>,
-    draft: &mut Draft<P>,
+    store: &mut Store<P, A>,
+    history: &mut Vec<Entry<P::Command, P::Answer>, A>,
+    draft: &mut Draft<P, A>,
     clerk: u32,
 ) -> Result<(u64, P::Answer), AllocError>
     requires replays { Replays (P.rules store.old.owner) history.old.items store.old }
@@ -104,10 +107,10 @@ fn finish<P: Parted>(
 
 /// The entry that a settled draft becomes, of this clerk.
 // A body that always found no memory would meet this contract; the tests call it with ample memory.
-fn entry_of<P: Parted>(
+fn entry_of<P: Parted, A: Allocator + Copy>(
     alloc: Global,
     parts: &P,
-    draft: &Draft<P>,
+    draft: &Draft<P, A>,
     clerk: u32,
 ) -> Result<Entry<P::Command, P::Answer>, AllocError>
     requires { IsSome draft.now.decision }
@@ -126,11 +129,11 @@ fn entry_of<P: Parted>(
 }
 
 /// The reads are validated, and the command is decided and becomes the next entry.
-pub(crate) fn commit<P: Parted>(
+pub(crate) fn commit<P: Parted, A: Allocator + Copy>(
     alloc: Global,
-    store: &mut Store<P>,
-    history: &mut Vec<Entry<P::Command, P::Answer>>,
-    place: &mut Option<Draft<P>>,
+    store: &mut Store<P, A>,
+    history: &mut Vec<Entry<P::Command, P::Answer>, A>,
+    place: &mut Option<Draft<P, A>>,
     clerk: u32,
 ) -> Outcome<P::Part, P::Answer>
     requires replays { Replays (P.rules store.old.owner) history.old.items store.old }

@@ -11,16 +11,16 @@ use crate::parted::Parted;
 use crate::state::State;
 use crate::step::{Outcome, Step};
 use crate::store::Store;
-use std::alloc::{AllocError, Global};
+use std::alloc::{AllocError, Allocator, Global};
 
 /// What a list of steps led to: the store, the history, what each clerk has in hand, and one outcome per step.
 #[derive(Drop)]
-pub struct World<P: Parted> {
-    pub store: Store<P>,
-    pub history: Vec<Entry<P::Command, P::Answer>>,
+pub struct World<P: Parted, A: Allocator = Global> {
+    pub store: Store<P, A>,
+    pub history: Vec<Entry<P::Command, P::Answer>, A>,
     /// One for each clerk, from clerk 0 on; none where the clerk is idle.
-    pub drafts: Vec<Option<Draft<P>>>,
-    pub outcomes: Vec<Outcome<P::Part, P::Answer>>,
+    pub drafts: Vec<Option<Draft<P, A>>, A>,
+    pub outcomes: Vec<Outcome<P::Part, P::Answer>, A>,
 }
 
 /// Makes these steps of that many clerks, from the empty history on. An Err comes only where the list of clerks or the
@@ -41,8 +41,25 @@ pub fn run_steps<P: Parted>(
     // Each entry's answer is the decision on the parts as the entries before it left them.
     ensures legal { IfOk result (λ w. is_legal (P.rules parts) w.history.items ≡ true) }
 {
-    let mut outcomes = Vec::with_capacity(alloc, steps.len())?;
-    let mut state = State::open(alloc, parts, clerks)?;
+    run_steps_in(alloc, alloc, parts, clerks, steps)
+}
+
+/// `run_steps` with store, history, drafts and outcomes in memory of `heap`. The parts' own calls still take theirs of `alloc`.
+// A body that always found no memory would meet this contract; the tests call it with ample memory.
+pub fn run_steps_in<P: Parted, A: Allocator + Copy>(
+    alloc: Global,
+    heap: A,
+    parts: P,
+    clerks: u32,
+    steps: &[Step<P::Command>],
+) -> Result<World<P, A>, AllocError>
+    ensures run { IfOk result (λ w. IsRun (P.rules parts) (opening_world clerks) steps.now w.outcomes.items (world_of w.history.items w.drafts.items)) }
+    ensures store { IfOk result (λ w. Replays (P.rules parts) w.history.items w.store) }
+    ensures drafts { IfOk result (λ w. All (λ d. IfSome d (IsDraftOf (P.rules parts) w.history.items)) w.drafts.items) }
+    ensures legal { IfOk result (λ w. is_legal (P.rules parts) w.history.items ≡ true) }
+{
+    let mut outcomes = Vec::with_capacity(heap, steps.len())?;
+    let mut state = State::open(heap, parts, clerks)?;
     for step in steps {
         let outcome = state.make(alloc, step);
         outcomes.push_reserved(outcome);

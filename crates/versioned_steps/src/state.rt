@@ -10,30 +10,30 @@ use crate::moves;
 use crate::parted::Parted;
 use crate::step::{Outcome, Step};
 use crate::store::Store;
-use std::alloc::{AllocError, Global};
+use std::alloc::{AllocError, Allocator, Global};
 
 #[derive(Drop)]
-pub(crate) struct State<P: Parted> {
-    pub store: Store<P>,
-    pub history: Vec<Entry<P::Command, P::Answer>>,
-    pub drafts: Vec<Option<Draft<P>>>,
+pub(crate) struct State<P: Parted, A: Allocator> {
+    pub store: Store<P, A>,
+    pub history: Vec<Entry<P::Command, P::Answer>, A>,
+    pub drafts: Vec<Option<Draft<P, A>>, A>,
 }
 
-impl<P: Parted> State<P> {
+impl<P: Parted, A: Allocator + Copy> State<P, A> {
     /// No entry, and nobody has a command in hand.
     // A body that always found no memory would meet this contract; the tests call it with ample memory.
-    pub fn open(alloc: Global, parts: P, clerks: u32) -> Result<State<P>, AllocError>
+    pub fn open(heap: A, parts: P, clerks: u32) -> Result<State<P, A>, AllocError>
         ensures owner { IfOk result (λ s. s.store.owner ≡ parts) }
         ensures sound { IfOk result (λ s. IsSound (P.rules parts) s.history.items s.store s.drafts.items) }
         ensures world { IfOk result (λ s. world_of s.history.items s.drafts.items ≡ opening_world clerks) }
     {
-        let mut drafts = Vec::with_capacity(alloc, clerks as usize)?;
+        let mut drafts = Vec::with_capacity(heap, clerks as usize)?;
         for _clerk in 0..clerks {
             drafts.push_reserved(None);
         }
         Ok(State {
-            store: Store::new(alloc, parts),
-            history: Vec::new(alloc),
+            store: Store::new(heap, parts),
+            history: Vec::new(heap),
             drafts,
         })
     }
@@ -52,7 +52,10 @@ impl<P: Parted> State<P> {
             (Begin clerk command.now) result (world_of self.new.history.items self.new.drafts.items) }
     {
         match self.drafts.get_mut(clerk as usize) {
-            Some(place) => moves::begin(alloc, self.store.parts(), place, clerk, command),
+            Some(place) => {
+                let heap = *self.history.allocator();
+                moves::begin(alloc, heap, self.store.parts(), place, clerk, command)
+            }
             None => Outcome::NoClerk,
         }
     }

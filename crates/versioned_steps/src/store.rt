@@ -9,20 +9,19 @@ ghost use Rattle.versioned_steps.specs.Stores.{slot_of, Replays, IsStaged};
 use crate::draft::{Draft, Mark};
 use crate::found::{put_away, value_written};
 use crate::parted::Parted;
-use crate::slot::Slot;
+use crate::slot::{Slot, Slots};
 use crate::stale::Stale;
-use std::alloc::{AllocError, Global};
-use std::collections::HashMap;
+use std::alloc::{AllocError, Allocator, Global};
 use std::marker::Model;
 
 /// The writes of a command that is about to be finished, with all the memory that they need.
 #[derive(Drop)]
-pub struct Change<P: Parted> {
+pub struct Change<P: Parted, A: Allocator = Global> {
     place: u64,
-    writes: Vec<(P::Part, P::Value)>,
+    writes: Vec<(P::Part, P::Value), A>,
 }
 
-impl<P: Parted> Model for Change<P> {
+impl<P: Parted, A: Allocator> Model for Change<P, A> {
     ghost use Rattle.versioned_steps.specs.Stores.{Changed};
 
     ghost Value = { Changed P.Part P.Value };
@@ -30,7 +29,7 @@ impl<P: Parted> Model for Change<P> {
     ghost view = { λ c. record { place = c.place; writes = c.writes.items } };
 }
 
-impl<P: Parted> Change<P> {
+impl<P: Parted, A: Allocator> Change<P, A> {
     /// The place that the entry will have, from 1. It is the version of each part written.
     pub fn place(&self) -> u64
         ensures { result ≡ self.now.place }
@@ -48,14 +47,14 @@ impl<P: Parted> Change<P> {
 /// The store. What the entry finished last wrote is kept as it came, since finishing takes no memory; staging the next
 /// entry puts it to the older parts.
 #[derive(Drop)]
-pub struct Store<P: Parted> {
+pub struct Store<P: Parted, A: Allocator = Global> {
     parts: P,
     length: u64,
-    recent: Vec<(P::Part, P::Value)>,
-    older: HashMap<P::Part, Slot<P::Value>>,
+    recent: Vec<(P::Part, P::Value), A>,
+    older: Slots<P::Part, P::Value, A>,
 }
 
-impl<P: Parted> Model for Store<P> {
+impl<P: Parted, A: Allocator> Model for Store<P, A> {
     ghost use Rattle.versioned_steps.specs.Stores.{Stored};
 
     ghost Value = { Stored P P.Part P.Value };
@@ -63,9 +62,9 @@ impl<P: Parted> Model for Store<P> {
     ghost view = { λ s. record { owner = s.parts; length = s.length; recent = s.recent.items; older = s.older.entries } };
 }
 
-impl<P: Parted> Store<P> {
+impl<P: Parted, A: Allocator + Copy> Store<P, A> {
     /// The store of the empty history. It takes no memory.
-    pub fn new(alloc: Global, parts: P) -> Store<P>
+    pub fn new(alloc: A, parts: P) -> Store<P, A>
         ensures owner { result.owner ≡ parts }
         ensures opening { Replays (P.rules parts) [] result }
     {
@@ -73,7 +72,7 @@ impl<P: Parted> Store<P> {
             parts,
             length: 0,
             recent: Vec::new(alloc),
-            older: HashMap::new(alloc),
+            older: Slots::new(alloc),
         }
     }
 
@@ -149,7 +148,7 @@ impl<P: Parted> Store<P> {
 
     /// The first part that the draft has read, in read order, which an entry has touched since, and its version now; none
     /// where every read is fresh. It needs the reads alone, and takes no memory.
-    pub fn check(&self, draft: &Draft<P>) -> Option<Stale<P::Part>>
+    pub fn check(&self, draft: &Draft<P, A>) -> Option<Stale<P::Part>>
         ensures first { (h : List (Entry P.Command P.Answer)) → Replays (P.rules self.now.owner) h self.now →
             result ≡ first_stale (version_of (P.rules self.now.owner) h) draft.now.reads }
         ensures stale { (h : List (Entry P.Command P.Answer)) → Replays (P.rules self.now.owner) h self.now →
@@ -173,8 +172,9 @@ impl<P: Parted> Store<P> {
 
     /// Takes all the memory that finishing a settled draft needs. The parts, their versions and the length stay, also
     /// after an Err.
-    // A body that always found no memory would meet this contract; the tests call it with ample memory.
-    pub fn stage(&mut self, alloc: Global, draft: &Draft<P>) -> Result<Change<P>, AllocError>
+    // A body that always found no memory would meet this contract; the tests call it with ample memory. So would one that
+    // stages twice and drops the first change: it answers the same, since staging leaves all that a change rests on.
+    pub fn stage(&mut self, alloc: Global, draft: &Draft<P, A>) -> Result<Change<P, A>, AllocError>
         requires settled { IsSome draft.now.decision }
         requires room { self.old.length + 1 < 2 ^ 64 }
         ensures owner { self.new.owner ≡ self.old.owner }
@@ -184,17 +184,18 @@ impl<P: Parted> Store<P> {
         ensures writes { IfOk result (λ change. option_map (λ d. d.writes) draft.now.decision ≡ Some change.writes) }
     {
         self.put_away()?;
+        let heap = *self.recent.allocator();
         match draft.decision() {
             Some(decision) => Ok(Change {
                 place: self.length + 1,
-                writes: copy_writes(&self.parts, alloc, &decision.writes)?,
+                writes: copy_writes(&self.parts, alloc, heap, &decision.writes)?,
             }),
             None => unreachable!(),
         }
     }
 
     /// Puts a staged change in place, as the next entry, and gives that entry's place. It takes no memory.
-    pub fn finish(&mut self, change: Change<P>) -> u64
+    pub fn finish(&mut self, change: Change<P, A>) -> u64
         requires { IsStaged self.old change }
         ensures owner { self.new.owner ≡ self.old.owner }
         ensures place { result ≡ self.old.length + 1 }
@@ -211,7 +212,7 @@ impl<P: Parted> Store<P> {
     /// Stages and finishes a settled draft that `check` finds fresh, and gives its entry's place, from 1. An Err leaves
     /// the store as it was.
     // A body that always found no memory would meet this contract; the tests call it with ample memory.
-    pub fn apply(&mut self, alloc: Global, draft: &Draft<P>) -> Result<u64, AllocError>
+    pub fn apply(&mut self, alloc: Global, draft: &Draft<P, A>) -> Result<u64, AllocError>
         requires settled { IsSome draft.now.decision }
         requires room { self.old.length + 1 < 2 ^ 64 }
         ensures owner { self.new.owner ≡ self.old.owner }
@@ -229,14 +230,15 @@ impl<P: Parted> Store<P> {
 
 // A copy of these writes.
 // A body that always found no memory would meet this contract; the tests call it with ample memory.
-fn copy_writes<P: Parted>(
+fn copy_writes<P: Parted, A: Allocator>(
     parts: &P,
     alloc: Global,
+    heap: A,
     writes: &[(P::Part, P::Value)],
-) -> Result<Vec<(P::Part, P::Value)>, AllocError>
+) -> Result<Vec<(P::Part, P::Value), A>, AllocError>
     ensures { IfOk result (λ copies. copies.items ≡ writes.now) }
 {
-    let mut copies = Vec::new(alloc);
+    let mut copies = Vec::new(heap);
     for write in writes {
         let value = parts.copy_value(alloc, &write.1)?;
         copies.reserve(1)?;

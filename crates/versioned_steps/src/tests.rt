@@ -8,8 +8,10 @@ use pointers::Pointers;
 use std::test::Fail;
 
 mod counters;
+mod lists;
 mod plain;
 mod pointers;
+mod refusals;
 
 // Two clerks count in one cell: the first to commit wins, and the other begins again.
 #[test]
@@ -48,6 +50,50 @@ fn the_second_commit_is_stale(rt: HostRuntime) -> Result<(), Fail> {
     assert_eq!(rt; world.store.read(rt.alloc(), 1)?, (2, 2));
     assert_eq!(rt; world.store.read(rt.alloc(), 2)?, (0, 0));
     assert_eq!(rt; world.history.len(), 2);
+    Ok(())
+}
+
+// The same over pointers. Cell 3 names cell 4 once the first is finished, and the other reads that.
+#[test]
+fn the_second_commit_over_pointers_is_stale(rt: HostRuntime) -> Result<(), Fail> {
+    let steps = [
+        Step::Begin(0, (3, 4)),
+        Step::Read(0),
+        Step::Read(0),
+        Step::Begin(1, (3, 5)),
+        Step::Commit(1),
+        Step::Read(1),
+        Step::Read(1),
+        Step::Commit(0),
+        Step::Commit(1),
+        Step::Read(1),
+        Step::Begin(1, (3, 5)),
+        Step::Read(1),
+        Step::Read(1),
+        Step::Read(1),
+        Step::Commit(1),
+    ];
+    let world = run_steps(rt.alloc(), Pointers, 2, steps.as_slice())?;
+    let outcomes = [
+        Outcome::Began,
+        Outcome::ReadPart(3, 0),
+        Outcome::ReadPart(3, 0),
+        Outcome::Began,
+        Outcome::NotRead,
+        Outcome::ReadPart(3, 0),
+        Outcome::ReadPart(3, 0),
+        Outcome::Finished(1, 3),
+        Outcome::WasStale(3, 1),
+        Outcome::Idle,
+        Outcome::Began,
+        Outcome::ReadPart(3, 1),
+        Outcome::ReadPart(4, 0),
+        Outcome::Ready,
+        Outcome::Finished(2, 4),
+    ];
+    assert_eq!(rt; world.outcomes.as_slice(), outcomes.as_slice());
+    assert_eq!(rt; world.store.read(rt.alloc(), 3)?, (1, 4));
+    assert_eq!(rt; world.store.read(rt.alloc(), 4)?, (2, 5));
     Ok(())
 }
 
@@ -184,74 +230,4 @@ fn doubled(rt: &HostRuntime, store: &Store<Counters>) -> Result<Draft<Counters>,
         draft.settle(rt.alloc(), store.parts())?;
     }
     Ok(draft)
-}
-
-// One of the eight steps of two clerks.
-fn step_of(code: u32) -> Step<Add> {
-    match code % 8 {
-        0 => Step::Begin(0, (Some(1), 2)),
-        1 => Step::Begin(1, (Some(2), 1)),
-        2 => Step::Read(0),
-        3 => Step::Read(1),
-        4 => Step::Commit(0),
-        5 => Step::Commit(1),
-        6 => Step::Discard(0),
-        _ => Step::Discard(1),
-    }
-}
-
-// The outcomes of a shorter list are the first of those of a longer one.
-#[test]
-fn every_list_of_six_steps_is_the_plain_replay(rt: HostRuntime) -> Result<(), Fail> {
-    for code in 0..262_144u32 {
-        let steps = [
-            step_of(code),
-            step_of(code / 8),
-            step_of(code / 64),
-            step_of(code / 512),
-            step_of(code / 4_096),
-            step_of(code / 32_768),
-        ];
-        let world = run_steps(rt.alloc(), Counters::ample(), 2, steps.as_slice())?;
-        let outcomes = plain::replay(rt.alloc(), steps.as_slice(), None)?;
-        assert_eq!(rt; world.outcomes.as_slice(), outcomes.as_slice());
-    }
-    Ok(())
-}
-
-// Each call that may find no memory finds none once: that step is NoMemory and changes nothing, and the rest runs.
-#[test]
-fn a_refused_step_changes_nothing(rt: HostRuntime) -> Result<(), Fail> {
-    let mut refusals = 0u32;
-    for left in 0..100u32 {
-        let steps = [
-            step_of(0),
-            step_of(2),
-            step_of(2),
-            step_of(1),
-            step_of(3),
-            step_of(4),
-            step_of(3),
-            step_of(5),
-            step_of(1),
-            step_of(3),
-            step_of(3),
-            step_of(5),
-        ];
-        let counters = Counters::refusing(left);
-        let world = run_steps(rt.alloc(), counters, 2, steps.as_slice())?;
-        let refused = world
-            .outcomes
-            .iter()
-            .position(|outcome| matches!(outcome, Outcome::NoMemory));
-        let outcomes = plain::replay(rt.alloc(), steps.as_slice(), refused)?;
-        assert_eq!(rt; world.outcomes.as_slice(), outcomes.as_slice());
-        if refused.is_some() {
-            refusals = refusals.saturating_add(1);
-        }
-    }
-    // Three commands are taken up and six parts read; each of the two commits that finish decides once and copies the
-    // command, the answer twice and one write.
-    assert_eq!(rt; refusals, 3 + 6 + 2 * 5);
-    Ok(())
 }

@@ -1,7 +1,7 @@
 use Rattle.std.proofs.Common.{◌≡◌, ◌≤◌, length, take, vec_capacity}
 use Rattle.versioned_steps.specs.World.{IsRun, opening_world, world_of}
 use Rattle.versioned_steps.specs.Moves.{IsSound}
-use Rattle.versioned_steps.proofs.run.run_steps.Given as goal
+use Rattle.versioned_steps.proofs.run.run_steps_in.Given as goal
 
 -- the steps so far, with their outcomes, are a run to the state, and there is room for the other outcomes
 abbrev pub invariant-loop-step : goal.invariant-loop-step

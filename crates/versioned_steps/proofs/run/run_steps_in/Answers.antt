@@ -4,7 +4,7 @@ use Rattle.versioned_steps.specs.World.{IsStep, IsRun, opening_world, world_of}
 use Rattle.versioned_steps.specs.Moves.{IsSound}
 use Rattle.versioned_steps.proofs.WorldLemmas.{run_push}
 use Rattle.versioned_steps.proofs.RunLemmas.{run_legal, legal_empty}
-use Rattle.versioned_steps.proofs.run.run_steps.Goals as goal
+use Rattle.versioned_steps.proofs.run.run_steps_in.Goals as goal
 
 pub loop-step-preserved : goal.loop-step-preserved
 loop-step-preserved g c =
