@@ -44,8 +44,8 @@ impl<P: Parted, A: Allocator> Change<P, A> {
     }
 }
 
-/// The store. What the entry finished last wrote is kept as it came, since finishing takes no memory; staging the next
-/// entry puts it to the older parts.
+/// The store, in memory of `A`. What the entry finished last wrote is kept as it came, since finishing takes no memory;
+/// staging the next entry puts it to the older parts.
 #[derive(Drop)]
 pub struct Store<P: Parted, A: Allocator = Global> {
     parts: P,

@@ -1,5 +1,6 @@
 //! Two small instances, and runs over them.
 use crate::draft::Draft;
+use crate::laws::{fresh_means_untouched, serial_history, versions_are_last_touches};
 use crate::run::run_steps;
 use crate::step::{Outcome, Step};
 use crate::store::Store;
@@ -212,6 +213,7 @@ fn a_refusal_is_an_entry(rt: HostRuntime) -> Result<(), Fail> {
     assert_eq!(rt; draft.decision().map(|d| d.answer), Some(None));
     let change = store.stage(rt.alloc(), &draft)?;
     assert!(rt; change.writes().is_empty());
+    assert_eq!(rt; change.place(), 7);
     assert_eq!(rt; store.finish(change), 7);
     assert_eq!(rt; store.read(rt.alloc(), 1)?, (6, 63));
     Ok(())
@@ -230,4 +232,14 @@ fn doubled(rt: &HostRuntime, store: &Store<Counters>) -> Result<Draft<Counters>,
         draft.settle(rt.alloc(), store.parts())?;
     }
     Ok(draft)
+}
+
+#[test]
+fn the_laws_are_of_both_instances(_rt: HostRuntime) {
+    serial_history::<Counters>();
+    serial_history::<Pointers>();
+    versions_are_last_touches::<Counters>();
+    versions_are_last_touches::<Pointers>();
+    fresh_means_untouched::<Counters>();
+    fresh_means_untouched::<Pointers>();
 }
