@@ -1,12 +1,11 @@
 -- Each day has its date.
-use Rattle.std.proofs.Common.{◌≡◌, ℕ, zero, suc, ◌+◌, ◌-◌, ◌*◌, ◌≤◌, ◌<◌, ℤ, pos, negsuc, neg_ℤ, ◌+ℤ◌, ◌-ℤ◌, ◌≤ℤ◌, ◌<ℤ◌, arith, refl, sym, ap, ◌∙◌, inl, inr, unsigned_abs, nat_le}
+use Rattle.std.proofs.Common.{◌≡◌, ℕ, zero, suc, ◌+◌, ◌-◌, ◌*◌, ◌≤◌, ◌<◌, ℤ, pos, negsuc, ◌+ℤ◌, ◌-ℤ◌, ◌≤ℤ◌, arith, refl, ap, ◌∙◌, inl, inr, unsigned_abs}
 use Rattle.std.proofs.lemmas.Bool.Decides.{leb_tells}
-use Rattle.jiff_core.specs.Calendar.{IsYear, days_from_civil, days_in_year, days_in_month, day_count, days_of_years, days_of_months, day_of_year, IsCivilDate}
-use Rattle.jiff_core.proofs.CalendarLemmas.{day_count-epoch, days_from_civil-day_count, days_in_year_bounds, days_of_months_all, days_of_months_more, days_of_months-zero, days_in_month_bounds}
+use Rattle.jiff_core.specs.Calendar.{days_from_civil, days_in_year, day_count, days_of_years, days_of_months}
+use Rattle.jiff_core.proofs.CalendarLemmas.{days_from_civil-day_count, days_in_year_bounds, days_of_months_all, days_of_months_more, days_of_months-zero}
 use Rattle.jiff_core.proofs.SignedLemmas.{signed_arith}
-use Rattle.jiff_tz.specs.Year.{years_within, year_of_day}
-use Rattle.court_days.specs.Number.{IsDayNumber}
-use Rattle.court_days.specs.Date.{CivilDate, months_within, days_before_in_year, months_before, date_of, IsDateOf, DaysHaveDates}
+use Rattle.jiff_tz.specs.Year.{years_within}
+use Rattle.court_days.specs.Date.{months_within, days_before_in_year, date_of, DaysHaveDates}
 
 days_of_years-more : (n : ℕ) → days_of_years (suc n) ≡ days_of_years n + days_in_year (pos n -ℤ pos 10000)
 unfolding days_of_years

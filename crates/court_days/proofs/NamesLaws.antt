@@ -1,5 +1,5 @@
 -- Names as a set of strings keeps them.
-use Rattle.std.proofs.Common.{◌≡◌, ℕ, zero, suc, Bool, true, false, ◌||◌, not, cond, ◌+◌, List, [], ◌∷◌, ◌++◌, map, Option, Some, None, position, string_bytes, refl, sym, ap, ◌∙◌}
+use Rattle.std.proofs.Common.{◌≡◌, ℕ, Bool, false, ◌||◌, not, cond, ◌+◌, List, [], ◌∷◌, ◌++◌, map, position, string_bytes, refl, sym, ap, ◌∙◌}
 use Rattle.std.specs.List.{list_any, position_or_len}
 use Rattle.std.proofs.lemmas.List.{map_push, length-map}
 use Rattle.std.specs.Str.{bytes_eq}

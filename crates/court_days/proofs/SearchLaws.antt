@@ -1,8 +1,8 @@
 -- How the search for the least or the greatest covered day goes on from one day to the next.
-use Rattle.std.proofs.Common.{◌≡◌, ◌↔◌, ℕ, zero, suc, ◌+◌, ◌-◌, ◌<◌, ◌≤◌, ℤ, pos, ◌+ℤ◌, ◌-ℤ◌, ◌≤ℤ◌, ◌<ℤ◌, int_le, Bool, true, false, Option, Some, None, unsigned_abs, refl, sym, ◌∙◌, ap, arith, cond, if◌then◌else◌}
+use Rattle.std.proofs.Common.{◌≡◌, ℕ, suc, ℤ, pos, ◌+ℤ◌, ◌-ℤ◌, ◌≤ℤ◌, ◌<ℤ◌, Bool, true, false, Some, None, refl, sym, ◌∙◌, arith}
 use Rattle.std.proofs.lemmas.Int.{ints}
 use Rattle.court_days.specs.Calendar.{Calendar, is_covered}
-use Rattle.court_days.specs.Search.{first_passing, last_passing, days_through, later_day, earlier_day, earliest_day, latest_day, IsEarliestDay, IsLatestDay}
+use Rattle.court_days.specs.Search.{first_passing, last_passing, days_through, later_day, earlier_day, earliest_day, latest_day}
 
 -- a covered day lies in the span
 pub covered_after_from : (c : Calendar) (d : ℤ) → is_covered c d ≡ true → c.from ≤ℤ d

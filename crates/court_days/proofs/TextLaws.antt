@@ -1,23 +1,23 @@
 -- A day's text is that of its date, and it's read as that day.
-use Rattle.std.proofs.Common.{◌≡◌, ◌&&◌, ℕ, zero, suc, ◌+◌, ◌-◌, ◌*◌, ◌≤◌, ◌<◌, ℤ, pos, negsuc, neg_ℤ, ◌+ℤ◌, ◌-ℤ◌, ◌≤ℤ◌, ◌<ℤ◌, int_le, Bool, true, false, List, [], ◌∷◌, ◌++◌, IsSome, IfSome, ◌↔◌, Option, Some, None, Result, Ok, Err, arith, refl, sym, ap, ◌∙◌, inl, inr}
+use Rattle.std.proofs.Common.{◌≡◌, ◌&&◌, ℕ, ℤ, pos, neg_ℤ, ◌≤ℤ◌, int_le, Bool, true, false, List, IsSome, IfSome, ◌↔◌, Option, Some, None, Ok, Err, arith, refl, sym, ap, ◌∙◌}
 use Rattle.std.specs.Str.{bytes_eq}
 use Rattle.std.specs.Cmp.Lexicographic.{same_text}
 use Rattle.std.proofs.lemmas.Cmp.{nat_list_eq_equiv}
-use Rattle.std.proofs.lemmas.Bool.{cases_Bool, false_from_ne_true}
+use Rattle.std.proofs.lemmas.Bool.{false_from_ne_true}
 use Rattle.std.proofs.lemmas.Int.{ints}
 use Rattle.jiff_core.specs.Calendar.{days_from_civil, days_of_years, days_of_months}
 use Rattle.jiff_core.specs.Date.{epoch_day}
 use Rattle.jiff_core.specs.declared.civil.date.Date.{Date}
 use Rattle.jiff_core.specs.declared.error.Error.{Error}
 use Rattle.jiff_core.proofs.DateLemmas.{epoch_day_injective}
-use Rattle.jiff_fmt.specs.Text.{date_text as jiff_date_text, year_text, pad2}
-use Rattle.jiff_fmt.specs.Temporal.{parse_date, date_parts, DateParts}
+use Rattle.jiff_fmt.specs.Text.{date_text as jiff_date_text}
+use Rattle.jiff_fmt.specs.Temporal.{parse_date, date_parts}
 use Rattle.jiff_fmt.proofs.RoundTrip.{parse_date-date_text}
 use Rattle.court_days.specs.Number.{IsDayNumber}
-use Rattle.court_days.specs.Search.{first_passing, days_through}
-use Rattle.court_days.specs.Date.{CivilDate, date_of, date_text, day_text, day_of_text, is_written_day, IsDateOf, DaysHaveDates, TextsAreDays}
+use Rattle.court_days.specs.Search.{days_through}
+use Rattle.court_days.specs.Date.{CivilDate, date_of, date_text, day_text, day_of_text, is_written_day, TextsAreDays}
 use Rattle.court_days.proofs.DateLaws.{days_from_civil-parts, days_have_dates}
-use Rattle.court_days.proofs.RolledLaws.{IsFirst, first_passing-is, first_passing-finds, days_through-within, within-days_through}
+use Rattle.court_days.proofs.RolledLaws.{first_passing-is, first_passing-finds, days_through-within, within-days_through}
 
 years_to_1900 : days_of_years 11900 ≡ 4_346_386
 unfolding days_of_years

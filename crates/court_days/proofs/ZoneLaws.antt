@@ -6,7 +6,6 @@ use Rattle.jiff_core.specs.declared.Offset.{Offset}
 use Rattle.jiff_core.specs.Timestamp.{nanos_of_seconds}
 use Rattle.jiff_tz.specs.PosixReader.{read_whole}
 use Rattle.jiff_tz.specs.PosixRule.{dst_at_by, in_window, match_some, rule_nanos, utc_window}
-use Rattle.jiff_tz.specs.PosixRule as PosixRule
 use Rattle.jiff_tz.specs.PosixText.{TzText, day_time_view, dst_view, tz_view}
 use Rattle.jiff_tz.specs.Year.{year_of_nanos}
 use Rattle.jiff_tz.specs.Zone.{offset_at}

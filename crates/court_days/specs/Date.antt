@@ -1,5 +1,5 @@
 -- The date of a day in the Gregorian calendar, and its text.
-use Rattle.std.specs.Prelude.{◌≡◌, ◌↔◌, ℕ, zero, suc, ◌+◌, ◌-◌, ℤ, pos, ◌+ℤ◌, ◌-ℤ◌, ◌≤ℤ◌, int_le, Bool, true, ◌&&◌, nat_le, nat_eq, unsigned_abs, List, [], ◌∷◌, ◌++◌, Option, Some, None, if◌then◌else◌}
+use Rattle.std.specs.Prelude.{◌≡◌, ◌↔◌, ℕ, zero, suc, ◌-◌, ℤ, pos, ◌-ℤ◌, int_le, Bool, true, ◌&&◌, nat_le, unsigned_abs, List, [], ◌∷◌, ◌++◌, Option, Some, if◌then◌else◌}
 use Rattle.std.specs.Str.{bytes_eq}
 use Rattle.jiff_core.specs.Calendar.{days_of_months, days_from_civil, IsCivilDate}
 use Rattle.jiff_tz.specs.Year.{year_of_day}

@@ -1,6 +1,6 @@
 //! The court's clock.
 
-ghost use Rattle.std.specs.Prelude.{◌≡◌, ◌<◌, ◌<ℤ◌, ◌≤ℤ◌, ◌-ℤ◌, ℤ, pos, true, option_map, None, IfSome, IfNone};
+ghost use Rattle.std.specs.Prelude.{◌≡◌, ◌↔◌, ◌<◌, ◌<ℤ◌, ◌≤ℤ◌, ◌-ℤ◌, ℤ, pos, true, option_map, None, IsNone, IfSome};
 ghost use Rattle.std.specs.Int.{int_div_euclid};
 ghost use Rattle.jiff.specs.Words.{plain_zone, IsOffsetSeconds, IsWithin, nanos_of_seconds, next_at};
 ghost use Rattle.court_days.specs.Civil.{CourtClock, CivilTime, is_ruled, offset_seconds, shown_second, second_of, civil_of, larger_offset, smaller_offset, standard_offset, daylight_offset, instant_of};
@@ -119,7 +119,7 @@ impl Clock {
     /// The first whole second at or after the zone's next transition.
     fn next_change(&self, instant: Instant) -> Option<i64>
         ensures some { IfSome result (λ change. (t : ℤ) → t <ℤ change → IfSome (next_at self.now.zone (nanos_of_seconds instant)) (λ next. nanos_of_seconds t <ℤ next.0)) }
-        ensures none { IfNone result (next_at self.now.zone (nanos_of_seconds instant) ≡ None) }
+        ensures none { IsNone result ↔ (next_at self.now.zone (nanos_of_seconds instant) ≡ None) }
         ensures ruled { is_ruled self.now.zone ≡ true }
     {
         let transition = self

@@ -1,6 +1,6 @@
 use Rattle.std.proofs.Common.{arith}
 use Rattle.std.proofs.lemmas.Result.{err_from_is_err_and}
-use Rattle.court_days.specs.Court.{and_name, each_item}
+use Rattle.court_days.specs.Court.{and_name}
 use Rattle.court_days.proofs.ReadingLaws.{goes_on, fails, is_done}
 use Rattle.court_days.proofs.reading.names_of.Goals as goal
 

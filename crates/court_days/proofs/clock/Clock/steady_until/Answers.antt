@@ -18,4 +18,4 @@ returns-in-Some-clause-steady c t low high = elim (cases_Bool (int_le t c.args.i
 
 pub returns-in-None-clause-steady : goal.returns-in-None-clause-steady
 returns-in-None-clause-steady c t low high =
-    steady c.args.self.now.zone c.args.instant t c.next_change.ensures.ruled (rw c.seconds-now.ensures.value at c.seconds-now.ensures.in_range) low (omega (arith, ints, high, c.end_of_utc_day-midnight.ensures.bound)) (c.end_of_utc_day-midnight.ensures.same_day t low (omega (arith, ints, high))) (rw c.in-None.ensures.none tt)
+    steady c.args.self.now.zone c.args.instant t c.next_change.ensures.ruled (rw c.seconds-now.ensures.value at c.seconds-now.ensures.in_range) low (omega (arith, ints, high, c.end_of_utc_day-midnight.ensures.bound)) (c.end_of_utc_day-midnight.ensures.same_day t low (omega (arith, ints, high))) (rw c.in-None.ensures.none.0 tt)

@@ -1,4 +1,4 @@
-use Rattle.std.proofs.Common.{◌≡◌, ◌∙◌, ◌≤ℤ◌, ◌-ℤ◌, pos, arith}
+use Rattle.std.proofs.Common.{◌∙◌, ◌≤ℤ◌, arith}
 use Rattle.std.proofs.lemmas.Int.{ints}
 use Rattle.court_days.specs.Calendar.{is_permitted}
 use Rattle.court_days.proofs.SearchLaws.{covered_before_to, covered_from_bounds, latest_skips}

@@ -1,4 +1,3 @@
-use Rattle.std.proofs.Common.{sym}
 use Rattle.court_days.proofs.NamesLaws.{added}
 use Rattle.court_days.proofs.names.Names.add.Goals as goal
 
