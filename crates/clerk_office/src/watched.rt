@@ -120,6 +120,8 @@ impl<W: Write> Write for Watched<W> {
         answer
     }
 
+    // A body that answered Ok and flushed nothing would meet this contract: what a writer holds are the bytes written to
+    // it, flushed or not.
     fn flush(&mut self) -> io::Result<()>
         ensures bytes { Keeps (W.contents (watched self.old)) (W.contents (watched self.new)) }
         ensures failed { has_failed self.new ≡ (has_failed self.old || is_err result) }
