@@ -1,8 +1,8 @@
-pub mod DivisionLaws
+pub mod DivisionLemmas
 pub mod Numerals
 pub mod Slashes
-pub mod RecordsLaws
-pub mod ReadingLaws
-pub mod RowsLaws
-pub mod MarkLaws
-pub mod FaultLaws
+pub mod RecordsLemmas
+pub mod ReadingLemmas
+pub mod RowsLemmas
+pub mod MarkLemmas
+pub mod FaultLemmas

@@ -2,14 +2,11 @@
 use Rattle.std.specs.Prelude.{ℕ, ◌+◌, ◌/◌, ◌%◌, List, [], ◌∷◌, ◌++◌, Option, Some, None, Result, Ok, Err, codes}
 use Rattle.std.specs.Fmt.{decimal}
 use Rattle.jiff_fmt.specs.Text.{pad2}
-use Rattle.court_days.specs.Civil.{CourtClock, CivilTime, civil_of}
-use Rattle.court_days.specs.Court.{CourtView}
-use Rattle.court_days.specs.Date.{day_text}
+use Rattle.court_days.specs.Words.{ClockView, CivilTime, civil_of, CourtView, day_text}
 use Rattle.rule6.specs.declared.timeliness.Shown.{Shown}
 use Rattle.rule6.specs.declared.timeliness.Shown.TheVariants as shown
-use Rattle.rule_periods.specs.Deadline.{DeadlineView, shown_of}
-use Rattle.rule_periods.specs.Start.{start_of}
 use Rattle.rule_periods.specs.declared.refusal.PeriodRefusal.{PeriodRefusal}
+use Rattle.rule_periods.specs.Words.{DeadlineRowView, shown_of, start_of}
 use Rattle.rule_periods.specs.declared.refusal.PeriodRefusal.TheVariants.{BadDay, BadLength, WrongService, Beyond, NotExtendable, NoGoodCause, LateWithoutMotion, LateWithoutNeglect, NotLonger, WrongGrant}
 use Rattle.clerk_office.specs.declared.answer.Answer.{Answer}
 use Rattle.clerk_office.specs.declared.answer.Answer.TheVariants.{Computed, Refused}
@@ -19,7 +16,7 @@ use Rattle.clerk_office.specs.declared.row.Work.{Work}
 use Rattle.clerk_office.specs.declared.row.Work.TheVariants.{Compute}
 
 -- the deadline that a row asks for: nothing was granted, and nothing was filed
-abbrev pub deadline_of : ComputeRow → DeadlineView
+abbrev pub deadline_of : ComputeRow → DeadlineRowView
 deadline_of row = record { period = row.period; event = row.event; second = row.second; service = row.service; grants = []; filed = None }
 
 -- the refusal, or else what is shown
@@ -60,13 +57,13 @@ end_text (Some at) = codes "until " ++ day_text at.day ++ codes " " ++ time_text
 end_text None = codes "beyond"
 
 -- what is shown of a deadline
-abbrev pub shown_text : CourtClock → Shown → List ℕ
+abbrev pub shown_text : ClockView → Shown → List ℕ
 shown_text clock (shown.Last day act) = codes "last " ++ day_text day
 shown_text clock (shown.Until end) = end_text (civil_of clock.zone end)
 shown_text clock shown.Beyond = codes "beyond"
 
 -- the text of an answer
-abbrev pub answer_text : CourtClock → Answer → List ℕ
+abbrev pub answer_text : ClockView → Answer → List ℕ
 answer_text clock (Computed end) = shown_text clock end
 answer_text clock (Refused refusal) = codes "refused " ++ refusal_text refusal
 

@@ -1,8 +1,8 @@
 -- The lines and the statuses that tell of faults.
 use Rattle.std.specs.Prelude.{ℕ, List, ◌++◌, codes}
 use Rattle.std.specs.Fmt.{decimal}
-use Rattle.court_days.specs.Key.{key_name}
 use Rattle.court_days.specs.declared.fault.CourtFault.{CourtFault}
+use Rattle.court_days.specs.Words.{key_name}
 use Rattle.court_days.specs.declared.fault.CourtFault.TheVariants as court
 use Rattle.clerk_office.specs.declared.fault.OfficeFault.{OfficeFault}
 use Rattle.clerk_office.specs.declared.fault.OfficeFault.TheVariants.{Court, Row, ReadFault, WriteFault, OutOfMemory}

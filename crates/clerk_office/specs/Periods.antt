@@ -7,13 +7,13 @@ use Rattle.court_days.specs.declared.direction.Direction.{Direction}
 use Rattle.court_days.specs.declared.direction.Direction.TheVariants.{After, Before}
 use Rattle.rule6.specs.declared.timeliness.Act.{Act}
 use Rattle.rule6.specs.declared.timeliness.Act.TheVariants.{Filing, Service}
-use Rattle.rule_periods.specs.Rule.{rule_of_code}
 use Rattle.rule_periods.specs.declared.period.Entered.{Entered}
 use Rattle.rule_periods.specs.declared.period.Length.{Length}
-use Rattle.rule_periods.specs.declared.period.Length.TheVariants.{Days, Hours}
 use Rattle.rule_periods.specs.declared.period.Mark.{Mark}
-use Rattle.rule_periods.specs.declared.period.Mark.TheVariants.{Plain, Rule50b, Rule50d, Rule52b, Rule59b, Rule59d, Rule59e, Rule60b}
 use Rattle.rule_periods.specs.declared.period.Period.{Period}
+use Rattle.rule_periods.specs.Words.{rule_of_code}
+use Rattle.rule_periods.specs.declared.period.Length.TheVariants.{Days, Hours}
+use Rattle.rule_periods.specs.declared.period.Mark.TheVariants.{Plain, Rule50b, Rule50d, Rule52b, Rule59b, Rule59d, Rule59e, Rule60b}
 use Rattle.rule_periods.specs.declared.period.Period.TheVariants as period
 use Rattle.clerk_office.specs.Numbers.{number_of}
 

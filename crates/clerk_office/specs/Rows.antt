@@ -5,8 +5,7 @@ use Rattle.std.specs.Option.{ok_or, option_and_then}
 use Rattle.std.specs.Str.{bytes_eq, is_utf8}
 use Rattle.csv.specs.Reading.{default_config, records, strip_bom}
 use Rattle.csv.specs.Records.{field_at}
-use Rattle.court_days.specs.Date.{day_of_text}
-use Rattle.court_days.specs.Minute.{minute_of_text}
+use Rattle.court_days.specs.Words.{day_of_text, minute_of_text}
 use Rattle.rule6.specs.declared.service.ServiceKind.{ServiceKind}
 use Rattle.rule6.specs.declared.service.ServiceKind.TheVariants.{HandA, LeftB, MailC, ClerkD, ElectronicE, OtherF}
 use Rattle.clerk_office.specs.declared.read_rows.TheConstants.{MAX_ROWS}

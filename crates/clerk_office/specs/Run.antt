@@ -1,8 +1,8 @@
 -- What a run of the office makes of its input.
 use Rattle.std.specs.Prelude.{◌≡◌, ◌≢◌, ⊤, ℕ, Bool, true, false, List, Option, Result, Ok, Err}
 use Rattle.std.specs.Io.KnownBytes.{Appends}
-use Rattle.court_days.specs.Court.{CourtFile, CourtView, court_in, file_of}
 use Rattle.court_days.specs.declared.fault.CourtFault.{CourtFault}
+use Rattle.court_days.specs.Words.{CourtFile, CourtView, court_in, file_of}
 use Rattle.court_days.specs.declared.fault.CourtFault.TheVariants as court
 use Rattle.clerk_office.specs.declared.fault.OfficeFault.{OfficeFault}
 use Rattle.clerk_office.specs.declared.fault.OfficeFault.TheVariants.{Court, Row, ReadFault, WriteFault, OutOfMemory}

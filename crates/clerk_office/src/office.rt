@@ -1,7 +1,7 @@
 //! A run of the office, from its input to its output.
 
 ghost use Rattle.std.specs.Prelude.{◌≡◌, ◌≢◌, true, false, IfSome, OnErr, OnOk, string_bytes};
-ghost use Rattle.court_days.specs.Court.{court_in, file_of};
+ghost use Rattle.court_days.specs.Words.{court_in, file_of};
 ghost use Rattle.clerk_office.specs.Limits.{WasCutShort};
 ghost use Rattle.clerk_office.specs.Rows.{rows_of};
 ghost use Rattle.clerk_office.specs.Run.{AnswersCourt, AnswersRowsOf, AnswersText, IsRun, WasReadWhole, input_of, rests_on_input};

@@ -2,7 +2,7 @@
 
 ghost use Rattle.std.specs.Prelude.{◌≡◌, ◌++◌, ◌<◌, ◌/◌, ◌%◌, IfOk, OnOk, None, string_bytes};
 ghost use Rattle.jiff_fmt.specs.Text.{time_text as jiff_time_text};
-ghost use Rattle.court_days.specs.Civil.{civil_of};
+ghost use Rattle.court_days.specs.Words.{civil_of};
 ghost use Rattle.clerk_office.specs.Answers.{answer_text, end_text, line_of, lines_from, refusal_text, shown_text, time_text};
 
 use crate::answer::{Answer, answer_of};

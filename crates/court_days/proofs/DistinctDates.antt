@@ -4,7 +4,7 @@ use Rattle.std.specs.Ordering.{int_eq}
 use Rattle.std.specs.List.{IsDistinct}
 use Rattle.std.proofs.lemmas.Map.Keys.{IsDistinct-push}
 use Rattle.std.specs.Cmp.{int_eq_equiv}
-use Rattle.court_days.specs.Calendar.{is_among}
+use Rattle.court_days.specs.Days.{is_among}
 
 pub distinct_when_empty : (days : List ℤ) → days ≡ [] → IsDistinct int_eq days
 unfolding IsDistinct

@@ -14,7 +14,7 @@ pub record IsInstantSecond (t : ℤ) : Type 0 where
   pub high : t ≤ℤ pos 9_600_000_000
 
 -- a court's time zone, and the minutes of the day at which the clerk's office opens and closes
-pub record CourtClock : Type 0 where
+pub record ClockView : Type 0 where
   pub zone : TimeZone
   pub opens : ℕ
   pub closes : ℕ

@@ -10,12 +10,12 @@ use Rattle.court_days.specs.declared.key.Key.{Key}
 use Rattle.court_days.specs.declared.key.Key.TheVariants as key
 use Rattle.court_days.specs.declared.fault.CourtFault.{CourtFault}
 use Rattle.court_days.specs.declared.fault.CourtFault.TheVariants.{NotToml, Missing, WrongKind, BadDate, BadZone, BadHours, BadSpan, BadName, TwiceNamed, TooMany, OutOfMemory}
-use Rattle.court_days.specs.Calendar.{Calendar, add_date}
+use Rattle.court_days.specs.Days.{DaysView, add_date}
 use Rattle.court_days.specs.Date.{day_of_text}
 use Rattle.court_days.specs.Key.{key_name}
 use Rattle.court_days.specs.Minute.{minute_of_text}
 use Rattle.court_days.specs.Search.{days_through}
-use Rattle.court_days.specs.Civil.{CourtClock}
+use Rattle.court_days.specs.Civil.{ClockView}
 use Rattle.court_days.specs.Zone.{Zone, zone_of_text, zone_view}
 
 -- what a court's file says
@@ -23,14 +23,14 @@ pub record CourtFile : Type 0 where
   pub zone : Zone
   pub opens : ℕ
   pub closes : ℕ
-  pub days : Calendar
+  pub days : DaysView
   pub judges : List (List ℕ)
   pub rooms : List (List ℕ)
 
 -- a court: its clock, its days, and the names of its judges and rooms in the order of its file
 pub record CourtView : Type 0 where
-  pub clock : CourtClock
-  pub days : Calendar
+  pub clock : ClockView
+  pub days : DaysView
   pub judges : List (List ℕ)
   pub rooms : List (List ℕ)
 
@@ -161,7 +161,7 @@ abbrev pub is_span : ℤ → ℤ → Bool
 is_span from to = int_le from to && nat_le (days_through from to) 36525
 
 -- the days: the span, and the holidays that lie in it
-unfoldable pub days_at : Members → Result Calendar CourtFault
+unfoldable pub days_at : Members → Result DaysView CourtFault
 days_at file = do
   from ← date_at key.From file
   to ← date_at key.To file

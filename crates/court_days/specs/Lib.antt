@@ -1,5 +1,5 @@
 pub mod Number
-pub mod Calendar
+pub mod Days
 pub mod Search
 pub mod Rolled
 pub mod Date
@@ -9,3 +9,4 @@ pub mod Zone
 pub mod Civil
 pub mod Court
 pub mod Names
+pub mod Words

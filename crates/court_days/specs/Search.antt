@@ -1,6 +1,6 @@
 -- The least and the greatest covered day that passes a test.
 use Rattle.std.specs.Prelude.{◌≡◌, ◌↔◌, ℕ, zero, suc, ℤ, pos, ◌+ℤ◌, ◌-ℤ◌, ◌≤ℤ◌, int_le, Bool, true, Option, Some, None, unsigned_abs, if◌then◌else◌}
-use Rattle.court_days.specs.Calendar.{Calendar, is_covered}
+use Rattle.court_days.specs.Days.{DaysView, is_covered}
 
 -- the first of n days from d on that passes the test
 unfoldable pub first_passing : (ℤ → Bool) → ℕ → ℤ → Option ℤ
@@ -24,22 +24,22 @@ abbrev pub earlier_day : ℤ → ℤ → ℤ
 earlier_day a b = if int_le a b then a else b
 
 -- the least covered day at or after d that passes the test
-unfoldable pub earliest_day : Calendar → (ℤ → Bool) → ℤ → Option ℤ
+unfoldable pub earliest_day : DaysView → (ℤ → Bool) → ℤ → Option ℤ
 earliest_day c test d = first_passing test (days_through (later_day d c.from) c.to) (later_day d c.from)
 
 -- the greatest covered day at or before d that passes the test
-unfoldable pub latest_day : Calendar → (ℤ → Bool) → ℤ → Option ℤ
+unfoldable pub latest_day : DaysView → (ℤ → Bool) → ℤ → Option ℤ
 latest_day c test d = last_passing test (days_through c.from (earlier_day d c.to)) (earlier_day d c.to)
 
 -- r is the least covered day at or after d that passes the test
-pub record IsEarliestDay (c : Calendar) (test : ℤ → Bool) (d r : ℤ) : Type 0 where
+pub record IsEarliestDay (c : DaysView) (test : ℤ → Bool) (d r : ℤ) : Type 0 where
   pub covered : is_covered c r ≡ true
   pub passes : test r ≡ true
   pub at_or_after : d ≤ℤ r
   pub least : (e : ℤ) → is_covered c e ≡ true → test e ≡ true → d ≤ℤ e → r ≤ℤ e
 
 -- r is the greatest covered day at or before d that passes the test
-pub record IsLatestDay (c : Calendar) (test : ℤ → Bool) (d r : ℤ) : Type 0 where
+pub record IsLatestDay (c : DaysView) (test : ℤ → Bool) (d r : ℤ) : Type 0 where
   pub covered : is_covered c r ≡ true
   pub passes : test r ≡ true
   pub at_or_before : r ≤ℤ d
@@ -47,7 +47,7 @@ pub record IsLatestDay (c : Calendar) (test : ℤ → Bool) (d r : ℤ) : Type 0
 
 -- what the searches mean
 abbrev pub EarliestIsLeast : Type 0
-EarliestIsLeast = (c : Calendar) (test : ℤ → Bool) (d r : ℤ) → (earliest_day c test d ≡ Some r) ↔ IsEarliestDay c test d r
+EarliestIsLeast = (c : DaysView) (test : ℤ → Bool) (d r : ℤ) → (earliest_day c test d ≡ Some r) ↔ IsEarliestDay c test d r
 
 abbrev pub LatestIsGreatest : Type 0
-LatestIsGreatest = (c : Calendar) (test : ℤ → Bool) (d r : ℤ) → (latest_day c test d ≡ Some r) ↔ IsLatestDay c test d r
+LatestIsGreatest = (c : DaysView) (test : ℤ → Bool) (d r : ℤ) → (latest_day c test d ≡ Some r) ↔ IsLatestDay c test d r

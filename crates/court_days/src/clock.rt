@@ -3,7 +3,7 @@
 ghost use Rattle.std.specs.Prelude.{◌≡◌, ◌↔◌, ◌<◌, ◌<ℤ◌, ◌≤ℤ◌, ◌-ℤ◌, ℤ, pos, true, option_map, None, IsNone, IfSome};
 ghost use Rattle.std.specs.Int.{int_div_euclid};
 ghost use Rattle.jiff.specs.Words.{plain_zone, IsOffsetSeconds, IsWithin, nanos_of_seconds, next_at};
-ghost use Rattle.court_days.specs.Civil.{CourtClock, CivilTime, is_ruled, offset_seconds, shown_second, second_of, civil_of, larger_offset, smaller_offset, standard_offset, daylight_offset, instant_of};
+ghost use Rattle.court_days.specs.Civil.{ClockView, CivilTime, is_ruled, offset_seconds, shown_second, second_of, civil_of, larger_offset, smaller_offset, standard_offset, daylight_offset, instant_of};
 
 use crate::day::Day;
 use crate::instant::Instant;
@@ -23,7 +23,7 @@ pub struct Clock {
 }
 
 impl Model for Clock {
-    ghost Value = { CourtClock };
+    ghost Value = { ClockView };
 
     ghost view = { λ c. record { zone = plain_zone c.zone; opens = c.opens; closes = c.closes } };
 

@@ -3,7 +3,7 @@
 ghost use Rattle.std.specs.Prelude.{◌≡◌, ℤ, List, [], length, OnOk, OnErr, IfOk};
 ghost use Rattle.std.specs.Ordering.{int_eq};
 ghost use Rattle.std.specs.List.{IsDistinct};
-ghost use Rattle.court_days.specs.Calendar.{is_among, add_date};
+ghost use Rattle.court_days.specs.Days.{is_among, add_date};
 
 use crate::day::Day;
 use std::alloc::{AllocError, Global};

@@ -3,7 +3,7 @@
 ghost use Rattle.std.specs.Prelude.{◌≡◌, ◌≤ℤ◌, ◌<ℤ◌, ◌+ℤ◌, ◌-ℤ◌, ℤ, pos, true, [], IsTrue, IfSome, IfNone, IfOk, length};
 ghost use Rattle.std.specs.Ordering.{int_eq};
 ghost use Rattle.std.specs.List.{IsDistinct};
-ghost use Rattle.court_days.specs.Calendar.{Calendar, IsSpan, is_covered, is_holiday, is_permitted, is_open, is_among, has_outage, dates_of, add_holiday, add_outage};
+ghost use Rattle.court_days.specs.Days.{DaysView, IsSpan, is_covered, is_holiday, is_permitted, is_open, is_among, has_outage, dates_of, add_holiday, add_outage};
 ghost use Rattle.court_days.specs.Search.{earliest_day, latest_day};
 ghost use Rattle.court_days.specs.Rolled.{rolled, next_accessible};
 
@@ -26,7 +26,7 @@ pub struct Days {
 }
 
 impl Model for Days {
-    ghost Value = { Calendar };
+    ghost Value = { DaysView };
 
     ghost view = { λ d. record { from = d.from; to = d.to; federal = d.federal; state = d.state; outages = d.outages.items } };
 
@@ -97,7 +97,7 @@ impl Days {
     }
 
     /// Whether the day is covered and no Saturday, Sunday or legal holiday (Fed. R. Civ. P. 6(a)(1)(C)).
-    #[tactic(auto, unfolding(crate::specs::Calendar::is_permitted))]
+    #[tactic(auto, unfolding(crate::specs::Days::is_permitted))]
     pub fn is_permitted(&self, day: Day, direction: Direction) -> bool
         ensures { result ≡ is_permitted self.now direction day }
     {
@@ -141,7 +141,7 @@ impl Days {
     }
 
     /// The least open day at or after the covered day `start`.
-    #[tactic(auto, using(crate::proofs::SearchLaws::earliest_skips, crate::proofs::SearchLaws::earliest_finds, crate::proofs::SearchLaws::earliest_stops))]
+    #[tactic(auto, using(crate::proofs::SearchLemmas::earliest_skips, crate::proofs::SearchLemmas::earliest_finds, crate::proofs::SearchLemmas::earliest_stops))]
     fn earliest(&self, start: Day, direction: Direction, accessible: bool) -> Option<Day>
         requires { is_covered self.now start ≡ true }
         ensures { result ≡ earliest_day self.now (is_open self.now direction accessible) start }
@@ -154,7 +154,7 @@ impl Days {
     }
 
     /// The greatest permitted day at or before the covered day `start`.
-    #[tactic(auto, using(crate::proofs::SearchLaws::latest_skips, crate::proofs::SearchLaws::latest_finds, crate::proofs::SearchLaws::latest_stops))]
+    #[tactic(auto, using(crate::proofs::SearchLemmas::latest_skips, crate::proofs::SearchLemmas::latest_finds, crate::proofs::SearchLemmas::latest_stops))]
     fn latest(&self, start: Day, direction: Direction) -> Option<Day>
         requires { is_covered self.now start ≡ true }
         ensures { result ≡ latest_day self.now (is_permitted self.now direction) start }
@@ -185,7 +185,7 @@ impl Days {
 
     /// The least covered day later than `day` that is permitted in that direction and has no outage
     /// (Fed. R. Civ. P. 6(a)(3)), which looks forward for either direction. None where there is no such day.
-    #[tactic(auto, unfolding(crate::specs::Rolled::next_accessible), using(crate::proofs::SearchLaws::earliest_ends, crate::proofs::SearchLaws::earliest_starts))]
+    #[tactic(auto, unfolding(crate::specs::Rolled::next_accessible), using(crate::proofs::SearchLemmas::earliest_ends, crate::proofs::SearchLemmas::earliest_starts))]
     pub fn first_accessible(&self, day: Day, direction: Direction) -> Option<Day>
         ensures { result ≡ next_accessible self.now direction day }
     {

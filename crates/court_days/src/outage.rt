@@ -1,7 +1,7 @@
 //! When the clerk's office was inaccessible.
 
 ghost use Rattle.std.specs.Prelude.{◌≡◌, ◌↔◌, ◌<◌, ◌≤◌, ℕ, IsSome, IfSome};
-ghost use Rattle.court_days.specs.Calendar.{Inaccessible};
+ghost use Rattle.court_days.specs.Days.{OutageView};
 
 use crate::day::Day;
 use std::marker::Model;
@@ -16,7 +16,7 @@ pub struct Outage {
 }
 
 impl Model for Outage {
-    ghost Value = { Inaccessible };
+    ghost Value = { OutageView };
 
     ghost view = { λ o. record { day = o.day; from = o.from; to = o.to } };
 

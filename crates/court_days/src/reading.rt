@@ -66,7 +66,7 @@ pub(crate) fn date_at(alloc: Global, file: &Table, key: Key) -> Result<Day, Cour
 }
 
 /// The list at a key, of at most so many items.
-#[tactic(auto, unfolding(crate::specs::Court::list_at), using(crate::proofs::ReadingLaws::counts))]
+#[tactic(auto, unfolding(crate::specs::Court::list_at), using(crate::proofs::ReadingLemmas::counts))]
 pub(crate) fn list_at(file: &Table, key: Key, most: usize) -> Result<&Array, CourtFault>
     ensures value { Gives (λ v. array_view v.now) result (list_at key most (table_view file.now)) }
     ensures most { IfOk result (λ v. length v.now.items ≤ most) }

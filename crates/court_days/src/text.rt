@@ -22,7 +22,7 @@ const LAST_WRITTEN: i32 = 84_005;
 impl Day {
     /// The day that `text` spells as `YYYY-MM-DD`, exactly as `Display` writes it, with a year from 1900 to 2199.
     /// None for any other text, as one with a date that the calendar lacks.
-    #[tactic(auto, using(crate::proofs::TextLaws::unreadable, crate::proofs::TextLaws::reads_none))]
+    #[tactic(auto, using(crate::proofs::TextLemmas::unreadable, crate::proofs::TextLemmas::reads_none))]
     pub fn from_text(text: &str) -> Option<Day>
         ensures { result ≡ day_of_text text.now }
     {
@@ -49,7 +49,7 @@ impl Day {
 impl fmt::Display for Day {
     ghost output = { λ d. Some (day_text d) };
 
-    #[tactic(auto, using(crate::proofs::TextLaws::written_date))]
+    #[tactic(auto, using(crate::proofs::TextLemmas::written_date))]
     fn fmt<W: fmt::Write>(&self, f: &mut fmt::Formatter<W>) -> fmt::Result {
         let date = self.date();
         write!(f, "{date}")
@@ -72,7 +72,7 @@ fn is_spelled_by(date: Date, text: &str) -> bool
     is_written(date) && is_text_of(date, text)
 }
 
-#[tactic(auto, using(crate::proofs::TextLaws::first_written_day, crate::proofs::TextLaws::last_written_day))]
+#[tactic(auto, using(crate::proofs::TextLemmas::first_written_day, crate::proofs::TextLemmas::last_written_day))]
 fn is_written(date: Date) -> bool
     ensures { result ≡ is_written_day (epoch_day date) }
 {

@@ -11,7 +11,7 @@ use Rattle.hearing_slots.specs.Calendar.{IsCalendar, IsConflict, HoldsWith, Hold
 use Rattle.hearing_slots.specs.Laws.{OverlapIsASharedSlot, BookingKeepsCalendar, RemovalKeepsCalendar}
 use Rattle.hearing_slots.proofs.Filters.{parted}
 use Rattle.hearing_slots.proofs.Order.{begins_before-trans, SharesSlot-from_test, test_from_SharesSlot}
-use Rattle.hearing_slots.proofs.CalendarLaws.{IsCalendar-filter, IsCalendar-insert, in_place-at}
+use Rattle.hearing_slots.proofs.CalendarLemmas.{IsCalendar-filter, IsCalendar-insert, in_place-at}
 
 -- a filter keeps what passes
 to_filter : {X : Type 0} (p : X → Bool) (xs : List X) (x : X) (k : ℕ) → k < length xs → get_or xs k x ≡ x → p x ≡ true → Contains (filter p xs) x

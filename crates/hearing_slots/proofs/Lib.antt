@@ -1,13 +1,13 @@
 pub mod Filters
 pub mod Inserts
 pub mod Order
-pub mod CalendarLaws
+pub mod CalendarLemmas
 pub mod Conflicts
 pub mod Finds
 pub mod DayEntries
 pub mod SlotBits
-pub mod DayLaws
+pub mod DayLemmas
 pub mod Holdings
 pub mod MotionEntries
-pub mod MotionLaws
+pub mod MotionLemmas
 pub mod SameBookings

@@ -5,3 +5,4 @@ pub mod Motions
 pub mod Panel
 pub mod Shared
 pub mod Slots
+pub mod Words

@@ -2,7 +2,7 @@
 //! argument is how many calendars they are spread over, 32 if there is none.
 #![tactic(auto)]
 
-ghost use Rattle.hearing_slots.specs.Booking.{IsWithinDay};
+ghost use Rattle.hearing_slots.specs.Words.{IsWithinDay};
 
 use court_days::Day;
 use hearing_slots::{Booking, Calendar, Need};

@@ -1,2 +1,2 @@
-pub mod HourLaws
-pub mod AccessLaws
+pub mod HourLemmas
+pub mod AccessLemmas

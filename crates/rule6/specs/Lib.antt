@@ -3,3 +3,4 @@ pub mod Hours
 pub mod Access
 pub mod Service
 pub mod Timely
+pub mod Words

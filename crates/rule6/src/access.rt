@@ -2,8 +2,7 @@
 
 ghost use Rattle.std.specs.Prelude.{◌≡◌, ◌<◌, ◌≤◌, ◌*◌, ◌<ℤ◌, ◌≤ℤ◌, ℤ, pos, neg_ℤ, true, false, ◌⊎◌};
 ghost use Rattle.std.specs.List.{list_any};
-ghost use Rattle.court_days.specs.Civil.{offset_seconds, second_of, IsInstantSecond};
-ghost use Rattle.court_days.specs.Number.{IsDayNumber};
+ghost use Rattle.court_days.specs.Words.{offset_seconds, second_of, IsInstantSecond, IsDayNumber};
 ghost use Rattle.rule6.specs.Access.{extended_day, extended_end, meets_last_hour};
 
 use court_days::{Clock, Day, Days, Direction, Instant, Outage};

@@ -1,8 +1,7 @@
 //! The last day of a period that is stated in days.
 
 ghost use Rattle.std.specs.Prelude.{◌≡◌, ◌≤◌, false, IsTrue, IfSome, IfNone};
-ghost use Rattle.court_days.specs.Calendar.{is_covered};
-ghost use Rattle.court_days.specs.Number.{counted_from};
+ghost use Rattle.court_days.specs.Words.{is_covered, counted_from};
 ghost use Rattle.rule6.specs.LastDay.{expiry_of, last_day_of};
 
 use court_days::{Day, Days, Direction};

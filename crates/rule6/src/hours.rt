@@ -1,7 +1,7 @@
 //! The end of a period that is stated in hours.
 
 ghost use Rattle.std.specs.Prelude.{◌≡◌, ◌≤◌, IfSome, IfNone};
-ghost use Rattle.court_days.specs.Civil.{IsInstantSecond};
+ghost use Rattle.court_days.specs.Words.{IsInstantSecond};
 ghost use Rattle.rule6.specs.Hours.{hours_from, end_of_hours_from};
 
 use court_days::{Clock, Days, Direction, Instant};
@@ -15,7 +15,7 @@ const HOUR: i64 = 3_600;
 /// period measured after its event and backward for one measured before it; a time that the clock shows twice
 /// there is the earlier, and one that it jumps over is later by the gap. None where a day that this needs lies
 /// outside the days covered.
-#[tactic(auto, unfolding(crate::specs::Hours::end_of_hours_from), using(crate::proofs::HourLaws::no_civil_time))]
+#[tactic(auto, unfolding(crate::specs::Hours::end_of_hours_from), using(crate::proofs::HourLemmas::no_civil_time))]
 pub fn end_of_hours(
     days: &Days,
     clock: &Clock,

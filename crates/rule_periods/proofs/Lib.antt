@@ -1,2 +1,2 @@
-pub mod DeadlineLaws
-pub mod NoticeLaws
+pub mod DeadlineLemmas
+pub mod NoticeLemmas

@@ -2,21 +2,15 @@
 use Rattle.std.specs.Prelude.{ℕ, ◌*◌, ◌-◌, min, length, slice_get, Bool, true, false, ◌&&◌, not, ℤ, pos, ◌+ℤ◌, List, [], ◌∷◌, fold, option_map, Option, Some, None, if◌then◌else◌}
 use Rattle.std.specs.Option.{option_and_then, option_map_or}
 use Rattle.court_days.specs.declared.direction.Direction.{Direction}
+use Rattle.court_days.specs.Words.{DaysView, ClockView, instant_of, rolled, later_day}
 use Rattle.court_days.specs.declared.direction.Direction.TheVariants.{After}
-use Rattle.court_days.specs.Calendar.{Calendar}
-use Rattle.court_days.specs.Civil.{CourtClock, instant_of}
-use Rattle.court_days.specs.Rolled.{rolled}
-use Rattle.court_days.specs.Search.{later_day}
 use Rattle.rule6.specs.declared.timeliness.Act.{Act}
-use Rattle.rule6.specs.declared.timeliness.Act.TheVariants.{Filing as ByFiling, Service as ByService}
 use Rattle.rule6.specs.declared.timeliness.Filing.{Filing}
 use Rattle.rule6.specs.declared.service.ServiceKind.{ServiceKind}
 use Rattle.rule6.specs.declared.timeliness.Shown.{Shown}
+use Rattle.rule6.specs.Words.{last_day_of, end_of_hours_from, extended_day, extended_end, adds_three_days}
+use Rattle.rule6.specs.declared.timeliness.Act.TheVariants.{Filing as ByFiling, Service as ByService}
 use Rattle.rule6.specs.declared.timeliness.Shown.TheVariants as shown
-use Rattle.rule6.specs.LastDay.{last_day_of}
-use Rattle.rule6.specs.Hours.{end_of_hours_from}
-use Rattle.rule6.specs.Access.{extended_day, extended_end}
-use Rattle.rule6.specs.Service.{adds_three_days}
 use Rattle.rule_periods.specs.declared.expiry.Expiry.{Expiry}
 use Rattle.rule_periods.specs.declared.expiry.Expiry.TheVariants.{OnDay, AtInstant}
 use Rattle.rule_periods.specs.declared.grant.Grant.{Grant}
@@ -28,14 +22,14 @@ use Rattle.rule_periods.specs.declared.period.Period.TheVariants as period
 use Rattle.rule_periods.specs.declared.rule.RulePeriod.{RulePeriod}
 use Rattle.rule_periods.specs.declared.rule.ServiceRule.{ServiceRule}
 use Rattle.rule_periods.specs.declared.rule.ServiceRule.TheVariants as service
-use Rattle.rule_periods.specs.Moment.{Moment}
+use Rattle.rule_periods.specs.Event.{EventView}
 use Rattle.rule_periods.specs.Period.{act_of, direction_of, is_hours}
 use Rattle.rule_periods.specs.Rule.{terms_of}
 
 -- a deadline as the docket keeps it
-pub record DeadlineView : Type 0 where
+pub record DeadlineRowView : Type 0 where
   pub period : Period
-  pub event : Moment
+  pub event : EventView
   pub second : Option ℤ
   pub service : Option ServiceKind
   pub grants : List Grant
@@ -62,33 +56,33 @@ later_event event None = event
 later_event event (Some second) = later_day event second
 
 -- when a period that the Rules set ends
-unfoldable pub end_of_rule : Calendar → DeadlineView → RulePeriod → Option Expiry
+unfoldable pub end_of_rule : DaysView → DeadlineRowView → RulePeriod → Option Expiry
 end_of_rule c row rule =
     option_map OnDay (last_day_of c (later_event row.event.day row.second) (terms_of rule).days After
     (runs_from_service (terms_of rule).service && kind_adds row.service row.event.day))
 
 -- when an entered length ends that is measured from an event
-unfoldable pub end_of_length : Calendar → CourtClock → Moment → Length → Direction → Bool → Option Expiry
+unfoldable pub end_of_length : DaysView → ClockView → EventView → Length → Direction → Bool → Option Expiry
 end_of_length c clock event (Days n) direction added = option_map OnDay (last_day_of c event.day n direction added)
 end_of_length c clock event (Hours h) direction added =
     option_map AtInstant (end_of_hours_from c clock (instant_of clock.zone event.day (60 * event.minute)) h direction)
 
 -- when the time ends before any extension
-unfoldable pub base_of_period : Calendar → CourtClock → DeadlineView → Period → Option Expiry
+unfoldable pub base_of_period : DaysView → ClockView → DeadlineRowView → Period → Option Expiry
 base_of_period c clock row (period.Rule rule) = end_of_rule c row rule
 base_of_period c clock row (period.Entered entered) =
     end_of_length c clock row.event entered.length entered.direction (entered.served && kind_adds row.service row.event.day)
 
-abbrev pub base_of : Calendar → CourtClock → DeadlineView → Option Expiry
+abbrev pub base_of : DaysView → ClockView → DeadlineRowView → Option Expiry
 base_of c clock row = base_of_period c clock row row.period
 
 -- So many days more, counted from the last day so far and rolled forward with the holidays of a period after an
 -- event; so many hours more, counted as hours are (6(a)(2)), with those holidays too.
-abbrev pub by_days : Calendar → ℕ → Expiry → Option Expiry
+abbrev pub by_days : DaysView → ℕ → Expiry → Option Expiry
 by_days c n (OnDay last) = option_map OnDay (rolled c (last +ℤ pos n) After)
 by_days c n (AtInstant end) = None
 
-abbrev pub by_hours : Calendar → CourtClock → ℕ → Expiry → Option Expiry
+abbrev pub by_hours : DaysView → ClockView → ℕ → Expiry → Option Expiry
 by_hours c clock h (OnDay last) = None
 by_hours c clock h (AtInstant end) = option_map AtInstant (end_of_hours_from c clock end h After)
 
@@ -99,17 +93,17 @@ grant_fits hours (ByHours h) = hours
 grant_fits hours (Until d) = not hours
 
 -- when the time ends after one more extension; a date certain is the end whatever stood before
-abbrev pub granted : Calendar → CourtClock → Option Expiry → Grant → Option Expiry
+abbrev pub granted : DaysView → ClockView → Option Expiry → Grant → Option Expiry
 granted c clock end (ByDays n) = option_and_then (by_days c n) end
 granted c clock end (ByHours h) = option_and_then (by_hours c clock h) end
 granted c clock end (Until d) = Some (OnDay d)
 
 -- when the time ends after one more extension of a period that is, or isn't, in hours
-abbrev pub granted_if_it_fits : Calendar → CourtClock → Bool → Option Expiry → Grant → Option Expiry
+abbrev pub granted_if_it_fits : DaysView → ClockView → Bool → Option Expiry → Grant → Option Expiry
 granted_if_it_fits c clock hours end grant = if grant_fits hours grant then granted c clock end grant else None
 
 -- when the time ends, with every extension in turn
-unfoldable pub extended_of : Calendar → CourtClock → DeadlineView → Option Expiry
+unfoldable pub extended_of : DaysView → ClockView → DeadlineRowView → Option Expiry
 extended_of c clock row = fold (granted_if_it_fits c clock (is_hours row.period)) (base_of c clock row) row.grants
 
 -- an extension to a date certain
@@ -129,7 +123,7 @@ access_direction direction [] = direction
 access_direction direction (g ∷ grants) = After
 
 -- the end, moved where the clerk's office was inaccessible (Fed. R. Civ. P. 6(a)(3))
-abbrev pub accessed : Calendar → CourtClock → Direction → Expiry → Option Expiry
+abbrev pub accessed : DaysView → ClockView → Direction → Expiry → Option Expiry
 accessed c clock direction (OnDay last) = option_map OnDay (extended_day c last direction)
 accessed c clock direction (AtInstant end) = option_map AtInstant (extended_end c clock end direction)
 
@@ -146,11 +140,11 @@ shown_end act (Some (AtInstant end)) = shown.Until end
 
 -- What is shown of an end after extensions, of which the last may be to a date certain, with the direction whose
 -- holidays count for access.
-unfoldable pub shown_after : Calendar → CourtClock → Act → Bool → Direction → Option Expiry → Shown
+unfoldable pub shown_after : DaysView → ClockView → Act → Bool → Direction → Option Expiry → Shown
 shown_after c clock act certain direction end =
     shown_end act (if is_moved_by_access act certain then option_and_then (accessed c clock direction) end else end)
 
 -- what is shown of a deadline: its last day or the end of its hours, or that no covered day qualifies
-unfoldable pub shown_of : Calendar → CourtClock → DeadlineView → Shown
+unfoldable pub shown_of : DaysView → ClockView → DeadlineRowView → Shown
 shown_of c clock row =
     shown_after c clock (act_of row.period) (ends_certain row.grants) (access_direction (direction_of row.period) row.grants) (extended_of c clock row)

@@ -1,11 +1,10 @@
 -- Whether the time may be extended (Fed. R. Civ. P. 6(b)).
 use Rattle.std.specs.Prelude.{Bool, true, false, ◌&&◌, ◌||◌, not, int_lt, [], ◌∷◌, ◌++◌, Result, Ok, if◌then◌else◌}
-use Rattle.court_days.specs.Calendar.{Calendar, is_covered}
-use Rattle.court_days.specs.Civil.{CourtClock}
+use Rattle.court_days.specs.Words.{DaysView, is_covered, ClockView}
 use Rattle.rule6.specs.declared.timeliness.Means.TheVariants.{Electronic}
 use Rattle.rule6.specs.declared.timeliness.Shown.{Shown}
+use Rattle.rule6.specs.Words.{is_in_time}
 use Rattle.rule6.specs.declared.timeliness.Shown.TheVariants as shown
-use Rattle.rule6.specs.Timely.{is_in_time}
 use Rattle.rule_periods.specs.declared.grant.Grant.{Grant}
 use Rattle.rule_periods.specs.declared.grant.Grant.TheVariants.{ByDays, ByHours, Until}
 use Rattle.rule_periods.specs.declared.grant.Request.{Request}
@@ -13,13 +12,13 @@ use Rattle.rule_periods.specs.declared.refusal.PeriodRefusal.{PeriodRefusal}
 use Rattle.rule_periods.specs.declared.refusal.PeriodRefusal.TheVariants.{BadDay, BadLength, Beyond, NotExtendable, NoGoodCause, LateWithoutMotion, LateWithoutNeglect, NotLonger, WrongGrant}
 use Rattle.rule_periods.specs.declared.rule.ExtensionRule.{ExtensionRule}
 use Rattle.rule_periods.specs.declared.rule.ExtensionRule.TheVariants.{WithoutFindings, GoodCause, Never}
-use Rattle.rule_periods.specs.Deadline.{DeadlineView, grant_fits, shown_of}
-use Rattle.rule_periods.specs.Moment.{Moment}
+use Rattle.rule_periods.specs.Deadline.{DeadlineRowView, grant_fits, shown_of}
+use Rattle.rule_periods.specs.Event.{EventView}
 use Rattle.rule_periods.specs.Period.{extension_of, is_hours, is_days, is_hour_count}
 use Rattle.rule_periods.specs.Start.{unless}
 
 -- the day until which an extension runs is covered
-abbrev pub is_covered_grant : Calendar → Grant → Bool
+abbrev pub is_covered_grant : DaysView → Grant → Bool
 is_covered_grant c (ByDays n) = true
 is_covered_grant c (ByHours h) = true
 is_covered_grant c (Until d) = is_covered c d
@@ -49,7 +48,7 @@ asks_findings GoodCause = true
 asks_findings Never = true
 
 -- a request is in time where an electronic filing at its moment would be
-abbrev pub is_asked_in_time : CourtClock → Shown → Moment → Bool
+abbrev pub is_asked_in_time : ClockView → Shown → EventView → Bool
 is_asked_in_time clock now asked = is_in_time clock now (record { day = asked.day; minute = asked.minute; means = Electronic })
 
 -- the findings that 6(b)(1) asks for: good cause, and late a motion and excusable neglect
@@ -66,7 +65,7 @@ is_later (shown.Until t) (shown.Until u) = int_lt t u
 is_later _ _ = false
 
 -- the deadline with one more extension
-abbrev pub with_grant : DeadlineView → Grant → DeadlineView
+abbrev pub with_grant : DeadlineRowView → Grant → DeadlineRowView
 with_grant row grant = record row { grants = row.grants ++ grant ∷ [] }
 
 -- what is refused of the extended time: that no covered day qualifies, or that it isn't longer
@@ -74,7 +73,7 @@ abbrev pub longer_of : Shown → Shown → Result (Unit {0}) PeriodRefusal
 longer_of now later = unless (not (is_beyond later)) Beyond (unless (is_later now later) NotLonger (Ok tt))
 
 -- the first refusal of an extension, or none
-unfoldable pub extension_answer : Calendar → CourtClock → DeadlineView → Request → Result (Unit {0}) PeriodRefusal
+unfoldable pub extension_answer : DaysView → ClockView → DeadlineRowView → Request → Result (Unit {0}) PeriodRefusal
 extension_answer c clock row request =
     let now = shown_of c clock row in
     let rule = extension_of row.period in

@@ -1,7 +1,8 @@
 pub mod Rule
-pub mod Moment
+pub mod Event
 pub mod Period
 pub mod Start
 pub mod Deadline
 pub mod Extension
 pub mod Notice
+pub mod Words

@@ -2,7 +2,7 @@
 
 ghost use Rattle.std.specs.Prelude.{◌≡◌, true, option_map};
 ghost use Rattle.std.specs.List.{list_all};
-ghost use Rattle.rule_periods.specs.Deadline.{DeadlineView, kept_filing};
+ghost use Rattle.rule_periods.specs.Deadline.{DeadlineRowView, kept_filing};
 ghost use Rattle.rule_periods.specs.Extension.{is_grant_length};
 ghost use Rattle.rule_periods.specs.Period.{suits, has_length};
 
@@ -29,7 +29,7 @@ pub struct DeadlineRow {
 }
 
 impl Model for DeadlineRow {
-    ghost Value = { DeadlineView };
+    ghost Value = { DeadlineRowView };
 
     ghost view = { λ r. record { period = r.period; event = r.event; second = r.second; service = r.service; grants = r.grants.items; filed = r.filed } };
 

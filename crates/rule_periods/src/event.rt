@@ -1,7 +1,7 @@
 //! The moment of an event.
 
 ghost use Rattle.std.specs.Prelude.{◌≡◌, ◌<◌, min};
-ghost use Rattle.rule_periods.specs.Moment.{Moment};
+ghost use Rattle.rule_periods.specs.Event.{EventView};
 
 use court_days::Day;
 use std::marker::Model;
@@ -17,7 +17,7 @@ pub struct Event {
 }
 
 impl Model for Event {
-    ghost Value = { Moment };
+    ghost Value = { EventView };
 
     ghost view = { λ e. record { day = e.day; minute = e.minute } };
 

@@ -1,8 +1,7 @@
 //! Notice of a hearing (Fed. R. Civ. P. 6(c)).
 
 ghost use Rattle.std.specs.Prelude.{◌≡◌, ◌≤◌, ◌≤ℤ◌, ◌-ℤ◌, pos, true};
-ghost use Rattle.court_days.specs.Calendar.{is_covered, is_permitted};
-ghost use Rattle.court_days.specs.Search.{latest_day, earlier_day};
+ghost use Rattle.court_days.specs.Words.{is_covered, is_permitted, latest_day, earlier_day};
 ghost use Rattle.rule_periods.specs.Notice.{notice_of};
 
 use court_days::{Day, Days, Direction};
@@ -29,7 +28,7 @@ fn days_before(day: Day, n: u32) -> i32
 }
 
 /// The greatest covered day at or before a number that is permitted in a period measured before its event.
-#[tactic(auto, using(crate::proofs::NoticeLaws::latest_starts, crate::proofs::NoticeLaws::latest_before_span))]
+#[tactic(auto, using(crate::proofs::NoticeLemmas::latest_starts, crate::proofs::NoticeLemmas::latest_before_span))]
 fn latest_at_or_before(days: &Days, number: i32) -> Option<Day>
     ensures { result ≡ latest_day days.now (is_permitted days.now Direction.Before) number }
 {

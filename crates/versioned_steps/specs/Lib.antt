@@ -8,3 +8,4 @@ pub mod Moves
 pub mod Serial
 pub mod Counters
 pub mod CounterLaws
+pub mod Words

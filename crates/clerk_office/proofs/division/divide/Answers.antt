@@ -1,7 +1,7 @@
 use Rattle.std.proofs.Common.{◌≡◌, ◌∙◌, Some, None, sym, drop, append-nil, length, ◌≤◌, arith}
 use Rattle.std.proofs.lemmas.List.{drop_all, take_all}
 use Rattle.clerk_office.specs.Division.{behind_mark}
-use Rattle.clerk_office.proofs.DivisionLaws.{divided-mark, divided-other, divided-nil}
+use Rattle.clerk_office.proofs.DivisionLemmas.{divided-mark, divided-other, divided-nil}
 use Rattle.clerk_office.proofs.division.divide.Goals as goal
 
 pub returns-in-Some-clause-court : goal.returns-in-Some-clause-court

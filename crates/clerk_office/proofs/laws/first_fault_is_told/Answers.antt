@@ -1,4 +1,4 @@
-use Rattle.clerk_office.proofs.FaultLaws.{first_fault_is_told_lem}
+use Rattle.clerk_office.proofs.FaultLemmas.{first_fault_is_told_lem}
 use Rattle.clerk_office.proofs.laws.first_fault_is_told.Goals as goal
 
 pub returns : goal.returns

@@ -1,4 +1,4 @@
-use Rattle.clerk_office.proofs.MarkLaws.{first_mark_divides_lem}
+use Rattle.clerk_office.proofs.MarkLemmas.{first_mark_divides_lem}
 use Rattle.clerk_office.proofs.laws.first_mark_divides.Goals as goal
 
 pub returns : goal.returns

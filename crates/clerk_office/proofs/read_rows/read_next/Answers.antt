@@ -1,7 +1,7 @@
 use Rattle.std.proofs.Common.{◌∙◌, sym, inl}
 use Rattle.csv.specs.Reading.{error_kind}
 use Rattle.csv.specs.Records.{fields_of}
-use Rattle.clerk_office.proofs.ReadingLaws.{all_text-passes, explains_no_text, takes_next, takes_none}
+use Rattle.clerk_office.proofs.ReadingLemmas.{all_text-passes, explains_no_text, takes_next, takes_none}
 use Rattle.clerk_office.proofs.read_rows.read_next.Goals as goal
 
 pub returns-then-found-clause-text : goal.returns-then-found-clause-text

@@ -1,6 +1,6 @@
 use Rattle.csv.specs.Reading.{strip_bom}
 use Rattle.clerk_office.specs.Rows.{rows_of}
-use Rattle.clerk_office.proofs.ReadingLaws.{records_left-start}
+use Rattle.clerk_office.proofs.ReadingLemmas.{records_left-start}
 use Rattle.clerk_office.proofs.read_rows.read_rows.Goals as goal
 
 pub returns : goal.returns

@@ -7,8 +7,8 @@ use Rattle.csv.specs.Records.{fields_of}
 use Rattle.clerk_office.specs.declared.read_rows.TheConstants.{MAX_ROWS}
 use Rattle.clerk_office.specs.declared.row.Row.{Row}
 use Rattle.clerk_office.specs.Records.{records_left}
-use Rattle.clerk_office.proofs.ReadingLaws.{another}
-use Rattle.clerk_office.proofs.RowsLaws.{row_of-no_text, rows_from-err, rows_from-fault, rows_from-nil, rows_from-past, rows_from-row}
+use Rattle.clerk_office.proofs.ReadingLemmas.{another}
+use Rattle.clerk_office.proofs.RowsLemmas.{row_of-no_text, rows_from-err, rows_from-fault, rows_from-nil, rows_from-past, rows_from-row}
 use Rattle.clerk_office.proofs.read_rows.take_rows.Goals as goal
 
 pub returns-in-End : goal.returns-in-End

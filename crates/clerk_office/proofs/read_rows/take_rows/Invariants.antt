@@ -1,7 +1,7 @@
 use Rattle.std.proofs.Common.{◌≡◌}
 use Rattle.clerk_office.specs.Records.{TakesAnyRow, records_left}
 use Rattle.clerk_office.specs.Rows.{rows_from}
-use Rattle.clerk_office.proofs.RowsLaws.{behind_rows}
+use Rattle.clerk_office.proofs.RowsLemmas.{behind_rows}
 use Rattle.clerk_office.proofs.read_rows.take_rows.Given as goal
 
 -- the rows so far, and those of the records that are left, are all the rows

@@ -1,6 +1,6 @@
 use Rattle.std.proofs.lemmas.Result.{err_from_is_err_and}
 use Rattle.court_days.specs.Court.{and_date}
-use Rattle.court_days.proofs.ReadingLaws.{goes_on, fails, is_done}
+use Rattle.court_days.proofs.ReadingLemmas.{goes_on, fails, is_done}
 use Rattle.court_days.proofs.reading.dates_of.Goals as goal
 
 pub returns-in_err-add_date : goal.returns-in_err-add_date

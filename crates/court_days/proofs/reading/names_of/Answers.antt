@@ -1,7 +1,7 @@
 use Rattle.std.proofs.Common.{arith}
 use Rattle.std.proofs.lemmas.Result.{err_from_is_err_and}
 use Rattle.court_days.specs.Court.{and_name}
-use Rattle.court_days.proofs.ReadingLaws.{goes_on, fails, is_done}
+use Rattle.court_days.proofs.ReadingLemmas.{goes_on, fails, is_done}
 use Rattle.court_days.proofs.reading.names_of.Goals as goal
 
 pub returns-in_err-add_name-clause-value : goal.returns-in_err-add_name-clause-value

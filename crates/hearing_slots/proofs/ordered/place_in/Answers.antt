@@ -6,9 +6,9 @@ use Rattle.hearing_slots.specs.declared.booking.Booking.{Booking}
 use Rattle.hearing_slots.specs.Booking.{begins_before}
 use Rattle.hearing_slots.proofs.Filters.{parted}
 use Rattle.hearing_slots.proofs.Order.{begins_before-trans}
-use Rattle.hearing_slots.proofs.CalendarLaws.{IsCalendar-insert, in_place-at}
-use Rattle.hearing_slots.proofs.DayLaws.{on_day-insert_other, on_day-insert_here}
-use Rattle.hearing_slots.proofs.MotionLaws.{day_heard-insert, day_heard-insert_other}
+use Rattle.hearing_slots.proofs.CalendarLemmas.{IsCalendar-insert, in_place-at}
+use Rattle.hearing_slots.proofs.DayLemmas.{on_day-insert_other, on_day-insert_here}
+use Rattle.hearing_slots.proofs.MotionLemmas.{day_heard-insert, day_heard-insert_other}
 use Rattle.hearing_slots.proofs.ordered.place_in.Goals as goal
 
 -- the place that the search found

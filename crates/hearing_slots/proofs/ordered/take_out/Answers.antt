@@ -3,8 +3,8 @@ use Rattle.std.specs.List.{filter}
 use Rattle.std.proofs.lemmas.Fn.{filter_same}
 use Rattle.hearing_slots.specs.declared.booking.Booking.{Booking}
 use Rattle.hearing_slots.specs.Booking.{is_of}
-use Rattle.hearing_slots.proofs.CalendarLaws.{IsCalendar-filter}
-use Rattle.hearing_slots.proofs.MotionLaws.{day_heard-without, day_heard-without_other}
+use Rattle.hearing_slots.proofs.CalendarLemmas.{IsCalendar-filter}
+use Rattle.hearing_slots.proofs.MotionLemmas.{day_heard-without, day_heard-without_other}
 use Rattle.hearing_slots.proofs.ordered.take_out.Goals as goal
 
 pub returns-clause-items : goal.returns-clause-items

@@ -1,4 +1,4 @@
-use Rattle.rule6.proofs.AccessLaws.{last_hour_law}
+use Rattle.rule6.proofs.AccessLemmas.{last_hour_law}
 use Rattle.rule6.proofs.laws.last_hour_is_by_seconds.Goals as goal
 
 pub returns : goal.returns

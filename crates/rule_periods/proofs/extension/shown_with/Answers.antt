@@ -1,5 +1,5 @@
 use Rattle.std.proofs.Common.{sym, ◌∙◌}
-use Rattle.rule_periods.proofs.DeadlineLaws.{shown_of-push}
+use Rattle.rule_periods.proofs.DeadlineLemmas.{shown_of-push}
 use Rattle.rule_periods.proofs.extension.shown_with.Goals as goal
 
 pub returns : goal.returns

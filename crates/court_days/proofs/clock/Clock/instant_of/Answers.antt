@@ -1,6 +1,6 @@
 use Rattle.std.proofs.Common.{◌∙◌, ap, arith}
 use Rattle.std.proofs.lemmas.Int.{ints}
-use Rattle.court_days.proofs.CivilLaws.{takes_earlier, takes_later}
+use Rattle.court_days.proofs.CivilLemmas.{takes_earlier, takes_later}
 use Rattle.court_days.proofs.clock.Clock.instant_of.Goals as goal
 
 pub returns-then-shown_at-civil : goal.returns-then-shown_at-civil

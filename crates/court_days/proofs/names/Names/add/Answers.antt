@@ -1,4 +1,4 @@
-use Rattle.court_days.proofs.NamesLaws.{added}
+use Rattle.court_days.proofs.NamesLemmas.{added}
 use Rattle.court_days.proofs.names.Names.add.Goals as goal
 
 pub returns-clause-ok : goal.returns-clause-ok

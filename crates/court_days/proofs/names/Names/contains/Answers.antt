@@ -1,5 +1,5 @@
 use Rattle.std.proofs.Common.{◌∙◌}
-use Rattle.court_days.proofs.NamesLaws.{named}
+use Rattle.court_days.proofs.NamesLemmas.{named}
 use Rattle.court_days.proofs.names.Names.contains.Goals as goal
 
 pub returns : goal.returns

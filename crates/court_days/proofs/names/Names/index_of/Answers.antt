@@ -1,5 +1,5 @@
 use Rattle.std.proofs.Common.{◌∙◌}
-use Rattle.court_days.proofs.NamesLaws.{numbered}
+use Rattle.court_days.proofs.NamesLemmas.{numbered}
 use Rattle.court_days.proofs.names.Names.index_of.Goals as goal
 
 pub returns-clause-value : goal.returns-clause-value

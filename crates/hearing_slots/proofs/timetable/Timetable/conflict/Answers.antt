@@ -3,7 +3,7 @@ use Rattle.std.specs.List.{find}
 use Rattle.hearing_slots.specs.Booking.{is_on}
 use Rattle.hearing_slots.specs.Calendar.{first_conflict, IsCalendar, conflicts, on_day}
 use Rattle.hearing_slots.specs.Slots.{slots_from, slots_taken, marked}
-use Rattle.hearing_slots.proofs.DayLaws.{first_conflict-apart}
+use Rattle.hearing_slots.proofs.DayLemmas.{first_conflict-apart}
 use Rattle.hearing_slots.proofs.Filters.{find-filter}
 use Rattle.hearing_slots.proofs.Conflicts.{first_conflict-Some, first_conflict-None}
 use Rattle.hearing_slots.proofs.Order.{conflicts-on_day}

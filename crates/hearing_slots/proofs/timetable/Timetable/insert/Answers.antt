@@ -5,7 +5,7 @@ use Rattle.hearing_slots.specs.Booking.{is_of}
 use Rattle.hearing_slots.specs.Calendar.{on_day}
 use Rattle.hearing_slots.specs.Motions.{noted}
 use Rattle.hearing_slots.proofs.SlotBits.{some_taken}
-use Rattle.hearing_slots.proofs.MotionLaws.{day_heard-absent}
+use Rattle.hearing_slots.proofs.MotionLemmas.{day_heard-absent}
 use Rattle.hearing_slots.proofs.timetable.Timetable.insert.Goals as goal
 
 pub mark-requires-clause-some : goal.mark-requires-clause-some

@@ -4,8 +4,8 @@ use Rattle.hearing_slots.specs.Booking.{is_of}
 use Rattle.hearing_slots.specs.Calendar.{on_day, without_motion}
 use Rattle.hearing_slots.specs.Motions.{day_heard}
 use Rattle.hearing_slots.specs.Slots.{slots_taken}
-use Rattle.hearing_slots.proofs.DayLaws.{without_motion-absent, on_day-without_motion, slots_taken-filter, marked_again}
-use Rattle.hearing_slots.proofs.MotionLaws.{heard_found, not_heard, noted_again}
+use Rattle.hearing_slots.proofs.DayLemmas.{without_motion-absent, on_day-without_motion, slots_taken-filter, marked_again}
+use Rattle.hearing_slots.proofs.MotionLemmas.{heard_found, not_heard, noted_again}
 use Rattle.hearing_slots.proofs.timetable.Timetable.remove.Goals as goal
 
 pub returns-in_default : goal.returns-in_default

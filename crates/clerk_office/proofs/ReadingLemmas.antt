@@ -18,7 +18,7 @@ use Rattle.csv.proofs.ReadFacts.{rows-end, rows-more}
 use Rattle.clerk_office.specs.declared.read_rows.Next.{Next}
 use Rattle.clerk_office.specs.declared.read_rows.Next.TheVariants.{Text, NotText, End}
 use Rattle.clerk_office.specs.Records.{MeetsNoText, TakesAnyRow, TakesText, tells_no_text, all_records, records_left}
-use Rattle.clerk_office.proofs.RecordsLaws.{all_records-none, all_records-some, all_records-start}
+use Rattle.clerk_office.proofs.RecordsLemmas.{all_records-none, all_records-some, all_records-start}
 
 -- the bytes of a slice
 abbrev slice_bytes : Bor (List ℕ) → Option (List ℕ)

@@ -3,13 +3,12 @@ use Rattle.std.proofs.Common.{◌≡◌, ◌-◌, false, List, [], ◌∷◌, �
 use Rattle.std.specs.Option.{option_map_or}
 use Rattle.std.proofs.lemmas.List.Sums.{fold_push}
 use Rattle.court_days.specs.declared.direction.Direction.{Direction}
+use Rattle.court_days.specs.Words.{DaysView, ClockView}
 use Rattle.court_days.specs.declared.direction.Direction.TheVariants.{After}
-use Rattle.court_days.specs.Calendar.{Calendar}
-use Rattle.court_days.specs.Civil.{CourtClock}
 use Rattle.rule_periods.specs.declared.grant.Grant.{Grant}
 use Rattle.rule_periods.specs.declared.period.Period.{Period}
 use Rattle.rule_periods.specs.declared.period.Period.TheVariants as period
-use Rattle.rule_periods.specs.Deadline.{DeadlineView, ends_certain, is_certain, access_direction, extended_of, granted_if_it_fits, shown_after, shown_of, base_of, base_of_period, end_of_rule}
+use Rattle.rule_periods.specs.Deadline.{DeadlineRowView, ends_certain, is_certain, access_direction, extended_of, granted_if_it_fits, shown_after, shown_of, base_of, base_of_period, end_of_rule}
 use Rattle.rule_periods.specs.Extension.{with_grant}
 use Rattle.rule_periods.specs.Period.{act_of, direction_of, is_hours}
 
@@ -27,13 +26,13 @@ access_direction-push direction [] grant = refl
 access_direction-push direction (g ∷ grants) grant = refl
 
 -- the end before any extension doesn't rest on them
-base_of-grants : (c : Calendar) (clock : CourtClock) (row : DeadlineView) (grant : Grant) (period : Period) → base_of_period c clock (with_grant row grant) period ≡ base_of_period c clock row period
+base_of-grants : (c : DaysView) (clock : ClockView) (row : DeadlineRowView) (grant : Grant) (period : Period) → base_of_period c clock (with_grant row grant) period ≡ base_of_period c clock row period
 unfolding base_of_period end_of_rule
 base_of-grants c clock row grant (period.Rule rule) = refl
 base_of-grants c clock row grant (period.Entered entered) = refl
 
 -- the end with one more extension
-extended_of-push : (c : Calendar) (clock : CourtClock) (row : DeadlineView) (grant : Grant) → extended_of c clock (with_grant row grant) ≡ granted_if_it_fits c clock (is_hours row.period) (extended_of c clock row) grant
+extended_of-push : (c : DaysView) (clock : ClockView) (row : DeadlineRowView) (grant : Grant) → extended_of c clock (with_grant row grant) ≡ granted_if_it_fits c clock (is_hours row.period) (extended_of c clock row) grant
 unfolding extended_of
 extended_of-push c clock row grant =
     let more = granted_if_it_fits c clock (is_hours row.period) in
@@ -41,7 +40,7 @@ extended_of-push c clock row grant =
     ∙ fold_push more (base_of c clock row) row.grants grant
 
 -- what is shown with one more extension is what is shown after it
-pub shown_of-push : (c : Calendar) (clock : CourtClock) (row : DeadlineView) (grant : Grant) → shown_of c clock (with_grant row grant) ≡ shown_after c clock (act_of row.period) (is_certain grant) After (granted_if_it_fits c clock (is_hours row.period) (extended_of c clock row) grant)
+pub shown_of-push : (c : DaysView) (clock : ClockView) (row : DeadlineRowView) (grant : Grant) → shown_of c clock (with_grant row grant) ≡ shown_after c clock (act_of row.period) (is_certain grant) After (granted_if_it_fits c clock (is_hours row.period) (extended_of c clock row) grant)
 unfolding shown_of
 shown_of-push c clock row grant =
     let certain : ends_certain (row.grants ++ grant ∷ []) ≡ is_certain grant = ap (λ g. option_map_or is_certain g false) (last-push row.grants grant) in

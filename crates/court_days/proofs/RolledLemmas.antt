@@ -4,8 +4,8 @@ use Rattle.std.proofs.lemmas.Int.{ints}
 use Rattle.std.proofs.lemmas.Bool.{cases_Bool, false_from_ne_true}
 use Rattle.court_days.specs.declared.direction.Direction.{Direction}
 use Rattle.court_days.specs.declared.direction.Direction.TheVariants.{After, Before}
-use Rattle.court_days.specs.Calendar.{Calendar, is_covered, is_permitted}
-use Rattle.court_days.proofs.SearchLaws.{covered_after_from, covered_before_to, covered_from_bounds}
+use Rattle.court_days.specs.Days.{DaysView, is_covered, is_permitted}
+use Rattle.court_days.proofs.SearchLemmas.{covered_after_from, covered_before_to, covered_from_bounds}
 use Rattle.court_days.specs.Search.{first_passing, last_passing, days_through, later_day, earlier_day, earliest_day, latest_day, IsEarliestDay, IsLatestDay, EarliestIsLeast, LatestIsGreatest}
 use Rattle.court_days.specs.Rolled.{rolled, IsRolled, RolledIsNearest}
 
@@ -156,7 +156,7 @@ earlier_day-second : (a b e : ℤ) → e ≤ℤ earlier_day a b → e ≤ℤ b
 earlier_day-second a b e h = grind (arith, ints)
 
 -- what the search forward finds is the least covered day that passes
-pub earliest_day-is : (c : Calendar) (test : ℤ → Bool) (d r : ℤ) → earliest_day c test d ≡ Some r → IsEarliestDay c test d r
+pub earliest_day-is : (c : DaysView) (test : ℤ → Bool) (d r : ℤ) → earliest_day c test d ≡ Some r → IsEarliestDay c test d r
 unfolding earliest_day
 earliest_day-is c test d r h =
     let found = first_passing-is test (days_through (later_day d c.from) c.to) (later_day d c.from) r h in
@@ -171,7 +171,7 @@ earliest_day-is c test d r h =
       ];
     }
 
-pub earliest_day-finds : (c : Calendar) (test : ℤ → Bool) (d r : ℤ) → IsEarliestDay c test d r → earliest_day c test d ≡ Some r
+pub earliest_day-finds : (c : DaysView) (test : ℤ → Bool) (d r : ℤ) → IsEarliestDay c test d r → earliest_day c test d ≡ Some r
 unfolding earliest_day
 earliest_day-finds c test d r h =
     let low = later_day-least d c.from r h.at_or_after (covered_after_from c r h.covered) in
@@ -187,7 +187,7 @@ earliest_day-finds c test d r h =
     }
 
 -- what the search backward finds is the greatest covered day that passes
-pub latest_day-is : (c : Calendar) (test : ℤ → Bool) (d r : ℤ) → latest_day c test d ≡ Some r → IsLatestDay c test d r
+pub latest_day-is : (c : DaysView) (test : ℤ → Bool) (d r : ℤ) → latest_day c test d ≡ Some r → IsLatestDay c test d r
 unfolding latest_day
 latest_day-is c test d r h =
     let found = last_passing-is test (days_through c.from (earlier_day d c.to)) (earlier_day d c.to) r h in
@@ -202,7 +202,7 @@ latest_day-is c test d r h =
       ];
     }
 
-pub latest_day-finds : (c : Calendar) (test : ℤ → Bool) (d r : ℤ) → IsLatestDay c test d r → latest_day c test d ≡ Some r
+pub latest_day-finds : (c : DaysView) (test : ℤ → Bool) (d r : ℤ) → IsLatestDay c test d r → latest_day c test d ≡ Some r
 unfolding latest_day
 latest_day-finds c test d r h =
     let high = earlier_day-greatest d c.to r h.at_or_before (covered_before_to c r h.covered) in
@@ -218,17 +218,17 @@ latest_day-finds c test d r h =
     }
 
 -- a permitted day is covered
-pub permitted_is_covered : (c : Calendar) (direction : Direction) (d : ℤ) → is_permitted c direction d ≡ true → is_covered c d ≡ true
+pub permitted_is_covered : (c : DaysView) (direction : Direction) (d : ℤ) → is_permitted c direction d ≡ true → is_covered c d ≡ true
 unfolding is_permitted
 permitted_is_covered c direction d h = elim (cases_Bool (is_covered c d)) [ inl is ↦ is | inr is_not ↦ (let clash : false ≡ true = rw is_not at h in absurd (cc)) ]
 
 -- there is no rolled day where the day isn't covered
-rolled-covered : (c : Calendar) (d r : ℤ) (direction : Direction) → rolled c d direction ≡ Some r → is_covered c d ≡ true
+rolled-covered : (c : DaysView) (d r : ℤ) (direction : Direction) → rolled c d direction ≡ Some r → is_covered c d ≡ true
 unfolding rolled
 rolled-covered c d r After h = elim (cases_Bool (is_covered c d)) [ inl is ↦ is | inr is_not ↦ (let clash : None ≡ Some r = rw is_not at h in absurd (cc)) ]
 rolled-covered c d r Before h = elim (cases_Bool (is_covered c d)) [ inl is ↦ is | inr is_not ↦ (let clash : None ≡ Some r = rw is_not at h in absurd (cc)) ]
 
-rolled_is : (c : Calendar) (d r : ℤ) (direction : Direction) → rolled c d direction ≡ Some r → IsRolled c d direction r
+rolled_is : (c : DaysView) (d r : ℤ) (direction : Direction) → rolled c d direction ≡ Some r → IsRolled c d direction r
 unfolding rolled
 rolled_is c d r After h =
     let covered = rolled-covered c d r After h in
@@ -249,7 +249,7 @@ rolled_is c d r Before h =
       nearest = λ e permitted beyond. found.greatest e (permitted_is_covered c Before e permitted) permitted beyond;
     }
 
-is_rolled : (c : Calendar) (d r : ℤ) (direction : Direction) → IsRolled c d direction r → rolled c d direction ≡ Some r
+is_rolled : (c : DaysView) (d r : ℤ) (direction : Direction) → IsRolled c d direction r → rolled c d direction ≡ Some r
 unfolding rolled
 is_rolled c d r After h = rw h.covered (earliest_day-finds c (is_permitted c After) d r record {
   covered = permitted_is_covered c After r h.permitted;

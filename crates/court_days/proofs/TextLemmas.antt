@@ -16,8 +16,8 @@ use Rattle.jiff_fmt.proofs.RoundTrip.{parse_date-date_text}
 use Rattle.court_days.specs.Number.{IsDayNumber}
 use Rattle.court_days.specs.Search.{days_through}
 use Rattle.court_days.specs.Date.{CivilDate, date_of, date_text, day_text, day_of_text, is_written_day, TextsAreDays}
-use Rattle.court_days.proofs.DateLaws.{days_from_civil-parts, days_have_dates}
-use Rattle.court_days.proofs.RolledLaws.{first_passing-is, first_passing-finds, days_through-within, within-days_through}
+use Rattle.court_days.proofs.DateLemmas.{days_from_civil-parts, days_have_dates}
+use Rattle.court_days.proofs.RolledLemmas.{first_passing-is, first_passing-finds, days_through-within, within-days_through}
 
 years_to_1900 : days_of_years 11900 ≡ 4_346_386
 unfolding days_of_years
