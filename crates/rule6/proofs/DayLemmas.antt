@@ -5,7 +5,7 @@ use Rattle.std.specs.Option.{option_and_then}
 use Rattle.court_days.specs.declared.direction.Direction.{Direction}
 use Rattle.court_days.specs.declared.direction.Direction.TheVariants.{After, Before}
 use Rattle.court_days.specs.Words.{DaysView, RolledIsNearest, counted_from, rolled}
-use Rattle.rule6.specs.Days.{IsExpiry, IsNthDay, IsLastDay, LastDayIsCounted, expiry_of, last_day_of}
+use Rattle.rule6.specs.Days.{IsExpiry, IsNthDay, LastDayIsCounted, expiry_of, last_day_of}
 
 -- a search that goes on from what another found
 pub found_twice : {A B : Type 0} (f : A → Option B) (o : Option A) (b : B) → option_and_then f o ≡ Some b → (a : A) × ((o ≡ Some a) × (f a ≡ Some b))
@@ -40,10 +40,11 @@ unfolding last_day_of
 last_day_law law c event n direction false last = (expiry_is law c event n direction last, is_expiry law c event n direction last)
 last_day_law law c event n direction true last = (
   λ h. let both = found_twice (λ e. expiry_of c e 3 After) (expiry_of c event n direction) last h in
-    record {
-      expiry = both.0;
-      otherwise = expiry_is law c event n direction both.0 both.1.0;
-      three_more = expiry_is law c both.0 3 After last both.1.1;
-    },
+      record {
+        expiry = both.0;
+        otherwise = expiry_is law c event n direction both.0 both.1.0;
+        three_more = expiry_is law c both.0 3 After last both.1.1;
+      },
   λ h. ap (option_and_then (λ e. expiry_of c e 3 After)) (is_expiry law c event n direction h.expiry h.otherwise)
-    ∙ is_expiry law c h.expiry 3 After last h.three_more)
+      ∙ is_expiry law c h.expiry 3 After last h.three_more,
+)

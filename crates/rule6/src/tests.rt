@@ -2,8 +2,9 @@
 //! of 2009 to Rule 6(a), and, for the hours, from the offsets of the C library for the same rule texts.
 
 use crate::{
-    Act, Filing, Means, ServiceKind, Shown, adds_three, end_of_hours, extended_for_access,
-    extended_for_access_hours, is_timely, last_day, last_hour_is_by_seconds,
+    Act, Filing, Means, ServiceKind, Shown, adds_three, end_of_hours, end_of_hours_is_counted,
+    extended_for_access, extended_for_access_hours, is_timely, last_day, last_day_is_counted,
+    last_hour_is_by_seconds,
 };
 use court_days::{Clock, Court, Day, Direction, HolidayList, Instant, Outage};
 use std::alloc::Global;
