@@ -4,16 +4,20 @@ ghost use Rattle.std.specs.Prelude.{◌≡◌, ◌≤ℤ◌, ◌<ℤ◌, ◌+ℤ
 ghost use Rattle.std.specs.Ordering.{int_eq};
 ghost use Rattle.std.specs.List.{IsDistinct};
 ghost use Rattle.court_days.specs.Days.{DaysView, IsSpan, is_covered, is_holiday, is_permitted, is_open, is_among, has_outage, dates_of, add_holiday, add_outage};
-ghost use Rattle.court_days.specs.Search.{earliest_day, latest_day};
-ghost use Rattle.court_days.specs.Rolled.{rolled, next_accessible};
+ghost use Rattle.court_days.specs.Days.Search.{earliest_day, latest_day};
+ghost use Rattle.court_days.specs.Days.Rolled.{rolled, next_accessible};
 
-use crate::dates::Dates;
 use crate::day::Day;
+use crate::days::dates::Dates;
 use crate::direction::Direction;
 use crate::holiday_list::HolidayList;
-use crate::outage::Outage;
 use std::alloc::{AllocError, Global};
 use std::marker::Model;
+
+pub(crate) mod dates;
+mod outage;
+
+pub use outage::Outage;
 
 /// The days of a court: the span that its file covers, its two holiday lists, and the outages entered so far.
 #[derive(Debug, Drop)]
@@ -141,7 +145,7 @@ impl Days {
     }
 
     /// The least open day at or after the covered day `start`.
-    #[tactic(auto, using(crate::proofs::SearchLemmas::earliest_skips, crate::proofs::SearchLemmas::earliest_finds, crate::proofs::SearchLemmas::earliest_stops))]
+    #[tactic(auto, using(crate::proofs::DaysLemmas::SearchLemmas::earliest_skips, crate::proofs::DaysLemmas::SearchLemmas::earliest_finds, crate::proofs::DaysLemmas::SearchLemmas::earliest_stops))]
     fn earliest(&self, start: Day, direction: Direction, accessible: bool) -> Option<Day>
         requires { is_covered self.now start ≡ true }
         ensures { result ≡ earliest_day self.now (is_open self.now direction accessible) start }
@@ -154,7 +158,7 @@ impl Days {
     }
 
     /// The greatest permitted day at or before the covered day `start`.
-    #[tactic(auto, using(crate::proofs::SearchLemmas::latest_skips, crate::proofs::SearchLemmas::latest_finds, crate::proofs::SearchLemmas::latest_stops))]
+    #[tactic(auto, using(crate::proofs::DaysLemmas::SearchLemmas::latest_skips, crate::proofs::DaysLemmas::SearchLemmas::latest_finds, crate::proofs::DaysLemmas::SearchLemmas::latest_stops))]
     fn latest(&self, start: Day, direction: Direction) -> Option<Day>
         requires { is_covered self.now start ≡ true }
         ensures { result ≡ latest_day self.now (is_permitted self.now direction) start }
@@ -169,7 +173,7 @@ impl Days {
     /// The nearest permitted day: the least at or after `day`, or, for a period measured before an event, the
     /// greatest at or before it (Fed. R. Civ. P. 6(a)(1)(C), (5)). None where `day` isn't covered or no covered
     /// day qualifies.
-    #[tactic(auto, unfolding(crate::specs::Rolled::rolled))]
+    #[tactic(auto, unfolding(crate::specs::Days::Rolled::rolled))]
     pub fn roll(&self, day: Day, direction: Direction) -> Option<Day>
         ensures value { result ≡ rolled self.now day direction }
         ensures span { IsSpan self.now.from self.now.to }
@@ -185,7 +189,7 @@ impl Days {
 
     /// The least covered day later than `day` that is permitted in that direction and has no outage
     /// (Fed. R. Civ. P. 6(a)(3)), which looks forward for either direction. None where there is no such day.
-    #[tactic(auto, unfolding(crate::specs::Rolled::next_accessible), using(crate::proofs::SearchLemmas::earliest_ends, crate::proofs::SearchLemmas::earliest_starts))]
+    #[tactic(auto, unfolding(crate::specs::Days::Rolled::next_accessible), using(crate::proofs::DaysLemmas::SearchLemmas::earliest_ends, crate::proofs::DaysLemmas::SearchLemmas::earliest_starts))]
     pub fn first_accessible(&self, day: Day, direction: Direction) -> Option<Day>
         ensures { result ≡ next_accessible self.now direction day }
     {

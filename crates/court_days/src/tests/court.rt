@@ -79,11 +79,11 @@ fn has_its_names(rt: &impl Abort, court: &Court) {
     assert_eq!(rt; court.judge("R1"), None);
     assert_eq!(rt; court.judge_name(0), Some("Ames"));
     assert_eq!(rt; court.judge_name(2), None);
-    assert_eq!(rt; court.rooms(), 3);
-    assert_eq!(rt; court.room("R3"), Some(2));
+    assert_eq!(rt; court.rooms(), 2);
+    assert_eq!(rt; court.room("R2"), Some(1));
     assert_eq!(rt; court.room("Ames"), None);
     assert_eq!(rt; court.room_name(1), Some("R2"));
-    assert_eq!(rt; court.room_name(3), None);
+    assert_eq!(rt; court.room_name(2), None);
 }
 
 fn has_its_hours_and_days(rt: &impl Abort, court: &Court) {

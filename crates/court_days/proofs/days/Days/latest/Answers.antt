@@ -1,7 +1,7 @@
 use Rattle.std.proofs.Common.{◌∙◌, ◌≤ℤ◌, arith}
 use Rattle.std.proofs.lemmas.Int.{ints}
 use Rattle.court_days.specs.Days.{is_permitted}
-use Rattle.court_days.proofs.SearchLemmas.{covered_before_to, covered_from_bounds, latest_skips}
+use Rattle.court_days.proofs.DaysLemmas.SearchLemmas.{covered_before_to, covered_from_bounds, latest_skips}
 use Rattle.court_days.proofs.days.Days.latest.Goals as goal
 
 pub days-preserved : goal.days-preserved
