@@ -2,3 +2,6 @@
 pub mod SearchLemmas
 pub mod RolledLemmas
 pub mod DatesLemmas
+pub mod TableLemmas
+pub mod MendLemmas
+pub mod EntryLemmas

@@ -1,6 +1,8 @@
 -- The days of one court: the span that its file covers, its holidays, and when the clerk's office was inaccessible.
 pub mod Search
 pub mod Rolled
+pub mod Table
+pub mod Marks
 use Rattle.std.specs.Prelude.{ℕ, ℤ, ◌≤ℤ◌, ◌&&◌, ◌||◌, not, int_le, Bool, true, false, List, [], ◌∷◌, ◌++◌, if◌then◌else◌}
 use Rattle.std.specs.Ordering.{int_eq}
 use Rattle.std.specs.List.{list_any}

@@ -15,6 +15,7 @@ use crate::court::names::Names;
 use crate::court::reading::{date_at, dates_at, minute_at, names_at, text_at};
 use crate::day::Day;
 use crate::days::Days;
+use crate::days::holidays::Holidays;
 use crate::fault::CourtFault;
 use crate::key::Key;
 use jiff::tz::TimeZone;
@@ -186,7 +187,8 @@ fn days_at(alloc: Global, file: &Table) -> Result<Days, CourtFault>
     }
     let federal = dates_at(alloc, file, Key::Federal, from, to)?;
     let state = dates_at(alloc, file, Key::State, from, to)?;
-    Ok(Days::new(alloc, from, to, federal, state))
+    let holidays = Holidays::new(alloc, from, to, federal, state)?;
+    Ok(Days::new(alloc, holidays)?)
 }
 
 /// Whether a calendar may cover the days from the one to the other.

@@ -1,5 +1,5 @@
 -- How the search for the least or the greatest covered day goes on from one day to the next.
-use Rattle.std.proofs.Common.{◌≡◌, ℕ, suc, ℤ, pos, ◌+ℤ◌, ◌-ℤ◌, ◌≤ℤ◌, ◌<ℤ◌, Bool, true, false, Some, None, refl, sym, ◌∙◌, arith}
+use Rattle.std.proofs.Common.{◌≡◌, ◌<◌, ℕ, suc, ℤ, pos, ◌+ℤ◌, ◌-ℤ◌, ◌≤ℤ◌, ◌<ℤ◌, Bool, true, false, Some, None, refl, sym, ◌∙◌, arith}
 use Rattle.std.proofs.lemmas.Int.{ints}
 use Rattle.court_days.specs.Days.{DaysView, is_covered}
 use Rattle.court_days.specs.Days.Search.{first_passing, last_passing, days_through, later_day, earlier_day, earliest_day, latest_day}
@@ -96,6 +96,19 @@ latest_stops c test d covered fails first =
 -- a day of the span is covered
 pub covered_from_bounds : (c : DaysView) (d : ℤ) → c.from ≤ℤ d → d ≤ℤ c.to → is_covered c d ≡ true
 covered_from_bounds c d low high = grind (arith, ints)
+
+-- the first and the last day of a span, and how many days it has
+pub days_through-counts : (a b : ℤ) → a ≤ℤ b → pos (days_through a b) ≡ b -ℤ a +ℤ pos 1
+days_through-counts a b h = grind (arith, ints)
+
+pub place_from_last : (a b : ℤ) (k : ℕ) → k < days_through a b → a ≤ℤ (b -ℤ pos k)
+place_from_last a b k h = grind (arith, ints)
+
+pub place_from_first : (a b : ℤ) (k : ℕ) → k < days_through a b → (a +ℤ pos k) ≤ℤ b
+place_from_first a b k h = grind (arith, ints)
+
+pub distance_within : (a b : ℤ) (k : ℕ) → a ≤ℤ b → pos k ≤ℤ (b -ℤ a) → k < days_through a b
+distance_within a b k h near = grind (arith, ints)
 
 -- before the span the search begins with its first day
 pub earliest_starts : (c : DaysView) (test : ℤ → Bool) (d : ℤ) → d ≤ℤ c.from → earliest_day c test d ≡ earliest_day c test c.from

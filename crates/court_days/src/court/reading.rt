@@ -145,7 +145,7 @@ fn dates_of(
 ) -> Result<Dates, CourtFault>
     ensures { Gives (λ d. d) result (each_item (and_date key from to) [] (items_view values.now)) }
 {
-    let mut dates = Dates::empty(alloc);
+    let mut dates = Dates::empty(alloc, from, to)?;
     for value in values {
         add_date(alloc, &mut dates, value, key, from, to)?;
     }

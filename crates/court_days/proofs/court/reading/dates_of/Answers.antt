@@ -5,7 +5,7 @@ use Rattle.court_days.proofs.court.reading.dates_of.Goals as goal
 
 pub returns-in_err-add_date : goal.returns-in_err-add_date
 returns-in_err-add_date c =
-    let p = err_from_is_err_and c.from_residual.result c.from_residual.ensures.1 in
+    let p = err_from_is_err_and c.from_residual-in_err-add_date.result c.from_residual-in_err-add_date.ensures.1 in
     rw (p.1, p.2) (fails c.in_err-add_date.field-0.0 (and_date c.args.key c.args.from c.args.to) c.loop-value.dates c.args.values.now c.loop-value.value-index c.value-item.result _ c.loop-value-test.true c.value-item.is c.in_err-add_date.ensures c.loop-value.invariant)
 
 pub loop-value-preserved : goal.loop-value-preserved
