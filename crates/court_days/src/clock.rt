@@ -3,13 +3,19 @@
 ghost use Rattle.std.specs.Prelude.{◌≡◌, ◌↔◌, ◌<◌, ◌<ℤ◌, ◌≤ℤ◌, ◌-ℤ◌, ℤ, pos, true, option_map, None, IsNone, IfSome};
 ghost use Rattle.std.specs.Int.{int_div_euclid};
 ghost use Rattle.jiff.specs.Words.{plain_zone, IsOffsetSeconds, IsWithin, nanos_of_seconds, next_at};
-ghost use Rattle.court_days.specs.Civil.{ClockView, CivilTime, is_ruled, offset_seconds, shown_second, second_of, civil_of, larger_offset, smaller_offset, standard_offset, daylight_offset, instant_of};
+ghost use Rattle.court_days.specs.Clock.{ClockView, CivilTime, is_ruled, offset_seconds, shown_second, second_of, civil_of, larger_offset, smaller_offset, standard_offset, daylight_offset, instant_of};
 
 use crate::day::Day;
-use crate::instant::Instant;
 use jiff::Timestamp;
 use jiff::tz::TimeZone;
 use std::marker::Model;
+
+mod instant;
+pub(crate) mod minute;
+pub(crate) mod zone;
+
+pub use instant::Instant;
+pub use minute::minute_from_text;
 
 /// The seconds of a day.
 const DAY: i64 = 86_400;
@@ -75,7 +81,7 @@ impl Clock {
 
     /// The day and the second of the day, counted from midnight, that the clock shows at the instant. None exactly
     /// where that day is no `Day`.
-    #[tactic(auto, unfolding(crate::specs::Civil::civil_of, crate::specs::Civil::civil_time))]
+    #[tactic(auto, unfolding(crate::specs::Clock::civil_of, crate::specs::Clock::civil_time))]
     pub fn civil_of(&self, instant: Instant) -> Option<(Day, u32)>
         ensures value { option_map (λ c. record { day = c.0; second = c.1 }) result ≡ civil_of self.now.zone instant }
         ensures second { IfSome result (λ c. c.1 < 86_400) }
@@ -94,11 +100,11 @@ impl Clock {
     {
         let civil = second_of(day, second);
         let (smaller, larger) = self.offsets();
-        let earlier = instant(civil, larger);
+        let earlier = instant_by(civil, larger);
         if self.shown_at(earlier) == civil {
             return earlier;
         }
-        instant(civil, smaller)
+        instant_by(civil, smaller)
     }
 
     /// A later second up to which the clock's offset stays as it is at the instant: that of the zone's next
@@ -197,7 +203,7 @@ fn second_of(day: Day, second: u32) -> i64
 }
 
 /// The instant of a civil time by an offset.
-fn instant(civil: i64, offset: i32) -> Instant
+fn instant_by(civil: i64, offset: i32) -> Instant
     requires civil_in { IsWithin 9_504_086_400 civil }
     requires offset_in { IsOffsetSeconds offset }
     ensures { result ≡ civil -ℤ offset }

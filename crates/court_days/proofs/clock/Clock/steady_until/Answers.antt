@@ -1,8 +1,8 @@
 use Rattle.std.proofs.Common.{◌≡◌, ◌<ℤ◌, inl, inr, arith, ap, int_le}
 use Rattle.std.proofs.lemmas.Int.{ints, clamps}
 use Rattle.std.proofs.lemmas.Bool.{cases_Bool}
-use Rattle.court_days.specs.Civil.{offset_seconds}
-use Rattle.court_days.proofs.SteadyLemmas.{steady}
+use Rattle.court_days.specs.Clock.{offset_seconds}
+use Rattle.court_days.proofs.ClockLemmas.SteadyLemmas.{steady}
 use Rattle.court_days.proofs.clock.Clock.steady_until.Goals as goal
 
 pub returns-in-Some-clause-steady : goal.returns-in-Some-clause-steady

@@ -1,0 +1,4 @@
+-- The court's clock.
+pub mod CivilLemmas
+pub mod SteadyLemmas
+pub mod ZoneLemmas

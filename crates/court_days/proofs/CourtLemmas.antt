@@ -1,0 +1,3 @@
+-- A court's file.
+pub mod ReadingLemmas
+pub mod NamesLemmas
