@@ -10,7 +10,8 @@ Holidays of the United States are those that Fed. R. Civ. P. 6(a)(6)(A) names, o
 Executive Order 11582 say. Holidays of a state are those that its statute names and the United States do not have,
 observed by that statute's own rule; a day of the first list isn't listed again. The statutes' texts weren't at hand when these
 rules were written: they were compared with two libraries (courts_compare.py). So each court has to check its file.
-It needs Python 3.8 or later.
+The rules are those of 2016 and later, for New York and the United States of 2007 and later. It needs Python 3.8 or
+later.
 """
 import pathlib
 import sys
