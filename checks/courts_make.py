@@ -198,8 +198,8 @@ and Christmas, also 19 June 2020; none is listed. Nor is Inauguration Day.""",
         "Northern District of Illinois", CENTRAL, clock_with_daylight("Chicago", "six", "five"),
         """Holidays of the State of Illinois that aren't in the list above, Promissory Note and Bank Holiday Act, 205
 ILCS 630/17, to which 5 ILCS 70/1.11 leads for the computing of time. One on a Sunday is kept on the Monday, and
-one on a Saturday on no other day. Election days are those on which members of the state's House of
-Representatives are elected, in even years.
+one on a Saturday on no other day. Election days are those of general elections for members of the House of
+Representatives, in even years.
 For the court to say: whether a holiday of that Act, such as Good Friday, is one that the state declares in the sense
 of Rule 6(a)(6)(C); and whether Lincoln's Birthday on a Saturday is kept on the Friday, as other lists have it.""",
         [
@@ -249,9 +249,9 @@ subsection on observances, aren't listed.""",
         [Holiday("Native American Heritage Day", after(1, THANKSGIVING))]),
     "alaska": District(
         "District of Alaska", ALASKAN, clock_with_daylight("Anchorage", "nine", "eight"),
-        """Holidays of the State of Alaska that aren't in the list above, Alaska Statutes section 44.12.010: Seward's Day,
-the last Monday of March, and Alaska Day, 18 October. One on a Saturday is kept on the Friday too, and one on a
-Sunday on the Monday too.
+        """Holidays of the State of Alaska that aren't in the list above, Alaska Statutes section 44.12.010 and those after it:
+Seward's Day, the last Monday of March, and Alaska Day, 18 October. One on a Saturday is kept on the Friday too, and
+one on a Sunday on the Monday too.
 For the court to say: days that the Governor or the President proclaims aren't listed.""",
         [
             Holiday("Seward's Day", last(MONDAY, 3)),
@@ -277,8 +277,8 @@ Governor proclaims aren't listed.""",
         """Holidays of the District of Columbia that aren't in the list above, D.C. Code section 28-2701. For Rule
 6(a)(6)(C) the District is a state, Rule 81(d)(2). Emancipation Day on a Saturday is kept on the Friday, and on a
 Sunday on the Monday. Inauguration Day, 20 January in each fourth year, is listed on that day.
-For the court to say: whether Inauguration Day on Saturday, 20 January 2029, is kept on the Friday before; and 19 June
-2020, which the Mayor gave by order. Neither is listed.""",
+For the court to say: whether Inauguration Day on Saturday, 20 January 2029, is kept on the Friday before, and whether
+19 June 2020 was a holiday of the District. Neither day is listed.""",
         [
             Holiday("Inauguration Day", fixed(1, 20), every=4, offset=1),
             Holiday("Emancipation Day", fixed(4, 16), friday_or_monday),
