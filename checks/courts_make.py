@@ -292,7 +292,7 @@ For the court to say: days that the President or Congress declares holidays, Rul
 an order that closes the executive departments, as on some 24 and 26 December and on days of mourning, declares one
 is for the court to say; a court that holds so adds the day here."""
 
-STATE_NOTE = "They count only in periods measured after an event, Rule 6(a)(6)(C)."
+STATE_NOTE = "Holidays of the state count only in periods measured after an event, Rule 6(a)(6)(C)."
 
 
 def comment(text):
