@@ -6,7 +6,7 @@ use Rattle.std.proofs.lemmas.Bool.{cases_Bool}
 use Rattle.std.proofs.lemmas.Bool.Decides.{nat_tests, Decides-eqb}
 use Rattle.std.proofs.lemmas.Slice.Eq.{ends_is}
 use Rattle.std.proofs.lemmas.Str.Pattern.{IsSplitOnceResult, split_once_first}
-use Rattle.clerk_office.specs.Periods.{cut_at_slash}
+use Rattle.clerk_office.specs.Period.{cut_at_slash}
 
 cut_parts : (text : List ℕ) (cut : Option (Bor (List ℕ) × Bor (List ℕ)))
     → MatchOption cut (position_or_len (λ b. eqb b 47) text ≡ length text) (λ x. (position_or_len (λ b. eqb b 47) text < length text) × (x.0.now ≡ before_first (λ b. eqb b 47) text) × (x.1.now ≡ after_first (λ b. eqb b 47) text))

@@ -2,8 +2,8 @@
 
 ghost use Rattle.std.specs.Prelude.{◌≡◌, ◌++◌, IfOk, codes, string_bytes};
 ghost use Rattle.std.specs.Fmt.{decimal};
-ghost use Rattle.clerk_office.specs.Causes.{cause_text};
-ghost use Rattle.clerk_office.specs.Faults.{court_fault_text, fault_text, status_number};
+ghost use Rattle.clerk_office.specs.RowFault.{cause_text};
+ghost use Rattle.clerk_office.specs.FaultLine.{court_fault_text, fault_text, status_number};
 
 use crate::fault::OfficeFault;
 use crate::row_fault::RowCause;

@@ -2,7 +2,7 @@
 
 ghost use Rattle.std.specs.Prelude.{◌≡◌, ◌⊎◌, true, false, IfOk, IfErr, IfSome, OnOk};
 ghost use Rattle.std.specs.Io.KnownBytes.{Consumes, IsAtEnd};
-ghost use Rattle.clerk_office.specs.Watching.{watched, has_failed, has_ended};
+ghost use Rattle.clerk_office.specs.Watched.{watched, has_failed, has_ended};
 ghost use Rattle.clerk_office.specs.Limits.{IsWithinLimits, WasCutShort};
 
 use crate::fault::OfficeFault;

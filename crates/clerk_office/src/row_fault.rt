@@ -28,7 +28,7 @@ pub enum RowCause {
 /// Writes the number and the name, and behind `BadField` its column.
 impl fmt::Display for RowCause {
     ghost use Rattle.std.specs.Prelude.{Some};
-    ghost use Rattle.clerk_office.specs.Causes.{cause_text};
+    ghost use Rattle.clerk_office.specs.RowFault.{cause_text};
 
     ghost output = { λ cause. Some (cause_text cause) };
 

@@ -3,7 +3,7 @@
 ghost use Rattle.std.specs.Prelude.{◌≡◌, ◌++◌, ◌<◌, ◌/◌, ◌%◌, IfOk, OnOk, None, string_bytes};
 ghost use Rattle.jiff_fmt.specs.Text.{time_text as jiff_time_text};
 ghost use Rattle.court_days.specs.Words.{civil_of};
-ghost use Rattle.clerk_office.specs.Answers.{answer_text, end_text, line_of, lines_from, refusal_text, shown_text, time_text};
+ghost use Rattle.clerk_office.specs.Text.{answer_text, end_text, line_of, lines_from, refusal_text, shown_text, time_text};
 
 use crate::answer::{Answer, answer_of};
 use crate::row::Row;
@@ -28,7 +28,7 @@ pub fn run_text(alloc: Global, court: &Court, rows: &[Row]) -> Result<String, Al
 }
 
 // Adds the line of the row with this number.
-#[tactic(auto, unfolding(crate::specs::Answers::line_of))]
+#[tactic(auto, unfolding(crate::specs::Text::line_of))]
 fn push_line(
     text: &mut String,
     alloc: Global,

@@ -104,23 +104,23 @@ fn numbers_rows_and_takes_csv_as_it_comes(rt: HostRuntime) -> Result<(), Fail> {
 }
 
 #[test]
-fn ends_the_courts_file_at_the_first_mark(rt: HostRuntime) -> Result<(), Fail> {
+fn ends_the_courts_file_at_the_first_divider(rt: HostRuntime) -> Result<(), Fail> {
     let alloc = rt.alloc();
     let cases = [
         ("%%\n", FIRST_ROW, FIRST_LINE),
         ("%%\r\n", FIRST_ROW, FIRST_LINE),
         ("# 100%%\n%%\n", FIRST_ROW, FIRST_LINE),
         ("%%", "", ""),
-        ("# no mark", "", ""),
+        ("# no divider", "", ""),
         ("%%\n%%\n", "", "3 row 1 fault 3 WrongCount"),
         ("%%\r", "", "2 court fault 1 NotToml"),
         ("%% \n", "", "2 court fault 1 NotToml"),
     ];
-    for (mark, rows, text) in cases {
+    for (divider, rows, text) in cases {
         let mut input = String::from_str(alloc, COURT)?;
-        input.push_str(mark)?;
+        input.push_str(divider)?;
         input.push_str(rows)?;
-        assert_eq!(rt; told(alloc, input.as_bytes())?.as_str(), text, "{mark:?}");
+        assert_eq!(rt; told(alloc, input.as_bytes())?.as_str(), text, "{divider:?}");
     }
     Ok(())
 }
