@@ -10,6 +10,7 @@ pub mod FirstFault
 pub mod Answer
 pub mod Text
 pub mod RowFault
-pub mod FaultLine
+pub mod Fault
 pub mod Office
+pub mod Program
 pub mod UniqueText

@@ -1,4 +1,5 @@
-use super::{COURT, FIRST_LINE, FIRST_ROW, input_of, told};
+use super::{FIRST_LINE, FIRST_ROW, input_of, told};
+use sample_court::file;
 use std::test::Fail;
 
 #[test]
@@ -70,7 +71,7 @@ fn answers_compute_rows(rt: HostRuntime) -> Result<(), Fail> {
     ];
     for (row, answer) in cases {
         let rows = format!(in alloc; "1,compute,{row}\n")?;
-        let input = input_of(alloc, COURT, rows.as_str())?;
+        let input = input_of(alloc, file(), rows.as_str())?;
         let line = format!(in alloc; "1 1 {answer}\n")?;
         assert_eq!(rt;
             told(alloc, input.as_bytes())?.as_str(),
@@ -97,7 +98,7 @@ fn numbers_rows_and_takes_csv_as_it_comes(rt: HostRuntime) -> Result<(), Fail> {
         ),
     ];
     for (rows, text) in cases {
-        let input = input_of(alloc, COURT, rows)?;
+        let input = input_of(alloc, file(), rows)?;
         assert_eq!(rt; told(alloc, input.as_bytes())?.as_str(), text, "{rows:?}");
     }
     Ok(())
@@ -117,7 +118,7 @@ fn ends_the_courts_file_at_the_first_divider(rt: HostRuntime) -> Result<(), Fail
         ("%% \n", "", "2 court fault 1 NotToml"),
     ];
     for (divider, rows, text) in cases {
-        let mut input = String::from_str(alloc, COURT)?;
+        let mut input = String::from_str(alloc, file())?;
         input.push_str(divider)?;
         input.push_str(rows)?;
         assert_eq!(rt; told(alloc, input.as_bytes())?.as_str(), text, "{divider:?}");
