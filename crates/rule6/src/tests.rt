@@ -18,11 +18,11 @@ mod timeliness;
 /// Eastern time, by the rules of the years from 2007 on.
 const EASTERN: &str = "EST5EDT,M3.2.0/2,M11.1.0/2";
 
+/// The sample court in another zone.
 fn court(alloc: Global, zone: &str) -> Result<Court, Fail> {
-    let text = format!(in alloc;
-        "zone = \"{zone}\"\nopens = \"08:30\"\ncloses = \"17:00\"\nfrom = \"2007-01-01\"\nto = \"2026-12-31\"\nfederal = [\"2007-09-03\", \"2025-05-26\", \"2025-06-19\", \"2025-07-04\", \"2025-09-01\"]\nstate = [\"2025-03-28\"]\njudges = []\nrooms = []\n"
-    )?;
-    Ok(Court::from_bytes(alloc, text.as_bytes())?)
+    let line = format!(in alloc; "zone = \"{zone}\"")?;
+    let file = sample_court::file_with(alloc, "zone", &line)?;
+    Ok(Court::from_bytes(alloc, file.as_bytes())?)
 }
 
 fn day(rt: &impl Abort, text: &str) -> Day {
