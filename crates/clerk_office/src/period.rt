@@ -1,7 +1,8 @@
 //! Periods, as rows write them: the code of a period of the Rules, or `LENGTH/DIRECTION/ACT/FROM/MARK`.
 
-ghost use Rattle.std.specs.Prelude.{◌≡◌, ◌<◌, option_map};
-ghost use Rattle.clerk_office.specs.Period.{cut_at_slash, count_of, length_of, direction_of, act_of, is_served, mark_of, entered_of, period_of};
+ghost use Rattle.std.specs.Prelude.{◌≡◌, ◌<◌, ◌≤◌, length, option_map};
+ghost use Rattle.std.specs.List.{position_or_len};
+ghost use Rattle.clerk_office.specs.Period.{is_slash, cut_at_slash, count_of, length_of, direction_of, act_of, is_served, mark_of, entered_of, period_of};
 
 use crate::numbers::number_of;
 use court_days::Direction;
@@ -41,7 +42,24 @@ fn entered_of(text: &str) -> Option<Entered>
 fn cut_at_slash(text: &str) -> Option<(&str, &str)>
     ensures { option_map (λ cut. (cut.0.now, cut.1.now)) result ≡ cut_at_slash text.now }
 {
-    text.split_once('/')
+    let at = slash_in(text.as_bytes());
+    if at == text.len() {
+        return None;
+    }
+    Some((&text[..at], &text[at + 1..]))
+}
+
+// The place of the first slash, or the length where there is none.
+fn slash_in(text: &[u8]) -> usize
+    ensures first { result ≡ position_or_len is_slash text.now }
+    ensures bound { result ≤ length text.now }
+{
+    for at in 0..text.len() {
+        if text[at] == b'/' {
+            return at;
+        }
+    }
+    text.len()
 }
 
 // A number of days, with `d` behind it, or of hours, with `h`.
