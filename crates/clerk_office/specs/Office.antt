@@ -9,14 +9,14 @@ use Rattle.clerk_office.specs.declared.fault.OfficeFault.TheVariants.{Court, Row
 use Rattle.clerk_office.specs.declared.row.Row.{Row as RowOf}
 use Rattle.clerk_office.specs.declared.row_fault.RowCause.{RowCause}
 use Rattle.clerk_office.specs.declared.watched.Watched.{Watched}
-use Rattle.clerk_office.specs.Answers.{lines_from}
+use Rattle.clerk_office.specs.Text.{lines_from}
 use Rattle.clerk_office.specs.Division.{court_part, rows_part}
 use Rattle.clerk_office.specs.Limits.{AppendsFront, IsWithinLimits}
 use Rattle.clerk_office.specs.Rows.{rows_of}
-use Rattle.clerk_office.specs.Watching.{has_ended, has_failed}
+use Rattle.clerk_office.specs.Watched.{has_ended, has_failed}
 
 infixl 10 ◌>>=◌
-abbrev ◌>>=◌ : {A B : Type 0} → Result A OfficeFault → (A → Result B OfficeFault) → Result B OfficeFault
+abbrev pub ◌>>=◌ : {A B : Type 0} → Result A OfficeFault → (A → Result B OfficeFault) → Result B OfficeFault
 (Ok x) >>= more = more x
 (Err fault) >>= more = Err fault
 

@@ -6,7 +6,7 @@ use Rattle.court_days.specs.Words.{key_name}
 use Rattle.court_days.specs.declared.fault.CourtFault.TheVariants as court
 use Rattle.clerk_office.specs.declared.fault.OfficeFault.{OfficeFault}
 use Rattle.clerk_office.specs.declared.fault.OfficeFault.TheVariants.{Court, Row, ReadFault, WriteFault, OutOfMemory}
-use Rattle.clerk_office.specs.Causes.{cause_text}
+use Rattle.clerk_office.specs.RowFault.{cause_text}
 
 -- the number and the name of a court's fault, and the key or the text that it names
 abbrev pub court_fault_text : CourtFault → List ℕ

@@ -21,11 +21,14 @@ infixl 10 ◌>>=◌
 abbrev ◌>>=◌ : {A B : Type 0} → Option A → (A → Option B) → Option B
 found >>= more = option_and_then more found
 
+abbrev pub is_slash : ℕ → Bool
+is_slash b = b == 47
+
 -- the text before its first slash, and the text behind it
 unfoldable pub cut_at_slash : List ℕ → Option (List ℕ × List ℕ)
 cut_at_slash text =
-    if nat_lt (position_or_len (λ b. b == 47) text) (length text)
-    then Some (before_first (λ b. b == 47) text, after_first (λ b. b == 47) text)
+    if nat_lt (position_or_len is_slash text) (length text)
+    then Some (before_first is_slash text, after_first is_slash text)
     else None
 
 -- a number with this unit behind it
