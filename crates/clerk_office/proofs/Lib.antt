@@ -7,5 +7,4 @@ pub mod RowsLemmas
 pub mod DividerLemmas
 pub mod FaultLemmas
 pub mod ClockLemmas
-pub mod NamedZoneLemmas
 pub mod UniqueTextLemmas

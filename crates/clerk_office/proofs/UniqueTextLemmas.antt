@@ -20,7 +20,7 @@ use Rattle.clerk_office.specs.Rows.{rows_of}
 use Rattle.clerk_office.specs.Office.{◌>>=◌, Input, IsTextOf, by_office, input_of}
 use Rattle.clerk_office.specs.UniqueText.{TextsAreUnique}
 use Rattle.clerk_office.proofs.ClockLemmas.{civil_of_alike, deadline_alike}
-use Rattle.clerk_office.proofs.NamedZoneLemmas.{zone_is_named}
+use Rattle.court_days.proofs.CallerLemmas.{zone_is_named}
 
 computed_alike : (a b : CourtView) → a.days ≡ b.days → IsSameClock a.clock.zone b.clock.zone → (row : ComputeRow) → computed a row ≡ computed b row
 unfolding computed

@@ -5,6 +5,7 @@
 mod answer;
 mod division;
 mod fault;
+mod fault_line;
 mod input;
 mod laws;
 mod numbers;

@@ -9,6 +9,7 @@ ghost use Rattle.clerk_office.specs.Program.{IsEnding};
 ghost use Rattle.clerk_office.specs.Watched.{has_ended, has_failed, watched};
 
 use crate::fault::OfficeFault;
+use crate::fault_line::{fault_line, status_of};
 use crate::office::run_office;
 use crate::options::Options;
 use crate::watched::Watched;
@@ -83,19 +84,21 @@ pub fn run_program<R: Read, W: Write, E: Write>(
             let _ = errors.write_all(b"clerk_office takes no arguments: it reads standard input\n");
             return BAD_ARGUMENTS;
         }
-        Arguments::Unread => return ended_by(errors, &OfficeFault::OutOfMemory),
+        Arguments::Unread => return ended_by(alloc, errors, &OfficeFault::OutOfMemory),
     }
     let options = Options::new(CLERKS, JOURNAL).unwrap();
     match run_office(alloc, reader, writer, options) {
         Ok(()) => 0,
-        Err(fault) => ended_by(errors, &fault),
+        Err(fault) => ended_by(alloc, errors, &fault),
     }
 }
 
-// Tells of the fault, and gives its status.
-fn ended_by<E: Write>(errors: &mut E, fault: &OfficeFault) -> u8
+// Tells of the fault, where there is memory for its line, and gives its status.
+fn ended_by<E: Write>(alloc: Global, errors: &mut E, fault: &OfficeFault) -> u8
     ensures { result ≡ status_number fault.now }
 {
-    let _ = writeln!(errors, "{fault}");
-    fault.status()
+    if let Ok(line) = fault_line(alloc, fault) {
+        let _ = writeln!(errors, "{line}");
+    }
+    status_of(fault)
 }

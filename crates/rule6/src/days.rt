@@ -28,7 +28,7 @@ pub fn last_day(days: &Days, event: Day, n: u32, direction: Direction, added: bo
 }
 
 /// The day on which `n` days from `event` expire.
-#[tactic(auto, unfolding(court_days::specs::Rolled::rolled))]
+#[tactic(auto, unfolding(court_days::specs::Words::rolled))]
 fn expiry(days: &Days, event: Day, n: u32, direction: Direction) -> Option<Day>
     requires { n ≤ 3650 }
     ensures { result ≡ expiry_of days.now event n direction }

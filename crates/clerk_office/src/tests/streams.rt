@@ -1,5 +1,6 @@
 use super::{FIRST_LINE, FIRST_ROW, input_of, make_page, one_clerk, told};
 use crate::fault::OfficeFault;
+use crate::fault_line::{fault_line, status_of};
 use crate::office::run_office;
 use crate::watched::Watched;
 use sample_court::file;
@@ -101,8 +102,9 @@ fn stops_at_a_read_that_fails(rt: HostRuntime) -> Result<(), Fail> {
         let Err(fault) = result else {
             return Err(Fail::new("no fault"));
         };
+        assert_eq!(rt; fault_line(alloc, &fault)?.as_str(), "read fault");
         assert_eq!(rt; format!(in alloc; "{fault}")?.as_str(), "read fault");
-        assert_eq!(rt; fault.status(), 4);
+        assert_eq!(rt; status_of(&fault), 4);
     }
     Ok(())
 }
@@ -117,8 +119,8 @@ fn leaves_the_beginning_that_a_failing_writer_took(rt: HostRuntime) -> Result<()
         let Err(fault) = run_office(alloc, &mut reader, &mut writer, one_clerk()) else {
             return Err(Fail::new("no fault"));
         };
-        assert_eq!(rt; format!(in alloc; "{fault}")?.as_str(), "write fault");
-        assert_eq!(rt; fault.status(), 4);
+        assert_eq!(rt; fault_line(alloc, &fault)?.as_str(), "write fault");
+        assert_eq!(rt; status_of(&fault), 4);
         assert!(rt; writer.failed());
         assert_eq!(rt; writer.inner().text.as_slice(), &b"1 1 last 2"[..room]);
     }

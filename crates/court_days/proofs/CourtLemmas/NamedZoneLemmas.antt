@@ -3,8 +3,10 @@ use Rattle.std.proofs.Common.{◌≡◌, ℕ, List, Option, Some, None, Result, 
 use Rattle.court_days.specs.declared.fault.CourtFault.{CourtFault}
 use Rattle.court_days.specs.declared.fault.CourtFault.TheVariants.{BadZone, NotToml}
 use Rattle.court_days.specs.declared.key.Key.TheVariants as key
-use Rattle.court_days.specs.Court.{◌>>=◌, days_at, hours_at, names_at, text_at, toml_of, zone_at}
-use Rattle.court_days.specs.Words.{CourtFile, DaysView, Zone, court_in, court_of, zone_of_text}
+use Rattle.court_days.specs.Court.{CourtFile, court_in, court_of, days_at, hours_at, toml_of, zone_at}
+use Rattle.court_days.specs.Court.Reading.{◌>>=◌, names_at, text_at}
+use Rattle.court_days.specs.Clock.Zone.{Zone, zone_of_text}
+use Rattle.court_days.specs.Days.{DaysView}
 
 pub record IsNamed (zone : Zone) : Type 0 where
   pub text : List ℕ
