@@ -11,3 +11,5 @@ pub mod Holdings
 pub mod MotionEntries
 pub mod MotionLemmas
 pub mod SameBookings
+pub mod InOrderLemmas
+pub mod CallerLemmas

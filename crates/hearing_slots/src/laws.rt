@@ -1,6 +1,6 @@
 //! Laws of bookings and calendars, for the definitions that stand on them.
 
-ghost use Rattle.hearing_slots.specs.Laws.{OverlapIsASharedSlot, BookingKeepsCalendar, RemovalKeepsCalendar, SameBookingsSameCalendar};
+ghost use Rattle.hearing_slots.specs.Laws.{OverlapIsASharedSlot, BookingKeepsCalendar, RemovalKeepsCalendar, SameBookingsSameCalendar, OrderHoldsTheSame, PartsStandInOrder, BookingIsPutLast};
 
 /// Two spans of slots overlap exactly where some slot lies in both.
 pub fn overlap_is_a_shared_slot()
@@ -20,4 +20,19 @@ pub fn removal_keeps_calendar()
 /// Calendars that hold the same bookings are the same.
 pub fn same_bookings_same_calendar()
     ensures { SameBookingsSameCalendar }
+{}
+
+/// Bookings that are put in order are all there, and no others.
+pub fn order_holds_the_same()
+    ensures { OrderHoldsTheSame }
+{}
+
+/// A part of the bookings stands in the same order as all of them.
+pub fn parts_stand_in_order()
+    ensures { PartsStandInOrder }
+{}
+
+/// A booking that takes the place of an older one of its motion is the last that is put in order.
+pub fn booking_is_put_last()
+    ensures { BookingIsPutLast }
 {}

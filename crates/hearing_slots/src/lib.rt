@@ -16,8 +16,8 @@ pub use booking::{Booking, MINUTES_PER_SLOT, SLOTS_PER_DAY};
 pub use bookings::Bookings;
 pub use calendar::Calendar;
 pub use laws::{
-    booking_keeps_calendar, overlap_is_a_shared_slot, removal_keeps_calendar,
-    same_bookings_same_calendar,
+    booking_is_put_last, booking_keeps_calendar, order_holds_the_same, overlap_is_a_shared_slot,
+    parts_stand_in_order, removal_keeps_calendar, same_bookings_same_calendar,
 };
 pub use need::Need;
 pub use panel::Panel;

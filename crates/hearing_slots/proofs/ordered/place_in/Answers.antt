@@ -18,7 +18,7 @@ point c =
     let in_order = λ (x y : Booking). begins_before x y ≡ true in
     let earlier = λ (a : Booking). begins_before a b in
     let same : c.deref.result.now ≡ c.args.bookings.now.items = c.deref.ensures.value in
-    let sorted : AllPairs in_order c.deref.result.now = subst (AllPairs in_order) (sym same) c.requires.calendar.in_order in
+    let sorted : AllPairs in_order c.deref.result.now = subst (AllPairs in_order) (sym same) c.requires.calendar.sorted in
     let found = IsPartitionPoint-from_clause earlier c.deref.result.now c.partition_point-place.result c.partition_point-place.ensures.partitioned (parted in_order earlier c.deref.result.now sorted (λ a d h k. begins_before-trans a d b h k)) (λ a r q k. search rules) in
     subst (λ (bs : List Booking). IsPartitionPoint (λ a. begins_before a b ≡ true) (λ a. begins_before a b ≡ false) bs c.partition_point-place.result) same found
 
