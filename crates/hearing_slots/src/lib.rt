@@ -5,9 +5,11 @@ mod booking;
 mod bookings;
 mod calendar;
 mod day_slots;
+mod indexed;
 mod laws;
-mod motion_days;
+mod motions;
 mod need;
+mod open_calendar;
 mod ordered;
 mod panel;
 mod timetable;
@@ -20,6 +22,7 @@ pub use laws::{
     parts_stand_in_order, removal_keeps_calendar, same_bookings_same_calendar,
 };
 pub use need::Need;
+pub use open_calendar::OpenCalendar;
 pub use panel::Panel;
 
 #[cfg(test)]
