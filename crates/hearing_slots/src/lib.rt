@@ -19,7 +19,7 @@ pub use bookings::Bookings;
 pub use calendar::Calendar;
 pub use laws::{
     booking_is_put_last, booking_keeps_calendar, order_holds_the_same, overlap_is_a_shared_slot,
-    parts_stand_in_order, removal_keeps_calendar, same_bookings_same_calendar,
+    parts_stand_in_order, removal_keeps_calendar, same_bookings_same_calendar, slots_of_a_day,
 };
 pub use need::Need;
 pub use open_calendar::OpenCalendar;
