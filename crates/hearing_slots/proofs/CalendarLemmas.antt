@@ -15,7 +15,7 @@ use Rattle.hearing_slots.proofs.Order.{begins_before-other, SharesSlot-sym, is_o
 pub IsCalendar-filter : (p : Booking → Bool) (bookings : List Booking) → IsCalendar bookings → IsCalendar (filter p bookings)
 IsCalendar-filter p bookings h = record {
   within_day = All-filter p IsWithinDay bookings h.within_day;
-  in_order = AllPairs-filter (λ a b. begins_before a b ≡ true) p bookings h.in_order;
+  sorted = AllPairs-filter (λ a b. begins_before a b ≡ true) p bookings h.sorted;
   apart = AllPairs-filter (λ a b. SharesSlot a b.day b.first b.count → ⊥) p bookings h.apart;
   once = AllPairs-filter (λ a b. is_of a.case a.motion b ≡ false) p bookings h.once;
 }
@@ -24,7 +24,7 @@ IsCalendar-filter p bookings h = record {
 pub IsCalendar-insert : (bookings : List Booking) (i : ℕ) (b : Booking) → IsCalendar bookings → IsWithinDay b → All (λ a. SharesSlot a b.day b.first b.count → ⊥) bookings → All (λ a. is_of b.case b.motion a ≡ false) bookings → i ≤ length bookings → IsPartitionPoint (λ a. begins_before a b ≡ true) (λ a. begins_before a b ≡ false) bookings i → IsCalendar (insert bookings i b)
 IsCalendar-insert bookings i b h within free only le point = record {
   within_day = All-insert IsWithinDay bookings i b h.within_day within;
-  in_order = AllPairs-insert (λ x y. begins_before x y ≡ true) bookings i b le h.in_order
+  sorted = AllPairs-insert (λ x y. begins_before x y ≡ true) bookings i b le h.sorted
       point.0
       (λ k d low high. begins_before-other (get_or bookings k d) b (h.within_day k d high) within (point.1 k d low high) (free k d high));
   apart = AllPairs-insert (λ x y. SharesSlot x y.day y.first y.count → ⊥) bookings i b le h.apart

@@ -42,7 +42,7 @@ least_found bookings day first count except calendar some r h =
           | inl before ↦ absurd (both_ways (test (get_or bookings k d)) (found.first k d before) (conflicts-from_IsConflict day first count except (get_or bookings k d) other))
           | inr behind ↦
               let stands : get_or bookings found.place d ≡ r = get_or_default bookings found.place d r found.within ∙ found.stands in
-              let order : begins_before r (get_or bookings k d) ≡ true = subst (λ (a : Booking). begins_before a (get_or bookings k d) ≡ true) stands (calendar.in_order found.place k d behind below) in
+              let order : begins_before r (get_or bookings k d) ≡ true = subst (λ (a : Booking). begins_before a (get_or bookings k d) ≡ true) stands (calendar.sorted found.place k d behind below) in
               begins_before-first r (get_or bookings k d) (conflict.1.same_day ∙ sym other.1.same_day) order
         ]
       ];

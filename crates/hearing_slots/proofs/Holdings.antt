@@ -14,7 +14,7 @@ use Rattle.hearing_slots.proofs.Order.{begins_before-trans, SharesSlot-from_test
 use Rattle.hearing_slots.proofs.CalendarLemmas.{IsCalendar-filter, IsCalendar-insert, in_place-at}
 
 -- a filter keeps what passes
-to_filter : {X : Type 0} (p : X → Bool) (xs : List X) (x : X) (k : ℕ) → k < length xs → get_or xs k x ≡ x → p x ≡ true → Contains (filter p xs) x
+pub to_filter : {X : Type 0} (p : X → Bool) (xs : List X) (x : X) (k : ℕ) → k < length xs → get_or xs k x ≡ x → p x ≡ true → Contains (filter p xs) x
 to_filter p [] x k within stands passes = absurd (omega arith)
 to_filter p (y ∷ ys) x zero within stands passes =
     let here : p y ≡ true = subst (λ z. p z ≡ true) (sym stands) passes in
@@ -27,18 +27,18 @@ to_filter p (y ∷ ys) x (suc k) within stands passes =
     ]
 
 -- and nothing else
-from_filter : {X : Type 0} (p : X → Bool) (xs : List X) (x : X) → Contains (filter p xs) x → Contains xs x × (p x ≡ true)
+pub from_filter : {X : Type 0} (p : X → Bool) (xs : List X) (x : X) → Contains (filter p xs) x → Contains xs x × (p x ≡ true)
 from_filter p xs x h = (
   All-contains (Contains xs) (filter p xs) x (All-filter p (Contains xs) xs (All-contains_itself xs)) h,
   All-contains (λ y. p y ≡ true) (filter p xs) x (filter_passes p xs) h,
 )
 
-first_or_later : {X : Type 0} (y : X) (ys : List X) (x : X) (k : ℕ) → k < length (y ∷ ys) → get_or (y ∷ ys) k x ≡ x → (x ≡ y) ⊎ Contains ys x
+pub first_or_later : {X : Type 0} (y : X) (ys : List X) (x : X) (k : ℕ) → k < length (y ∷ ys) → get_or (y ∷ ys) k x ≡ x → (x ≡ y) ⊎ Contains ys x
 first_or_later y ys x zero within stands = inl (sym stands)
 first_or_later y ys x (suc k) within stands = inr (k, omega arith, stands)
 
 -- what a list holds with one booking more
-from_in_place : (b : Booking) (bookings : List Booking) (x : Booking) → Contains (in_place b bookings) x → (x ≡ b) ⊎ Contains bookings x
+pub from_in_place : (b : Booking) (bookings : List Booking) (x : Booking) → Contains (in_place b bookings) x → (x ≡ b) ⊎ Contains bookings x
 from_in_place b bookings x h =
     let earlier = filter (λ a. begins_before a b) bookings in
     let later = filter (λ a. not (begins_before a b)) bookings in
@@ -50,7 +50,7 @@ from_in_place b bookings x h =
       ]
     ]
 
-to_in_place : (b : Booking) (bookings : List Booking) (x : Booking) → (x ≡ b) ⊎ Contains bookings x → Contains (in_place b bookings) x
+pub to_in_place : (b : Booking) (bookings : List Booking) (x : Booking) → (x ≡ b) ⊎ Contains bookings x → Contains (in_place b bookings) x
 to_in_place b bookings x (inl here) =
     let earlier = filter (λ a. begins_before a b) bookings in
     let later = filter (λ a. not (begins_before a b)) bookings in
@@ -92,7 +92,7 @@ on_day-holds day bookings x = (
   on_it h = grind (arith, ints)
 
 -- a list that parts at a test has a place where it does
-parting : {X : Type 0} (p : X → Bool) (xs : List X) → IsPartitionedBy p xs → (i : ℕ) × (i ≤ length xs) × IsPartitionPoint (λ y. p y ≡ true) (λ y. p y ≡ false) xs i
+pub parting : {X : Type 0} (p : X → Bool) (xs : List X) → IsPartitionedBy p xs → (i : ℕ) × (i ≤ length xs) × IsPartitionPoint (λ y. p y ≡ true) (λ y. p y ≡ false) xs i
 parting p [] parts = (0, omega arith, (λ k d low high. absurd (omega arith), λ k d low high. absurd (omega arith)))
 parting p (x ∷ xs) parts = elim (cases_Bool (p x)) [
   | inr fails ↦ (
@@ -124,7 +124,7 @@ booking_keeps b bookings calendar within free =
     let kept = filter_passes other bookings in
     let apart = All-filter other (λ a. IsConflict b.day b.first b.count (Some (b.case, b.motion)) a → ⊥) bookings free in
     let in_order = λ (x y : Booking). begins_before x y ≡ true in
-    let place = parting (λ a. begins_before a b) others (parted in_order (λ a. begins_before a b) others left.in_order (λ a d h k. begins_before-trans a d b h k)) in
+    let place = parting (λ a. begins_before a b) others (parted in_order (λ a. begins_before a b) others left.sorted (λ a d h k. begins_before-trans a d b h k)) in
     rw (in_place-at b others place.0 place.1 place.2) (IsCalendar-insert others place.0 b left within
     (λ k d below shared. apart k d below (not-true _ (kept k d below), shared))
     (λ k d below. not-true _ (kept k d below))

@@ -63,4 +63,4 @@ same_lists (x ∷ xs) (y ∷ ys) hx hy to from =
     ap (λ (b : Booking). b ∷ xs) same ∙ ap (λ (bs : List Booking). y ∷ bs) rest
 
 pub same_bookings : SameBookingsSameCalendar
-same_bookings xs ys hx hy held = same_lists xs ys hx.in_order hy.in_order (λ z. (held z).0) (λ z. (held z).1)
+same_bookings xs ys hx hy held = same_lists xs ys hx.sorted hy.sorted (λ z. (held z).0) (λ z. (held z).1)

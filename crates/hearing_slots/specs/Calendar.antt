@@ -1,12 +1,12 @@
 -- The bookings of one judge or one room: by day, and on a day by first slot.
-use Rattle.std.specs.Prelude.{◌≡◌, ℕ, ◌≤◌, ℤ, Bool, true, false, ◌&&◌, not, Option, List, ◌∷◌, ◌++◌, All, AllPairs, Contains, filter, find, ◌↔◌, ◌⊎◌}
+use Rattle.std.specs.Prelude.{◌≡◌, ℕ, ◌≤◌, ℤ, Bool, true, false, ◌&&◌, not, Option, List, [], ◌∷◌, ◌++◌, All, AllPairs, Contains, filter, find, fold, ◌↔◌, ◌⊎◌}
 use Rattle.hearing_slots.specs.declared.booking.Booking.{Booking}
 use Rattle.hearing_slots.specs.Booking.{IsWithinDay, SharesSlot, shares_slot, is_of, is_excepted, is_on, begins_before}
 
 -- the bookings are in order, no two of them share a slot of a day, and each case and motion stands once
 pub record IsCalendar (bookings : List Booking) : Type 0 where
   pub within_day : All IsWithinDay bookings
-  pub in_order : AllPairs (λ a b. begins_before a b ≡ true) bookings
+  pub sorted : AllPairs (λ a b. begins_before a b ≡ true) bookings
   pub apart : AllPairs (λ a b. SharesSlot a b.day b.first b.count → ⊥) bookings
   pub once : AllPairs (λ a b. is_of a.case a.motion b ≡ false) bookings
 
@@ -25,6 +25,10 @@ in_place b bookings = filter (λ a. begins_before a b) bookings ++ b ∷ filter 
 -- the bookings of other cases and motions, and this one, in order
 unfoldable pub with_booking : Booking → List Booking → List Booking
 with_booking b bookings = in_place b (without_motion b.case b.motion bookings)
+
+-- the bookings put in order, each in its place among those before it in the list
+abbrev pub in_order : List Booking → List Booking
+in_order bookings = fold (λ placed b. in_place b placed) [] bookings
 
 -- new holds the booking and those of old that are of other cases and motions, and no more
 abbrev pub HoldsWith : (b : Booking) (old new : List Booking) → Type 0

@@ -1,8 +1,8 @@
 -- What the tests and the lists of this crate come to.
-use Rattle.std.specs.Prelude.{◌≡◌, ◌↔◌, ℕ, ◌≤◌, ℤ, true, Some, List, Contains}
+use Rattle.std.specs.Prelude.{◌≡◌, ◌↔◌, ℕ, ◌≤◌, ℤ, Bool, true, Some, List, [], ◌∷◌, ◌++◌, Contains, filter}
 use Rattle.hearing_slots.specs.declared.booking.Booking.{Booking}
 use Rattle.hearing_slots.specs.Booking.{IsWithinDay, SharesSlot, shares_slot}
-use Rattle.hearing_slots.specs.Calendar.{IsCalendar, IsFree, without_motion, with_booking}
+use Rattle.hearing_slots.specs.Calendar.{IsCalendar, IsFree, in_order, without_motion, with_booking}
 
 -- two spans of at least one slot each overlap exactly where some slot lies in both
 abbrev pub OverlapIsASharedSlot : Type 0
@@ -19,3 +19,15 @@ RemovalKeepsCalendar = (case motion : ℕ) (bookings : List Booking) → IsCalen
 -- a calendar is told by the bookings that it holds
 abbrev pub SameBookingsSameCalendar : Type 0
 SameBookingsSameCalendar = (xs ys : List Booking) → IsCalendar xs → IsCalendar ys → ((x : Booking) → Contains xs x ↔ Contains ys x) → xs ≡ ys
+
+-- to put bookings in order loses none and adds none
+abbrev pub OrderHoldsTheSame : Type 0
+OrderHoldsTheSame = (bookings : List Booking) (x : Booking) → Contains (in_order bookings) x ↔ Contains bookings x
+
+-- the bookings that pass a test are put in order as they stand among all
+abbrev pub PartsStandInOrder : Type 0
+PartsStandInOrder = (p : Booking → Bool) (bookings : List Booking) → filter p (in_order bookings) ≡ in_order (filter p bookings)
+
+-- a booking that replaces an older one of its motion is put in order behind all others of the list
+abbrev pub BookingIsPutLast : Type 0
+BookingIsPutLast = (b : Booking) (bookings : List Booking) → with_booking b (in_order bookings) ≡ in_order (without_motion b.case b.motion bookings ++ b ∷ [])
