@@ -16,7 +16,7 @@ mod step;
 mod store;
 
 pub use decision::Decision;
-pub use draft::{Draft, Mark};
+pub use draft::{Draft, ReadNote};
 pub use entry::Entry;
 pub use laws::{fresh_means_untouched, serial_history, versions_are_last_touches};
 pub use parted::Parted;

@@ -63,7 +63,7 @@ fn same_draft<A: Allocator + Copy>(
     assert_eq!(rt; one.clerk(), other.clerk());
     assert_eq!(rt; one.command(), other.command());
     assert_eq!(rt; one.copies(), other.copies());
-    assert_eq!(rt; one.marks(), other.marks());
+    assert_eq!(rt; one.notes(), other.notes());
 }
 
 // Store, history and hands of the world are those that the steps before `cut` lead to with ample memory.
