@@ -106,6 +106,11 @@ module _ {Part Value Command Answer : Type 0} (r : Rules Part Value Command Answ
   staged_writes laws h d ready writes staged =
       sym (same_Some _ _ (sym (ap (option_map (λ (x : DecisionView Part Value Answer). x.writes)) ready.prepared.settled) ∙ staged)) ∙ sym (may_follow_writes laws h d ready)
 
+  -- one more copy in the command's order
+  pub reads_more : (command : Command) (reads : List (Read Part Value)) (x : Read Part Value) → r.next_part command (copies_of reads) ≡ Some x.part → AreReadsOf r command (copies_of reads)
+      → AreReadsOf r command (copies_of (reads ++ x ∷ []))
+  reads_more command reads x next in_order = rw map-append (AreReadAfter-push command [] (copies_of reads) (x.part, x.value) in_order next)
+
   -- a draft of a history that reads its next part as it now is stays one
   pub draft_add : (h : List (Entry Command Answer)) (d : DraftView Part Value Command Answer) (part : Part) (value : Value) (version at : ℕ)
       → at ≡ length h → version ≡ version_of r h part → value ≡ value_of r h part → r.next_part d.command (copies_of d.reads) ≡ Some part → IsDraftOf r h d
@@ -119,7 +124,7 @@ module _ {Part Value Command Answer : Type 0} (r : Rules Part Value Command Answ
         version = version_is ∙ ap (λ l. version_of r l part) (sym whole);
       } in
       record {
-        in_order = rw map-append (AreReadAfter-push d.command [] (copies_of d.reads) (part, value) was.in_order next);
+        in_order = reads_more d.command d.reads x next was.in_order;
         made = All-push (IsRead r h) d.reads x was.made made;
       }
 

@@ -1,5 +1,5 @@
 -- What a store finds for a part, and how it follows a history.
-use Rattle.std.proofs.Common.{◌≡◌, ℕ, All, IfSome, IfNone, ◌+◌, Bool, true, false, cond, if◌then◌else◌, Option, Some, None, is_some, unwrap_or, List, [], ◌∷◌, ◌++◌, length, refl, ap, sym, ◌∙◌}
+use Rattle.std.proofs.Common.{◌≡◌, ℕ, All, IfSome, IfNone, ◌+◌, Bool, true, false, cond, if◌then◌else◌, Option, Some, None, is_some, unwrap_or, List, [], ◌∷◌, ◌++◌, length, refl, ap, sym, ◌∙◌, subst}
 use Rattle.std.proofs.lemmas.List.{length-append}
 use Rattle.std.specs.Option.{option_map_or}
 use Rattle.std.specs.Map.{lookup}
@@ -135,3 +135,15 @@ module _ {Part Value Command Answer : Type 0} (r : Rules Part Value Command Answ
       → IfNone o (All (IsFresh r h) reads)
   check_none h reads None same = first_stale_none (version_of r h) reads (sym same)
   check_none h reads (Some s) same = tt
+
+module _ {Owner Part Value Command Answer : Type 0} (rules : Owner → Rules Part Value Command Answer) (a b : Owner) (same : a ≡ b) (s t : StoreView Owner Part Value) where
+  -- what a call on a store says by the rules of its owner, said of an owner that is the same
+  pub kept_by : ((h : List (Entry Command Answer)) → Replays (rules a) h s → Replays (rules a) h t) → (h : List (Entry Command Answer)) → Replays (rules b) h s → Replays (rules b) h t
+  kept_by kept = let P : Owner → Type 0 = λ o. (h : List (Entry Command Answer)) → Replays (rules o) h s → Replays (rules o) h t in subst P same kept
+
+  pub put_by : (writes : List (Part × Value))
+      → ((h : List (Entry Command Answer)) (e : Entry Command Answer) → Replays (rules a) h s → writes ≡ writes_on (rules a) (value_of (rules a) h) e.command → Replays (rules a) (h ++ e ∷ []) t)
+      → (h : List (Entry Command Answer)) (e : Entry Command Answer) → Replays (rules b) h s → writes ≡ writes_on (rules b) (value_of (rules b) h) e.command → Replays (rules b) (h ++ e ∷ []) t
+  put_by writes put =
+      let P : Owner → Type 0 = λ o. (h : List (Entry Command Answer)) (e : Entry Command Answer) → Replays (rules o) h s → writes ≡ writes_on (rules o) (value_of (rules o) h) e.command → Replays (rules o) (h ++ e ∷ []) t in
+      subst P same put

@@ -7,7 +7,6 @@ use borrow.Author.Tests.{ltb-true, ltb-false, clash}
 use mathlib.Core.List.{IsPrefix}
 use Rattle.versioned_steps.specs.Rules.{Rules}
 use Rattle.versioned_steps.specs.Drafts.{DraftView, IsDraftOf, AreOwn}
-use Rattle.versioned_steps.specs.Reads.{IsRead}
 use Rattle.versioned_steps.specs.World.{Hand, World, Move, IsStep, IsStepOf, IsRun, clerk_of, move_of, hand_of, world_of}
 use Rattle.versioned_steps.specs.Stores.{StoreView, Replays}
 use Rattle.versioned_steps.specs.Moves.{Moves, IsSound}
@@ -15,7 +14,7 @@ use Rattle.versioned_steps.specs.declared.entry.Entry.{Entry}
 use Rattle.versioned_steps.specs.declared.step.Step.{Step}
 use Rattle.versioned_steps.specs.declared.step.Outcome.{Outcome}
 use Rattle.versioned_steps.specs.declared.step.Outcome.TheVariants.{NoClerk}
-use Rattle.versioned_steps.proofs.ReadLemmas.{read_longer}
+use Rattle.versioned_steps.proofs.PreparedLemmas.{draft_longer}
 
 -- a list whose element at k is this stays as it is when this is put there
 pub set_same : {X : Type 0} (xs : List X) (k : ℕ) (x : X) → slice_get xs k ≡ Some x → slice_set xs k x ≡ xs
@@ -117,13 +116,9 @@ module _ {Part Value Command Answer : Type 0} (r : Rules Part Value Command Answ
       subst P none (refl, refl)
 
   -- drafts of a history are drafts of each longer one
-  pub draft_longer : (h k : List (Entry Command Answer)) → IsPrefix h k → (d : DraftView Part Value Command Answer) → IsDraftOf r h d → IsDraftOf r k d
-  draft_longer h k begins d was =
-      record { in_order = was.in_order; made = All-weaker (IsRead r h) (IsRead r k) (λ x. read_longer r h k x begins) d.reads was.made }
-
   some_draft_longer : (h k : List (Entry Command Answer)) → IsPrefix h k → (d : Option (DraftView Part Value Command Answer)) → IfSome d (IsDraftOf r h) → IfSome d (IsDraftOf r k)
   some_draft_longer h k begins None was = tt
-  some_draft_longer h k begins (Some d) was = draft_longer h k begins d was
+  some_draft_longer h k begins (Some d) was = draft_longer r h k begins d was
 
   -- and stay so where one of them is exchanged
   pub drafts_after : (h k : List (Entry Command Answer)) → IsPrefix h k → (drafts : List (Option (DraftView Part Value Command Answer))) (clerk : ℕ) (after : Option (DraftView Part Value Command Answer))

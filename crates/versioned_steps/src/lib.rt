@@ -24,6 +24,3 @@ pub use run::{World, run_steps, run_steps_in};
 pub use stale::Stale;
 pub use step::{Outcome, Step};
 pub use store::{Change, Store};
-
-#[cfg(test)]
-mod tests;

@@ -3,7 +3,7 @@ ghost use Rattle.std.specs.Prelude.{◌≡◌, ◌+◌, ◌<◌, ◌^◌, [], �
 ghost use Rattle.versioned_steps.specs.declared.entry.Entry.{Entry};
 ghost use Rattle.versioned_steps.specs.History.{value_of, version_of, writes_on};
 ghost use Rattle.versioned_steps.specs.Reads.{first_stale, IsStale, IsFresh};
-ghost use Rattle.versioned_steps.specs.Drafts.{MayCommit, with_notes};
+ghost use Rattle.versioned_steps.specs.Drafts.{MayCommit, IsReadAll, with_notes};
 ghost use Rattle.versioned_steps.specs.Stores.{slot_of, Replays, IsStaged};
 
 use crate::draft::{Draft, ReadNote};
@@ -129,8 +129,35 @@ impl<P: Parted, A: Allocator + Copy> Store<P, A> {
         Ok((self.version(part), value))
     }
 
+    /// A draft of this command with all that it reads, every part as it now is, and its decision. The command is spent, also
+    /// where an Err comes.
+    // A body that always found no memory would meet this contract; the tests call it with ample memory.
+    pub fn prepare(
+        &self,
+        alloc: Global,
+        clerk: u32,
+        command: P::Command,
+    ) -> Result<Draft<P, A>, AllocError>
+        ensures clerk { IfOk result (λ d. d.clerk ≡ clerk) }
+        ensures command { IfOk result (λ d. d.command ≡ command) }
+        ensures read { (h : List (Entry P.Command P.Answer)) → Replays (P.rules self.now.owner) h self.now →
+            IfOk result (IsReadAll (P.rules self.now.owner) h) }
+    {
+        let mut draft = Draft::begin(*self.recent.allocator(), clerk, command);
+        while let Some(part) = draft.next(&self.parts) {
+            let (version, value) = self.read(alloc, part)?;
+            draft.add(&self.parts, part, version, self.length, value)?;
+        }
+        draft.settle(alloc, &self.parts)?;
+        Ok(draft)
+    }
+
     // The first of these reads whose part has a version greater than the length at the read.
-    fn first_stale(&self, copies: &[(P::Part, P::Value)], notes: &[ReadNote]) -> Option<Stale<P::Part>>
+    fn first_stale(
+        &self,
+        copies: &[(P::Part, P::Value)],
+        notes: &[ReadNote],
+    ) -> Option<Stale<P::Part>>
         requires { length copies.now ≡ length notes.now }
         ensures { result ≡ first_stale (λ part. (slot_of (P.rules self.now.owner) self.now part).version) (with_notes copies.now notes.now) }
     {

@@ -6,5 +6,5 @@ pub returns : goal.returns
 returns g c = record {
   legal = λ parts. legal_serial (g.P.Parted.rules parts) (g.met.P.Parted.lawful parts);
   run = λ parts before after steps outcomes. run_legal (g.P.Parted.rules parts) (g.met.P.Parted.lawful parts) before steps outcomes after;
-  opening = λ parts clerks. legal_empty (g.P.Parted.rules parts);
+  empty = λ parts. legal_empty (g.P.Parted.rules parts);
 }
