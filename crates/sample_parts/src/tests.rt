@@ -1,12 +1,11 @@
 //! Two small instances, and runs over them.
-use crate::draft::Draft;
-use crate::laws::{fresh_means_untouched, serial_history, versions_are_last_touches};
-use crate::run::run_steps;
-use crate::step::{Outcome, Step};
-use crate::store::Store;
-use counters::{Add, Counters};
+use counters::Counters;
 use pointers::Pointers;
 use std::test::Fail;
+use versioned_steps::{
+    Outcome, Step, Store, fresh_means_untouched, run_steps, serial_history,
+    versions_are_last_touches,
+};
 
 mod counters;
 mod lists;
@@ -201,14 +200,14 @@ fn a_refusal_is_an_entry(rt: HostRuntime) -> Result<(), Fail> {
     let mut store = Store::new(rt.alloc(), Counters::ample());
     for count in [1, 3, 7, 15, 31, 63] {
         assert!(rt; store.length() < 7);
-        let draft = doubled(&rt, &store)?;
+        let draft = store.prepare(rt.alloc(), 0, (Some(1), 1))?;
         assert!(rt; draft.decision().is_some());
         assert!(rt; store.check(&draft).is_none());
         assert_eq!(rt; draft.decision().map(|d| d.answer), Some(Some(count)));
         store.apply(rt.alloc(), &draft)?;
     }
     assert!(rt; store.length() < 7);
-    let draft = doubled(&rt, &store)?;
+    let draft = store.prepare(rt.alloc(), 0, (Some(1), 1))?;
     assert!(rt; draft.decision().is_some());
     assert_eq!(rt; draft.decision().map(|d| d.answer), Some(None));
     let change = store.stage(rt.alloc(), &draft)?;
@@ -217,21 +216,6 @@ fn a_refusal_is_an_entry(rt: HostRuntime) -> Result<(), Fail> {
     assert_eq!(rt; store.finish(change), 7);
     assert_eq!(rt; store.read(rt.alloc(), 1)?, (6, 63));
     Ok(())
-}
-
-// A settled draft that adds cell 1 to itself.
-fn doubled(rt: &HostRuntime, store: &Store<Counters>) -> Result<Draft<Counters>, Fail> {
-    let mut draft = Draft::begin(rt.alloc(), 0, (Some(1), 1));
-    for _ in 0..2 {
-        if let Some(cell) = draft.next(store.parts()) {
-            let (version, value) = store.read(rt.alloc(), cell)?;
-            draft.add(store.parts(), cell, version, store.length(), value)?;
-        }
-    }
-    if draft.next(store.parts()).is_none() {
-        draft.settle(rt.alloc(), store.parts())?;
-    }
-    Ok(draft)
 }
 
 #[test]

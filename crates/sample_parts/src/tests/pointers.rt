@@ -2,18 +2,16 @@
 //! name another, and answers what it named.
 ghost use Rattle.std.specs.Prelude.{◌≡◌};
 
-use crate::decision::Decision;
-use crate::parted::Parted;
-use crate::step::Step;
 use crate::tests::plain::Plain;
 use std::alloc::{AllocError, Global};
+use versioned_steps::{Decision, Parted, Step};
 
 #[derive(Drop)]
 pub struct Pointers;
 
 impl Parted for Pointers {
-    ghost use Rattle.versioned_steps.specs.Counters.{pointers};
-    ghost use Rattle.versioned_steps.specs.CounterLaws.{pointers_lawful};
+    ghost use Rattle.sample_parts.specs.Counters.{pointers};
+    ghost use Rattle.sample_parts.specs.Lawful.{pointers_lawful};
     ghost use Rattle.std.proofs.Common.{refl};
 
     type Part = u8;

@@ -2,12 +2,10 @@
 //! to 100.
 ghost use Rattle.std.specs.Prelude.{◌≡◌};
 
-use crate::decision::Decision;
-use crate::parted::Parted;
-use crate::step::Step;
 use crate::tests::plain::Plain;
 use std::alloc::{AllocError, Global};
 use std::cell::Cell;
+use versioned_steps::{Decision, Parted, Step};
 
 /// The first cell, if any, and the second.
 pub type Add = (Option<u8>, u8);
@@ -38,8 +36,8 @@ impl Counters {
 }
 
 impl Parted for Counters {
-    ghost use Rattle.versioned_steps.specs.Counters.{counters};
-    ghost use Rattle.versioned_steps.specs.CounterLaws.{counters_lawful};
+    ghost use Rattle.sample_parts.specs.Counters.{counters};
+    ghost use Rattle.sample_parts.specs.Lawful.{counters_lawful};
     ghost use Rattle.std.proofs.Common.{refl};
 
     type Part = u8;

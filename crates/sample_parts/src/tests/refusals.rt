@@ -1,13 +1,11 @@
 //! Want of memory: that step changes nothing, and the rest of the list runs.
-use crate::draft::Draft;
-use crate::run::{World, run_steps, run_steps_in};
-use crate::step::{Outcome, Step};
 use crate::tests::counters::{Add, Counters, step_of};
 use crate::tests::plain::{latest, replay};
 use linked_list_allocator::LocalHeap;
 use std::alloc::{AllocError, Allocator, Global};
 use std::process::Abort;
 use std::test::Fail;
+use versioned_steps::{Draft, Outcome, Step, World, run_steps, run_steps_in};
 
 // Clerk 0 finishes, and clerk 1 is stale. Clerk 1 finishes while clerk 0 has a command in hand, which is stale then.
 // Both finish once more.
@@ -63,7 +61,7 @@ fn same_draft<A: Allocator + Copy>(
     assert_eq!(rt; one.clerk(), other.clerk());
     assert_eq!(rt; one.command(), other.command());
     assert_eq!(rt; one.copies(), other.copies());
-    assert_eq!(rt; one.marks(), other.marks());
+    assert_eq!(rt; one.notes(), other.notes());
 }
 
 // Store, history and hands of the world are those that the steps before `cut` lead to with ample memory.

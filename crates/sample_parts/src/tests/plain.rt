@@ -1,7 +1,7 @@
 //! Small steps of two clerks replayed as plainly as can be: no versions are kept, each look-up goes through the whole
 //! history, and a commit decides on the cells as they are then.
-use crate::step::{Outcome, Step};
 use std::alloc::{AllocError, Global};
+use versioned_steps::{Outcome, Step};
 
 /// The rules of an instance, written a second time. No command reads more than two cells.
 pub trait Plain {

@@ -4,16 +4,16 @@ use Rattle.std.specs.List.{IsDistinct}
 use Rattle.std.proofs.lemmas.List.Elements.{All-nil, All-cons}
 use Rattle.std.proofs.lemmas.Option.{none-some, same_Some}
 use borrow.Author.Tests.{eqb-true, eq-eqb}
-use Rattle.versioned_steps.specs.Rules.{IsLawful, AreAllReadsOf, parts_of}
-use Rattle.versioned_steps.specs.Counters.{counters, total, next_counter, same_count, pointers, next_pointer, pointed}
+use Rattle.versioned_steps.specs.Words.{IsLawful, AreAllReadsOf, parts_of}
+use Rattle.sample_parts.specs.Counters.{counters, total, next_counter, same_count, pointers, next_pointer, pointed}
 
-same_counts : (x y : Option ℕ) → same_count x y ≡ true → x ≡ y
+pub same_counts : (x y : Option ℕ) → same_count x y ≡ true → x ≡ y
 same_counts None None same = refl
 same_counts None (Some n) same = absurd (cc)
 same_counts (Some m) None same = absurd (cc)
 same_counts (Some m) (Some n) same = ap (λ k. Some k) (eqb-true m n same)
 
-count_itself : (x : Option ℕ) → same_count x x ≡ true
+pub count_itself : (x : Option ℕ) → same_count x x ≡ true
 count_itself None = refl
 count_itself (Some n) = eq-eqb n n refl
 

@@ -1,6 +1,6 @@
 -- For the tests: two small sets of rules.
 use Rattle.std.specs.Prelude.{ℕ, ◌+◌, ◌==◌, nat_eq, nat_lt, Bool, true, false, if◌then◌else◌, Option, Some, None, List, [], ◌∷◌}
-use Rattle.versioned_steps.specs.Rules.{Rules}
+use Rattle.versioned_steps.specs.Words.{Rules}
 
 -- Counters: a command reads a first cell, if it names one, and a second, and writes the second, unless its number grows to 100.
 abbrev pub next_counter : Option ℕ × ℕ → List (ℕ × ℕ) → Option ℕ

@@ -1,9 +1,9 @@
 //! Every list of up to six steps of two clerks, compared with a plain replay.
-use crate::run::run_steps;
 use crate::tests::counters::{self, Counters};
 use crate::tests::plain::{latest, replay};
 use crate::tests::pointers::{self, Pointers};
 use std::test::Fail;
+use versioned_steps::run_steps;
 
 // The outcomes of a shorter list are the first of those of a longer one.
 #[test]
