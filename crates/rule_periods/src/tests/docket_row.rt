@@ -34,7 +34,12 @@ fn extensions_and_acts_are_put_in_place(rt: HostRuntime) -> Result<(), Fail> {
         .copy(rt.alloc())?
         .into_row();
     let end = shown(court.days(), court.clock(), &row);
-    assert!(rt; end == Shown::Last { day: day(&rt, "2025-09-05"), act: Act::Service });
+    assert!(rt;
+        end == Shown::Last {
+            day: day(&rt, "2025-09-05"),
+            act: Act::Service
+        }
+    );
     assert!(rt; row.filed().map(|filing| filing.minute) == Some(1439));
     assert!(rt; row.into_grants().len() == 1);
     Ok(())
