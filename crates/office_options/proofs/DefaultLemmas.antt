@@ -7,7 +7,7 @@ use Rattle.clap.specs.Simple.{built, help_rule}
 use Rattle.clap.specs.Walk.{Row, Rule, Text, at_row, default_rows, has_row, more_values, one_of, reading_by, row_text, with_default}
 use Rattle.clap.specs.declared.parser.matches.ValueSource.TheVariants.{DefaultValue}
 use Rattle.office_options.specs.CommandLine.{command_line}
-use Rattle.office_options.specs.Held.{number_held, number_of, rows_by_words}
+use Rattle.office_options.specs.Held.{number_held, number_written, rows_by_words}
 
 abbrev named : Text → Row → Bool
 named name row = bytes_eq row.id name
@@ -72,7 +72,7 @@ module _ (name : Text) (rule : Rule) (rows : List Row) (other : bytes_eq rule.id
           ap (has_row name) (default_joins rule v vs rows defaults has) ∙ any_past (named name) rows (default_row rule v vs) other
 
 abbrev number_in : Option Row → Option ℕ
-number_in found = option_map number_of (option_and_then row_text found)
+number_in found = option_map number_written (option_and_then row_text found)
 
 -- four arguments, of which the first two have defaults
 module _ (a b c d : Rule) (v w : Text) (rows : List Row) where
@@ -100,10 +100,10 @@ rules = (built command_line).top.rules
 abbrev rule_at : ℕ → Rule
 rule_at k = slice_index_or rules k help_rule
 
-clerks_left_out : (rows : List Row) → has_row (codes "clerks") rows ≡ false → option_map number_of (one_of (codes "clerks") (fold with_default rows rules)) ≡ Some 1
+clerks_left_out : (rows : List Row) → has_row (codes "clerks") rows ≡ false → option_map number_written (one_of (codes "clerks") (fold with_default rows rules)) ≡ Some 1
 clerks_left_out rows none = ap number_in (first_default (rule_at 0) (rule_at 1) (rule_at 2) (rule_at 3) (codes "1") (codes "100000") rows refl refl refl refl refl none)
 
-journal_left_out : (rows : List Row) → has_row (codes "journal") rows ≡ false → option_map number_of (one_of (codes "journal") (fold with_default rows rules)) ≡ Some 100000
+journal_left_out : (rows : List Row) → has_row (codes "journal") rows ≡ false → option_map number_written (one_of (codes "journal") (fold with_default rows rules)) ≡ Some 100000
 journal_left_out rows none = ap number_in (second_default (rule_at 0) (rule_at 1) (rule_at 2) (rule_at 3) (codes "1") (codes "100000") rows refl refl refl refl refl none)
 
 -- words that don't name the clerks hold 1

@@ -23,7 +23,7 @@ use Rattle.clap.proofs.CallerReads.{signed_reads}
 use Rattle.clap.proofs.SimpleLemmas.{all_simple, plain_fields, ready_simple, simple_groups}
 use Rattle.clap.proofs.WalkLemmas.{one_text-rows}
 use Rattle.office_options.specs.CommandLine.{clerks_rule, command_line, journal_rule, most_clerks}
-use Rattle.office_options.specs.Held.{number_held, number_of}
+use Rattle.office_options.specs.Held.{number_held, number_written}
 use Rattle.office_options.proofs.ParseLemmas.{EachTakesNumber, ShowsNumber, TakesNumber, found_at, shows_number}
 
 -- a list whose images are two values has two elements
@@ -181,7 +181,7 @@ Gets k m name r = (t : List ℕ) → one_text (found_of m) name ≡ Some t → R
 abbrev pub IsNumberRead : List Text → Text → ℕ → ℕ → ℕ → Type 0
 IsNumberRead words name low high n = (low ≤ n) × (n ≤ high) × (number_held name words ≡ Some n)
 
-number_is : (k : ℕ) (u : List ℕ) (r : Option ℕ) (n : ℕ) → r ≡ Some n → ReadsOne (ParsesTo k) u r → n ≡ number_of u
+number_is : (k : ℕ) (u : List ℕ) (r : Option ℕ) (n : ℕ) → r ≡ Some n → ReadsOne (ParsesTo k) u r → n ≡ number_written u
 number_is k u r n is read =
     let at : ParsesTo k u (Ok n) = subst (ReadsOne (ParsesTo k) u) is read in
     at.0.1
@@ -194,7 +194,7 @@ number_read m words name k low high r rows shows fits reads =
     let got = signed_reads ParseIntError (ParsesTo k) k low high shows.0 r read (λ u x g. g.0) fits shows.2 in
     let value = number_is k (without_minus shows.0) r got.0 got.1 read in
     let held : one_of name (matches_of command_line words) ≡ Some (without_minus shows.0) = ap (one_of name) (sym rows) ∙ sym (one_text-rows (found_of m) name) ∙ shows.1 in
-    (got.0, got.1, (got.2, got.3, ap (option_map number_of) held ∙ ap Some (sym value)))
+    (got.0, got.1, (got.2, got.3, ap (option_map number_written) held ∙ ap Some (sym value)))
 
 clerks_read : (words : List Text) (m : ArgMatches) (r : Option ℕ) → HoldsOptions words m → Gets 8 m (codes "clerks") r
     → (n : ℕ) × (r ≡ Some n) × IsNumberRead words (codes "clerks") 1 most_clerks n

@@ -6,13 +6,13 @@ use Rattle.clap.specs.Walk.{has_row, nothing_held, settled, walk}
 use Rattle.clap.specs.Simple.{argument_words, names_of}
 use Rattle.office_options.specs.CommandLine.{command_line}
 
--- the number that a text of decimal digits shows, with or without a `+` before it
-abbrev pub number_of : Text → ℕ
-number_of text = digits_value 10 (without_leading_plus text)
+-- the number that decimal digits write, with or without a `+` before them
+abbrev pub number_written : Text → ℕ
+number_written text = digits_value 10 (without_leading_plus text)
 
 -- the number that the matches of the words hold under a name
 abbrev pub number_held : Text → List Text → Option ℕ
-number_held name words = option_map number_of (one_of name (matches_of command_line words))
+number_held name words = option_map number_written (one_of name (matches_of command_line words))
 
 -- what the words themselves name, before defaults
 abbrev pub rows_by_words : List Text → List Row

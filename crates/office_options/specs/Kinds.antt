@@ -22,6 +22,6 @@ IsFaultAmong kinds (BadWords text) = (k : ErrorKind) × IsAmong k kinds × IsMis
 IsFaultAmong kinds (Help text) = IsAmong kind.DisplayHelp kinds ⊎ IsAmong kind.DisplayVersion kinds
 IsFaultAmong kinds OutOfMemory = Unit {0}
 
--- options come only where the words have no fault
-abbrev pub Answers : {T : Type 0} → Kinds → Result T OptionsFault → Type 0
-Answers kinds result = MatchResult result (λ _. kinds ≡ []) (IsFaultAmong kinds)
+-- the answer for words with these kinds of fault: options only where there is none
+abbrev pub IsAnswerFor : {T : Type 0} → Kinds → Result T OptionsFault → Type 0
+IsAnswerFor kinds result = MatchResult result (λ _. kinds ≡ []) (IsFaultAmong kinds)

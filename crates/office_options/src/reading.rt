@@ -6,7 +6,7 @@ ghost use Rattle.clap.specs.Faults.{fault_of};
 ghost use Rattle.clap.specs.Walk.{texts};
 ghost use Rattle.office_options.specs.CommandLine.{command_line};
 ghost use Rattle.office_options.specs.Held.{number_held, DefaultsHold};
-ghost use Rattle.office_options.specs.Kinds.{Answers, IsFaultOf};
+ghost use Rattle.office_options.specs.Kinds.{IsAnswerFor, IsFaultOf};
 
 use crate::command::command;
 use crate::fault::OptionsFault;
@@ -38,7 +38,7 @@ pub fn options_of(alloc: Global, words: &[&str]) -> Result<Options, OptionsFault
         × (number_held (codes "journal") (texts words.now) ≡ Some options.journal)) }
     ensures defaults { IfOk result (λ options.
         DefaultsHold (texts words.now) options.clerks options.journal) }
-    ensures faults { Answers (fault_of command_line (texts words.now)) result }
+    ensures faults { IsAnswerFor (fault_of command_line (texts words.now)) result }
     ensures taken { takes command_line (texts words.now) ≡ true
         → IfErr result (λ fault. fault ≡ OptionsFault.OutOfMemory) }
     ensures faultless { fault_of command_line (texts words.now) ≡ []
