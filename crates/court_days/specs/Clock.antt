@@ -1,6 +1,7 @@
 -- What the court's clock shows at an instant, and the instant at which it shows a civil time.
 pub mod Minute
 pub mod Zone
+pub mod Stretch
 use Rattle.std.specs.Prelude.{◌≡◌, ◌<◌, ℕ, ℤ, pos, neg_ℤ, ◌+ℤ◌, ◌-ℤ◌, ◌*ℤ◌, ◌≤ℤ◌, int_le, Bool, true, false, ◌&&◌, unsigned_abs, Option, Some, None, if◌then◌else◌}
 use Rattle.std.specs.Int.{int_div_euclid, int_rem_euclid}
 use Rattle.std.specs.Ordering.{int_eq}
@@ -106,3 +107,9 @@ pub record IsInstantOf (zone : TimeZone) (day : ℤ) (second : ℕ) (r : ℤ) : 
 -- what the instant of a civil time means
 abbrev pub InstantsAreEarliest : Type 0
 InstantsAreEarliest = (zone : TimeZone) (day : ℤ) (second : ℕ) → is_ruled zone ≡ true → second < 86_400 → IsInstantOf zone day second (instant_of zone day second)
+
+-- the zone is one that a court's file can name, and the office opens before it closes
+pub record IsClock (zone : TimeZone) (opens closes : ℕ) : Type 0 where
+  pub ruled : is_ruled zone ≡ true
+  pub ordered : opens < closes
+  pub within_the_day : closes < 1440

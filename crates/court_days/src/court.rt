@@ -70,12 +70,12 @@ impl Court {
         ensures { Gives file_of result (court_of (table_view file.now)) }
     {
         let zone = zone_at(file)?;
-        let (opens, closes) = hours_at(file)?;
+        let hours = hours_at(file)?;
         let days = days_at(alloc, file)?;
         let judges = names_at(alloc, file, Key::Judges)?;
         let rooms = names_at(alloc, file, Key::Rooms)?;
         Ok(Court {
-            clock: Clock::new(zone, opens, closes),
+            clock: Clock::new(alloc, zone, hours, days.from(), days.to())?,
             days,
             judges,
             rooms,

@@ -1,5 +1,5 @@
 -- The clock's offset changes only at a transition of its zone or at the end of a year of UTC.
-use Rattle.std.proofs.Common.{◌≡◌, ◌⊎◌, inl, inr, ℤ, pos, neg_ℤ, ◌≤ℤ◌, ◌<ℤ◌, int_le, int_lt, true, ◌&&◌, Option, Some, None, IfSome, refl, sym, ◌∙◌, ap, arith, if◌then◌else◌}
+use Rattle.std.proofs.Common.{◌≡◌, ◌⊎◌, inl, inr, ℤ, pos, neg_ℤ, ◌≤ℤ◌, ◌<ℤ◌, int_le, int_lt, true, ◌&&◌, Option, Some, None, IfSome, refl, ap, arith, if◌then◌else◌}
 use Rattle.std.proofs.lemmas.Int.{ints}
 use Rattle.std.proofs.lemmas.Bool.{cases_Bool}
 use Rattle.std.specs.Int.{int_div_euclid}
@@ -7,7 +7,7 @@ use Rattle.jiff_core.proofs.SignedLemmas.{signed_arith, int_div_euclid-parts}
 use Rattle.jiff_core.specs.Timestamp.{nanos_of_seconds, IsTimestampNanos}
 use Rattle.jiff_tz.specs.PosixRule.{match_some, utc_window, in_window, ordered, transition_of, next_by, next_at as next_of_rule, dst_info, std_info}
 use Rattle.jiff_tz.specs.PosixRule as PosixRule
-use Rattle.jiff_tz.specs.Year.{year_of_nanos}
+use Rattle.jiff_tz.specs.Year.{year_of_day, year_of_nanos}
 use Rattle.jiff_tz.specs.Zone.{offset_at, next_at}
 use Rattle.jiff_tz.specs.declared.info.OffsetInfo.{OffsetInfo}
 use Rattle.jiff_tz.specs.declared.timezone.TimeZone.{TimeZone}
@@ -15,6 +15,14 @@ use Rattle.jiff_tz.specs.declared.timezone.TimeZone.TheVariants.{UTC, Unknown, F
 use Rattle.jiff_tz.specs.declared.posix.TimeZone.{TimeZone as Rule}
 use Rattle.jiff_tz.specs.declared.posix.Dst.{Dst}
 use Rattle.court_days.specs.Clock.{IsInstantSecond, is_ruled, offset_seconds}
+
+-- the zone has no daylight saving time
+abbrev pub HasOneOffset : TimeZone → Type 0
+HasOneOffset UTC = Unit {0}
+HasOneOffset Unknown = Unit {0}
+HasOneOffset (Fixed offset) = Unit {0}
+HasOneOffset (Posix rule) = rule.dst ≡ None
+HasOneOffset (Tzif table) = Unit {0}
 
 -- neither end of the window lies behind the first moment and at or before the second
 record NoEndBetween (w : ℤ × ℤ) (n m : ℤ) : Type 0 where
@@ -87,22 +95,30 @@ rule_steady rule n m h year low high = dst_steady rule.dst
         let side : in_window w m ≡ in_window w n = same_side w n m h (passes_no_end rule d w (PosixRule.next_year rule d (year_of_nanos n)) n m low high next) in
         rw (year, side) refl
 
+-- a zone with one offset has it always
+pub one_offset : (zone : TimeZone) (t u : ℤ) → is_ruled zone ≡ true → HasOneOffset zone → offset_seconds zone t ≡ offset_seconds zone u
+unfolding offset_at
+one_offset UTC t u ruled one = refl
+one_offset Unknown t u ruled one = refl
+one_offset (Fixed offset) t u ruled one = refl
+one_offset (Posix rule) t u ruled one = rw one refl
+one_offset (Tzif table) t u ruled one = absurd cc
+
 -- nanoseconds lie in the day of their second
 day_of_nanos : (t : ℤ) → int_div_euclid (nanos_of_seconds t) (pos 86_400_000_000_000) ≡ int_div_euclid t (pos 86_400)
 day_of_nanos t = omega (arith, signed_arith, int_div_euclid-parts (nanos_of_seconds t) 86_400_000_000_000 (omega arith), int_div_euclid-parts t 86_400 (omega arith))
 
-zone_steady : (zone : TimeZone) (now t : ℤ) → is_ruled zone ≡ true → now ≤ℤ t → int_div_euclid t (pos 86_400) ≡ int_div_euclid now (pos 86_400) → IsTimestampNanos (nanos_of_seconds now) → IsTimestampNanos (nanos_of_seconds t) → ComesAfter (nanos_of_seconds t) (next_at zone (nanos_of_seconds now)) → offset_seconds zone t ≡ offset_seconds zone now
+zone_steady : (zone : TimeZone) (now t : ℤ) → is_ruled zone ≡ true → now ≤ℤ t → year_of_day (int_div_euclid t (pos 86_400)) ≡ year_of_day (int_div_euclid now (pos 86_400)) → IsTimestampNanos (nanos_of_seconds now) → IsTimestampNanos (nanos_of_seconds t) → ComesAfter (nanos_of_seconds t) (next_at zone (nanos_of_seconds now)) → offset_seconds zone t ≡ offset_seconds zone now
 unfolding offset_at next_at
 zone_steady UTC now t ruled h day low high next = refl
 zone_steady Unknown now t ruled h day low high next = refl
 zone_steady (Fixed offset) now t ruled h day low high next = refl
 zone_steady (Posix rule) now t ruled h day low high next =
-    let same : int_div_euclid (nanos_of_seconds t) (pos 86_400_000_000_000) ≡ int_div_euclid (nanos_of_seconds now) (pos 86_400_000_000_000) = day_of_nanos t ∙ day ∙ sym (day_of_nanos now) in
-    let year : year_of_nanos (nanos_of_seconds t) ≡ year_of_nanos (nanos_of_seconds now) = rw same refl in
+    let year : year_of_nanos (nanos_of_seconds t) ≡ year_of_nanos (nanos_of_seconds now) = rw (day_of_nanos t, day_of_nanos now) day in
     ap (λ o. o.seconds) (rule_steady rule (nanos_of_seconds now) (nanos_of_seconds t) (omega (arith, ints, h)) year low high next)
 zone_steady (Tzif table) now t ruled h day low high next = absurd cc
 
--- the clock's offset stays up to the next transition, within one day of UTC
-pub steady : (zone : TimeZone) (now t : ℤ) → is_ruled zone ≡ true → IsInstantSecond now → now ≤ℤ t → t ≤ℤ pos 9_600_086_400 → int_div_euclid t (pos 86_400) ≡ int_div_euclid now (pos 86_400) → ComesAfter (nanos_of_seconds t) (next_at zone (nanos_of_seconds now)) → offset_seconds zone t ≡ offset_seconds zone now
+-- the clock's offset stays up to the next transition, within one year of UTC
+pub steady : (zone : TimeZone) (now t : ℤ) → is_ruled zone ≡ true → IsInstantSecond now → now ≤ℤ t → t ≤ℤ pos 9_720_000_000 → year_of_day (int_div_euclid t (pos 86_400)) ≡ year_of_day (int_div_euclid now (pos 86_400)) → ComesAfter (nanos_of_seconds t) (next_at zone (nanos_of_seconds now)) → offset_seconds zone t ≡ offset_seconds zone now
 steady zone now t ruled instant low high day next =
     zone_steady zone now t ruled low day (omega (arith, ints, instant.low), omega (arith, ints, instant.high)) (omega (arith, ints, instant.low, low), omega (arith, ints, high)) next

@@ -7,12 +7,12 @@ use Rattle.jiff_core.proofs.SignedLemmas.{signed_arith}
 use Rattle.jiff_tz.specs.Year.{years_within}
 use Rattle.court_days.specs.Day.Date.{months_within, days_before_in_year, date_of, DaysHaveDates}
 
-days_of_years-more : (n : ℕ) → days_of_years (suc n) ≡ days_of_years n + days_in_year (pos n -ℤ pos 10000)
+pub days_of_years-more : (n : ℕ) → days_of_years (suc n) ≡ days_of_years n + days_in_year (pos n -ℤ pos 10000)
 unfolding days_of_years
 days_of_years-more n = refl
 
 -- a year has 365 or 366 days
-days_of_years_bounds : (n : ℕ) → (365 * n ≤ days_of_years n) × (days_of_years n ≤ 366 * n)
+pub days_of_years_bounds : (n : ℕ) → (365 * n ≤ days_of_years n) × (days_of_years n ≤ 366 * n)
 unfolding days_of_years
 days_of_years_bounds zero = (omega arith, omega arith)
 days_of_years_bounds (suc n) =
@@ -21,7 +21,7 @@ days_of_years_bounds (suc n) =
     (omega (arith, before.0, year.1), omega (arith, before.1, year.0))
 
 -- the years that fit do, and one more doesn't
-years_within-fit : (n count : ℕ) → days_of_years (years_within n count) ≤ count
+pub years_within-fit : (n count : ℕ) → days_of_years (years_within n count) ≤ count
 unfolding years_within days_of_years
 years_within-fit zero count = omega arith
 years_within-fit (suc n) count = elim (leb_tells (days_of_years (suc n)) count) [
@@ -29,12 +29,20 @@ years_within-fit (suc n) count = elim (leb_tells (days_of_years (suc n)) count) 
   | inr over ↦ rw over.0 (years_within-fit n count)
 ]
 
-years_within-most : (n count : ℕ) → count < days_of_years (suc n) → count < days_of_years (suc (years_within n count))
+pub years_within-most : (n count : ℕ) → count < days_of_years (suc n) → count < days_of_years (suc (years_within n count))
 unfolding years_within
 years_within-most zero count below = below
 years_within-most (suc n) count below = elim (leb_tells (days_of_years (suc n)) count) [
   | inl fits ↦ rw fits.0 below
   | inr over ↦ rw over.0 (years_within-most n count over.1)
+]
+
+pub years_within_bound : (n count : ℕ) → years_within n count ≤ n
+unfolding years_within
+years_within_bound zero count = omega arith
+years_within_bound (suc n) count = elim (leb_tells (days_of_years (suc n)) count) [
+  | inl fits ↦ rw fits.0 (omega arith)
+  | inr over ↦ rw over.0 (let smaller = years_within_bound n count in omega (arith, smaller))
 ]
 
 -- and so for months
@@ -62,7 +70,7 @@ months_within_bound year (suc n) count = elim (leb_tells (days_of_months year (s
   | inr over ↦ rw over.0 (let smaller = months_within_bound year n count in omega (arith, smaller))
 ]
 
-nonneg_abs : (z : ℤ) → pos 0 ≤ℤ z → pos (unsigned_abs z) ≡ z
+pub nonneg_abs : (z : ℤ) → pos 0 ≤ℤ z → pos (unsigned_abs z) ≡ z
 nonneg_abs (pos n) h = refl
 nonneg_abs (negsuc n) h = absurd (omega (arith, signed_arith, h))
 

@@ -1,5 +1,5 @@
 -- What the entry of a day says.
-use Rattle.std.proofs.Common.{◌≡◌, ◌<◌, ◌≤ℤ◌, inl, inr, ℕ, ◌==◌, ℤ, pos, ◌+ℤ◌, ◌-ℤ◌, Bool, true, false, List, length, get_or, Option, Some, None, IfSome, refl, sym, ap, ◌∙◌, arith}
+use Rattle.std.proofs.Common.{◌≡◌, ◌<◌, ◌≤ℤ◌, inl, inr, ℕ, ◌==◌, ℤ, pos, ◌+ℤ◌, ◌-ℤ◌, true, false, List, get_or, Option, Some, None, IfSome, refl, sym, ap, ◌∙◌, arith}
 use Rattle.std.proofs.lemmas.Int.{ints}
 use Rattle.std.proofs.lemmas.Bool.{cases_Bool}
 use Rattle.court_days.specs.declared.direction.Direction.{Direction}

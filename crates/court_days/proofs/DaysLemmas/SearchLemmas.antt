@@ -101,6 +101,9 @@ covered_from_bounds c d low high = grind (arith, ints)
 pub days_through-counts : (a b : ℤ) → a ≤ℤ b → pos (days_through a b) ≡ b -ℤ a +ℤ pos 1
 days_through-counts a b h = grind (arith, ints)
 
+pub days_through-smaller : (a b e : ℤ) → a ≤ℤ e → a <ℤ b → days_through b e < days_through a e
+days_through-smaller a b e h later = grind (arith, ints)
+
 pub place_from_last : (a b : ℤ) (k : ℕ) → k < days_through a b → a ≤ℤ (b -ℤ pos k)
 place_from_last a b k h = grind (arith, ints)
 

@@ -1,5 +1,5 @@
 -- The table of rolled days: how it is made from one place to the next, and what becomes of it where one day is closed.
-use Rattle.std.proofs.Common.{add-one, ◌≡◌, ◌⊎◌, inl, inr, ◌<◌, ◌≤◌, ℕ, zero, suc, ◌+◌, ◌==◌, ℤ, pos, ◌+ℤ◌, ◌-ℤ◌, ◌≤ℤ◌, Bool, true, false, ◌&&◌, not, List, [], ◌∷◌, ◌++◌, length, get_or, Option, Some, None, refl, sym, ap, subst, ◌∙◌, arith}
+use Rattle.std.proofs.Common.{add-one, ◌≡◌, ◌⊎◌, inl, inr, ◌<◌, ◌≤◌, ℕ, zero, suc, ◌+◌, ◌==◌, ℤ, pos, ◌+ℤ◌, ◌-ℤ◌, Bool, true, false, List, [], ◌∷◌, ◌++◌, length, get_or, Some, None, refl, sym, ap, subst, ◌∙◌, arith}
 use Rattle.std.proofs.lemmas.Int.{ints}
 use Rattle.std.proofs.lemmas.Bool.{cases_Bool, cases_lt}
 use Rattle.std.proofs.lemmas.List.{get_or_append_left, get_or_push, length_push}
@@ -7,9 +7,9 @@ use Rattle.court_days.specs.declared.direction.Direction.{Direction}
 use Rattle.court_days.specs.declared.direction.Direction.TheVariants.{After, Before}
 use Rattle.court_days.specs.Day.{counted_from}
 use Rattle.court_days.specs.Days.{DaysView, is_covered, is_permitted}
-use Rattle.court_days.specs.Days.Search.{days_through, earliest_day, latest_day}
+use Rattle.court_days.specs.Days.Search.{days_through}
 use Rattle.court_days.specs.Days.Rolled.{rolled}
-use Rattle.court_days.specs.Days.Table.{day_at, entry_day, IsTable, next_entry, last_entry, AreEntries, closed_at, permitted_at}
+use Rattle.court_days.specs.Days.Table.{day_at, entry_day, IsTable, next_entry, last_entry, AreEntries, permitted_at}
 use Rattle.court_days.proofs.DaysLemmas.SearchLemmas.{covered_from_bounds, earliest_skips, earliest_finds, earliest_stops, latest_skips, latest_finds, latest_stops, place_from_first, place_from_last}
 
 -- places of the table are covered days

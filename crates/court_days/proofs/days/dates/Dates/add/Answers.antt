@@ -1,4 +1,4 @@
-use Rattle.std.proofs.Common.{◌≡◌, ◌<◌, ℕ, false, length, sym, ◌∙◌, arith}
+use Rattle.std.proofs.Common.{◌≡◌, ◌<◌, false, length, sym, ◌∙◌, arith}
 use Rattle.court_days.specs.Days.{is_among}
 use Rattle.court_days.proofs.DaysLemmas.DatesLemmas.{marked_when_pushed, marked_when_outside}
 use Rattle.court_days.proofs.days.dates.Dates.add.Goals as goal
