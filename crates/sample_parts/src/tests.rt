@@ -1,17 +1,20 @@
-//! Two small instances, and runs over them.
+//! Three small instances, and runs over them.
 use counters::Counters;
 use pointers::Pointers;
 use std::test::Fail;
+use switches::{Switches, commits, reads};
 use versioned_steps::{
     Outcome, Step, Store, fresh_means_untouched, run_steps, serial_history,
     versions_are_last_touches,
 };
 
 mod counters;
+mod limits;
 mod lists;
 mod plain;
 mod pointers;
 mod refusals;
+mod switches;
 
 // Two clerks count in one cell: the first to commit wins, and the other begins again.
 #[test]
@@ -218,12 +221,41 @@ fn a_refusal_is_an_entry(rt: HostRuntime) -> Result<(), Fail> {
     Ok(())
 }
 
+// The refusal writes nothing, and the next commit throws the switch and counts.
 #[test]
-fn the_laws_are_of_both_instances(_rt: HostRuntime) {
+fn a_cell_named_twice_is_refused(rt: HostRuntime) -> Result<(), Fail> {
+    let mut steps = Vec::new(rt.alloc());
+    reads(rt.alloc(), &mut steps, 0, &[0, 3, 3])?;
+    commits(&mut steps, 0)?;
+    reads(rt.alloc(), &mut steps, 0, &[0, 3])?;
+    commits(&mut steps, 0)?;
+    let world = run_steps(rt.alloc(), Switches, 1, &steps)?;
+    let outcomes = [
+        Outcome::Began,
+        Outcome::ReadPart(0, 0),
+        Outcome::ReadPart(3, 0),
+        Outcome::ReadPart(3, 0),
+        Outcome::Finished(1, None),
+        Outcome::Began,
+        Outcome::ReadPart(0, 0),
+        Outcome::ReadPart(3, 0),
+        Outcome::Finished(2, Some(2)),
+    ];
+    assert_eq!(rt; world.outcomes.as_slice(), outcomes.as_slice());
+    assert_eq!(rt; world.store.read(rt.alloc(), 0)?, (2, Err(true)));
+    assert_eq!(rt; world.store.read(rt.alloc(), 3)?, (2, Ok(2)));
+    Ok(())
+}
+
+#[test]
+fn the_laws_are_of_each_instance(_rt: HostRuntime) {
     serial_history::<Counters>();
     serial_history::<Pointers>();
+    serial_history::<Switches>();
     versions_are_last_touches::<Counters>();
     versions_are_last_touches::<Pointers>();
+    versions_are_last_touches::<Switches>();
     fresh_means_untouched::<Counters>();
     fresh_means_untouched::<Pointers>();
+    fresh_means_untouched::<Switches>();
 }
