@@ -181,7 +181,7 @@ def measure_bookings(program):
     print(BOOKINGS_LINE.format("kind", "bookings", "seconds"))
     for line in ran.stdout.decode().splitlines():
         kind, count, seconds = line.rsplit(None, 2)
-        print(BOOKINGS_LINE.format(kind.replace("_", " "), "{:,}".format(int(count)), "%.3f" % float(seconds)))
+        print(BOOKINGS_LINE.format(kind.replace("_", " "), "{:,}".format(int(count)), "%.4f" % float(seconds)))
     if ran.returncode != 0:
         print("the bookings ended with status {}".format(ran.returncode))
 
