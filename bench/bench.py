@@ -3,7 +3,7 @@
 
     bench.py PROGRAM BOOKINGS
 
-PROGRAM is the clerk's office, and BOOKINGS the program that puts bookings into calendars and measures itself. Each
+PROGRAM is the clerk's office, and BOOKINGS the program that changes calendars and measures that itself. Each
 input of the office is a court's file, a line '%%', and rows of one kind, drawn from a fixed seed, so that two runs of
 the benchmark measure the same inputs. 'example' is the court of examples/district.toml. 'full' is one with all that a
 court's file may have: 100 years, and 4,096 dates in each list of holidays, which make 8,192 closed days in a row, so
@@ -40,7 +40,7 @@ SIZES = (1000, 10000, 100000)
 SEED = 20250902
 
 LINE = "{:<14}{:<9}{:>9}{:>10}{:>13}{:>9}  {}"
-BOOKINGS_LINE = "{:<40}{:>9}{:>10}{:>13}"
+BOOKINGS_LINE = "{:<23}{:>9}{:>10}"
 
 EXAMPLE = pathlib.Path(__file__).resolve().parent.parent / "examples" / "district.toml"
 
@@ -176,13 +176,12 @@ def measure_rows(program, folder):
 
 
 def measure_bookings(program):
-    """Runs the other program, each line of which is a kind, a number of bookings and the seconds that they took."""
-    ran = subprocess.run([program], stdout=subprocess.PIPE, check=False)
-    print(BOOKINGS_LINE.format("kind", "bookings", "seconds", "us each"))
+    """Runs the other program, each line of which is a kind of change, the bookings in its calendar, and the seconds."""
+    ran = subprocess.run([program, "measure"], stdout=subprocess.PIPE, check=False)
+    print(BOOKINGS_LINE.format("kind", "bookings", "seconds"))
     for line in ran.stdout.decode().splitlines():
         kind, count, seconds = line.rsplit(None, 2)
-        count, seconds = int(count), float(seconds)
-        print(BOOKINGS_LINE.format(kind, "{:,}".format(count), "%.3f" % seconds, "%.2f" % (seconds / count * 1e6)))
+        print(BOOKINGS_LINE.format(kind.replace("_", " "), "{:,}".format(int(count)), "%.4f" % float(seconds)))
     if ran.returncode != 0:
         print("the bookings ended with status {}".format(ran.returncode))
 
