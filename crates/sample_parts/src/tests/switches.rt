@@ -87,7 +87,11 @@ fn thrown(count: u64, content: &Content) -> Content
     }
 }
 
-fn all_thrown(alloc: Global, count: u64, six: &[(u8, Content)]) -> Result<Vec<(u8, Content)>, AllocError>
+fn all_thrown(
+    alloc: Global,
+    count: u64,
+    six: &[(u8, Content)],
+) -> Result<Vec<(u8, Content)>, AllocError>
     ensures { IfOk result (λ writes. writes.items ≡ all_thrown count six.now) }
 {
     let mut writes = Vec::new(alloc);
