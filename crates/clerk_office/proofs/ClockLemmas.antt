@@ -57,7 +57,7 @@ end_of_hours_alike c a b same event h direction =
     let end : ℤ = hours_from event h direction in
     ap (λ o. option_and_then (continued c a direction end) o) (civil_of_alike a b same end)
     ∙ and_then_alike (continued c a direction end) (continued c b direction end) (civil_of b.zone end) (λ shown.
-        ap (λ r. cond (is_permitted c direction shown.day) (Some end) r) (same_time_alike a b same shown.second (rolled c shown.day direction)))
+    ap (λ r. cond (is_permitted c direction shown.day) (Some end) r) (same_time_alike a b same shown.second (rolled c shown.day direction)))
 
 meets_alike : (a b : ClockView) → IsSameClock a.zone b.zone → (o : OutageView) (first : ℤ) (n : ℕ) → meets_within a o first n ≡ meets_within b o first n
 unfolding meets_within
@@ -69,8 +69,8 @@ unfolding extended_end
 extended_end_alike c a b same end direction =
     let moved : (clock : ClockView) → Option ℤ = λ clock. option_and_then (λ shown. same_time_on clock shown.second (next_accessible c direction shown.day)) (civil_of clock.zone end) in
     let same_end : moved a ≡ moved b =
-      ap (λ o. option_and_then (λ (shown : CivilTime). same_time_on a shown.second (next_accessible c direction shown.day)) o) (civil_of_alike a b same end)
-      ∙ and_then_alike _ _ (civil_of b.zone end) (λ shown. same_time_alike a b same shown.second (next_accessible c direction shown.day)) in
+    ap (λ o. option_and_then (λ (shown : CivilTime). same_time_on a shown.second (next_accessible c direction shown.day)) o) (civil_of_alike a b same end)
+    ∙ and_then_alike _ _ (civil_of b.zone end) (λ shown. same_time_alike a b same shown.second (next_accessible c direction shown.day)) in
     ap (λ met. cond met (moved a) (Some end)) (any_alike (meets_last_hour a end) (meets_last_hour b end) c.outages (λ o. meets_alike a b same o (end -ℤ pos 3600) 3600))
     ∙ ap (λ e. cond (list_any (meets_last_hour b end) c.outages) e (Some end)) same_end
 

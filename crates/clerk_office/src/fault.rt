@@ -7,7 +7,7 @@ use thiserror::Error;
 
 /// Why a run of the office stopped. Its message is its line.
 #[derive(Debug, Drop, Error)]
-#[error("{}", FaultLine { fault: self })]
+#[error("{}", FaultLine {fault: self})]
 pub enum OfficeFault {
     /// The court's file has this fault, its first.
     Court(CourtFault),

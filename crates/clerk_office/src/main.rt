@@ -34,12 +34,6 @@ fn main(rt: HostRuntime) -> ExitCode {
     let mut reader = Watched::new(rt.stdin());
     let mut writer = Watched::new(io::writer(&rt));
     let mut errors = rt.stderr();
-    let status = run_program(
-        rt.alloc(),
-        arguments,
-        &mut reader,
-        &mut writer,
-        &mut errors,
-    );
+    let status = run_program(rt.alloc(), arguments, &mut reader, &mut writer, &mut errors);
     ExitCode::from(status)
 }

@@ -121,7 +121,11 @@ fn ends_the_courts_file_at_the_first_divider(rt: HostRuntime) -> Result<(), Fail
         let mut input = String::from_str(alloc, file())?;
         input.push_str(divider)?;
         input.push_str(rows)?;
-        assert_eq!(rt; told(alloc, input.as_bytes())?.as_str(), text, "{divider:?}");
+        assert_eq!(rt;
+            told(alloc, input.as_bytes())?.as_str(),
+            text,
+            "{divider:?}"
+        );
     }
     Ok(())
 }

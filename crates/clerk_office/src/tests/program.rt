@@ -27,9 +27,23 @@ fn ends_with_each_status(rt: HostRuntime) -> Result<(), Fail> {
     let cases = [
         (nothing, file(), FIRST_ROW, 0, FIRST_LINE, ""),
         (nothing, "", "", 2, "", "court fault 2 Missing zone\n"),
-        (nothing, file(), second_clerk, 3, "", "row 1 fault 1 BadClerk\n"),
+        (
+            nothing,
+            file(),
+            second_clerk,
+            3,
+            "",
+            "row 1 fault 1 BadClerk\n",
+        ),
         (Arguments::Something, file(), FIRST_ROW, 1, "", usage),
-        (Arguments::Unread, file(), FIRST_ROW, 5, "", "out of memory\n"),
+        (
+            Arguments::Unread,
+            file(),
+            FIRST_ROW,
+            5,
+            "",
+            "out of memory\n",
+        ),
     ];
     for (arguments, court, rows, status, text, line) in cases {
         let input = input_of(alloc, court, rows)?;
@@ -53,7 +67,13 @@ fn ends_with_its_status_where_nothing_can_be_written(rt: HostRuntime) -> Result<
         let mut reader = Watched::new(input.as_bytes());
         let mut writer = Watched::new(make_page(alloc, 1, 0));
         let mut errors = make_page(alloc, 3, room);
-        let ended = run_program(alloc, Arguments::Nothing, &mut reader, &mut writer, &mut errors);
+        let ended = run_program(
+            alloc,
+            Arguments::Nothing,
+            &mut reader,
+            &mut writer,
+            &mut errors,
+        );
         assert_eq!(rt; ended, 4);
         let line = b"write fault\n";
         assert_eq!(rt; errors.text.as_slice(), &line[..room.min(line.len())]);
