@@ -4,7 +4,7 @@ ghost use Rattle.std.specs.Prelude.{◌≡◌, IfOk, string_bytes};
 ghost use Rattle.clerk_office.specs.Fault.{fault_text, status_number};
 
 use crate::fault::OfficeFault;
-use court_days::CourtFault;
+use court_days::{CourtFault, NumberedFault};
 use std::alloc::{AllocError, Global};
 use std::fmt;
 
@@ -30,7 +30,7 @@ pub fn fault_line(alloc: Global, fault: &OfficeFault) -> Result<String, AllocErr
     format!(in alloc; "{line}")
 }
 
-/// A fault, to be written as its line. The numbers and names of faults stand here and in `RowCause`.
+/// A fault, to be written as its line. The numbers and names of faults stand in `NumberedFault` and in `RowCause`.
 #[derive(Clone, Copy)]
 pub struct FaultLine<'a> {
     /// The fault.
@@ -45,19 +45,10 @@ impl<'a> fmt::Display for FaultLine<'a> {
 
     fn fmt<W: fmt::Write>(&self, f: &mut fmt::Formatter<W>) -> fmt::Result {
         match self.fault {
-            OfficeFault::Court(fault) => match fault {
-                CourtFault::NotToml => f.write_str("court fault 1 NotToml"),
-                CourtFault::Missing(key) => write!(f, "court fault 2 Missing {key}"),
-                CourtFault::WrongKind(key) => write!(f, "court fault 3 WrongKind {key}"),
-                CourtFault::BadDate(text) => write!(f, "court fault 4 BadDate {text}"),
-                CourtFault::BadZone => f.write_str("court fault 5 BadZone"),
-                CourtFault::BadHours => f.write_str("court fault 6 BadHours"),
-                CourtFault::BadSpan => f.write_str("court fault 7 BadSpan"),
-                CourtFault::BadName(text) => write!(f, "court fault 8 BadName {text}"),
-                CourtFault::TwiceNamed(text) => write!(f, "court fault 9 TwiceNamed {text}"),
-                CourtFault::TooMany(key) => write!(f, "court fault 10 TooMany {key}"),
-                CourtFault::OutOfMemory => f.write_str("court fault 11 OutOfMemory"),
-            },
+            OfficeFault::Court(fault) => {
+                let numbered = NumberedFault { fault };
+                write!(f, "court fault {numbered}")
+            }
             OfficeFault::Row(number, cause) => write!(f, "row {number} fault {cause}"),
             OfficeFault::ReadFault => f.write_str("read fault"),
             OfficeFault::WriteFault => f.write_str("write fault"),

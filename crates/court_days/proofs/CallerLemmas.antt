@@ -2,3 +2,4 @@
 pub use Rattle.court_days.proofs.DaysLemmas.SearchLemmas.{latest_ends}
 pub use Rattle.court_days.proofs.ClockLemmas.CivilLemmas.{offset_in_range, shown_from_civil}
 pub use Rattle.court_days.proofs.CourtLemmas.NamedZoneLemmas.{IsNamed, zone_is_named}
+pub use Rattle.court_days.proofs.CourtLemmas.OpeningLemmas.{files_name_no_outages}

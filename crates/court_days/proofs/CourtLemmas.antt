@@ -2,3 +2,4 @@
 pub mod ReadingLemmas
 pub mod NamesLemmas
 pub mod NamedZoneLemmas
+pub mod OpeningLemmas

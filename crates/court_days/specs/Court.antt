@@ -1,7 +1,7 @@
 -- A court's file: what is read from it, or its first fault.
 pub mod Names
 pub mod Reading
-use Rattle.std.specs.Prelude.{ℕ, nat_lt, nat_le, ◌&&◌, Bool, ℤ, int_le, List, [], Option, None, Result, Ok, Err, if◌then◌else◌}
+use Rattle.std.specs.Prelude.{◌≡◌, ℕ, nat_lt, nat_le, ◌&&◌, Bool, ℤ, int_le, List, [], Option, None, Result, Ok, Err, if◌then◌else◌}
 use Rattle.std.specs.Option.{ok_or}
 use Rattle.std.specs.Str.{is_utf8}
 use Rattle.toml.specs.Data.{Members}
@@ -89,3 +89,7 @@ unfoldable pub court_in : List ℕ → Result CourtFile CourtFault
 court_in bytes = do
   file ← ok_or (toml_of bytes) NotToml
   court_of file
+
+-- A court opens with no outages: those of the clerk's office are entered later.
+abbrev pub FilesNameNoOutages : Type 0
+FilesNameNoOutages = (bytes : List ℕ) (file : CourtFile) → court_in bytes ≡ Ok file → file.days.outages ≡ []

@@ -2,5 +2,6 @@ pub mod Day
 pub mod Days
 pub mod Clock
 pub mod Key
+pub mod Fault
 pub mod Court
 pub mod Words

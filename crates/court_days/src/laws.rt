@@ -5,6 +5,7 @@ ghost use Rattle.court_days.specs.Days.Rolled.{RolledIsNearest};
 ghost use Rattle.court_days.specs.Day.Date.{DaysHaveDates, TextsAreDays};
 ghost use Rattle.court_days.specs.Clock.{InstantsAreEarliest};
 ghost use Rattle.court_days.specs.Clock.Zone.{TextsNameClocks};
+ghost use Rattle.court_days.specs.Court.{FilesNameNoOutages};
 
 /// Rolling gives the nearest permitted day, and none only where the day isn't covered or no covered day is that.
 pub fn rolled_is_nearest()
@@ -42,4 +43,9 @@ pub fn instants_are_earliest()
 /// The text of a zone names one clock: all values that stand for it have the same offset at every instant.
 pub fn texts_name_clocks()
     ensures { TextsNameClocks }
+{}
+
+/// The court of a file has no outages: those of the clerk's office are entered later.
+pub fn files_name_no_outages()
+    ensures { FilesNameNoOutages }
 {}

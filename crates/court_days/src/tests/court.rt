@@ -8,29 +8,29 @@ zone = \"+14:59\" -> a court
 zone = \"-00:00\" -> a court
 zone = \"-05:00\" -> a court
 zone = \"UTC0\" -> a court
-zone = \"+15:00\" -> the court's zone is neither an offset, as `-05:00`, nor a POSIX rule
-zone = \"+05:60\" -> the court's zone is neither an offset, as `-05:00`, nor a POSIX rule
-zone = \"+5:00\" -> the court's zone is neither an offset, as `-05:00`, nor a POSIX rule
-zone = \"America/New_York\" -> the court's zone is neither an offset, as `-05:00`, nor a POSIX rule
-zone = x -> the court's file is not TOML
-zone = \"\" -> the court's zone is neither an offset, as `-05:00`, nor a POSIX rule
-opens = \"8:30\" -> the clerk's office must open before it closes, at times as `08:30`
-closes = \"08:30\" -> the clerk's office must open before it closes, at times as `08:30`
+zone = \"+15:00\" -> 5 BadZone
+zone = \"+05:60\" -> 5 BadZone
+zone = \"+5:00\" -> 5 BadZone
+zone = \"America/New_York\" -> 5 BadZone
+zone = x -> 1 NotToml
+zone = \"\" -> 5 BadZone
+opens = \"8:30\" -> 6 BadHours
+closes = \"08:30\" -> 6 BadHours
 closes = \"08:31\" -> a court
 from = \"2026-12-31\" -> a court
-from = \"2027-01-01\" -> the span must have 1 to 36,525 days
+from = \"2027-01-01\" -> 7 BadSpan
 to = \"2107-01-01\" -> a court
-to = \"2107-01-02\" -> the span must have 1 to 36,525 days
+to = \"2107-01-02\" -> 7 BadSpan
 federal = [] -> a court
 federal = [\"2025-09-01\", \"1999-01-01\", \"2025-09-01\"] -> a court
-federal = [\"2025-9-1\"] -> `2025-9-1` is no date
-state = \"2025-03-28\" -> the key `state` of the court's file holds a value of another type
+federal = [\"2025-9-1\"] -> 4 BadDate 2025-9-1
+state = \"2025-03-28\" -> 3 WrongKind state
 judges = [\"a.B-c_9\"] -> a court
-judges = [\"\"] -> `` is no name
-judges = [\"twelve-and-twenty-letters-in-all.\"] -> `twelve-and-twenty-letters-in-all.` is no name
-judges = [{}] -> the key `judges` of the court's file holds a value of another type
+judges = [\"\"] -> 8 BadName 
+judges = [\"twelve-and-twenty-letters-in-all.\"] -> 8 BadName twelve-and-twenty-letters-in-all.
+judges = [{}] -> 3 WrongKind judges
 rooms = [\"R1\", \"r1\"] -> a court
-rooms = [\"R1\", \"R2\", \"R1\"] -> `R1` is named twice
+rooms = [\"R1\", \"R2\", \"R1\"] -> 9 TwiceNamed R1
 ";
 
 #[test]
@@ -38,13 +38,11 @@ fn reads_each_key(rt: HostRuntime) -> Result<(), Fail> {
     let alloc = rt.alloc();
     for key in KEYS.lines() {
         let file = file_with(alloc, key, "")?;
-        let missing = format!(in alloc; "the court's file has no key `{key}`")?;
+        let missing = format!(in alloc; "2 Missing {key}")?;
         assert_eq!(rt; made_of(alloc, file.as_str())?.as_str(), missing.as_str());
         let number = format!(in alloc; "{key} = 1")?;
         let file = file_with(alloc, key, number.as_str())?;
-        let wrong = format!(in alloc;
-            "the key `{key}` of the court's file holds a value of another type"
-        )?;
+        let wrong = format!(in alloc; "3 WrongKind {key}")?;
         assert_eq!(rt; made_of(alloc, file.as_str())?.as_str(), wrong.as_str());
     }
     Ok(())
@@ -82,7 +80,7 @@ fn reads_names(rt: &impl Abort, alloc: Global, key: &str) -> Result<(), Fail> {
     assert_eq!(rt; made_of(alloc, file.as_str())?.as_str(), "a court");
     let more = names(alloc, key, 33)?;
     let file = file_with(alloc, key, more.as_str())?;
-    let long = format!(in alloc; "the list `{key}` of the court's file is too long")?;
+    let long = format!(in alloc; "10 TooMany {key}")?;
     assert_eq!(rt; made_of(alloc, file.as_str())?.as_str(), long.as_str());
     Ok(())
 }
@@ -102,10 +100,10 @@ fn names_a_long_text(rt: HostRuntime) -> Result<(), Fail> {
     }
     let line = format!(in alloc; "from = \"{text}\"")?;
     let file = file_with(alloc, "from", line.as_str())?;
-    let fault = format!(in alloc; "`{text}` is no date")?;
+    let fault = format!(in alloc; "4 BadDate {text}")?;
     assert_eq!(rt; made_of(alloc, file.as_str())?.as_str(), fault.as_str());
     let none = format!(in alloc; "{}", CourtFault::OutOfMemory)?;
-    assert_eq!(rt; none.as_str(), "out of memory");
+    assert_eq!(rt; none.as_str(), "11 OutOfMemory");
     Ok(())
 }
 
