@@ -1,0 +1,16 @@
+pub mod Bench
+pub mod Cases
+pub mod Clash
+pub mod FirstRefusal
+pub mod Hearings
+pub mod Lawful
+pub mod Parts
+pub mod Reads
+pub mod Reasons
+pub mod Refusals
+pub mod Rows
+pub mod Seen
+pub mod Step
+pub mod View
+pub mod Words
+pub mod Writes
