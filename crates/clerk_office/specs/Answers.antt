@@ -1,12 +1,12 @@
 -- What rows are answered, and the text of the answers.
-use Rattle.std.specs.Prelude.{ℕ, ◌+◌, ◌/◌, ◌%◌, List, [], ◌∷◌, ◌++◌, Option, Some, None, Result, Ok, Err, codes}
+use Rattle.std.specs.Prelude.{ℕ, ◌+◌, ◌/◌, ◌%◌, List, [], ◌∷◌, ◌++◌, Option, Some, None, codes}
 use Rattle.std.specs.Fmt.{decimal}
 use Rattle.jiff_fmt.specs.Text.{pad2}
 use Rattle.court_days.specs.Words.{ClockView, CivilTime, civil_of, CourtView, day_text}
 use Rattle.rule6.specs.declared.timeliness.Shown.{Shown}
 use Rattle.rule6.specs.declared.timeliness.Shown.TheVariants as shown
 use Rattle.rule_periods.specs.declared.refusal.PeriodRefusal.{PeriodRefusal}
-use Rattle.rule_periods.specs.Words.{DeadlineRowView, shown_of, start_of}
+use Rattle.rule_periods.specs.Words.{DeadlineRowView, shown_of, start_refusal}
 use Rattle.rule_periods.specs.declared.refusal.PeriodRefusal.TheVariants.{BadDay, BadLength, WrongService, Beyond, NotExtendable, NoGoodCause, LateWithoutMotion, LateWithoutNeglect, NotLonger, WrongGrant}
 use Rattle.clerk_office.specs.declared.answer.Answer.{Answer}
 use Rattle.clerk_office.specs.declared.answer.Answer.TheVariants.{Computed, Refused}
@@ -20,14 +20,14 @@ abbrev pub deadline_of : ComputeRow → DeadlineRowView
 deadline_of row = record { period = row.period; event = row.event; second = row.second; service = row.service; grants = []; filed = None }
 
 -- the refusal, or else what is shown
-abbrev pub unless_refused : Result (Unit {0}) PeriodRefusal → Shown → Answer
-unless_refused (Ok done) end = Computed end
-unless_refused (Err refusal) end = Refused refusal
+abbrev pub unless_refused : Option PeriodRefusal → Shown → Answer
+unless_refused None end = Computed end
+unless_refused (Some refusal) end = Refused refusal
 
 -- what is shown of a period's end: refused where the period can't start with its event
 unfoldable pub computed : CourtView → ComputeRow → Answer
 computed court row =
-    unless_refused (start_of court.days row.period row.event row.second row.service)
+    unless_refused (start_refusal court.days row.period row.event row.second row.service)
     (shown_of court.days court.clock (deadline_of row))
 
 -- what a row's work is answered

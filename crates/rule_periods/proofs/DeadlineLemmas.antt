@@ -1,6 +1,8 @@
 -- One more extension.
-use Rattle.std.proofs.Common.{◌≡◌, ◌-◌, false, List, [], ◌∷◌, ◌++◌, length, slice_get, fold, Some, refl, ap, ◌∙◌, arith, length-append}
+use Rattle.std.proofs.Common.{◌≡◌, ◌-◌, Bool, true, false, ◌&&◌, List, [], ◌∷◌, ◌++◌, length, slice_get, fold, Some, refl, ap, ◌∙◌, arith, length-append}
+use Rattle.std.specs.List.{list_all}
 use Rattle.std.specs.Option.{option_map_or}
+use Rattle.std.proofs.lemmas.List.Folds.{list_all-append}
 use Rattle.std.proofs.lemmas.List.Sums.{fold_push}
 use Rattle.court_days.specs.declared.direction.Direction.{Direction}
 use Rattle.court_days.specs.Words.{DaysView, ClockView}
@@ -8,9 +10,16 @@ use Rattle.court_days.specs.declared.direction.Direction.TheVariants.{After}
 use Rattle.rule_periods.specs.declared.grant.Grant.{Grant}
 use Rattle.rule_periods.specs.declared.period.Period.{Period}
 use Rattle.rule_periods.specs.declared.period.Period.TheVariants as period
-use Rattle.rule_periods.specs.Deadline.{DeadlineRowView, ends_certain, is_certain, access_direction, extended_of, granted_if_it_fits, shown_after, shown_of, base_of, base_of_period, end_of_rule}
-use Rattle.rule_periods.specs.Extension.{with_grant}
-use Rattle.rule_periods.specs.Period.{act_of, direction_of, is_hours}
+use Rattle.rule_periods.specs.Base.{base_of, base_of_period, end_of_rule}
+use Rattle.rule_periods.specs.Deadline.{DeadlineRowView, with_grant}
+use Rattle.rule_periods.specs.Extended.{extended_of, granted_if_it_fits}
+use Rattle.rule_periods.specs.Grant.{is_certain}
+use Rattle.rule_periods.specs.Period.{act_of, direction_of, is_in_hours}
+use Rattle.rule_periods.specs.Showing.{ends_certain, access_direction, shown_after, shown_of}
+
+-- a test that all pass, and one more
+pub all_push : (test : Grant → Bool) (grants : List Grant) (grant : Grant) → list_all test grants ≡ true → test grant ≡ true → list_all test (grants ++ grant ∷ []) ≡ true
+all_push test grants grant all one = rw (list_all-append test grants (grant ∷ []), all, one) refl
 
 at_end : (grants : List Grant) (grant : Grant) → slice_get (grants ++ grant ∷ []) (length grants) ≡ Some grant
 at_end [] grant = refl
@@ -32,15 +41,15 @@ base_of-grants c clock row grant (period.Rule rule) = refl
 base_of-grants c clock row grant (period.Entered entered) = refl
 
 -- the end with one more extension
-extended_of-push : (c : DaysView) (clock : ClockView) (row : DeadlineRowView) (grant : Grant) → extended_of c clock (with_grant row grant) ≡ granted_if_it_fits c clock (is_hours row.period) (extended_of c clock row) grant
+extended_of-push : (c : DaysView) (clock : ClockView) (row : DeadlineRowView) (grant : Grant) → extended_of c clock (with_grant row grant) ≡ granted_if_it_fits c clock (is_in_hours row.period) (extended_of c clock row) grant
 unfolding extended_of
 extended_of-push c clock row grant =
-    let more = granted_if_it_fits c clock (is_hours row.period) in
+    let more = granted_if_it_fits c clock (is_in_hours row.period) in
     ap (λ b. fold more b (row.grants ++ grant ∷ [])) (base_of-grants c clock row grant row.period)
     ∙ fold_push more (base_of c clock row) row.grants grant
 
 -- what is shown with one more extension is what is shown after it
-pub shown_of-push : (c : DaysView) (clock : ClockView) (row : DeadlineRowView) (grant : Grant) → shown_of c clock (with_grant row grant) ≡ shown_after c clock (act_of row.period) (is_certain grant) After (granted_if_it_fits c clock (is_hours row.period) (extended_of c clock row) grant)
+pub shown_of-push : (c : DaysView) (clock : ClockView) (row : DeadlineRowView) (grant : Grant) → shown_of c clock (with_grant row grant) ≡ shown_after c clock (act_of row.period) (is_certain grant) After (granted_if_it_fits c clock (is_in_hours row.period) (extended_of c clock row) grant)
 unfolding shown_of
 shown_of-push c clock row grant =
     let certain : ends_certain (row.grants ++ grant ∷ []) ≡ is_certain grant = ap (λ g. option_map_or is_certain g false) (last-push row.grants grant) in

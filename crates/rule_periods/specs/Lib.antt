@@ -1,8 +1,13 @@
 pub mod Rule
 pub mod Event
 pub mod Period
+pub mod FirstRefusal
 pub mod Start
+pub mod Grant
 pub mod Deadline
+pub mod Base
+pub mod Extended
+pub mod Showing
 pub mod Extension
 pub mod Notice
 pub mod Words

@@ -43,14 +43,14 @@ extension_of (period.Rule rule) = (terms_of rule).extension
 extension_of (period.Entered entered) = extension_of_mark entered.mark
 
 -- a length in hours
-abbrev pub is_in_hours : Length → Bool
-is_in_hours (Days n) = false
-is_in_hours (Hours h) = true
+abbrev pub is_hour_length : Length → Bool
+is_hour_length (Days n) = false
+is_hour_length (Hours h) = true
 
 -- a period counted in hours
-abbrev pub is_hours : Period → Bool
-is_hours (period.Rule rule) = false
-is_hours (period.Entered entered) = is_in_hours entered.length
+abbrev pub is_in_hours : Period → Bool
+is_in_hours (period.Rule rule) = false
+is_in_hours (period.Entered entered) = is_hour_length entered.length
 
 -- a length of 1 to 3,650 days or 1 to 8,760 hours
 abbrev pub is_days : ℕ → Bool
@@ -96,7 +96,7 @@ is_second_for true (Some d) = true
 -- no kind is given.
 abbrev pub is_kind_for_entered : Entered → Option ServiceKind → Bool
 is_kind_for_entered entered kind =
-    if entered.served then is_given kind && (is_after entered.direction && not (is_in_hours entered.length)) else not (is_given kind)
+    if entered.served then is_given kind && (is_after entered.direction && not (is_hour_length entered.length)) else not (is_given kind)
 
 -- the kind of service and the second day suit the period
 abbrev pub suits : Period → Option ℤ → Option ServiceKind → Bool

@@ -1,7 +1,7 @@
 //! When the time of a deadline ends before any extension.
 
 ghost use Rattle.std.specs.Prelude.{◌≡◌, true, IsTrue};
-ghost use Rattle.rule_periods.specs.Deadline.{base_of, end_of_rule, end_of_length, later_event, kind_adds, runs_from_service};
+ghost use Rattle.rule_periods.specs.Base.{base_of, end_of_rule, end_of_length, later_event, kind_adds, runs_from_service};
 ghost use Rattle.rule_periods.specs.Period.{is_length};
 
 use crate::deadline::DeadlineRow;
@@ -13,7 +13,7 @@ use court_days::{Clock, Day, Days, Direction};
 use rule6::{ServiceKind, adds_three, end_of_hours, last_day};
 
 /// The end of the row's period, before any extension. None where no covered day qualifies.
-#[tactic(auto, unfolding(crate::specs::Deadline::base_of_period))]
+#[tactic(auto, unfolding(crate::specs::Base::base_of_period))]
 pub(crate) fn base(days: &Days, clock: &Clock, row: &DeadlineRow) -> Option<Expiry>
     ensures { result ≡ base_of days.now clock.now row.now }
 {
@@ -34,7 +34,7 @@ pub(crate) fn base(days: &Days, clock: &Clock, row: &DeadlineRow) -> Option<Expi
 }
 
 /// The end of a period that the Rules set.
-#[tactic(auto, unfolding(crate::specs::Deadline::end_of_rule))]
+#[tactic(auto, unfolding(crate::specs::Base::end_of_rule))]
 fn end_of_rule(days: &Days, row: &DeadlineRow, rule: RulePeriod) -> Option<Expiry>
     ensures { result ≡ end_of_rule days.now row.now rule }
 {
@@ -46,7 +46,7 @@ fn end_of_rule(days: &Days, row: &DeadlineRow, rule: RulePeriod) -> Option<Expir
 }
 
 /// The end of an entered length.
-#[tactic(auto, unfolding(crate::specs::Deadline::end_of_length))]
+#[tactic(auto, unfolding(crate::specs::Base::end_of_length))]
 fn end_of_length(
     days: &Days,
     clock: &Clock,

@@ -1,20 +1,18 @@
 //! A deadline as the docket keeps it.
 
-ghost use Rattle.std.specs.Prelude.{◌≡◌, true, option_map};
+ghost use Rattle.std.specs.Prelude.{◌≡◌, ◌<◌, true, option_map, IfSome, IfOk, is_ok, if◌then◌else◌};
 ghost use Rattle.std.specs.List.{list_all};
-ghost use Rattle.rule_periods.specs.Deadline.{DeadlineRowView, kept_filing};
-ghost use Rattle.rule_periods.specs.Extension.{is_grant_length};
+ghost use Rattle.rule_periods.specs.Deadline.{DeadlineRowView, kept_filing, with_filing, with_grant};
+ghost use Rattle.rule_periods.specs.Grant.{is_grant_length};
 ghost use Rattle.rule_periods.specs.Period.{suits, has_length};
 
-use crate::event::Event;
+use crate::event::{Event, LAST_MINUTE};
 use crate::grant::Grant;
 use crate::period::Period;
 use court_days::Day;
 use rule6::{Filing, ServiceKind};
+use std::alloc::{AllocError, Global};
 use std::marker::Model;
-
-/// The last minute of a day.
-const LAST_MINUTE: u16 = 1439;
 
 /// A deadline: its period, the event from which it runs, the extensions that were granted in order, and the act by
 /// which it was met, or missed.
@@ -33,11 +31,12 @@ impl Model for DeadlineRow {
 
     ghost view = { λ r. record { period = r.period; event = r.event; second = r.second; service = r.service; grants = r.grants.items; filed = r.filed } };
 
-    ghost invariant = { λ r. (suits r.period r.second r.service ≡ true) × (has_length r.period ≡ true) × (list_all is_grant_length r.grants.items ≡ true) };
+    ghost invariant = { λ r. (suits r.period r.second r.service ≡ true) × (has_length r.period ≡ true) × (list_all is_grant_length r.grants.items ≡ true) × IfSome r.filed (λ f. f.minute < 1440) };
 }
 
 impl DeadlineRow {
-    /// A deadline of that period. A minute of 1,440 or more in the act is kept as 1,439, the last of the day.
+    /// A deadline of that period. A minute of 1,440 or more in the act is kept as 1,439, the last of the day. An
+    /// extension that isn't of the period's kind leaves it without an end.
     pub fn new(
         period: Period,
         event: Event,
@@ -57,7 +56,10 @@ impl DeadlineRow {
             second,
             service,
             grants,
-            filed: kept(filed),
+            filed: match filed {
+                Some(filing) => Some(kept(filing)),
+                None => None,
+            },
         }
     }
 
@@ -101,19 +103,58 @@ impl DeadlineRow {
 
     /// The act that was recorded for the deadline.
     pub fn filed(&self) -> Option<Filing>
-        ensures { result ≡ self.now.filed }
+        ensures value { result ≡ self.now.filed }
+        ensures in_the_day { IfSome result (λ f. f.minute < 1440) }
     {
         self.filed
+    }
+
+    /// Adds an extension, in place. An error leaves the deadline as it was.
+    #[tactic(auto, using(crate::proofs::DeadlineLemmas::all_push))]
+    pub(crate) fn add_grant(&mut self, grant: Grant) -> Result<(), AllocError>
+        requires { is_grant_length grant ≡ true }
+        ensures { self.new ≡ (if is_ok result then with_grant self.old grant else self.old) }
+    {
+        self.grants.push(grant)?;
+        Ok(())
+    }
+
+    /// Records the act, in place. A minute of 1,440 or more is kept as 1,439.
+    pub(crate) fn set_filed(&mut self, filing: Filing)
+        ensures { self.new ≡ with_filing self.old filing }
+    {
+        self.filed = Some(kept(filing));
+    }
+
+    /// A copy.
+    pub fn copy(&self, alloc: Global) -> Result<DeadlineRow, AllocError>
+        ensures { IfOk result (λ row. row ≡ self.now) }
+    {
+        Ok(DeadlineRow {
+            period: self.period,
+            event: self.event,
+            second: self.second,
+            service: self.service,
+            grants: Vec::from_slice(alloc, &self.grants)?,
+            filed: self.filed,
+        })
+    }
+
+    /// The list of the extensions, without the deadline.
+    pub fn into_grants(self) -> Vec<Grant>
+        ensures { result.items ≡ self.grants }
+    {
+        self.grants
     }
 }
 
 /// The act as it is kept.
-fn kept(filed: Option<Filing>) -> Option<Filing>
-    ensures { result ≡ option_map kept_filing filed }
+fn kept(filing: Filing) -> Filing
+    ensures value { result ≡ kept_filing filing }
+    ensures in_the_day { result.minute < 1440 }
 {
-    let filing = filed?;
-    Some(Filing {
+    Filing {
         minute: filing.minute.min(LAST_MINUTE),
         ..filing
-    })
+    }
 }

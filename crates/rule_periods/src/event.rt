@@ -7,7 +7,7 @@ use court_days::Day;
 use std::marker::Model;
 
 /// The last minute of a day.
-const LAST_MINUTE: u16 = 1439;
+pub(crate) const LAST_MINUTE: u16 = 1439;
 
 /// When something happened: a day, and a minute of it counted from midnight in the court's zone.
 #[derive(Clone, Copy, Debug, PartialEq, Eq)]

@@ -2,19 +2,19 @@
 
 ghost use Rattle.std.specs.Prelude.{◌≡◌, true};
 ghost use Rattle.std.specs.List.{list_all};
-ghost use Rattle.rule_periods.specs.Deadline.{extended_of, granted_if_it_fits, grant_fits, by_days, by_hours};
-ghost use Rattle.rule_periods.specs.Extension.{is_grant_length};
-ghost use Rattle.rule_periods.specs.Period.{is_hours};
+ghost use Rattle.rule_periods.specs.Extended.{extended_of, granted_if_it_fits, by_days, by_hours};
+ghost use Rattle.rule_periods.specs.Grant.{is_grant_length};
+ghost use Rattle.rule_periods.specs.Period.{is_in_hours};
 
 use crate::base::base;
 use crate::deadline::DeadlineRow;
 use crate::expiry::Expiry;
-use crate::grant::Grant;
+use crate::grant::{Grant, grant_fits};
 use court_days::{Clock, Day, Days, Direction};
 use rule6::{end_of_hours, last_day};
 
 /// The end with every extension in turn.
-#[tactic(auto, unfolding(crate::specs::Deadline::extended_of))]
+#[tactic(auto, unfolding(crate::specs::Extended::extended_of))]
 pub(crate) fn extended(days: &Days, clock: &Clock, row: &DeadlineRow) -> Option<Expiry>
     ensures { result ≡ extended_of days.now clock.now row.now }
 {
@@ -45,16 +45,6 @@ pub(crate) fn granted(
         Grant::ByDays(n) => by_days(days, end?, n),
         Grant::ByHours(h) => by_hours(days, clock, end?, h),
         Grant::Until(day) => Some(Expiry::OnDay(day)),
-    }
-}
-
-/// Whether the extension is of the kind of a period that is, or isn't, in hours.
-pub(crate) fn grant_fits(hours: bool, grant: Grant) -> bool
-    ensures { result ≡ grant_fits hours grant }
-{
-    match grant {
-        Grant::ByDays(_) | Grant::Until(_) => !hours,
-        Grant::ByHours(_) => hours,
     }
 }
 

@@ -1,16 +1,20 @@
 //! Whether the time may be extended (Fed. R. Civ. P. 6(b)).
 
-ghost use Rattle.std.specs.Prelude.{◌≡◌, true, Ok};
-ghost use Rattle.rule_periods.specs.Deadline.{shown_of};
-ghost use Rattle.rule_periods.specs.Extension.{extension_answer, is_covered_grant, is_grant_length, is_beyond, is_asked_in_time, is_later, longer_of, found_of, with_grant};
+ghost use Rattle.std.specs.Prelude.{◌≡◌, true, OnOk};
+ghost use Rattle.std.specs.Result.{result_err};
+ghost use Rattle.rule_periods.specs.Deadline.{with_grant};
+ghost use Rattle.rule_periods.specs.Extension.{extension_refusal, is_covered_grant, is_beyond, is_never, asks_findings, is_asked_in_time, is_later};
+ghost use Rattle.rule_periods.specs.Grant.{grant_fits, is_grant_length};
+ghost use Rattle.rule_periods.specs.Period.{is_in_hours};
+ghost use Rattle.rule_periods.specs.Showing.{shown_of};
 
 use crate::deadline::DeadlineRow;
 use crate::event::Event;
-use crate::extended::{extended, grant_fits, granted};
-use crate::grant::{Grant, Request};
+use crate::extended::{extended, granted};
+use crate::grant::{Grant, Request, grant_fits, is_certain, is_grant_length};
 use crate::refusal::PeriodRefusal;
 use crate::rule::ExtensionRule;
-use crate::showing::{is_certain, shown, shown_after};
+use crate::showing::{shown, shown_after};
 use court_days::{Clock, Day, Days, Direction, Instant};
 use rule6::{Act, Filing, Means, Shown, is_timely};
 
@@ -20,14 +24,17 @@ use rule6::{Act, Filing, Means, Shown, is_timely};
 /// the request came after the time had expired, `LateWithoutMotion` and `LateWithoutNeglect`; `Beyond` where the
 /// extended deadline would be; `NotLonger` where it wouldn't be later. A request is in time where an electronic filing
 /// at its moment would be timely.
-#[tactic(auto, unfolding(crate::specs::Extension::extension_answer))]
+#[tactic(auto, unfolding(crate::specs::Extension::extension_refusal))]
 pub fn may_extend(
     days: &Days,
     clock: &Clock,
     row: &DeadlineRow,
     request: &Request,
 ) -> Result<(), PeriodRefusal>
-    ensures { result ≡ extension_answer days.now clock.now row.now request.now }
+    ensures refusal { result_err result ≡ extension_refusal days.now clock.now row.now request.now }
+    // What a row with the extension asks.
+    ensures length { OnOk result (is_grant_length request.now.grant ≡ true) }
+    ensures fits { OnOk result (grant_fits (is_in_hours row.now.period) request.now.grant ≡ true) }
 {
     let now = shown(days, clock, row);
     let rule = row.period().extension_rule();
@@ -37,7 +44,7 @@ pub fn may_extend(
     if is_beyond(&now) {
         return Err(PeriodRefusal::Beyond);
     }
-    if matches!(rule, ExtensionRule::Never) {
+    if is_never(rule) {
         return Err(PeriodRefusal::NotExtendable);
     }
     if !grant_fits(row.period().is_in_hours(), request.grant) {
@@ -46,12 +53,24 @@ pub fn may_extend(
     if !is_grant_length(request.grant) {
         return Err(PeriodRefusal::BadLength);
     }
-    if matches!(rule, ExtensionRule::GoodCause) {
-        let in_time = is_asked_in_time(clock, &now, request.asked);
-        found(in_time, request)?;
+    if asks_findings(rule) && !request.cause {
+        return Err(PeriodRefusal::NoGoodCause);
+    }
+    let late = !is_asked_in_time(clock, &now, request.asked);
+    if asks_findings(rule) && late && !request.motion {
+        return Err(PeriodRefusal::LateWithoutMotion);
+    }
+    if asks_findings(rule) && late && !request.neglect {
+        return Err(PeriodRefusal::LateWithoutNeglect);
     }
     let then = shown_with(days, clock, row, request.grant);
-    is_longer(&now, &then)
+    if is_beyond(&then) {
+        return Err(PeriodRefusal::Beyond);
+    }
+    if !is_later(&now, &then) {
+        return Err(PeriodRefusal::NotLonger);
+    }
+    Ok(())
 }
 
 /// What would be shown with one more extension.
@@ -67,33 +86,18 @@ fn shown_with(days: &Days, clock: &Clock, row: &DeadlineRow, grant: Grant) -> Sh
     shown_after(days, clock, act, certain, Direction::After, end)
 }
 
-/// The findings of Rule 6(b)(1), which a late request needs more of.
-fn found(in_time: bool, request: &Request) -> Result<(), PeriodRefusal>
-    ensures { result ≡ found_of in_time request.now (Ok tt) }
+/// Whether the time must not be extended.
+fn is_never(rule: ExtensionRule) -> bool
+    ensures { result ≡ is_never rule }
 {
-    if !request.cause {
-        return Err(PeriodRefusal::NoGoodCause);
-    }
-    if !(in_time || request.motion) {
-        return Err(PeriodRefusal::LateWithoutMotion);
-    }
-    if !(in_time || request.neglect) {
-        return Err(PeriodRefusal::LateWithoutNeglect);
-    }
-    Ok(())
+    matches!(rule, ExtensionRule::Never)
 }
 
-/// Whether the extended deadline is one, and later.
-fn is_longer(now: &Shown, then: &Shown) -> Result<(), PeriodRefusal>
-    ensures { result ≡ longer_of now.now then.now }
+/// Whether the findings of Rule 6(b)(1) are asked for.
+fn asks_findings(rule: ExtensionRule) -> bool
+    ensures { result ≡ asks_findings rule }
 {
-    if is_beyond(then) {
-        return Err(PeriodRefusal::Beyond);
-    }
-    if !is_later(now, then) {
-        return Err(PeriodRefusal::NotLonger);
-    }
-    Ok(())
+    matches!(rule, ExtensionRule::GoodCause)
 }
 
 /// Whether the second end lies later than the first.
@@ -143,17 +147,6 @@ fn is_covered_grant(days: &Days, grant: Grant) -> bool
     match grant {
         Grant::ByDays(_) | Grant::ByHours(_) => true,
         Grant::Until(day) => days.covered(day),
-    }
-}
-
-/// Whether the length of an extension lies in its range.
-fn is_grant_length(grant: Grant) -> bool
-    ensures { result ≡ is_grant_length grant }
-{
-    match grant {
-        Grant::ByDays(n) => 1 <= n && n <= 3_650,
-        Grant::ByHours(h) => 1 <= h && h <= 8_760,
-        Grant::Until(_) => true,
     }
 }
 

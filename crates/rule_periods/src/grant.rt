@@ -1,5 +1,8 @@
 //! Extensions of time.
 
+ghost use Rattle.std.specs.Prelude.{◌≡◌};
+ghost use Rattle.rule_periods.specs.Grant.{grant_fits, is_certain, is_grant_length};
+
 use crate::event::Event;
 use court_days::Day;
 
@@ -27,4 +30,35 @@ pub struct Request {
     pub cause: bool,
     /// Whether the failure to act in time was excusable neglect.
     pub neglect: bool,
+}
+
+/// Whether the length of an extension lies in its range.
+pub(crate) fn is_grant_length(grant: Grant) -> bool
+    ensures { result ≡ is_grant_length grant }
+{
+    match grant {
+        Grant::ByDays(n) => 1 <= n && n <= 3_650,
+        Grant::ByHours(h) => 1 <= h && h <= 8_760,
+        Grant::Until(_) => true,
+    }
+}
+
+/// Whether the extension is of the kind of a period that is, or isn't, in hours.
+pub(crate) fn grant_fits(hours: bool, grant: Grant) -> bool
+    ensures { result ≡ grant_fits hours grant }
+{
+    match grant {
+        Grant::ByDays(_) | Grant::Until(_) => !hours,
+        Grant::ByHours(_) => hours,
+    }
+}
+
+/// Whether the extension is to a date certain.
+pub(crate) fn is_certain(grant: &Grant) -> bool
+    ensures { result ≡ is_certain grant.now }
+{
+    match *grant {
+        Grant::ByDays(_) | Grant::ByHours(_) => false,
+        Grant::Until(_) => true,
+    }
 }

@@ -3,6 +3,7 @@
 
 mod base;
 mod deadline;
+mod docket_row;
 mod event;
 mod expiry;
 mod extended;
@@ -19,6 +20,7 @@ mod start;
 mod tests;
 
 pub use deadline::DeadlineRow;
+pub use docket_row::DocketRow;
 pub use event::Event;
 pub use extension::may_extend;
 pub use grant::{Grant, Request};

@@ -1,7 +1,7 @@
 //! Periods: those that the Rules set, and those that a court enters.
 
 ghost use Rattle.std.specs.Prelude.{◌≡◌};
-ghost use Rattle.rule_periods.specs.Period.{act_of, direction_of, extension_of, is_hours};
+ghost use Rattle.rule_periods.specs.Period.{act_of, direction_of, extension_of, is_in_hours};
 
 use crate::rule::{ExtensionRule, RulePeriod};
 use court_days::Direction;
@@ -98,7 +98,7 @@ impl Period {
 
     /// Whether the period is counted in hours.
     pub fn is_in_hours(self) -> bool
-        ensures { result ≡ is_hours self }
+        ensures { result ≡ is_in_hours self }
     {
         match self {
             Period::Rule(_) => false,

@@ -1,19 +1,19 @@
 //! What is shown of a deadline.
 
 ghost use Rattle.std.specs.Prelude.{◌≡◌, Some};
-ghost use Rattle.rule_periods.specs.Deadline.{ends_certain, is_certain, access_direction, accessed, is_moved_by_access, shown_end, shown_after, shown_of};
+ghost use Rattle.rule_periods.specs.Showing.{ends_certain, access_direction, accessed, is_moved_by_access, shown_end, shown_after, shown_of};
 
 use crate::deadline::DeadlineRow;
 use crate::expiry::Expiry;
 use crate::extended::extended;
-use crate::grant::Grant;
+use crate::grant::{Grant, is_certain};
 use court_days::{Clock, Days, Direction};
 use rule6::{Act, Shown, extended_for_access, extended_for_access_hours};
 
 /// What is shown of a deadline (Fed. R. Civ. P. 6): the end of its period from its event, with the days that service
 /// adds (6(d)), with its extensions in order (6(b)), and, where the act is a filing and the last extension isn't to a
 /// date certain, moved where the clerk's office was inaccessible (6(a)(3)). `Beyond` where no covered day qualifies.
-#[tactic(auto, unfolding(crate::specs::Deadline::shown_of))]
+#[tactic(auto, unfolding(crate::specs::Showing::shown_of))]
 pub fn shown(days: &Days, clock: &Clock, row: &DeadlineRow) -> Shown
     ensures { result ≡ shown_of days.now clock.now row.now }
 {
@@ -26,7 +26,7 @@ pub fn shown(days: &Days, clock: &Clock, row: &DeadlineRow) -> Shown
 
 /// What is shown of an end after extensions, of which the last may be to a date certain. `direction` says whose
 /// holidays count where the clerk's office was inaccessible.
-#[tactic(auto, unfolding(crate::specs::Deadline::shown_after))]
+#[tactic(auto, unfolding(crate::specs::Showing::shown_after))]
 pub(crate) fn shown_after(
     days: &Days,
     clock: &Clock,
@@ -99,15 +99,6 @@ fn ends_certain(grants: &[Grant]) -> bool
     match grants.last() {
         Some(grant) => is_certain(grant),
         None => false,
-    }
-}
-
-pub(crate) fn is_certain(grant: &Grant) -> bool
-    ensures { result ≡ is_certain grant.now }
-{
-    match *grant {
-        Grant::ByDays(_) | Grant::ByHours(_) => false,
-        Grant::Until(_) => true,
     }
 }
 

@@ -1,8 +1,9 @@
 //! Whether a period can start.
 
 ghost use Rattle.std.specs.Prelude.{◌≡◌, true, OnOk};
+ghost use Rattle.std.specs.Result.{result_err};
 ghost use Rattle.rule_periods.specs.Period.{suits, has_length, is_kind_for, is_kind_for_entered};
-ghost use Rattle.rule_periods.specs.Start.{start_of, is_covered_if_given};
+ghost use Rattle.rule_periods.specs.Start.{start_refusal, is_covered_if_given};
 
 use crate::event::Event;
 use crate::period::{Entered, Length, Period};
@@ -14,7 +15,7 @@ use rule6::ServiceKind;
 /// Whether a deadline of that period can start with the event. The first refusal that applies: `BadDay` where the
 /// event's day or the second day isn't covered, `WrongService` where the kind of service or the second day doesn't
 /// suit the period, and `BadLength` where an entered length isn't 1 to 3,650 days or 1 to 8,760 hours.
-#[tactic(auto, unfolding(crate::specs::Start::start_of))]
+#[tactic(auto, unfolding(crate::specs::Start::start_refusal))]
 pub fn check_start(
     days: &Days,
     period: &Period,
@@ -22,7 +23,7 @@ pub fn check_start(
     second: Option<Day>,
     service: Option<ServiceKind>,
 ) -> Result<(), PeriodRefusal>
-    ensures value { result ≡ start_of days.now period.now event second service }
+    ensures refusal { result_err result ≡ start_refusal days.now period.now event second service }
     // What a row of this period asks.
     ensures suits { OnOk result (suits period.now second service ≡ true) }
     ensures length { OnOk result (has_length period.now ≡ true) }

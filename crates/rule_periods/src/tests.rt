@@ -2,7 +2,7 @@
 
 ghost use Rattle.std.specs.Prelude.{◌≡◌, true};
 ghost use Rattle.std.specs.List.{list_all};
-ghost use Rattle.rule_periods.specs.Extension.{is_grant_length};
+ghost use Rattle.rule_periods.specs.Grant.{is_grant_length};
 
 use crate::{
     DeadlineRow, Entered, Event, Grant, Length, Mark, Period, PeriodRefusal, Request, RulePeriod,
@@ -18,19 +18,8 @@ mod extension;
 mod grants;
 mod notice;
 
-const COURT: &str = r#"zone = "EST5EDT,M3.2.0/2,M11.1.0/2"
-opens = "08:30"
-closes = "17:00"
-from = "2007-01-01"
-to = "2026-12-31"
-federal = ["2007-09-03", "2025-05-26", "2025-06-19", "2025-07-04", "2025-09-01"]
-state = ["2025-03-28"]
-judges = []
-rooms = []
-"#;
-
 fn court(alloc: Global) -> Result<Court, Fail> {
-    Ok(Court::from_bytes(alloc, COURT.as_bytes())?)
+    Ok(Court::from_bytes(alloc, sample_court::file().as_bytes())?)
 }
 
 fn day(rt: &impl Abort, text: &str) -> Day {

@@ -1,6 +1,6 @@
 ghost use Rattle.std.specs.Prelude.{◌≡◌, true};
 ghost use Rattle.std.specs.List.{list_all};
-ghost use Rattle.rule_periods.specs.Extension.{is_grant_length};
+ghost use Rattle.rule_periods.specs.Grant.{is_grant_length};
 
 use super::*;
 

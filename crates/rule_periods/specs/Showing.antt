@@ -1,0 +1,55 @@
+-- What is shown of a deadline.
+use Rattle.std.specs.Prelude.{◌-◌, length, slice_get, Bool, true, false, not, List, [], ◌∷◌, option_map, Option, Some, None, if◌then◌else◌}
+use Rattle.std.specs.Option.{option_and_then, option_map_or}
+use Rattle.court_days.specs.declared.direction.Direction.{Direction}
+use Rattle.court_days.specs.declared.direction.Direction.TheVariants.{After}
+use Rattle.court_days.specs.Words.{DaysView, ClockView}
+use Rattle.rule6.specs.declared.timeliness.Act.{Act}
+use Rattle.rule6.specs.declared.timeliness.Act.TheVariants.{Filing as ByFiling, Service as ByService}
+use Rattle.rule6.specs.declared.timeliness.Shown.{Shown}
+use Rattle.rule6.specs.declared.timeliness.Shown.TheVariants as shown
+use Rattle.rule6.specs.Words.{extended_day, extended_end}
+use Rattle.rule_periods.specs.declared.expiry.Expiry.{Expiry}
+use Rattle.rule_periods.specs.declared.expiry.Expiry.TheVariants.{OnDay, AtInstant}
+use Rattle.rule_periods.specs.declared.grant.Grant.{Grant}
+use Rattle.rule_periods.specs.Deadline.{DeadlineRowView}
+use Rattle.rule_periods.specs.Extended.{extended_of}
+use Rattle.rule_periods.specs.Grant.{is_certain}
+use Rattle.rule_periods.specs.Period.{act_of, direction_of}
+
+-- the last extension is to a date certain
+abbrev pub ends_certain : List Grant → Bool
+ends_certain grants = option_map_or is_certain (slice_get grants (length grants - 1)) false
+
+-- whose holidays count where the clerk's office was inaccessible: the period's, or, once an extension was granted,
+-- those of a period after an event
+abbrev pub access_direction : Direction → List Grant → Direction
+access_direction direction [] = direction
+access_direction direction (g ∷ grants) = After
+
+-- the end, moved where the clerk's office was inaccessible (Fed. R. Civ. P. 6(a)(3))
+abbrev pub accessed : DaysView → ClockView → Direction → Expiry → Option Expiry
+accessed c clock direction (OnDay last) = option_map OnDay (extended_day c last direction)
+accessed c clock direction (AtInstant end) = option_map AtInstant (extended_end c clock end direction)
+
+-- inaccessibility moves only the time for filing, and no date certain
+abbrev pub is_moved_by_access : Act → Bool → Bool
+is_moved_by_access ByFiling certain = not certain
+is_moved_by_access ByService certain = false
+
+-- what is shown of an end
+abbrev pub shown_end : Act → Option Expiry → Shown
+shown_end act None = shown.Beyond
+shown_end act (Some (OnDay last)) = shown.Last last act
+shown_end act (Some (AtInstant end)) = shown.Until end
+
+-- What is shown of an end after extensions, of which the last may be to a date certain, with the direction whose
+-- holidays count for access.
+unfoldable pub shown_after : DaysView → ClockView → Act → Bool → Direction → Option Expiry → Shown
+shown_after c clock act certain direction end =
+    shown_end act (if is_moved_by_access act certain then option_and_then (accessed c clock direction) end else end)
+
+-- what is shown of a deadline: its last day or the end of its hours, or that no covered day qualifies
+unfoldable pub shown_of : DaysView → ClockView → DeadlineRowView → Shown
+shown_of c clock row =
+    shown_after c clock (act_of row.period) (ends_certain row.grants) (access_direction (direction_of row.period) row.grants) (extended_of c clock row)
