@@ -4,7 +4,7 @@ use Rattle.std.specs.List.{list_all, flat_map, range_with_len}
 use Rattle.std.specs.Option.{option_map_or, option_and_then}
 use Rattle.court_days.specs.declared.direction.Direction.TheVariants.{After}
 use Rattle.court_days.specs.Words.{DaysView, ClockView, is_permitted, has_outage}
-use Rattle.rule_periods.specs.Words.{notice_of}
+use Rattle.rule_periods.specs.Words.{first_of, notice_of}
 use Rattle.hearing_slots.specs.declared.booking.Booking.{Booking}
 use Rattle.hearing_slots.specs.declared.need.Need.{Need}
 use Rattle.hearing_slots.specs.declared.need.Need.TheVariants as need
@@ -12,7 +12,6 @@ use Rattle.hearing_slots.specs.Words.{first_conflict}
 use Rattle.docket_rows.specs.declared.hearing.Hearing.{Hearing}
 use Rattle.docket_rows.specs.declared.hearing.Setting.{Setting}
 use Rattle.docket_rows.specs.Bench.{Bench}
-use Rattle.docket_rows.specs.FirstRefusal.{first_of}
 use Rattle.docket_rows.specs.Parts.{Parts, sits}
 
 -- the hearing that is asked for

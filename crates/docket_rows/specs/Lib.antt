@@ -1,7 +1,6 @@
 pub mod Bench
 pub mod Cases
 pub mod Clash
-pub mod FirstRefusal
 pub mod Hearings
 pub mod Lawful
 pub mod Parts

@@ -9,7 +9,7 @@ use Rattle.rule6.specs.declared.service.ServiceKind.{ServiceKind}
 use Rattle.rule6.specs.declared.timeliness.Filing.{Filing}
 use Rattle.rule_periods.specs.declared.period.Period.{Period}
 use Rattle.rule_periods.specs.declared.grant.Request.{Request}
-use Rattle.rule_periods.specs.Words.{EventView, is_beyond}
+use Rattle.rule_periods.specs.Words.{EventView, when, first_of, start_refusal, extension_refusal, is_beyond}
 use Rattle.hearing_slots.specs.declared.booking.Booking.{Booking}
 use Rattle.hearing_slots.specs.declared.need.Need.{Need}
 use Rattle.hearing_slots.specs.Words.{is_on}
@@ -21,7 +21,6 @@ use Rattle.docket_rows.specs.declared.query.Query.TheVariants.{Sheet, JudgeDay, 
 use Rattle.docket_rows.specs.declared.refusal.Refusal.{Refusal}
 use Rattle.docket_rows.specs.declared.refusal.Refusal.TheVariants.{NoSuchCase, CaseIsOpen, NoSuchDeadline, NoSuchMotion, BadDay, BadLength, Beyond, AlreadyMet, AlreadySet, NotSet, NotACourtDay, OutsideHours, ShortNotice, JudgeBusy, RoomBusy, AlreadyHoliday, HearingThatDay, NoticeLost, Full, NoSuchJudge, NoSuchRoom, BadPanel}
 use Rattle.docket_rows.specs.Bench.{Bench}
-use Rattle.docket_rows.specs.FirstRefusal.{when, first_of, start_refusal, extension_refusal}
 use Rattle.docket_rows.specs.Hearings.{hearing_asked, has_judges, is_panel, fits_day, is_court_day, is_within_hours, is_need, lacks_last_service, missed_service, judge_clash, room_clash, all_booked, least, lacks_notice}
 use Rattle.docket_rows.specs.Parts.{Parts}
 use Rattle.docket_rows.specs.Reasons.{refusal_of}

@@ -4,14 +4,13 @@ use Rattle.std.specs.Option.{option_map_or}
 use Rattle.court_days.specs.Words.{add_holiday, add_outage}
 use Rattle.rule6.specs.declared.timeliness.Shown.TheVariants as shown
 use Rattle.rule6.specs.Words.{is_in_time}
-use Rattle.rule_periods.specs.Words.{DeadlineRowView, kept_filing, with_grant}
+use Rattle.rule_periods.specs.Words.{DeadlineRowView, kept_filing, with_grant, with_filing}
 use Rattle.docket_rows.specs.declared.answer.Answer.{Answer}
 use Rattle.docket_rows.specs.declared.answer.Answer.TheVariants as answer
 use Rattle.docket_rows.specs.declared.command.Command.{Command}
 use Rattle.docket_rows.specs.declared.command.Command.TheVariants.{OpenCase, Start, FileAct, Extend, Motion, Book, MoveHearing, Cancel, Holiday, Inaccessible}
 use Rattle.docket_rows.specs.declared.hearing.Setting.{Setting}
 use Rattle.docket_rows.specs.Bench.{Bench}
-use Rattle.docket_rows.specs.FirstRefusal.{with_filing}
 use Rattle.docket_rows.specs.Hearings.{hearing_asked}
 use Rattle.docket_rows.specs.Parts.{Parts, parts_of}
 use Rattle.docket_rows.specs.Refusals.{refusal}

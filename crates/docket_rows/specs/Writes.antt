@@ -3,7 +3,7 @@ use Rattle.std.specs.Prelude.{ℕ, ◌+◌, ◌==◌, Bool, true, false, ◌&&�
 use Rattle.std.specs.List.{filter_map}
 use Rattle.std.specs.Option.{option_map_or}
 use Rattle.court_days.specs.Words.{DaysView, add_holiday, add_outage, later_day}
-use Rattle.rule_periods.specs.Words.{DeadlineRowView, with_grant}
+use Rattle.rule_periods.specs.Words.{DeadlineRowView, with_grant, with_filing}
 use Rattle.hearing_slots.specs.declared.booking.Booking.{Booking}
 use Rattle.hearing_slots.specs.declared.need.Need.TheVariants.{ExParte}
 use Rattle.hearing_slots.specs.Words.{with_booking, without_motion}
@@ -17,7 +17,6 @@ use Rattle.docket_rows.specs.declared.part.PartValue.{PartValue}
 use Rattle.docket_rows.specs.declared.part.PartValue.TheVariants as value
 use Rattle.docket_rows.specs.Bench.{Bench}
 use Rattle.docket_rows.specs.Cases.{CaseRecordView, NumberedDeadline, NumberedMotion}
-use Rattle.docket_rows.specs.FirstRefusal.{with_filing}
 use Rattle.docket_rows.specs.Hearings.{hearing_asked}
 use Rattle.docket_rows.specs.Parts.{Parts, parts_read, sits, first_judge}
 use Rattle.docket_rows.specs.Refusals.{refusal}
