@@ -9,14 +9,14 @@ use Rattle.std.proofs.lemmas.List.Sums.{fold-append}
 use Rattle.std.proofs.lemmas.List.Elements.{All-head, All-tail, All-append, All-cons, All-filter, All-contains, All-contains_itself, filter-append}
 use Rattle.hearing_slots.specs.declared.booking.Booking.{Booking}
 use Rattle.hearing_slots.specs.Booking.{is_of, begins_before}
-use Rattle.hearing_slots.specs.Calendar.{in_place, in_order, without_motion, with_booking}
+use Rattle.hearing_slots.specs.Calendar.{IsCalendar, in_place, in_order, without_motion, with_booking}
 use Rattle.hearing_slots.proofs.Filters.{filter_front, filter_back, filter_comm, filter_all, parted}
 use Rattle.hearing_slots.proofs.Inserts.{AllPairs-insert}
 use Rattle.hearing_slots.proofs.Holdings.{parting, first_or_later, to_in_place}
 use Rattle.hearing_slots.proofs.CalendarLemmas.{in_place-at}
 
 -- none begins before one that stands before it
-abbrev NoneTooLate : List Booking → Type 0
+abbrev pub NoneTooLate : List Booking → Type 0
 NoneTooLate bookings = AllPairs (λ a b. begins_before b a ≡ false) bookings
 
 -- what does not begin behind a booking begins before all that this one begins before
@@ -41,8 +41,12 @@ in_place-sorted b bookings sorted =
     (λ k d low high. not_before-after (get_or bookings k d) b (place.2.0 k d low high))
     (λ k d low high. place.2.1 k d low high))
 
+-- the bookings of a calendar stand so
+pub none_too_late : (bookings : List Booking) → IsCalendar bookings → NoneTooLate bookings
+none_too_late bookings calendar i j d before within = not_before-after (get_or bookings i d) (get_or bookings j d) (calendar.sorted i j d before within)
+
 -- those that begin before a booking and the others are all of them
-rejoined : (b : Booking) (bookings : List Booking) → NoneTooLate bookings → filter (λ a. begins_before a b) bookings ++ filter (λ a. not (begins_before a b)) bookings ≡ bookings
+pub rejoined : (b : Booking) (bookings : List Booking) → NoneTooLate bookings → filter (λ a. begins_before a b) bookings ++ filter (λ a. not (begins_before a b)) bookings ≡ bookings
 rejoined b bookings sorted =
     let p = λ (a : Booking). begins_before a b in
     let place = place_of b bookings sorted in

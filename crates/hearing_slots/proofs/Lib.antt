@@ -8,8 +8,8 @@ pub mod DayEntries
 pub mod SlotBits
 pub mod DayLemmas
 pub mod Holdings
-pub mod MotionEntries
 pub mod MotionLemmas
 pub mod SameBookings
 pub mod InOrderLemmas
 pub mod CallerLemmas
+pub mod Removals

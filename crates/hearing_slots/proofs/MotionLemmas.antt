@@ -1,41 +1,18 @@
--- The days on which motions are heard, after one booking is put in or taken out.
-use Rattle.std.proofs.Common.{◌≡◌, ℕ, ℤ, true, false, not, ◌&&◌, ◌==◌, Option, Some, None, List, take, drop, refl, sym, ap, ◌∙◌, arith, inl, inr, take-append-drop}
-use Rattle.std.specs.Option.{option_map}
-use Rattle.std.specs.List.{All, find, insert}
+-- The booking of each motion, after one booking is put in or taken out.
+use Rattle.std.proofs.Common.{◌≡◌, ℕ, ◌+◌, ◌<◌, true, false, not, ◌&&◌, ◌==◌, Option, Some, None, List, [], ◌∷◌, ◌++◌, length, get_or, take, refl, sym, ap, ◌∙◌, subst, arith, inl, inr}
+use Rattle.std.specs.HashMap.{HashMap}
+use Rattle.std.specs.List.{All, AllPairs, filter, find}
 use Rattle.std.proofs.lemmas.Bool.{cases_Bool, not-true, not_from_false}
-use Rattle.std.proofs.lemmas.List.Elements.{All-take, filter_passes}
+use Rattle.std.proofs.lemmas.List.{append-nil}
+use Rattle.std.proofs.lemmas.List.Elements.{All-filter, filter_passes}
 use Rattle.hearing_slots.specs.declared.booking.Booking.{Booking}
-use Rattle.hearing_slots.specs.declared.motion_days.MotionDay.{MotionDay}
-use Rattle.hearing_slots.specs.Booking.{is_of}
-use Rattle.hearing_slots.specs.Calendar.{without_motion}
-use Rattle.hearing_slots.specs.Motions.{day_heard, NotesBookings, NotesOnly}
+use Rattle.hearing_slots.specs.Booking.{is_of, begins_before}
+use Rattle.hearing_slots.specs.Calendar.{IsCalendar, in_place, without_motion, with_booking}
+use Rattle.hearing_slots.specs.Motions.{NotesBookings, NotesOnly, noted, same_motion}
 use Rattle.hearing_slots.proofs.Filters.{find-filter}
-use Rattle.hearing_slots.proofs.Finds.{find_absent, find_here, find_other}
-
--- the booking that is heard on a day
-pub record IsHeard (case motion : ℕ) (bookings : List Booking) (day : ℤ) : Type 0 where
-  pub booking : Booking
-  pub found : find (is_of case motion) bookings ≡ Some booking
-  pub same_day : booking.day ≡ day
-
-from_found : (case motion : ℕ) (bookings : List Booking) (day : ℤ) (found : Option Booking) → find (is_of case motion) bookings ≡ found → option_map (λ (b : Booking). b.day) found ≡ Some day → IsHeard case motion bookings day
-from_found case motion bookings day None h k = absurd cc
-from_found case motion bookings day (Some b) h k = let same : b.day ≡ day = cc in record { booking = b; found = h; same_day = same }
-
-pub heard_found : (case motion : ℕ) (bookings : List Booking) (day : ℤ) → day_heard case motion bookings ≡ Some day → IsHeard case motion bookings day
-heard_found case motion bookings day h = from_found case motion bookings day (find (is_of case motion) bookings) refl h
-
-from_none : (case motion : ℕ) (bookings : List Booking) (found : Option Booking) → find (is_of case motion) bookings ≡ found → option_map (λ (b : Booking). b.day) found ≡ None → find (is_of case motion) bookings ≡ None
-from_none case motion bookings None h k = h
-from_none case motion bookings (Some b) h k = absurd cc
-
--- a motion that is not heard has no booking
-pub not_heard : (case motion : ℕ) (bookings : List Booking) → day_heard case motion bookings ≡ None → find (is_of case motion) bookings ≡ None
-not_heard case motion bookings h = from_none case motion bookings (find (is_of case motion) bookings) refl h
-
--- and a motion with no booking is not heard
-pub day_heard-absent : (case motion : ℕ) (bookings : List Booking) → All (λ b. is_of case motion b ≡ false) bookings → day_heard case motion bookings ≡ None
-day_heard-absent case motion bookings none = ap (option_map (λ (b : Booking). b.day)) (find_absent (is_of case motion) bookings none)
+use Rattle.hearing_slots.proofs.Finds.{find_absent, find_here, find_other, find-None}
+use Rattle.hearing_slots.proofs.CalendarLemmas.{IsCalendar-filter}
+use Rattle.hearing_slots.proofs.InOrderLemmas.{rejoined, none_too_late}
 
 own_motion : (b : Booking) → is_of b.case b.motion b ≡ true
 own_motion b = grind arith
@@ -49,31 +26,36 @@ other_motion b case motion c m h other = elim (cases_Bool (is_of c m b)) [
   | inr differs ↦ differs
 ]
 
--- a new booking is heard on its day
-pub day_heard-insert : (bookings : List Booking) (i : ℕ) (b : Booking) → All (λ a. is_of b.case b.motion a ≡ false) bookings → day_heard b.case b.motion (insert bookings i b) ≡ Some b.day
-day_heard-insert bookings i b only =
-    ap (option_map (λ (a : Booking). a.day)) (find_here (is_of b.case b.motion) (take i bookings) b (drop i bookings) (All-take (λ a. is_of b.case b.motion a ≡ false) i bookings only) (own_motion b))
+-- a booking that is put in place is the one of its motion
+in_place-finds : (b : Booking) (bookings : List Booking) → All (λ a. is_of b.case b.motion a ≡ false) bookings → find (is_of b.case b.motion) (in_place b bookings) ≡ Some b
+in_place-finds b bookings only =
+    let earlier = λ (a : Booking). begins_before a b in
+    let later = λ (a : Booking). not (begins_before a b) in
+    find_here (is_of b.case b.motion) (filter earlier bookings) b (filter later bookings) (All-filter earlier (λ a. is_of b.case b.motion a ≡ false) bookings only) (own_motion b)
 
 -- which changes no other motion
-pub day_heard-insert_other : (bookings : List Booking) (i : ℕ) (b : Booking) (case motion : ℕ) → ((case ≡ b.case) × (motion ≡ b.motion) → ⊥) → day_heard case motion (insert bookings i b) ≡ day_heard case motion bookings
-day_heard-insert_other bookings i b case motion other =
-    ap (option_map (λ (a : Booking). a.day)) (find_other (is_of case motion) (take i bookings) b (drop i bookings) (other_motion b b.case b.motion case motion (own_motion b) other) ∙ ap (find (is_of case motion)) (take-append-drop i bookings))
+in_place-finds_other : (b : Booking) (bookings : List Booking) (c m : ℕ) → IsCalendar bookings → ((c ≡ b.case) × (m ≡ b.motion) → ⊥) → find (is_of c m) (in_place b bookings) ≡ find (is_of c m) bookings
+in_place-finds_other b bookings c m calendar other =
+    let earlier = λ (a : Booking). begins_before a b in
+    let later = λ (a : Booking). not (begins_before a b) in
+    find_other (is_of c m) (filter earlier bookings) b (filter later bookings) (other_motion b b.case b.motion c m (own_motion b) other)
+    ∙ ap (find (is_of c m)) (rejoined b bookings (none_too_late bookings calendar))
 
--- a motion that is taken out is not heard
-pub day_heard-without : (case motion : ℕ) (bookings : List Booking) → day_heard case motion (without_motion case motion bookings) ≡ None
-day_heard-without case motion bookings =
-    let kept = filter_passes (λ b. not (is_of case motion b)) bookings in
-    day_heard-absent case motion (without_motion case motion bookings) (λ k d within. not-true _ (kept k d within))
+-- none of a motion is left that is taken out
+pub none_left : (case motion : ℕ) (bookings : List Booking) → All (λ b. is_of case motion b ≡ false) (without_motion case motion bookings)
+none_left case motion bookings k d within = not-true _ (filter_passes (λ b. not (is_of case motion b)) bookings k d within)
 
--- and the others are heard as before
-pub day_heard-without_other : (case motion : ℕ) (bookings : List Booking) (c m : ℕ) → ((c ≡ case) × (m ≡ motion) → ⊥) → day_heard c m (without_motion case motion bookings) ≡ day_heard c m bookings
-day_heard-without_other case motion bookings c m other =
-    ap (option_map (λ (b : Booking). b.day)) (find-filter (is_of c m) (λ b. not (is_of case motion b)) (λ b same. not_from_false _ (other_motion b c m case motion same (λ h. other (sym h.0, sym h.1)))) bookings)
+without_motion-finds : (case motion : ℕ) (bookings : List Booking) → find (is_of case motion) (without_motion case motion bookings) ≡ None
+without_motion-finds case motion bookings = find_absent (is_of case motion) (without_motion case motion bookings) (none_left case motion bookings)
+
+-- and the others stay
+without_motion-finds_other : (case motion : ℕ) (bookings : List Booking) (c m : ℕ) → ((c ≡ case) × (m ≡ motion) → ⊥) → find (is_of c m) (without_motion case motion bookings) ≡ find (is_of c m) bookings
+without_motion-finds_other case motion bookings c m other =
+    find-filter (is_of c m) (λ b. not (is_of case motion b)) (λ b same. not_from_false _ (other_motion b c m case motion same (λ h. other (sym h.0, sym h.1)))) bookings
 
 -- the notes are right again once that of the one changed motion is
-pub noted_again : (old new : List Booking) (entries changed : List MotionDay) (case motion : ℕ) (day : Option ℤ) → NotesBookings old entries → NotesOnly entries changed case motion day → day_heard case motion new ≡ day → ((c m : ℕ) → ((c ≡ case) × (m ≡ motion) → ⊥) → day_heard c m new ≡ day_heard c m old) → NotesBookings new changed
-noted_again old new entries changed case motion day notes change here others = record {
-  by_motion = change.by_motion;
+noted_again : {S : Type 0} (old new : List Booking) (motions changed : HashMap (ℕ × ℕ) Booking S) (case motion : ℕ) (booking : Option Booking) → NotesBookings old motions → NotesOnly motions changed case motion booking → find (is_of case motion) new ≡ booking → ((c m : ℕ) → ((c ≡ case) × (m ≡ motion) → ⊥) → find (is_of c m) new ≡ find (is_of c m) old) → NotesBookings new changed
+noted_again old new motions changed case motion booking notes change here others = record {
   exact = λ c m. elim (cases_Bool (c == case && m == motion)) [
     | inl same ↦
         let one : c ≡ case = grind arith in
@@ -86,3 +68,37 @@ noted_again old new entries changed case motion day notes change here others = r
 } where
   apart : (c m : ℕ) → (c == case && m == motion) ≡ false → (c ≡ case) × (m ≡ motion) → ⊥
   apart c m differs h = let one = h.0 in let two = h.1 in grind arith
+
+-- after a motion's booking is taken out
+pub noted_without : {S : Type 0} (bookings : List Booking) (motions changed : HashMap (ℕ × ℕ) Booking S) (case motion : ℕ) → NotesBookings bookings motions → NotesOnly motions changed case motion None → NotesBookings (without_motion case motion bookings) changed
+noted_without bookings motions changed case motion notes change =
+    noted_again bookings (without_motion case motion bookings) motions changed case motion None notes change
+    (without_motion-finds case motion bookings)
+    (without_motion-finds_other case motion bookings)
+
+-- after a booking is put in, and an older one of its motion is taken out
+pub noted_with : {S : Type 0} (b : Booking) (bookings : List Booking) (motions between changed : HashMap (ℕ × ℕ) Booking S) → IsCalendar bookings → NotesBookings bookings motions → NotesOnly motions between b.case b.motion None → NotesOnly between changed b.case b.motion (Some b) → NotesBookings (with_booking b bookings) changed
+unfolding with_booking
+noted_with b bookings motions between changed calendar notes out change =
+    let others = without_motion b.case b.motion bookings in
+    let left : IsCalendar others = IsCalendar-filter (λ a. not (is_of b.case b.motion a)) bookings calendar in
+    noted_again others (in_place b others) between changed b.case b.motion (Some b) (noted_without bookings motions between b.case b.motion notes out) change
+    (in_place-finds b others (none_left b.case b.motion bookings))
+    (λ c m other. in_place-finds_other b others c m left other)
+
+-- after a booking of a motion that had none is noted
+pub noted_more : {S : Type 0} (b : Booking) (front : List Booking) (motions changed : HashMap (ℕ × ℕ) Booking S) → All (λ a. is_of b.case b.motion a ≡ false) front → NotesBookings front motions → NotesOnly motions changed b.case b.motion (Some b) → NotesBookings (front ++ b ∷ []) changed
+noted_more b front motions changed only notes change =
+    noted_again front (front ++ b ∷ []) motions changed b.case b.motion (Some b) notes change
+    (find_here (is_of b.case b.motion) front b [] only (own_motion b))
+    (λ c m other. find_other (is_of c m) front b [] (other_motion b b.case b.motion c m (own_motion b) other) ∙ ap (find (is_of c m)) (append-nil front))
+
+-- a look-up of another motion is another look-up
+pub other_key : (case motion c m : ℕ) → ((c ≡ case) × (m ≡ motion) → ⊥) → same_motion (case, motion) (c, m) ≡ false
+other_key case motion c m other = elim (cases_Bool (same_motion (case, motion) (c, m))) [
+  | inl same ↦
+      let one : c ≡ case = grind arith in
+      let two : m ≡ motion = grind arith in
+      absurd (other (one, two))
+  | inr differs ↦ differs
+]

@@ -3,6 +3,14 @@ use Rattle.std.specs.Prelude.{◌≡◌, ℕ, ◌+◌, ◌<◌, ◌≤◌, ℤ, 
 use Rattle.std.specs.Ordering.{int_eq}
 use Rattle.hearing_slots.specs.declared.booking.Booking.{Booking}
 
+-- a day has so many slots, numbered from 0
+abbrev pub slots_per_day : ℕ
+slots_per_day = 96
+
+-- a slot has so many minutes: slot s begins at minute 15·s of the day
+abbrev pub minutes_per_slot : ℕ
+minutes_per_slot = 15
+
 -- the booking takes at least one slot, and none past the last of its day
 pub record IsWithinDay (b : Booking) : Type 0 where
   pub some_slot : 1 ≤ b.count

@@ -1,8 +1,9 @@
 pub mod Booking
 pub mod Calendar
+pub mod Held
 pub mod Laws
 pub mod Motions
 pub mod Panel
-pub mod Shared
 pub mod Slots
+pub mod Timetable
 pub mod Words

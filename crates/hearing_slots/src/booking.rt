@@ -54,7 +54,7 @@ impl Booking {
 
     /// Whether this booking and the span of `count` slots from `first` on share a slot of the day.
     pub(crate) fn shares_slot(&self, day: Day, first: u8, count: u8) -> bool
-        requires { first + count ≤ SLOTS_PER_DAY }
+        requires { first + count ≤ 96 }
         ensures { result ≡ shares_slot self.now day first count }
     {
         self.day.number() == day.number()
@@ -70,7 +70,7 @@ impl Booking {
         count: u8,
         except: Option<(u32, u32)>,
     ) -> bool
-        requires { first + count ≤ SLOTS_PER_DAY }
+        requires { first + count ≤ 96 }
         ensures { result ≡ conflicts day first count except self.now }
     {
         self.shares_slot(day, first, count) && !self.is_excepted(except)

@@ -1,12 +1,17 @@
 //! The calendar of one judge or of one room.
 
-ghost use Rattle.std.specs.Prelude.{◌≡◌, ◌+◌, ◌≤◌, [], Some, IfOk, IfSome, IfNone};
-ghost use Rattle.hearing_slots.specs.declared.booking.TheConstants.{SLOTS_PER_DAY};
+ghost use Rattle.std.specs.Prelude.{◌≡◌, ◌+◌, ◌≤◌, [], Some, IfOk, IfErr, IfSome, IfNone};
+ghost use Rattle.std.specs.Option.{option_copied};
+ghost use Rattle.std.specs.Arc.{arc_value};
 ghost use Rattle.hearing_slots.specs.Booking.{IsWithinDay};
 ghost use Rattle.hearing_slots.specs.Calendar.{IsCalendar, IsFree, IsLeastConflict, HoldsWith, HoldsWithout, HoldsDay, on_day, without_motion, with_booking, first_conflict};
+ghost use Rattle.hearing_slots.specs.Timetable.{kept_in};
 
 use crate::booking::Booking;
 use crate::bookings::Bookings;
+use crate::indexed::Indexed;
+use crate::motions::noted_motions;
+use crate::open_calendar::OpenCalendar;
 use crate::timetable::Timetable;
 use court_days::Day;
 use std::alloc::{AllocError, Global};
@@ -14,11 +19,22 @@ use std::marker::Model;
 use std::sync::Arc;
 
 /// The bookings of one judge or one room, by day and on a day by first slot. No two of them share a slot of a day,
-/// and each case and motion stands once. A copy shares the bookings with its original until one of the two changes.
+/// and each case and motion stands once. A calendar is changed in place by `open`; `with` and `without` make a new
+/// one, whose copies all share its bookings.
 #[derive(Debug, Drop)]
 pub struct Calendar {
-    // None where there are no bookings, which takes no memory.
-    timetable: Option<Arc<Timetable>>,
+    held: Held,
+}
+
+/// Who holds the bookings.
+#[derive(Debug, Drop)]
+enum Held {
+    // There are none, which takes no memory.
+    Empty,
+    // This calendar alone, which changes them in place.
+    Own(Indexed),
+    // This calendar and its copies.
+    Shared(Arc<Timetable>),
 }
 
 impl Model for Calendar {
@@ -27,17 +43,21 @@ impl Model for Calendar {
 
     ghost Value = { List Booking };
 
-    ghost use Rattle.hearing_slots.specs.Shared.{bookings_of};
+    ghost use Rattle.hearing_slots.specs.Calendar.{IsCalendar};
+    ghost use Rattle.hearing_slots.specs.Held.{bookings_of};
 
     ghost view = { bookings_of };
+
+    ghost invariant = { λ c. IsCalendar (bookings_of c) };
 }
 
 impl Calendar {
     /// A calendar with no bookings.
     pub fn empty() -> Calendar
-        ensures { result ≡ [] }
+        ensures value { result ≡ [] }
+        ensures calendar { IsCalendar result }
     {
-        Calendar { timetable: None }
+        Calendar { held: Held::Empty }
     }
 
     /// All bookings, by day, then by first slot.
@@ -45,7 +65,7 @@ impl Calendar {
         ensures value { result.now ≡ self.now }
         ensures calendar { IsCalendar self.now }
     {
-        match &self.timetable {
+        match self.timetable() {
             None => &[],
             Some(timetable) => timetable.all(),
         }
@@ -62,44 +82,46 @@ impl Calendar {
         except: Option<(u32, u32)>,
     ) -> Option<Booking>
         requires some_slot { 1 ≤ count }
-        requires ends { first + count ≤ SLOTS_PER_DAY }
+        requires ends { first + count ≤ 96 }
         ensures value { result ≡ first_conflict self.now day first count except }
         ensures some { IfSome result (IsLeastConflict self.now day first count except) }
         ensures none { IfNone result (IsFree self.now day first count except) }
     {
-        match &self.timetable {
+        match self.timetable() {
             None => None,
             Some(timetable) => timetable.conflict(day, first, count, except),
         }
     }
 
-    /// This calendar with the booking in its place, and without an older one of its case and motion. The bookings are
-    /// copied where a copy of the calendar shares them, and else only moved up to make room, so that a new booking
-    /// behind all others moves none. `Err` says that memory ran out; this calendar is spent then too, so whoever
-    /// needs it makes a copy first.
-    pub fn with(self, alloc: Global, booking: Booking) -> Result<Calendar, AllocError>
+    /// A calendar with the bookings of this one and the new booking, and without an older one of its case and motion.
+    /// The bookings are copied once. `Err` says that memory ran out.
+    pub fn with(&self, alloc: Global, booking: Booking) -> Result<Calendar, AllocError>
         requires within_day { IsWithinDay booking }
-        requires free { IsFree self booking.day booking.first booking.count (Some (booking.case, booking.motion)) }
-        ensures value { IfOk result (λ calendar. calendar ≡ with_booking booking self) }
-        ensures holds { IfOk result (HoldsWith booking self) }
+        requires free { IsFree self.now booking.day booking.first booking.count (Some (booking.case, booking.motion)) }
+        ensures value { IfOk result (λ calendar. calendar ≡ with_booking booking self.now) }
+        ensures calendar { IfOk result IsCalendar }
+        ensures holds { IfOk result (HoldsWith booking self.now) }
     {
-        let mut timetable = self.into_timetable(alloc)?;
-        timetable.put(booking)?;
-        Calendar::of(alloc, timetable)
+        let mut timetable = self.duplicate(alloc)?;
+        let older = timetable.booking_of(booking.case, booking.motion);
+        timetable.put(booking, older);
+        Calendar::share(alloc, timetable)
     }
 
-    /// This calendar without the booking of the case and motion; where there is none, the calendar as it is. `Err`
-    /// says that memory ran out; this calendar is spent then too, so whoever needs it makes a copy first.
-    pub fn without(self, alloc: Global, case: u32, motion: u32) -> Result<Calendar, AllocError>
-        ensures value { IfOk result (λ calendar. calendar ≡ without_motion case motion self) }
-        ensures holds { IfOk result (HoldsWithout case motion self) }
+    /// A calendar with the bookings of this one but that of the case and motion; where there is none, with the same
+    /// bookings. They are copied once. `Err` says that memory ran out.
+    pub fn without(&self, alloc: Global, case: u32, motion: u32) -> Result<Calendar, AllocError>
+        ensures value { IfOk result (λ calendar. calendar ≡ without_motion case motion self.now) }
+        ensures calendar { IfOk result IsCalendar }
+        ensures holds { IfOk result (HoldsWithout case motion self.now) }
     {
-        let mut timetable = self.into_timetable(alloc)?;
-        timetable.remove(case, motion);
-        Calendar::of(alloc, timetable)
+        let mut timetable = self.duplicate(alloc)?;
+        let gone = timetable.booking_of(case, motion);
+        timetable.remove(case, motion, gone);
+        Calendar::share(alloc, timetable)
     }
 
-    /// The bookings of the day, by first slot.
+    /// The bookings of the day, by first slot. `Err` says that memory ran out.
     pub fn on_day(&self, alloc: Global, day: Day) -> Result<Bookings, AllocError>
         ensures value { IfOk result (λ bookings. bookings ≡ on_day day self.now) }
         ensures holds { IfOk result (HoldsDay day self.now) }
@@ -108,49 +130,130 @@ impl Calendar {
         Ok(Bookings::from_vec(list))
     }
 
-    /// The same calendar, which shares the bookings of this one. It takes no memory; `Err` says that there are as many
-    /// copies as can be counted.
-    pub fn copy(&self) -> Result<Calendar, AllocError>
-        ensures { IfOk result (λ calendar. calendar ≡ self.now) }
+    /// The same calendar. What `with`, `without` or `copy` gave shares its bookings with its copies, and takes no
+    /// memory for them; a calendar that was changed in place copies its bookings. `Err` says that memory ran out, or
+    /// that there are as many copies as can be counted.
+    pub fn copy(&self, alloc: Global) -> Result<Calendar, AllocError>
+        ensures value { IfOk result (λ calendar. calendar ≡ self.now) }
+        ensures calendar { IfOk result IsCalendar }
     {
-        let Some(shared) = &self.timetable else {
-            return Ok(Calendar::empty());
-        };
-        Ok(Calendar {
-            timetable: Some(Arc::try_clone(shared)?),
-        })
+        match &self.held {
+            Held::Empty => Ok(Calendar::empty()),
+            Held::Own(indexed) => Calendar::share(alloc, indexed.timetable().duplicate(alloc)?),
+            Held::Shared(shared) => Ok(Calendar {
+                held: Held::Shared(Arc::try_clone(shared)?),
+            }),
+        }
+    }
+
+    /// The calendar with room for one booking more, so that it can be changed in place with no more memory. `Err`
+    /// says that memory ran out, and gives the calendar back. Bookings that a copy shares are copied once.
+    pub fn open(self, alloc: Global) -> Result<OpenCalendar, Calendar>
+        ensures ok { IfOk result (λ opened. (opened ≡ self) × IsCalendar opened) }
+        ensures err { IfErr result (λ calendar. (calendar ≡ self) × IsCalendar calendar) }
+    {
+        match self.held {
+            Held::Empty => match noted_motions(alloc, &[]) {
+                Ok(motions) => with_room(Indexed::of(Timetable::new(alloc), motions)),
+                Err(_) => Err(Calendar::empty()),
+            },
+            Held::Own(indexed) => with_room(indexed),
+            Held::Shared(shared) => open_shared(alloc, shared),
+        }
     }
 
     /// The bookings of the day.
     fn part_of_day(&self, day: Day) -> &[Booking]
         ensures { result.now ≡ on_day day self.now }
     {
-        match &self.timetable {
+        match self.timetable() {
             None => &[],
             Some(timetable) => timetable.on_day(day),
         }
     }
 
-    /// The bookings themselves where no copy shares them, and else a copy of them.
-    fn into_timetable(self, alloc: Global) -> Result<Timetable, AllocError>
-        ensures { IfOk result (λ timetable. timetable ≡ self) }
+    /// The bookings in order, if there are any.
+    fn timetable(&self) -> Option<&Timetable>
+        ensures { kept_in (option_copied result) ≡ self.now }
     {
-        let Some(shared) = self.timetable else {
-            return Ok(Timetable::new(alloc));
-        };
-        match Arc::try_unwrap(shared) {
-            Ok(timetable) => Ok(timetable),
-            Err(shared) => shared.duplicate(alloc),
+        match &self.held {
+            Held::Empty => None,
+            Held::Own(indexed) => Some(indexed.timetable()),
+            Held::Shared(shared) => Some(shared),
         }
     }
 
-    /// The calendar that holds these bookings.
-    fn of(alloc: Global, timetable: Timetable) -> Result<Calendar, AllocError>
-        ensures { IfOk result (λ calendar. calendar ≡ timetable) }
+    /// A copy of the bookings, with room for one more.
+    fn duplicate(&self, alloc: Global) -> Result<Timetable, AllocError>
+        ensures value { IfOk result (λ t. t.bookings ≡ self.now) }
+        ensures calendar { IfOk result (λ t. IsCalendar t.bookings) }
+        ensures room { IfOk result (λ t. 1 ≤ t.room) }
+    {
+        match self.timetable() {
+            None => {
+                let mut timetable = Timetable::new(alloc);
+                timetable.make_room()?;
+                Ok(timetable)
+            }
+            Some(timetable) => timetable.duplicate(alloc),
+        }
+    }
+
+    /// The calendar that shares these bookings with its copies.
+    fn share(alloc: Global, timetable: Timetable) -> Result<Calendar, AllocError>
+        requires { IsCalendar timetable.bookings }
+        ensures value { IfOk result (λ calendar. calendar ≡ timetable.bookings) }
+        ensures calendar { IfOk result IsCalendar }
     {
         let shared = Arc::new(alloc, timetable)?;
         Ok(Calendar {
-            timetable: Some(shared),
+            held: Held::Shared(shared),
         })
+    }
+
+    /// The calendar that holds these bookings alone.
+    pub(crate) fn own(indexed: Indexed) -> Calendar
+        requires { IsCalendar indexed.bookings }
+        ensures value { result ≡ indexed.bookings }
+        ensures calendar { IsCalendar result }
+    {
+        Calendar {
+            held: Held::Own(indexed),
+        }
+    }
+}
+
+/// Makes room for one booking more.
+fn with_room(indexed: Indexed) -> Result<OpenCalendar, Calendar>
+    ensures ok { IfOk result (λ opened. (opened ≡ indexed.bookings) × IsCalendar opened) }
+    ensures err { IfErr result (λ calendar. (calendar ≡ indexed.bookings) × IsCalendar calendar) }
+{
+    let mut indexed = indexed;
+    match indexed.make_room() {
+        Ok(()) => Ok(OpenCalendar::of(indexed)),
+        Err(_) => Err(Calendar::own(indexed)),
+    }
+}
+
+/// The shared bookings themselves where no copy shares them, and else a copy of them, with room for one more. The
+/// motions are noted first, so that the shared bookings can be given back where memory runs out.
+fn open_shared(alloc: Global, shared: Arc<Timetable>) -> Result<OpenCalendar, Calendar>
+    requires { IsCalendar (arc_value shared).bookings }
+    ensures ok { IfOk result (λ opened. (opened ≡ (arc_value shared).bookings) × IsCalendar opened) }
+    ensures err { IfErr result (λ calendar. (calendar ≡ (arc_value shared).bookings) × IsCalendar calendar) }
+{
+    let Ok(motions) = noted_motions(alloc, shared.all()) else {
+        return Err(Calendar {
+            held: Held::Shared(shared),
+        });
+    };
+    match Arc::try_unwrap(shared) {
+        Ok(timetable) => with_room(Indexed::of(timetable, motions)),
+        Err(shared) => match shared.duplicate(alloc) {
+            Ok(timetable) => with_room(Indexed::of(timetable, motions)),
+            Err(_) => Err(Calendar {
+                held: Held::Shared(shared),
+            }),
+        },
     }
 }

@@ -1,7 +1,6 @@
 //! Which slots are taken on each day.
 
 ghost use Rattle.std.specs.Prelude.{◌≡◌, ◌+◌, ◌<◌, ◌≤◌, IfOk, IfErr, vec_len, vec_capacity};
-ghost use Rattle.hearing_slots.specs.declared.booking.TheConstants.{SLOTS_PER_DAY};
 ghost use Rattle.hearing_slots.specs.Slots.{AreMasks, MarksOnly, IsDayAt, IsGapForDay, marked, slots_from};
 
 use court_days::Day;
@@ -17,7 +16,7 @@ pub(crate) struct DaySlots {
 
 /// The slots of the span of `count` slots from `first` on.
 pub(crate) fn slots_from(first: u8, count: u8) -> u128
-    requires { first + count ≤ SLOTS_PER_DAY }
+    requires { first + count ≤ 96 }
     ensures { result ≡ slots_from first count }
 {
     (1u128 << (first + count)) - (1u128 << first)
@@ -69,7 +68,8 @@ pub(crate) fn mark(days: &mut Vec<DaySlots>, day: Day, taken: u128)
 pub(crate) fn lower(days: &mut Vec<DaySlots>, day: Day, taken: u128)
     requires masks { AreMasks days.old.items }
     requires fewer { marked day days.old.items ≡ 0 → taken ≡ 0 }
-    ensures { MarksOnly days.old.items days.new.items day taken }
+    ensures marks { MarksOnly days.old.items days.new.items day taken }
+    ensures room { (vec_len days.new ≤ vec_len days.old) × (vec_capacity days.new ≡ vec_capacity days.old) }
 {
     let Ok(place) = search(days, day) else {
         return;

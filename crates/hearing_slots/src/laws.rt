@@ -1,6 +1,15 @@
 //! Laws of bookings and calendars, for the definitions that stand on them.
 
+ghost use Rattle.std.specs.Prelude.{◌≡◌};
+ghost use Rattle.hearing_slots.specs.declared.booking.TheConstants.{SLOTS_PER_DAY, MINUTES_PER_SLOT};
+ghost use Rattle.hearing_slots.specs.Booking.{slots_per_day, minutes_per_slot};
 ghost use Rattle.hearing_slots.specs.Laws.{OverlapIsASharedSlot, BookingKeepsCalendar, RemovalKeepsCalendar, SameBookingsSameCalendar, OrderHoldsTheSame, PartsStandInOrder, BookingIsPutLast};
+
+/// A day has 96 slots of 15 minutes.
+pub fn slots_of_a_day()
+    ensures slots { SLOTS_PER_DAY ≡ slots_per_day }
+    ensures minutes { MINUTES_PER_SLOT ≡ minutes_per_slot }
+{}
 
 /// Two spans of slots overlap exactly where some slot lies in both.
 pub fn overlap_is_a_shared_slot()

@@ -5,9 +5,11 @@ mod booking;
 mod bookings;
 mod calendar;
 mod day_slots;
+mod indexed;
 mod laws;
-mod motion_days;
+mod motions;
 mod need;
+mod open_calendar;
 mod ordered;
 mod panel;
 mod timetable;
@@ -17,9 +19,10 @@ pub use bookings::Bookings;
 pub use calendar::Calendar;
 pub use laws::{
     booking_is_put_last, booking_keeps_calendar, order_holds_the_same, overlap_is_a_shared_slot,
-    parts_stand_in_order, removal_keeps_calendar, same_bookings_same_calendar,
+    parts_stand_in_order, removal_keeps_calendar, same_bookings_same_calendar, slots_of_a_day,
 };
 pub use need::Need;
+pub use open_calendar::OpenCalendar;
 pub use panel::Panel;
 
 #[cfg(test)]

@@ -1,10 +1,9 @@
 //! Lists of bookings in order: a day of them, and one booking more or less.
 
-ghost use Rattle.std.specs.Prelude.{◌≡◌, ◌+◌, ◌<◌, ◌≤◌, ℕ, ℤ, Some, None, true, false, All, AllPairs, Contains, find, vec_len, vec_capacity};
-ghost use Rattle.hearing_slots.specs.declared.booking.TheConstants.{SLOTS_PER_DAY};
+ghost use Rattle.std.specs.Prelude.{◌≡◌, ◌+◌, ◌<◌, ◌≤◌, ℤ, Some, true, false, All, AllPairs, Contains, find, length, vec_len, vec_capacity};
+ghost use Rattle.std.specs.List.Sorted.{IsPartitionPoint};
 ghost use Rattle.hearing_slots.specs.Booking.{begins_before, is_of, IsWithinDay, SharesSlot};
 ghost use Rattle.hearing_slots.specs.Calendar.{IsCalendar, on_day, in_place, without_motion, conflicts};
-ghost use Rattle.hearing_slots.specs.Motions.{day_heard};
 ghost use Rattle.hearing_slots.specs.Slots.{slots_taken};
 
 use crate::booking::Booking;
@@ -31,7 +30,7 @@ pub(crate) fn first_of(
     count: u8,
     except: Option<(u32, u32)>,
 ) -> Option<Booking>
-    requires { first + count ≤ SLOTS_PER_DAY }
+    requires { first + count ≤ 96 }
     ensures { result ≡ find (conflicts day first count except) bookings.now }
 {
     bookings
@@ -60,15 +59,24 @@ pub(crate) fn slots_on(bookings: &[Booking], day: Day) -> u128
     slots_of(part_of_day(bookings, day))
 }
 
-/// Takes out the booking of the case and motion.
-pub(crate) fn take_out(bookings: &mut Vec<Booking>, case: u32, motion: u32)
-    requires { IsCalendar bookings.old.items }
-    ensures items { bookings.new.items ≡ without_motion case motion bookings.old.items }
-    ensures calendar { IsCalendar bookings.new.items }
-    ensures gone { day_heard case motion bookings.new.items ≡ None }
-    ensures other_motions { (c m : ℕ) → ((c ≡ case) × (m ≡ motion) → ⊥) → day_heard c m bookings.new.items ≡ day_heard c m bookings.old.items }
+/// How many of the bookings begin before the booking.
+fn place_of(bookings: &[Booking], booking: &Booking) -> usize
+    requires { AllPairs (λ a b. begins_before a b ≡ true) bookings.now }
+    ensures bound { result ≤ length bookings.now }
+    ensures point { IsPartitionPoint (λ a. begins_before a booking.now ≡ true) (λ a. begins_before a booking.now ≡ false) bookings.now result }
 {
-    bookings.retain(|booking| !booking.is_of(case, motion));
+    bookings.partition_point(|other| other.begins_before(booking))
+}
+
+/// Takes the booking out, which stands among them.
+pub(crate) fn take_out(bookings: &mut Vec<Booking>, gone: Booking)
+    requires calendar { IsCalendar bookings.old.items }
+    requires stands { find (is_of gone.case gone.motion) bookings.old.items ≡ Some gone }
+    ensures items { bookings.new.items ≡ without_motion gone.case gone.motion bookings.old.items }
+    ensures room { (vec_len bookings.new ≤ vec_len bookings.old) × (vec_capacity bookings.new ≡ vec_capacity bookings.old) }
+{
+    let place = place_of(bookings, &gone);
+    bookings.remove(place);
 }
 
 /// Puts the booking in its place, where none of its case and motion stands and none shares a slot with it.
@@ -81,11 +89,9 @@ pub(crate) fn place_in(bookings: &mut Vec<Booking>, booking: Booking)
     ensures items { bookings.new.items ≡ in_place booking bookings.old.items }
     ensures calendar { IsCalendar bookings.new.items }
     ensures here { Contains (on_day booking.day bookings.new.items) booking }
-    ensures heard { day_heard booking.case booking.motion bookings.new.items ≡ Some booking.day }
-    ensures other_motions { (c m : ℕ) → ((c ≡ booking.case) × (m ≡ booking.motion) → ⊥) → day_heard c m bookings.new.items ≡ day_heard c m bookings.old.items }
     ensures other_days { (day : ℤ) → (booking.day ≡ day → ⊥) → on_day day bookings.new.items ≡ on_day day bookings.old.items }
 {
-    let place = bookings.partition_point(|other| other.begins_before(&booking));
+    let place = place_of(bookings, &booking);
     // There is room, so this takes no memory.
     bookings.insert(place, booking).unwrap();
 }

@@ -1,4 +1,6 @@
-ghost use Rattle.std.specs.Prelude.{◌<◌, ◌≤◌, ◌+◌};
+ghost use Rattle.std.specs.Prelude.{◌<◌, ◌≤◌, ◌+◌, Some};
+ghost use Rattle.hearing_slots.specs.Booking.{IsWithinDay};
+ghost use Rattle.hearing_slots.specs.Calendar.{IsFree};
 
 use super::{Booking, Calendar, Need, Panel};
 use court_days::Day;
@@ -22,11 +24,45 @@ fn booking(case: u32, motion: u32, day: Day, first: u8, count: u8) -> Booking {
     }
 }
 
-// The calendar with the booking, where it lies within its day and conflicts with no other, and whether it does.
+// The calendar with the booking, which is put in place.
+fn put_in(alloc: Global, calendar: Calendar, booking: Booking) -> Result<Calendar, AllocError>
+    requires within_day { IsWithinDay booking }
+    requires free { IsFree calendar booking.day booking.first booking.count (Some (booking.case, booking.motion)) }
+{
+    match calendar.open(alloc) {
+        Ok(opened) => Ok(opened.put(booking)),
+        Err(_) => Err(AllocError),
+    }
+}
+
+// The calendar without the booking, which is taken out in place.
+fn take_out(
+    alloc: Global,
+    calendar: Calendar,
+    case: u32,
+    motion: u32,
+) -> Result<Calendar, AllocError> {
+    match calendar.open(alloc) {
+        Ok(opened) => Ok(opened.take_out(case, motion)),
+        Err(_) => Err(AllocError),
+    }
+}
+
+// The calendar as it is, opened and closed.
+fn reopened(alloc: Global, calendar: Calendar) -> Result<Calendar, AllocError> {
+    match calendar.open(alloc) {
+        Ok(opened) => Ok(opened.close()),
+        Err(_) => Err(AllocError),
+    }
+}
+
+// The calendar with the booking, where it lies within its day and conflicts with no other, and whether it does. It is
+// put in place, or into a new calendar.
 fn booked(
     alloc: Global,
     calendar: Calendar,
     booking: Booking,
+    in_place: bool,
 ) -> Result<(Calendar, bool), AllocError> {
     let ends = u16::from(booking.first) + u16::from(booking.count);
     if booking.count < 1 || ends > 96 {
@@ -35,16 +71,26 @@ fn booked(
     let except = Some((booking.case, booking.motion));
     match calendar.conflict(booking.day, booking.first, booking.count, except) {
         Some(_) => Ok((calendar, false)),
+        None if in_place => Ok((put_in(alloc, calendar, booking)?, true)),
         None => Ok((calendar.with(alloc, booking)?, true)),
     }
+}
+
+// The calendar of these bookings, in whatever order they come.
+fn calendar_of(alloc: Global, bookings: &[Booking]) -> Result<Calendar, AllocError> {
+    let mut calendar = Calendar::empty();
+    for booking in bookings {
+        let (next, _) = booked(alloc, calendar, *booking, true)?;
+        calendar = next;
+    }
+    Ok(calendar)
 }
 
 #[test]
 fn names_the_conflict_with_the_least_first_slot(rt: HostRuntime) -> Result<(), Fail> {
     let monday = day(20_346)?;
     let both = [booking(1, 1, monday, 40, 4), booking(2, 1, monday, 48, 2)];
-    let (calendar, _) = booked(rt.alloc(), Calendar::empty(), both[1])?;
-    let (calendar, _) = booked(rt.alloc(), calendar, both[0])?;
+    let calendar = calendar_of(rt.alloc(), &[both[1], both[0]])?;
     assert_eq!(rt; calendar.all(), both.as_slice());
     assert_eq!(rt; calendar.conflict(monday, 42, 8, None), Some(both[0]));
     assert_eq!(rt;
@@ -82,7 +128,7 @@ fn takes_touching_bookings_and_whole_days(rt: HostRuntime) -> Result<(), Fail> {
         (booking(8, 1, monday, 96, 1), false),
     ];
     for (booking, fits) in wanted {
-        let (next, took) = booked(rt.alloc(), calendar, booking)?;
+        let (next, took) = booked(rt.alloc(), calendar, booking, false)?;
         assert_eq!(rt; took, fits, "{booking:?}");
         calendar = next;
     }
@@ -96,29 +142,52 @@ fn copies_stay_as_they_were(rt: HostRuntime) -> Result<(), Fail> {
     let first = booking(1, 1, monday, 40, 4);
     let moved = booking(1, 1, day(20_347)?, 8, 2);
     let second = booking(2, 1, monday, 48, 2);
-    let (calendar, _) = booked(rt.alloc(), Calendar::empty(), first)?;
-    let (calendar, _) = booked(rt.alloc(), calendar, second)?;
-    let before = calendar.copy()?;
-    let (calendar, _) = booked(rt.alloc(), calendar, moved)?;
-    assert_eq!(rt; calendar.all(), [second, moved].as_slice());
-    assert_eq!(rt; before.all(), [first, second].as_slice());
-    let after = calendar
-        .copy()?
-        .without(rt.alloc(), 2, 1)?
-        .without(rt.alloc(), 2, 1)?;
-    assert_eq!(rt; after.all(), [moved].as_slice());
-    assert_eq!(rt; after.conflict(monday, 0, 96, None), None);
+    let third = booking(3, 1, monday, 8, 2);
+    let calendar = calendar_of(rt.alloc(), &[first, second])?;
+    let new = calendar.without(rt.alloc(), 7, 1)?;
+    let put = new.copy(rt.alloc())?;
+    let taken = new.copy(rt.alloc())?;
+    let (put, _) = booked(rt.alloc(), put, moved, true)?;
+    let taken = take_out(rt.alloc(), taken, 2, 1)?;
+    let (third_too, _) = booked(rt.alloc(), new.copy(rt.alloc())?, third, false)?;
+    assert_eq!(rt; calendar.all(), [first, second].as_slice());
+    assert_eq!(rt; new.all(), [first, second].as_slice());
+    assert_eq!(rt; put.all(), [second, moved].as_slice());
+    assert_eq!(rt; taken.all(), [first].as_slice());
+    assert_eq!(rt; third_too.all(), [third, first, second].as_slice());
+    assert_eq!(rt; taken.conflict(monday, 48, 2, None), None);
+    Ok(())
+}
+
+#[test]
+fn a_calendar_comes_back_as_it_was(rt: HostRuntime) -> Result<(), Fail> {
+    let monday = day(20_346)?;
+    let only = booking(1, 1, monday, 40, 4);
+    let calendar = reopened(rt.alloc(), calendar_of(rt.alloc(), &[only])?)?;
+    let copy = reopened(rt.alloc(), calendar.copy(rt.alloc())?)?;
+    let shared = calendar.without(rt.alloc(), 1, 2)?;
+    let alone = reopened(rt.alloc(), shared)?;
+    for same in [calendar, copy, alone] {
+        assert_eq!(rt; same.all(), [only].as_slice());
+    }
+    let empty = reopened(rt.alloc(), Calendar::empty().copy(rt.alloc())?)?;
+    assert_eq!(rt; empty.all().len(), 0);
+    let none = take_out(rt.alloc(), empty, 1, 1)?.without(rt.alloc(), 1, 1)?;
+    assert_eq!(rt; none.on_day(rt.alloc(), monday)?.into_vec().len(), 0);
+    Ok(())
+}
+
+#[test]
+fn a_day_lists_its_bookings(rt: HostRuntime) -> Result<(), Fail> {
+    let monday = day(20_346)?;
+    let early = booking(3, 1, monday, 0, 1);
+    let noon = booking(1, 1, monday, 48, 2);
+    let late = booking(2, 1, monday, 95, 1);
+    let next = booking(2, 2, day(20_347)?, 0, 96);
+    let calendar = calendar_of(rt.alloc(), &[late, next, early, noon])?;
     let on_monday = calendar.on_day(rt.alloc(), monday)?;
-    assert_eq!(rt; on_monday.as_slice(), [second].as_slice());
-    assert_eq!(rt; on_monday.into_vec().len(), 1);
-    assert_eq!(rt;
-        Calendar::empty()
-            .copy()?
-            .on_day(rt.alloc(), monday)?
-            .into_vec()
-            .len(),
-        0
-    );
+    assert_eq!(rt; on_monday.as_slice(), [early, noon, late].as_slice());
+    assert_eq!(rt; on_monday.into_vec().len(), 3);
     Ok(())
 }
 
@@ -197,10 +266,25 @@ fn left(
     Ok(rest)
 }
 
+// The calendar without the booking, in place or a new one.
+fn left_out(
+    alloc: Global,
+    calendar: Calendar,
+    case: u32,
+    motion: u32,
+    in_place: bool,
+) -> Result<Calendar, AllocError> {
+    if in_place {
+        take_out(alloc, calendar, case, motion)
+    } else {
+        calendar.without(alloc, case, motion)
+    }
+}
+
 #[test]
 fn agrees_with_a_scan_of_a_plain_list(rt: HostRuntime) -> Result<(), Fail> {
     let days = [day(-1)?, day(0)?, day(20_346)?];
-    for seed in 0..3_000u64 {
+    for seed in 0..1_000u64 {
         let mut numbers = Numbers(seed);
         let mut calendar = Calendar::empty();
         let mut list: Vec<Booking> = Vec::new(rt.alloc());
@@ -221,13 +305,14 @@ fn agrees_with_a_scan_of_a_plain_list(rt: HostRuntime) -> Result<(), Fail> {
                 scanned(&list, on, first, count, except),
                 "{seed}"
             );
+            let in_place = numbers.below(2) == 0;
             if numbers.below(4) == 0 {
-                calendar = calendar.without(rt.alloc(), case, motion)?;
+                calendar = left_out(rt.alloc(), calendar, case, motion, in_place)?;
                 list = left(rt.alloc(), &list, case, motion)?;
             } else {
                 let wanted = booking(case, motion, on, first, count);
                 let free = scanned(&list, on, first, count, Some((case, motion))).is_none();
-                let (next, took) = booked(rt.alloc(), calendar, wanted)?;
+                let (next, took) = booked(rt.alloc(), calendar, wanted, in_place)?;
                 assert_eq!(rt; took, free, "{seed}");
                 calendar = next;
                 if took {

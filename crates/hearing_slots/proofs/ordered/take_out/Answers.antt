@@ -1,32 +1,23 @@
-use Rattle.std.proofs.Common.{◌≡◌, not, rules}
-use Rattle.std.specs.List.{filter}
-use Rattle.std.proofs.lemmas.Fn.{filter_same}
+use Rattle.std.proofs.Common.{◌≡◌, ◌≤◌, true, false, length, ◌∙◌, subst, List, arith}
+use Rattle.std.specs.List.Sorted.{IsPartitionPoint}
 use Rattle.hearing_slots.specs.declared.booking.Booking.{Booking}
-use Rattle.hearing_slots.specs.Booking.{is_of}
-use Rattle.hearing_slots.proofs.CalendarLemmas.{IsCalendar-filter}
-use Rattle.hearing_slots.proofs.MotionLemmas.{day_heard-without, day_heard-without_other}
+use Rattle.hearing_slots.specs.Booking.{begins_before}
+use Rattle.hearing_slots.proofs.Removals.{taken_out}
 use Rattle.hearing_slots.proofs.ordered.take_out.Goals as goal
 
+pub remove-requires : goal.remove-requires
+remove-requires c =
+    let place = c.place_of-place.result in
+    let all = c.args.bookings.now.items in
+    let point = subst (λ (bs : List Booking). IsPartitionPoint (λ a. begins_before a c.args.gone ≡ true) (λ a. begins_before a c.args.gone ≡ false) bs place) c.deref.ensures.value c.place_of-place.ensures.point in
+    let within : place ≤ length all = subst (λ (bs : List Booking). place ≤ length bs) c.deref.ensures.value c.place_of-place.ensures.bound in
+    let out = taken_out all c.args.gone place c.requires.calendar c.requires.stands within point in
+    omega (arith, out.0)
+
 pub returns-clause-items : goal.returns-clause-items
-returns-clause-items c = filter_same _ _ _ (λ x b f' k. search rules) _ _ c.retain.ensures.filtered
-
-pub returns-clause-calendar : goal.returns-clause-calendar
-returns-clause-calendar c =
+returns-clause-items c =
+    let place = c.place_of-place.result in
     let all = c.args.bookings.now.items in
-    let other = λ (b : Booking). not (is_of c.args.case c.args.motion b) in
-    let kept : c.retain.new.self.items ≡ filter other all = filter_same _ _ _ (λ x b f' k. search rules) _ _ c.retain.ensures.filtered in
-    rw kept (IsCalendar-filter other all c.requires)
-
-pub returns-clause-gone : goal.returns-clause-gone
-returns-clause-gone c =
-    let all = c.args.bookings.now.items in
-    let other = λ (b : Booking). not (is_of c.args.case c.args.motion b) in
-    let kept : c.retain.new.self.items ≡ filter other all = filter_same _ _ _ (λ x b f' k. search rules) _ _ c.retain.ensures.filtered in
-    rw kept (day_heard-without c.args.case c.args.motion c.args.bookings.now.items)
-
-pub returns-clause-other_motions : goal.returns-clause-other_motions
-returns-clause-other_motions c =
-    let all = c.args.bookings.now.items in
-    let other = λ (b : Booking). not (is_of c.args.case c.args.motion b) in
-    let kept : c.retain.new.self.items ≡ filter other all = filter_same _ _ _ (λ x b f' k. search rules) _ _ c.retain.ensures.filtered in
-    rw kept (day_heard-without_other c.args.case c.args.motion c.args.bookings.now.items)
+    let point = subst (λ (bs : List Booking). IsPartitionPoint (λ a. begins_before a c.args.gone ≡ true) (λ a. begins_before a c.args.gone ≡ false) bs place) c.deref.ensures.value c.place_of-place.ensures.point in
+    let within : place ≤ length all = subst (λ (bs : List Booking). place ≤ length bs) c.deref.ensures.value c.place_of-place.ensures.bound in
+    c.remove.ensures.items ∙ (taken_out all c.args.gone place c.requires.calendar c.requires.stands within point).1

@@ -5,5 +5,5 @@ use Rattle.hearing_slots.proofs.calendar.Calendar.with.Goals as goal
 
 pub returns-clause-holds : goal.returns-clause-holds
 returns-clause-holds c =
-    let value : IfOk c.of.result (λ new. new ≡ with_booking c.args.booking c.args.self) = search rules in
-    held_with c.args.booking c.args.self c.of.result value
+    let value : IfOk c.share.result (λ new. new ≡ with_booking c.args.booking c.args.self.now) = search rules in
+    held_with c.args.booking c.args.self.now c.share.result value
