@@ -1,4 +1,5 @@
 //! Cases.
+mod changes;
 
 ghost use Rattle.std.specs.Prelude.{◌≡◌, ◌==◌, [], length, find, slice_get, IfOk, option_map, option_copied};
 ghost use Rattle.std.specs.Arc.{arc_value};
