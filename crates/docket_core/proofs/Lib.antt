@@ -1,0 +1,4 @@
+pub mod HolidayLemmas
+pub mod MadeLemmas
+pub mod NextLemmas
+pub mod WrittenLemmas

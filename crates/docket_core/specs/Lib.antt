@@ -1,0 +1,4 @@
+pub mod CanSet
+pub mod Holidays
+pub mod Next
+pub mod Written

@@ -17,15 +17,15 @@ use std::alloc::Global;
 pub(crate) fn start_refusal(
     days: &Days,
     period: &Period,
-    event: Event,
+    event: &Event,
     second: Option<Day>,
     service: Option<ServiceKind>,
 ) -> Option<Refusal>
-    ensures value { result ≡ option_map refusal_of (start_refusal days.now period.now event second service) }
+    ensures value { result ≡ option_map refusal_of (start_refusal days.now period.now event.now second service) }
     ensures suits { IfNone result (suits period.now second service ≡ true) }
     ensures length { IfNone result (has_length period.now ≡ true) }
 {
-    match check_start(days, period, event, second, service) {
+    match check_start(days, period, *event, second, service) {
         Ok(()) => None,
         Err(refusal) => Some(Refusal::from(refusal)),
     }
@@ -36,15 +36,17 @@ pub(crate) fn shown_at_start<S: Sight>(
     alloc: Global,
     rules: &DocketRules,
     sight: &S,
-    period: Period,
-    event: Event,
+    period: &Period,
+    event: &Event,
     second: Option<Day>,
     service: Option<ServiceKind>,
 ) -> Shown
-    requires suits { suits period second service ≡ true }
-    requires length { has_length period ≡ true }
-    ensures { result ≡ shown_now rules.now (S.parts sight.now) (started period event second service) }
+    requires suits { suits period.now second service ≡ true }
+    requires length { has_length period.now ≡ true }
+    ensures { result ≡ shown_now rules.now (S.parts sight.now) (started period.now event.now second service) }
 {
+    let period = *period;
+    let event = *event;
     let row = DocketRow::start(alloc, period, event, second, service);
     shown_now(rules, sight, row.row())
 }
@@ -56,25 +58,25 @@ pub(crate) fn start_deadline_refusal<S: Sight>(
     rules: &DocketRules,
     sight: &S,
     case: u32,
-    period: Period,
-    event: Event,
-    second: Option<Day>,
-    service: Option<ServiceKind>,
+    period: &Period,
+    event: &Event,
+    second: &Option<Day>,
+    service: &Option<ServiceKind>,
 ) -> Option<Refusal>
-    ensures value { result ≡ start_deadline_refusal rules.now (S.parts sight.now) case period event second service }
-    ensures suits { IfNone result (suits period second service ≡ true) }
-    ensures length { IfNone result (has_length period ≡ true) }
+    ensures value { result ≡ start_deadline_refusal rules.now (S.parts sight.now) case period.now event.now second.now service.now }
+    ensures suits { IfNone result (suits period.now second.now service.now ≡ true) }
+    ensures length { IfNone result (has_length period.now ≡ true) }
 {
     if !has_case(sight, case) {
         return Some(Refusal::NoSuchCase);
     }
-    if let Some(refusal) = start_refusal(sight.days(), &period, event, second, service) {
+    if let Some(refusal) = start_refusal(sight.days(), period, event, *second, *service) {
         return Some(refusal);
     }
     if deadlines_count(sight, case) >= 64 {
         return Some(Refusal::Full);
     }
-    if is_beyond(shown_at_start(alloc, rules, sight, period, event, second, service)) {
+    if is_beyond(shown_at_start(alloc, rules, sight, period, event, *second, *service)) {
         return Some(Refusal::Beyond);
     }
     None

@@ -13,7 +13,9 @@ use crate::seen::{has_case, hearing_in, motion_in};
 use crate::sight::Sight;
 use clashes::{Span, judge_clash, room_clash};
 use docket_rows::{Refusal, Setting};
-use notice::{lacks_last_service, later, missed_service};
+pub(crate) use notice::{lacks_notice, later};
+use notice::{lacks_last_service, missed_service};
+pub(crate) use panel::sits;
 use panel::{has_judges, is_panel};
 use slots::{fits_day, is_court_day, is_within_hours};
 
@@ -72,10 +74,10 @@ fn hearing_refusal<S: Sight>(
         first: s.first,
         count: s.count as u8,
     };
-    if let Some(booking) = judge_clash(sight, except, panel, span) {
+    if let Some(booking) = judge_clash(sight, except, panel, &span) {
         return Some(Refusal::JudgeBusy(booking.case, booking.motion));
     }
-    if let Some(booking) = room_clash(sight, except, s.room, span) {
+    if let Some(booking) = room_clash(sight, except, s.room, &span) {
         return Some(Refusal::RoomBusy(booking.case, booking.motion));
     }
     None

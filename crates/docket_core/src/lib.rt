@@ -1,14 +1,20 @@
 //! What a command is answered, which parts it reads, and how it changes the docket.
 #![tactic(auto)]
 
+mod answers;
 mod cases;
+mod decide;
 mod deadlines;
 mod hearings;
+mod holidays;
+mod judgement;
 mod motions;
+mod next;
 mod outages;
 mod reads;
 mod rules;
 mod seen;
 mod sight;
+mod writes;
 
 pub use rules::DocketRules;

@@ -18,10 +18,10 @@ pub(crate) struct Span {
 
 /// The first booking of a calendar that clashes; no calendar has none.
 #[tactic(auto, unfolding(hearing_slots::specs::Calendar::first_conflict))]
-fn conflict_in(calendar: Option<&Calendar>, span: Span, except: Option<(u32, u32)>) -> Option<Booking>
-    requires some_slot { 1 ≤ span.count }
-    requires ends { span.first + span.count ≤ 96 }
-    ensures { result ≡ first_conflict (unwrap_or (option_copied calendar.entry) []) span.day span.first span.count except }
+fn conflict_in(calendar: Option<&Calendar>, span: &Span, except: Option<(u32, u32)>) -> Option<Booking>
+    requires some_slot { 1 ≤ span.now.count }
+    requires ends { span.now.first + span.now.count ≤ 96 }
+    ensures { result ≡ first_conflict (unwrap_or (option_copied calendar.entry) []) span.now.day span.now.first span.now.count except }
 {
     match calendar {
         Some(calendar) => calendar.conflict(span.day, span.first, span.count, except),
@@ -34,11 +34,11 @@ pub(crate) fn judge_clash<S: Sight>(
     sight: &S,
     except: Option<(u32, u32)>,
     judges: &[u8],
-    span: Span,
+    span: &Span,
 ) -> Option<Booking>
-    requires some_slot { 1 ≤ span.count }
-    requires ends { span.first + span.count ≤ 96 }
-    ensures { result ≡ first_of (map (λ j. first_conflict ((S.parts sight.now).judge j) span.day span.first span.count except) judges.now) }
+    requires some_slot { 1 ≤ span.now.count }
+    requires ends { span.now.first + span.now.count ≤ 96 }
+    ensures { result ≡ first_of (map (λ j. first_conflict ((S.parts sight.now).judge j) span.now.day span.now.first span.now.count except) judges.now) }
 {
     match judges {
         [] => None,
@@ -56,11 +56,11 @@ pub(crate) fn room_clash<S: Sight>(
     sight: &S,
     except: Option<(u32, u32)>,
     room: u8,
-    span: Span,
+    span: &Span,
 ) -> Option<Booking>
-    requires some_slot { 1 ≤ span.count }
-    requires ends { span.first + span.count ≤ 96 }
-    ensures { result ≡ first_conflict ((S.parts sight.now).room room) span.day span.first span.count except }
+    requires some_slot { 1 ≤ span.now.count }
+    requires ends { span.now.first + span.now.count ≤ 96 }
+    ensures { result ≡ first_conflict ((S.parts sight.now).room room) span.now.day span.now.first span.now.count except }
 {
     conflict_in(sight.room(room), span, except)
 }

@@ -2,11 +2,11 @@
 
 ghost use Rattle.std.specs.Prelude.{◌≡◌};
 ghost use Rattle.court_days.specs.Words.{later_day};
-ghost use Rattle.docket_rows.specs.Words.{last_service, lacks_last_service, missed_service};
+ghost use Rattle.docket_rows.specs.Words.{last_service, lacks_last_service, missed_service, lacks_notice};
 
 use crate::motions::is_notice_length;
 use court_days::{Day, Days};
-use hearing_slots::Need;
+use hearing_slots::{Booking, Need};
 use rule_periods::notice_day;
 
 /// The later of two days.
@@ -49,5 +49,18 @@ pub(crate) fn missed_service(days: &Days, hearing: Day, need: Need, served: Day)
         Some(latest)
     } else {
         None
+    }
+}
+
+/// Whether a booked hearing lacks its notice by these days.
+pub(crate) fn lacks_notice(days: &Days, booking: &Booking) -> bool
+    ensures { result ≡ lacks_notice days.now booking.now }
+{
+    if lacks_last_service(days, booking.day, booking.need) {
+        return true;
+    }
+    match missed_service(days, booking.day, booking.need, booking.served) {
+        Some(_) => true,
+        None => false,
     }
 }
