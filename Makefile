@@ -6,7 +6,7 @@ PROGRAM  := $(CRATE)/out/clerk_office
 BOOKINGS := crates/measure_bookings
 EXAMPLE  := examples/smallest.txt
 
-.PHONY: build run test bench refuse help
+.PHONY: build run test bench refuse check-program courts help
 
 # `rt run` proves the program and the libraries below it, builds it at $(PROGRAM), and runs it, here on the smallest
 # example. Where nothing has changed since the last time it proves nothing anew.
@@ -28,9 +28,20 @@ bench: build
 refuse: build
 	@python3 checks/refuse_memory.py $(PROGRAM) examples/smallest.txt examples/days.txt examples/deadlines.txt
 
+# Beside the gate, which runs the program once: every status with which it may end, and what it then writes.
+check-program: build
+	@python3 checks/check_program.py $(PROGRAM)
+
+# Beside the gate: the courts' files of examples/courts, as they are written and as the program answers them.
+courts: build
+	@python3 checks/courts_make.py --check examples/courts
+	@python3 checks/courts_check.py $(PROGRAM) examples/courts
+
 help:
 	@echo "make         proves and builds the program, which is then $(PROGRAM)"
 	@echo "make run     that, and runs it on $(EXAMPLE)"
 	@echo "make test    proves and tests everything from nothing (rt ci)"
 	@echo "make refuse  runs the program with each growth of its memory refused in turn; it needs a C compiler"
+	@echo "make check-program  runs the program for every status, 0 to 5, and looks at all that it writes"
+	@echo "make courts  checks the courts' files of examples/courts, and runs the program on each"
 	@echo "make bench   builds the program, and prints its rows per second and peak memory"

@@ -3,11 +3,14 @@
 
     bench.py PROGRAM BOOKINGS
 
-PROGRAM is the clerk's office, and BOOKINGS the program that puts 100,000 bookings into calendars. Each input is the court's file examples/district.toml, a line '%%', and rows of one kind, drawn from a fixed seed, so
-that two runs of the benchmark measure the same inputs. Each input is run once. Seconds are by the wall clock, with
-about a millisecond for the start of a shell; a megabyte is 1,000,000 bytes. For a run that doesn't end with status 0,
-the first line that it wrote to standard error is shown and no rows per second. Nothing is asserted and no time is
-limited. It needs Linux.
+PROGRAM is the clerk's office, and BOOKINGS the program that changes calendars and measures that itself. Each
+input of the office is a court's file, a line '%%', and rows of one kind, drawn from a fixed seed, so that two runs of
+the benchmark measure the same inputs. 'example' is the court of examples/district.toml. 'full' is one with all that a
+court's file may have: 100 years, and 4,096 dates in each list of holidays, which make 8,192 closed days in a row, so
+that most of the rows' last days are moved over many years. Both courts get the same rows, and the last line of their
+table compares them. Each input is run once. Seconds are by the wall clock, with about a millisecond for the start of
+a shell; a megabyte is 1,000,000 bytes. For a run that doesn't end with status 0, the first line that it wrote to
+standard error is shown and no rows per second. Nothing is asserted and no time is limited. It needs Linux.
 """
 import ctypes
 import datetime
@@ -26,18 +29,28 @@ KINDS = {
     "rule periods": "1,compute,{rule_period_with_its_days_and_kind}",
     "hours": "1,compute,{hours}h/{direction}/{act}/event/plain,{day},{time},,",
 }
+# A mixed input takes a kind anew for each row.
+MIXED = "mixed"
+# What is run with which court.
+RUNS = (
+    ("example", ("days", "rule periods", "hours", MIXED)),
+    ("full", ("hours", MIXED)),
+)
 SIZES = (1000, 10000, 100000)
 SEED = 20250902
 
-# How many bookings the other program puts in, and over how many calendars it spreads them.
-BOOKINGS = 100000
-CALENDARS = (32, 1)
+LINE = "{:<14}{:<9}{:>9}{:>10}{:>13}{:>9}  {}"
+BOOKINGS_LINE = "{:<23}{:>9}{:>10}"
 
-LINE = "{:<16}{:>9}{:>10}{:>13}{:>9}  {}"
+EXAMPLE = pathlib.Path(__file__).resolve().parent.parent / "examples" / "district.toml"
 
-COURT = pathlib.Path(__file__).resolve().parent.parent / "examples" / "district.toml"
+# The full court: its span, its dates in each list, and the first of its closed days. The federal dates come first.
+FULL_FROM = datetime.date(1950, 1, 1)
+FULL_TO = datetime.date(2049, 12, 31)
+FULL_DATES = 4096
+FIRST_CLOSED = datetime.date(2003, 1, 1)
 
-# Days of events, more than a year inside the court's span at both ends, so that no answer is 'beyond'.
+# Days of events, more than a year inside both courts' spans at both ends, so that no answer is 'beyond'.
 FIRST_DAY = datetime.date(2008, 1, 31)
 LAST_DAY = datetime.date(2025, 12, 1)
 
@@ -82,12 +95,35 @@ class Draw:
         return "{},{},,{},{}".format(period, self.day(), second, kind)
 
 
-def write_input(path, row, count):
-    draw = Draw(random.Random(SEED))
+def full_court():
+    """The file of the full court."""
+    def dates(first):
+        days = (FIRST_CLOSED + datetime.timedelta(days=first + number) for number in range(FULL_DATES))
+        return ", ".join('"{}"'.format(day) for day in days)
+
+    return "\n".join((
+        'zone = "EST5EDT,M3.2.0/2,M11.1.0/2"',
+        'opens = "08:30"',
+        'closes = "17:00"',
+        'from = "{}"'.format(FULL_FROM),
+        'to = "{}"'.format(FULL_TO),
+        "federal = [{}]".format(dates(0)),
+        "state = [{}]".format(dates(FULL_DATES)),
+        "judges = []",
+        "rooms = []",
+        "",
+    ))
+
+
+def write_input(path, court, kind, count):
+    source = random.Random(SEED)
+    draw = Draw(source)
+    rows = list(KINDS.values())
     with open(path, "w") as file:
-        file.write(COURT.read_text())
+        file.write(court)
         file.write("%%\n")
         for _ in range(count):
+            row = source.choice(rows) if kind == MIXED else KINDS[kind]
             file.write(row.format_map(draw) + "\n")
 
 
@@ -112,28 +148,49 @@ def measure(command, rows, errors):
     return status, seconds, used.ru_maxrss * 1024 / 1e6
 
 
-def report(kind, count, ran, errors):
+def report(kind, court, count, ran, errors):
     """Prints the line of one run."""
     status, seconds, peak = ran
     rate = "{:,.0f}".format(count / seconds) if status == 0 else "-"
     with open(errors, errors="replace") as file:
         ending = "{} {}".format(status, file.readline()).strip()
-    print(LINE.format(kind, "{:,}".format(count), "%.3f" % seconds, rate, "%.1f" % peak, ending), flush=True)
+    print(LINE.format(kind, court, "{:,}".format(count), "%.3f" % seconds, rate, "%.1f" % peak, ending), flush=True)
+
+
+def measure_rows(program, folder):
+    """Runs each kind of row with each court."""
+    courts = {"example": EXAMPLE.read_text(), "full": full_court()}
+    rows, errors = os.path.join(folder, "rows"), os.path.join(folder, "errors")
+    seconds = {}
+    print(LINE.format("kind", "court", "rows", "seconds", "rows/second", "peak MB", "status"))
+    for court, kinds in RUNS:
+        for kind in kinds:
+            for count in SIZES:
+                write_input(rows, courts[court], kind, count)
+                ran = measure([program], rows, errors)
+                report(kind, court, count, ran, errors)
+                seconds[court, kind, count] = ran[1]
+    most = max(SIZES)
+    ratio = seconds["full", MIXED, most] / seconds["example", MIXED, most]
+    print("{:,} {} rows: the full court takes {:.2f} times the example's time".format(most, MIXED, ratio), flush=True)
+
+
+def measure_bookings(program):
+    """Runs the other program, each line of which is a kind of change, the bookings in its calendar, and the seconds."""
+    ran = subprocess.run([program, "measure"], stdout=subprocess.PIPE, check=False)
+    print(BOOKINGS_LINE.format("kind", "bookings", "seconds"))
+    for line in ran.stdout.decode().splitlines():
+        kind, count, seconds = line.rsplit(None, 2)
+        print(BOOKINGS_LINE.format(kind.replace("_", " "), "{:,}".format(int(count)), "%.4f" % float(seconds)))
+    if ran.returncode != 0:
+        print("the bookings ended with status {}".format(ran.returncode))
 
 
 def main(program, bookings):
-    program, bookings = os.path.abspath(program), os.path.abspath(bookings)
     adopt_orphans()
-    print(LINE.format("kind", "rows", "seconds", "rows/second", "peak MB", "status"))
     with tempfile.TemporaryDirectory() as folder:
-        rows, errors = os.path.join(folder, "rows"), os.path.join(folder, "errors")
-        for kind, row in KINDS.items():
-            for count in SIZES:
-                write_input(rows, row, count)
-                report(kind, count, measure([program], rows, errors), errors)
-        for calendars in CALENDARS:
-            ran = measure([bookings, str(calendars)], os.devnull, errors)
-            report("bookings in %d" % calendars, BOOKINGS, ran, errors)
+        measure_rows(os.path.abspath(program), folder)
+    measure_bookings(os.path.abspath(bookings))
 
 
 if __name__ == "__main__":

@@ -1,11 +1,10 @@
 -- What reading rows says of each record.
 use Rattle.std.proofs.Common.{◌≡◌, ◌+◌, ◌<◌, ℕ, zero, suc, List, [], ◌∷◌, length, Some, IfSome, Result, Ok, Err, MatchResult, IsOk, slice_get, cond, ltb, refl, ap, arith}
-use Rattle.clerk_office.specs.declared.read_rows.TheConstants.{MAX_ROWS}
 use Rattle.clerk_office.specs.declared.row.Row.{Row}
 use Rattle.clerk_office.specs.declared.row_fault.RowCause.{RowCause}
 use Rattle.clerk_office.specs.declared.row_fault.RowCause.TheVariants.{TooManyRows}
 use Rattle.clerk_office.specs.FirstFault.{AreSpelled, FirstFaultIsTold, IsFirstFault}
-use Rattle.clerk_office.specs.Rows.{◌>>=◌, in_row, numbered_row, row_of, rows_from}
+use Rattle.clerk_office.specs.Rows.{◌>>=◌, in_row, most_rows, numbered_row, row_of, rows_from}
 
 -- the records from the row numbered n on spell these rows
 record SpelledFrom (clerks n : ℕ) (records : List (List (List ℕ))) (rows : List Row) : Type 0 where
@@ -22,7 +21,7 @@ record FaultFrom (clerks n : ℕ) (records : List (List (List ℕ))) (number : �
 told : (clerks n : ℕ) (records : List (List (List ℕ))) → MatchResult (rows_from clerks n records) (SpelledFrom clerks n records) (λ fault. FaultFrom clerks n records fault.0 fault.1)
 unfolding rows_from
 told clerks n [] = record { count = refl; each = λ i fields row none. cc none }
-told clerks n (f ∷ fs) = by (cond (ltb MAX_ROWS n) (Err TooManyRows) (row_of clerks f)) refl (rows_from clerks (n + 1) fs) (told clerks (n + 1) fs)
+told clerks n (f ∷ fs) = by (cond (ltb most_rows n) (Err TooManyRows) (row_of clerks f)) refl (rows_from clerks (n + 1) fs) (told clerks (n + 1) fs)
   where
     at_first : (i : ℕ) (r : Result Row (ℕ × RowCause)) → i ≡ 0 → numbered_row clerks n f ≡ r → numbered_row clerks (i + n) f ≡ r
     at_first i r e h = let same : i + n ≡ n = omega arith in rw same h
@@ -46,7 +45,7 @@ told clerks n (f ∷ fs) = by (cond (ltb MAX_ROWS n) (Err TooManyRows) (row_of c
         let same : suc i + n ≡ i + (n + 1) = omega arith in
         rw same (later.before i fields (omega arith) at_fields)
 
-    by : (r : Result Row RowCause) → cond (ltb MAX_ROWS n) (Err TooManyRows) (row_of clerks f) ≡ r → (rest : Result (List Row) (ℕ × RowCause))
+    by : (r : Result Row RowCause) → cond (ltb most_rows n) (Err TooManyRows) (row_of clerks f) ≡ r → (rest : Result (List Row) (ℕ × RowCause))
         → MatchResult rest (SpelledFrom clerks (n + 1) fs) (λ fault. FaultFrom clerks (n + 1) fs fault.0 fault.1)
         → MatchResult (in_row n r >>= (λ row. rest >>= (λ rows. Ok (row ∷ rows)))) (SpelledFrom clerks n (f ∷ fs)) (λ fault. FaultFrom clerks n (f ∷ fs) fault.0 fault.1)
     by (Err cause) e rest later = record { place = 0; numbered = omega arith; fault = ap (in_row n) e; within = omega arith; before = λ i fields none. absurd (omega arith) }

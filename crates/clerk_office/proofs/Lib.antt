@@ -4,5 +4,7 @@ pub mod Slashes
 pub mod RecordsLemmas
 pub mod ReadingLemmas
 pub mod RowsLemmas
-pub mod MarkLemmas
+pub mod DividerLemmas
 pub mod FaultLemmas
+pub mod ClockLemmas
+pub mod UniqueTextLemmas

@@ -3,13 +3,12 @@ use Rattle.std.proofs.Common.{◌≡◌, ◌+◌, ◌≤◌, ◌<◌, ◌∙◌,
 use Rattle.std.specs.List.{list_all}
 use Rattle.std.specs.Str.{is_utf8}
 use Rattle.std.proofs.lemmas.Bool.Decides.{nat_tests}
-use Rattle.clerk_office.specs.declared.read_rows.TheConstants.{MAX_ROWS}
 use Rattle.clerk_office.specs.declared.row.Row.{Row}
 use Rattle.clerk_office.specs.declared.row_fault.RowCause.{RowCause}
 use Rattle.clerk_office.specs.declared.row_fault.RowCause.TheVariants.{NotText, TooManyRows}
 use Rattle.clerk_office.specs.declared.row_fault.RowError.{RowError}
 use Rattle.clerk_office.specs.declared.row_fault.RowError.TheVariants.{Fault, OutOfMemory}
-use Rattle.clerk_office.specs.Rows.{◌>>=◌, AnswersRow, AnswersRows, row_of, rows_from}
+use Rattle.clerk_office.specs.Rows.{◌>>=◌, AnswersRow, AnswersRows, most_rows, row_of, rows_from}
 
 -- the rows behind others that were read before them
 abbrev pub behind_rows : List Row → Result (List Row) (ℕ × RowCause) → Result (List Row) (ℕ × RowCause)
@@ -20,11 +19,11 @@ pub behind_nothing : (later : Result (List Row) (ℕ × RowCause)) → behind_ro
 behind_nothing (Ok rows) = refl
 behind_nothing (Err fault) = refl
 
-within : (number : ℕ) → number ≤ MAX_ROWS → ltb MAX_ROWS number ≡ false
+within : (number : ℕ) → number ≤ most_rows → ltb most_rows number ≡ false
 within number few = grind (arith, nat_tests)
 
 -- a record that spells a row
-pub rows_from-row : (clerks number : ℕ) (fields : List (List ℕ)) (later : List (List (List ℕ))) (before : List Row) (row : Row) → number ≤ MAX_ROWS → row_of clerks fields ≡ Ok row
+pub rows_from-row : (clerks number : ℕ) (fields : List (List ℕ)) (later : List (List (List ℕ))) (before : List Row) (row : Row) → number ≤ most_rows → row_of clerks fields ≡ Ok row
     → behind_rows before (rows_from clerks number (fields ∷ later)) ≡ behind_rows (before ++ row ∷ []) (rows_from clerks (number + 1) later)
 unfolding rows_from
 rows_from-row clerks number fields later before row few spelled = rw (within number few, spelled) (by (rows_from clerks (number + 1) later))
@@ -34,7 +33,7 @@ rows_from-row clerks number fields later before row few spelled = rw (within num
     by (Err fault) = refl
 
 -- a record that spells none
-pub rows_from-fault : (clerks number : ℕ) (fields : List (List ℕ)) (later : List (List (List ℕ))) (before : List Row) (cause : RowCause) → number ≤ MAX_ROWS → row_of clerks fields ≡ Err cause
+pub rows_from-fault : (clerks number : ℕ) (fields : List (List ℕ)) (later : List (List (List ℕ))) (before : List Row) (cause : RowCause) → number ≤ most_rows → row_of clerks fields ≡ Err cause
     → behind_rows before (rows_from clerks number (fields ∷ later)) ≡ Err (number, cause)
 unfolding rows_from
 rows_from-fault clerks number fields later before cause few fault = rw (within number few, fault)
@@ -44,18 +43,18 @@ unfolding row_of
 row_of-no_text clerks fields fails = rw fails
 
 -- the same, of what reading it answered
-pub rows_from-err : {X : Type 0} (view : X → List Row) (clerks number : ℕ) (fields : List (List ℕ)) (later : List (List (List ℕ))) (before : List Row) (all : Result (List Row) (ℕ × RowCause)) (error : RowError) → number ≤ MAX_ROWS
+pub rows_from-err : {X : Type 0} (view : X → List Row) (clerks number : ℕ) (fields : List (List ℕ)) (later : List (List (List ℕ))) (before : List Row) (all : Result (List Row) (ℕ × RowCause)) (error : RowError) → number ≤ most_rows
     → behind_rows before (rows_from clerks number (fields ∷ later)) ≡ all → AnswersRow number (Err error) (row_of clerks fields) → AnswersRows view (Err error) all
 rows_from-err view clerks number fields later before all (Fault n cause) few so_far fault =
     sym so_far ∙ rows_from-fault clerks number fields later before cause few fault.0 ∙ ap (λ m. Err (m, cause)) (sym fault.1)
 rows_from-err view clerks number fields later before all OutOfMemory few so_far fault = absurd fault
 
 -- a record too many
-pub rows_from-past : (clerks number : ℕ) (fields : List (List ℕ)) (later : List (List (List ℕ))) (before : List Row) → MAX_ROWS < number
+pub rows_from-past : (clerks number : ℕ) (fields : List (List ℕ)) (later : List (List (List ℕ))) (before : List Row) → most_rows < number
     → behind_rows before (rows_from clerks number (fields ∷ later)) ≡ Err (number, TooManyRows)
 unfolding rows_from
 rows_from-past clerks number fields later before many =
-    let past : ltb MAX_ROWS number ≡ true = grind (arith, nat_tests) in
+    let past : ltb most_rows number ≡ true = grind (arith, nat_tests) in
     rw past
 
 -- no record

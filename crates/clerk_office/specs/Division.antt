@@ -13,11 +13,11 @@ behind_line_end [] = Some []
 behind_line_end (b ∷ bytes) = option_or (behind (10 ∷ []) (b ∷ bytes)) (behind (13 ∷ 10 ∷ []) (b ∷ bytes))
 
 -- the bytes behind the line `%%`, where they begin a line and that line is it
-abbrev pub behind_mark : Bool → List ℕ → Option (List ℕ)
-behind_mark false bytes = None
-behind_mark true bytes = option_and_then behind_line_end (behind (codes "%%") bytes)
+abbrev pub behind_divider : Bool → List ℕ → Option (List ℕ)
+behind_divider false bytes = None
+behind_divider true bytes = option_and_then behind_line_end (behind (codes "%%") bytes)
 
--- what is divided at a place: the rows where the mark stands there, else one more byte before what is divided later
+-- what is divided at a place: the rows where the divider stands there, else one more byte before what is divided later
 abbrev pub divided_at : Option (List ℕ) → ℕ → List ℕ × List ℕ → List ℕ × List ℕ
 divided_at (Some rows) b later = ([], rows)
 divided_at None b later = (b ∷ later.0, later.1)
@@ -25,7 +25,7 @@ divided_at None b later = (b ∷ later.0, later.1)
 -- the bytes before and behind the first line `%%`; without one, all of them and none. The test says whether the first byte begins a line.
 unfoldable pub divided_from : Bool → List ℕ → List ℕ × List ℕ
 divided_from begins_line [] = ([], [])
-divided_from begins_line (b ∷ bytes) = divided_at (behind_mark begins_line (b ∷ bytes)) b (divided_from (b == 10) bytes)
+divided_from begins_line (b ∷ bytes) = divided_at (behind_divider begins_line (b ∷ bytes)) b (divided_from (b == 10) bytes)
 
 -- the court's file: all before the first line `%%`
 abbrev pub court_part : List ℕ → List ℕ

@@ -2,19 +2,25 @@
 use Rattle.std.specs.Prelude.{◌≡◌, ◌+◌, ◌≤◌, ◌⊎◌, ℕ, true, false, List, Option}
 use Rattle.std.specs.Io.{StartsWith}
 use Rattle.std.specs.Io.KnownBytes.{Appends}
-use Rattle.clerk_office.specs.declared.input.TheConstants.{MAX_INPUT_BYTES, MAX_READ_CALLS}
 use Rattle.clerk_office.specs.declared.watched.Watched.{Watched}
-use Rattle.clerk_office.specs.Watching.{has_failed, has_ended, read_calls, bytes_given, counted}
+use Rattle.clerk_office.specs.Watched.{has_failed, has_ended, read_calls, bytes_given, counted}
+
+-- how many bytes of input the office takes, and how often it reads: both are its own choice
+abbrev pub most_bytes : ℕ
+most_bytes = 16_777_216
+
+abbrev pub most_reads : ℕ
+most_reads = 17_000_000
 
 -- no more was read than the office takes
 pub record IsWithinLimits {R : Type 0} (old new : Watched R) : Type 0 where
-  pub bytes : bytes_given new ≤ bytes_given old + MAX_INPUT_BYTES
-  pub calls : read_calls new ≤ read_calls old + MAX_READ_CALLS
+  pub bytes : bytes_given new ≤ bytes_given old + most_bytes
+  pub calls : read_calls new ≤ read_calls old + most_reads
 
 -- a byte too many came, or the end didn't come within the reads that the office makes
 abbrev pub IsPastLimits : {R : Type 0} → Watched R → Watched R → Type 0
-IsPastLimits old new = (counted (bytes_given old) (MAX_INPUT_BYTES + 1) ≤ bytes_given new)
-    ⊎ ((counted (read_calls old) MAX_READ_CALLS ≤ read_calls new) × (has_ended new ≡ false))
+IsPastLimits old new = (counted (bytes_given old) (most_bytes + 1) ≤ bytes_given new)
+    ⊎ ((counted (read_calls old) most_reads ≤ read_calls new) × (has_ended new ≡ false))
 
 -- why the input can't be read to its end
 abbrev pub WasCutShort : {R : Type 0} → Watched R → Watched R → Type 0

@@ -8,7 +8,6 @@ use Rattle.csv.specs.Records.{field_at}
 use Rattle.court_days.specs.Words.{day_of_text, minute_of_text}
 use Rattle.rule6.specs.declared.service.ServiceKind.{ServiceKind}
 use Rattle.rule6.specs.declared.service.ServiceKind.TheVariants.{HandA, LeftB, MailC, ClerkD, ElectronicE, OtherF}
-use Rattle.clerk_office.specs.declared.read_rows.TheConstants.{MAX_ROWS}
 use Rattle.clerk_office.specs.declared.row.ComputeRow.{ComputeRow}
 use Rattle.clerk_office.specs.declared.row.Row.{Row}
 use Rattle.clerk_office.specs.declared.row.Work.{Work}
@@ -18,7 +17,7 @@ use Rattle.clerk_office.specs.declared.row_fault.RowCause.TheVariants.{BadClerk,
 use Rattle.clerk_office.specs.declared.row_fault.RowError.{RowError}
 use Rattle.clerk_office.specs.declared.row_fault.RowError.TheVariants.{Fault, OutOfMemory}
 use Rattle.clerk_office.specs.Numbers.{number_of}
-use Rattle.clerk_office.specs.Periods.{period_of}
+use Rattle.clerk_office.specs.Period.{period_of}
 
 infixl 10 ◌>>=◌
 abbrev pub ◌>>=◌ : {A B E : Type 0} → Result A E → (A → Result B E) → Result B E
@@ -95,9 +94,13 @@ abbrev pub in_row : {A : Type 0} → ℕ → Result A RowCause → Result A (ℕ
 in_row number (Ok x) = Ok x
 in_row number (Err cause) = Err (number, cause)
 
+-- how many rows the office takes: its own choice
+abbrev pub most_rows : ℕ
+most_rows = 100_000
+
 -- the row that the record of this number spells, counted from 1: no more than so many are taken
 abbrev pub numbered_row : ℕ → ℕ → List (List ℕ) → Result Row (ℕ × RowCause)
-numbered_row clerks number fields = in_row number (if nat_lt MAX_ROWS number then Err TooManyRows else row_of clerks fields)
+numbered_row clerks number fields = in_row number (if nat_lt most_rows number then Err TooManyRows else row_of clerks fields)
 
 -- the rows of records, the first of which has this number, or the first fault with its row's number
 unfoldable pub rows_from : ℕ → ℕ → List (List (List ℕ)) → Result (List Row) (ℕ × RowCause)

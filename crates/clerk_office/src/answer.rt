@@ -1,7 +1,7 @@
 //! What a row is answered.
 
 ghost use Rattle.std.specs.Prelude.{◌≡◌};
-ghost use Rattle.clerk_office.specs.Answers.{answer_of, computed};
+ghost use Rattle.clerk_office.specs.Answer.{answer_of, computed};
 
 use crate::row::{ComputeRow, Work};
 use court_days::Court;
@@ -28,7 +28,7 @@ pub fn answer_of(alloc: Global, court: &Court, work: &Work) -> Answer
 }
 
 // The end of a period: of the refusals the first that applies, else what is shown of its deadline.
-#[tactic(auto, unfolding(crate::specs::Answers::computed))]
+#[tactic(auto, unfolding(crate::specs::Answer::computed))]
 fn computed(alloc: Global, court: &Court, row: &ComputeRow) -> Answer
     ensures { result ≡ computed court.now row.now }
 {

@@ -1,7 +1,7 @@
 //! The input divided into the court's file and the rows.
 
 ghost use Rattle.std.specs.Prelude.{◌≡◌, option_map};
-ghost use Rattle.clerk_office.specs.Division.{behind_mark, behind_line_end, court_part, rows_part};
+ghost use Rattle.clerk_office.specs.Division.{behind_divider, behind_line_end, court_part, rows_part};
 
 /// The court's file and the rows: what stands before and behind the first line `%%`, which LF, CR LF or the
 /// end of the input ends. Without such a line there are no rows.
@@ -12,7 +12,7 @@ pub fn divide(input: &[u8]) -> (&[u8], &[u8])
     let mut begins_line = true;
     for at in 0..input.len() {
         let (court, left) = input.split_at(at);
-        if let Some(rows) = behind_mark(begins_line, left) {
+        if let Some(rows) = behind_divider(begins_line, left) {
             return (court, rows);
         }
         begins_line = input[at] == b'\n';
@@ -21,8 +21,8 @@ pub fn divide(input: &[u8]) -> (&[u8], &[u8])
 }
 
 // What follows the line `%%`, where the bytes begin a line and that line is it.
-fn behind_mark(begins_line: bool, bytes: &[u8]) -> Option<&[u8]>
-    ensures { option_map (λ rest. rest.now) result ≡ behind_mark begins_line bytes.now }
+fn behind_divider(begins_line: bool, bytes: &[u8]) -> Option<&[u8]>
+    ensures { option_map (λ rest. rest.now) result ≡ behind_divider begins_line bytes.now }
 {
     if !begins_line {
         return None;

@@ -1,14 +1,12 @@
 //! The line and the status that tell of a fault.
 
-ghost use Rattle.std.specs.Prelude.{◌≡◌, ◌++◌, IfOk, codes, string_bytes};
-ghost use Rattle.std.specs.Fmt.{decimal};
-ghost use Rattle.clerk_office.specs.Causes.{cause_text};
-ghost use Rattle.clerk_office.specs.Faults.{court_fault_text, fault_text, status_number};
+ghost use Rattle.std.specs.Prelude.{◌≡◌, IfOk, string_bytes};
+ghost use Rattle.clerk_office.specs.Fault.{fault_text, status_number};
 
 use crate::fault::OfficeFault;
-use crate::row_fault::RowCause;
 use court_days::CourtFault;
 use std::alloc::{AllocError, Global};
+use std::fmt;
 
 /// The status with which the program ends after the fault: 2 for a fault of the court's file, 3 for one of a
 /// row, 4 for reading and writing, 5 for want of memory.
@@ -28,35 +26,42 @@ pub fn status_of(fault: &OfficeFault) -> u8
 pub fn fault_line(alloc: Global, fault: &OfficeFault) -> Result<String, AllocError>
     ensures { IfOk result (λ line. string_bytes line ≡ fault_text fault.now) }
 {
-    match fault {
-        OfficeFault::Court(fault) => court_line(alloc, fault),
-        OfficeFault::Row(number, cause) => row_line(alloc, *number, *cause),
-        OfficeFault::ReadFault => String::from_str(alloc, "read fault"),
-        OfficeFault::WriteFault => String::from_str(alloc, "write fault"),
-        OfficeFault::OutOfMemory => String::from_str(alloc, "out of memory"),
-    }
+    let line = FaultLine { fault };
+    format!(in alloc; "{line}")
 }
 
-fn court_line(alloc: Global, fault: &CourtFault) -> Result<String, AllocError>
-    ensures { IfOk result (λ line. string_bytes line ≡ codes "court fault " ++ court_fault_text fault.now) }
-{
-    match fault {
-        CourtFault::NotToml => String::from_str(alloc, "court fault 1 NotToml"),
-        CourtFault::Missing(key) => format!(in alloc; "court fault 2 Missing {key}"),
-        CourtFault::WrongKind(key) => format!(in alloc; "court fault 3 WrongKind {key}"),
-        CourtFault::BadDate(text) => format!(in alloc; "court fault 4 BadDate {text}"),
-        CourtFault::BadZone => String::from_str(alloc, "court fault 5 BadZone"),
-        CourtFault::BadHours => String::from_str(alloc, "court fault 6 BadHours"),
-        CourtFault::BadSpan => String::from_str(alloc, "court fault 7 BadSpan"),
-        CourtFault::BadName(text) => format!(in alloc; "court fault 8 BadName {text}"),
-        CourtFault::TwiceNamed(text) => format!(in alloc; "court fault 9 TwiceNamed {text}"),
-        CourtFault::TooMany(key) => format!(in alloc; "court fault 10 TooMany {key}"),
-        CourtFault::OutOfMemory => String::from_str(alloc, "court fault 11 OutOfMemory"),
-    }
+/// A fault, to be written as its line. The numbers and names of faults stand here and in `RowCause`.
+#[derive(Clone, Copy)]
+pub struct FaultLine<'a> {
+    /// The fault.
+    pub fault: &'a OfficeFault,
 }
 
-fn row_line(alloc: Global, number: u32, cause: RowCause) -> Result<String, AllocError>
-    ensures { IfOk result (λ line. string_bytes line ≡ codes "row " ++ decimal number ++ codes " fault " ++ cause_text cause) }
-{
-    format!(in alloc; "row {number} fault {cause}")
+impl<'a> fmt::Display for FaultLine<'a> {
+    ghost use Rattle.std.specs.Prelude.{Some};
+    ghost use Rattle.clerk_office.specs.Fault.{fault_text};
+
+    ghost output = { λ line. Some (fault_text line.fault.now) };
+
+    fn fmt<W: fmt::Write>(&self, f: &mut fmt::Formatter<W>) -> fmt::Result {
+        match self.fault {
+            OfficeFault::Court(fault) => match fault {
+                CourtFault::NotToml => f.write_str("court fault 1 NotToml"),
+                CourtFault::Missing(key) => write!(f, "court fault 2 Missing {key}"),
+                CourtFault::WrongKind(key) => write!(f, "court fault 3 WrongKind {key}"),
+                CourtFault::BadDate(text) => write!(f, "court fault 4 BadDate {text}"),
+                CourtFault::BadZone => f.write_str("court fault 5 BadZone"),
+                CourtFault::BadHours => f.write_str("court fault 6 BadHours"),
+                CourtFault::BadSpan => f.write_str("court fault 7 BadSpan"),
+                CourtFault::BadName(text) => write!(f, "court fault 8 BadName {text}"),
+                CourtFault::TwiceNamed(text) => write!(f, "court fault 9 TwiceNamed {text}"),
+                CourtFault::TooMany(key) => write!(f, "court fault 10 TooMany {key}"),
+                CourtFault::OutOfMemory => f.write_str("court fault 11 OutOfMemory"),
+            },
+            OfficeFault::Row(number, cause) => write!(f, "row {number} fault {cause}"),
+            OfficeFault::ReadFault => f.write_str("read fault"),
+            OfficeFault::WriteFault => f.write_str("write fault"),
+            OfficeFault::OutOfMemory => f.write_str("out of memory"),
+        }
+    }
 }

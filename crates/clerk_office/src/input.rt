@@ -1,8 +1,8 @@
 //! Reading the whole input, within the office's limits.
 
-ghost use Rattle.std.specs.Prelude.{◌≡◌, ◌⊎◌, true, false, IfOk, IfErr, IfSome, OnOk};
+ghost use Rattle.std.specs.Prelude.{◌≡◌, ◌⊎◌, true, false, vec_len, IfOk, IfErr, IfSome, OnOk};
 ghost use Rattle.std.specs.Io.KnownBytes.{Consumes, IsAtEnd};
-ghost use Rattle.clerk_office.specs.Watching.{watched, has_failed, has_ended};
+ghost use Rattle.clerk_office.specs.Watched.{watched, has_failed, has_ended};
 ghost use Rattle.clerk_office.specs.Limits.{IsWithinLimits, WasCutShort};
 
 use crate::fault::OfficeFault;
@@ -17,7 +17,7 @@ pub const MAX_INPUT_BYTES: usize = 16_777_216;
 pub const MAX_READ_CALLS: u32 = 17_000_000;
 
 // How many bytes are asked for at once.
-const CHUNK_BYTES: usize = 4096;
+const CHUNK_BYTES: usize = 65_536;
 
 /// All that the reader has left. `ReadFault` at the first read that answers with an error, at a byte past
 /// `MAX_INPUT_BYTES`, and where `MAX_READ_CALLS` reads didn't come to the end.
@@ -34,9 +34,10 @@ pub fn read_all<R: Read>(alloc: Global, reader: &mut Watched<R>) -> Result<Vec<u
     ensures faults { IfErr result (λ fault. (fault ≡ OfficeFault.ReadFault) ⊎ (fault ≡ OfficeFault.OutOfMemory)) }
 {
     let mut input = Vec::new(alloc);
-    let mut chunk = [0u8; CHUNK_BYTES];
+    let mut buffer = buffer_of(alloc, CHUNK_BYTES)?;
+    let chunk = buffer.as_mut_slice();
     'reads: for _ in 0..MAX_READ_CALLS {
-        let Ok(count) = reader.read(&mut chunk) else {
+        let Ok(count) = reader.read(chunk) else {
             return Err(OfficeFault::ReadFault);
         };
         if count == 0 {
@@ -50,4 +51,15 @@ pub fn read_all<R: Read>(alloc: Global, reader: &mut Watched<R>) -> Result<Vec<u
         }
     }
     Err(OfficeFault::ReadFault)
+}
+
+// Room for so many bytes. It lies on the heap, since a function pays at its entry for the size of its locals.
+fn buffer_of(alloc: Global, count: usize) -> Result<Vec<u8>, OfficeFault>
+    ensures room { IfOk result (λ buffer. vec_len buffer ≡ count) }
+    ensures fault { IfErr result (λ fault. fault ≡ OfficeFault.OutOfMemory) }
+{
+    match vec![in alloc; 0u8; count] {
+        Ok(buffer) => Ok(buffer),
+        Err(_) => Err(OfficeFault::OutOfMemory),
+    }
 }

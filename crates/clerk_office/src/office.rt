@@ -4,8 +4,8 @@ ghost use Rattle.std.specs.Prelude.{◌≡◌, ◌≢◌, true, false, IfSome, O
 ghost use Rattle.court_days.specs.Words.{court_in, file_of};
 ghost use Rattle.clerk_office.specs.Limits.{WasCutShort};
 ghost use Rattle.clerk_office.specs.Rows.{rows_of};
-ghost use Rattle.clerk_office.specs.Run.{AnswersCourt, AnswersRowsOf, AnswersText, IsRun, WasReadWhole, input_of, rests_on_input};
-ghost use Rattle.clerk_office.specs.Watching.{has_ended, has_failed, watched};
+ghost use Rattle.clerk_office.specs.Office.{AnswersCourt, AnswersRowsOf, AnswersText, IsRun, WasReadWhole, input_of, rests_on_input};
+ghost use Rattle.clerk_office.specs.Watched.{has_ended, has_failed, watched};
 
 use crate::division::divide;
 use crate::fault::OfficeFault;
@@ -54,7 +54,7 @@ pub fn run_office<R: Read, W: Write>(
 }
 
 // The text of the answers to an input.
-#[tactic(auto, unfolding(crate::specs::Run::input_of))]
+#[tactic(auto, unfolding(crate::specs::Office::input_of))]
 fn answers_to(alloc: Global, input: &[u8], clerks: u8) -> Result<String, OfficeFault>
     ensures { AnswersText (λ text. string_bytes text) result (input_of clerks input.now) }
 {

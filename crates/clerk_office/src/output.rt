@@ -2,7 +2,7 @@
 
 ghost use Rattle.std.specs.Prelude.{◌≡◌, ◌++◌, ℕ, List, true, false, OnOk, OnErr};
 ghost use Rattle.std.specs.Io.KnownBytes.{Appends};
-ghost use Rattle.clerk_office.specs.Watching.{watched, has_failed, has_ended};
+ghost use Rattle.clerk_office.specs.Watched.{watched, has_failed, has_ended};
 ghost use Rattle.clerk_office.specs.Limits.{AppendsFront};
 
 use crate::fault::OfficeFault;

@@ -1,7 +1,8 @@
 //! Periods, as rows write them: the code of a period of the Rules, or `LENGTH/DIRECTION/ACT/FROM/MARK`.
 
-ghost use Rattle.std.specs.Prelude.{◌≡◌, ◌<◌, option_map};
-ghost use Rattle.clerk_office.specs.Periods.{cut_at_slash, count_of, length_of, direction_of, act_of, is_served, mark_of, entered_of, period_of};
+ghost use Rattle.std.specs.Prelude.{◌≡◌, ◌<◌, ◌≤◌, length, option_map};
+ghost use Rattle.std.specs.List.{position_or_len};
+ghost use Rattle.clerk_office.specs.Period.{is_slash, cut_at_slash, count_of, length_of, direction_of, act_of, is_served, mark_of, entered_of, period_of};
 
 use crate::numbers::number_of;
 use court_days::Direction;
@@ -9,7 +10,7 @@ use rule_periods::{Entered, Length, Mark, Period, RulePeriod};
 use rule6::Act;
 
 /// The period that a text writes.
-#[tactic(auto, unfolding(crate::specs::Periods::period_of))]
+#[tactic(auto, unfolding(crate::specs::Period::period_of))]
 pub fn period_of(text: &str) -> Option<Period>
     ensures { result ≡ period_of text.now }
 {
@@ -20,7 +21,7 @@ pub fn period_of(text: &str) -> Option<Period>
 }
 
 // A period that a court enters.
-#[tactic(auto, unfolding(crate::specs::Periods::entered_of))]
+#[tactic(auto, unfolding(crate::specs::Period::entered_of))]
 fn entered_of(text: &str) -> Option<Entered>
     ensures { result ≡ entered_of text.now }
 {
@@ -41,11 +42,28 @@ fn entered_of(text: &str) -> Option<Entered>
 fn cut_at_slash(text: &str) -> Option<(&str, &str)>
     ensures { option_map (λ cut. (cut.0.now, cut.1.now)) result ≡ cut_at_slash text.now }
 {
-    text.split_once('/')
+    let at = slash_in(text.as_bytes());
+    if at == text.len() {
+        return None;
+    }
+    Some((&text[..at], &text[at + 1..]))
+}
+
+// The place of the first slash, or the length where there is none.
+fn slash_in(text: &[u8]) -> usize
+    ensures first { result ≡ position_or_len is_slash text.now }
+    ensures bound { result ≤ length text.now }
+{
+    for at in 0..text.len() {
+        if text[at] == b'/' {
+            return at;
+        }
+    }
+    text.len()
 }
 
 // A number of days, with `d` behind it, or of hours, with `h`.
-#[tactic(auto, unfolding(crate::specs::Periods::length_of))]
+#[tactic(auto, unfolding(crate::specs::Period::length_of))]
 fn length_of(text: &str) -> Option<Length>
     ensures { result ≡ length_of text.now }
 {
@@ -56,7 +74,7 @@ fn length_of(text: &str) -> Option<Length>
 }
 
 // A number with this unit behind it.
-#[tactic(auto, unfolding(crate::specs::Periods::count_of))]
+#[tactic(auto, unfolding(crate::specs::Period::count_of))]
 fn count_of(text: &str, unit: char) -> Option<u32>
     requires { unit < 128 }
     ensures { result ≡ count_of unit text.now }
@@ -64,7 +82,7 @@ fn count_of(text: &str, unit: char) -> Option<u32>
     number_of(text.strip_suffix(unit)?)
 }
 
-#[tactic(auto, unfolding(crate::specs::Periods::direction_of))]
+#[tactic(auto, unfolding(crate::specs::Period::direction_of))]
 fn direction_of(text: &str) -> Option<Direction>
     ensures { result ≡ direction_of text.now }
 {
@@ -75,7 +93,7 @@ fn direction_of(text: &str) -> Option<Direction>
     }
 }
 
-#[tactic(auto, unfolding(crate::specs::Periods::act_of))]
+#[tactic(auto, unfolding(crate::specs::Period::act_of))]
 fn act_of(text: &str) -> Option<Act>
     ensures { result ≡ act_of text.now }
 {
@@ -87,7 +105,7 @@ fn act_of(text: &str) -> Option<Act>
 }
 
 // Whether the period runs from service.
-#[tactic(auto, unfolding(crate::specs::Periods::is_served))]
+#[tactic(auto, unfolding(crate::specs::Period::is_served))]
 fn is_served(text: &str) -> Option<bool>
     ensures { result ≡ is_served text.now }
 {
@@ -99,7 +117,7 @@ fn is_served(text: &str) -> Option<bool>
 }
 
 // The rule under which the period runs.
-#[tactic(auto, unfolding(crate::specs::Periods::mark_of))]
+#[tactic(auto, unfolding(crate::specs::Period::mark_of))]
 fn mark_of(text: &str) -> Option<Mark>
     ensures { result ≡ mark_of text.now }
 {

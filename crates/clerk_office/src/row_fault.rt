@@ -5,7 +5,6 @@ ghost use Rattle.clerk_office.specs.declared.row_fault.RowError.TheVariants.{Out
 
 use std::alloc::{AllocError, AllocFailed};
 use std::fmt;
-use thiserror::Error;
 
 /// What is wrong with a row. Where several things are, it is the first in the order of their numbers 5, 3, 1,
 /// 2, 3, 4; the row after the last that the office takes is `TooManyRows` whatever else is wrong with it.
@@ -28,7 +27,7 @@ pub enum RowCause {
 /// Writes the number and the name, and behind `BadField` its column.
 impl fmt::Display for RowCause {
     ghost use Rattle.std.specs.Prelude.{Some};
-    ghost use Rattle.clerk_office.specs.Causes.{cause_text};
+    ghost use Rattle.clerk_office.specs.RowFault.{cause_text};
 
     ghost output = { λ cause. Some (cause_text cause) };
 
@@ -45,13 +44,11 @@ impl fmt::Display for RowCause {
 }
 
 /// Why rows could not be read.
-#[derive(Clone, Copy, Debug, PartialEq, Eq, Error)]
+#[derive(Clone, Copy, Debug, PartialEq, Eq)]
 pub enum RowError {
     /// The row of this number, counted from 1, has this fault. The rows before it have none.
-    #[error("row {0}: {1}")]
     Fault(u32, RowCause),
     /// No memory was left.
-    #[error("out of memory")]
     OutOfMemory,
 }
 

@@ -1,7 +1,6 @@
 // Runs of the office, from bytes to bytes.
-use crate::fault_line::{fault_line, status_of};
-use crate::office::run_office;
 use crate::options::Options;
+use crate::program::{Arguments, run_program};
 use crate::watched::Watched;
 use std::alloc::{AllocError, Global};
 use std::io;
@@ -11,18 +10,8 @@ use std::test::Fail;
 mod answers;
 mod faults;
 mod periods;
+mod program;
 mod streams;
-
-const COURT: &str = r#"zone = "EST5EDT,M3.2.0/2,M11.1.0/2"
-opens = "08:30"
-closes = "17:00"
-from = "2007-01-01"
-to = "2026-12-31"
-federal = ["2007-09-03", "2025-05-26", "2025-06-19", "2025-07-04", "2025-09-01"]
-state = ["2025-03-28"]
-judges = []
-rooms = []
-"#;
 
 const FIRST_ROW: &str = "1,compute,28d/after/filing/event/plain,2025-08-04,,,\n";
 
@@ -71,24 +60,30 @@ fn input_of(alloc: Global, court: &str, rows: &str) -> Result<String, AllocError
     Ok(input)
 }
 
-// What the office writes for an input; or, where it writes nothing, the status and the line of its fault.
+// What the program writes for an input; or, where it writes nothing, its status and the line of its fault.
 fn told(alloc: Global, input: &[u8]) -> Result<String, Fail> {
     let mut reader = Watched::new(input);
     let mut writer = Watched::new(make_page(alloc, usize::MAX, usize::MAX));
-    let result = run_office(alloc, &mut reader, &mut writer, one_clerk());
-    let written = writer.inner().text.as_slice();
-    match result {
-        Ok(()) => match std::str::from_utf8(written) {
-            Ok(text) => Ok(String::from_str(alloc, text)?),
-            Err(_) => Err(Fail::new("what was written is no text")),
-        },
-        Err(fault) => {
-            if !written.is_empty() {
-                return Err(Fail::new("a fault, and yet something was written"));
-            }
-            let line = fault_line(alloc, &fault)?;
-            let status = status_of(&fault);
-            Ok(format!(in alloc; "{status} {line}")?)
-        }
+    let mut errors = make_page(alloc, usize::MAX, usize::MAX);
+    let nothing = Arguments::Nothing;
+    let status = run_program(alloc, nothing, &mut reader, &mut writer, &mut errors);
+    let written = text_of(&writer.inner().text)?;
+    let told = text_of(&errors.text)?;
+    if status == 0 && told.is_empty() {
+        return Ok(String::from_str(alloc, written)?);
+    }
+    if !written.is_empty() {
+        return Err(Fail::new("a fault, and yet something was written"));
+    }
+    match told.strip_suffix('\n') {
+        Some(line) => Ok(format!(in alloc; "{status} {line}")?),
+        None => Err(Fail::new("no line tells of the fault")),
+    }
+}
+
+fn text_of(bytes: &Vec<u8>) -> Result<&str, Fail> {
+    match std::str::from_utf8(bytes.as_slice()) {
+        Ok(text) => Ok(text),
+        Err(_) => Err(Fail::new("what was written is no text")),
     }
 }

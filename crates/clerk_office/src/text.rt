@@ -1,13 +1,15 @@
 //! The text that a run of the office writes.
 
 ghost use Rattle.std.specs.Prelude.{◌≡◌, ◌++◌, ◌<◌, ◌/◌, ◌%◌, IfOk, OnOk, None, string_bytes};
+ghost use Rattle.std.specs.Fmt.{decimal};
 ghost use Rattle.jiff_fmt.specs.Text.{time_text as jiff_time_text};
 ghost use Rattle.court_days.specs.Words.{civil_of};
-ghost use Rattle.clerk_office.specs.Answers.{answer_text, end_text, line_of, lines_from, refusal_text, shown_text, time_text};
+ghost use Rattle.clerk_office.specs.Text.{answer_text, end_text, line_of, lines_from, refusal_text, shown_text, time_text};
 
 use crate::answer::{Answer, answer_of};
 use crate::row::Row;
 use court_days::{Clock, Court, Instant};
+use itoa::Buffer;
 use jiff::civil::Time;
 use rule_periods::PeriodRefusal;
 use rule6::Shown;
@@ -28,7 +30,7 @@ pub fn run_text(alloc: Global, court: &Court, rows: &[Row]) -> Result<String, Al
 }
 
 // Adds the line of the row with this number.
-#[tactic(auto, unfolding(crate::specs::Answers::line_of))]
+#[tactic(auto, unfolding(crate::specs::Text::line_of))]
 fn push_line(
     text: &mut String,
     alloc: Global,
@@ -38,10 +40,19 @@ fn push_line(
 ) -> Result<(), AllocError>
     ensures { OnOk result (string_bytes text.new ≡ string_bytes text.old ++ line_of court.now number row.now) }
 {
-    let clerk = row.clerk;
-    write!(text, "{number} {clerk} ")?;
+    push_number(text, number)?;
+    text.push_str(" ")?;
+    push_number(text, u64::from(row.clerk))?;
+    text.push_str(" ")?;
     push_answer(text, court.clock(), &answer_of(alloc, court, &row.work))?;
     text.push_str("\n")
+}
+
+// Adds the digits of a number.
+fn push_number(text: &mut String, number: u64) -> Result<(), AllocError>
+    ensures { OnOk result (string_bytes text.new ≡ string_bytes text.old ++ decimal number) }
+{
+    text.push_str(Buffer::new().format(number))
 }
 
 // Adds the text of an answer.

@@ -16,7 +16,7 @@ pub struct Watched<T> {
 }
 
 impl<T> Watched<T> {
-    ghost use Rattle.clerk_office.specs.Watching.{watched, has_failed, has_ended, read_calls, bytes_given};
+    ghost use Rattle.clerk_office.specs.Watched.{watched, has_failed, has_ended, read_calls, bytes_given};
 
     /// Watches a reader or a writer from here on.
     pub fn new(inner: T) -> Watched<T>
@@ -62,7 +62,7 @@ impl<R: Read> Read for Watched<R> {
     ghost use Rattle.std.specs.Result.{is_err};
     ghost use Rattle.std.specs.Io.{ReadsAtMost};
     ghost use Rattle.std.specs.Io.KnownBytes.{ReadConsumes};
-    ghost use Rattle.clerk_office.specs.Watching.{watched, has_failed, has_ended, read_calls, bytes_given, moved_nothing, moved, counted};
+    ghost use Rattle.clerk_office.specs.Watched.{watched, has_failed, has_ended, read_calls, bytes_given, moved_nothing, moved, counted};
 
     ghost remaining = { λ w. R.remaining (watched w) };
 
@@ -98,7 +98,7 @@ impl<W: Write> Write for Watched<W> {
     ghost use Rattle.std.specs.Result.{is_err};
     ghost use Rattle.std.specs.Io.{WritesAtMost};
     ghost use Rattle.std.specs.Io.KnownBytes.{Keeps, WriteAppends};
-    ghost use Rattle.clerk_office.specs.Watching.{watched, has_failed, has_ended, read_calls, bytes_given, moved_nothing};
+    ghost use Rattle.clerk_office.specs.Watched.{watched, has_failed, has_ended, read_calls, bytes_given, moved_nothing};
 
     ghost contents = { λ w. W.contents (watched w) };
 

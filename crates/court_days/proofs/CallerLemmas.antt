@@ -1,3 +1,4 @@
 -- The lemmas for the crates above.
-pub use Rattle.court_days.proofs.SearchLemmas.{latest_ends}
-pub use Rattle.court_days.proofs.CivilLemmas.{offset_in_range, shown_from_civil}
+pub use Rattle.court_days.proofs.DaysLemmas.SearchLemmas.{latest_ends}
+pub use Rattle.court_days.proofs.ClockLemmas.CivilLemmas.{offset_in_range, shown_from_civil}
+pub use Rattle.court_days.proofs.CourtLemmas.NamedZoneLemmas.{IsNamed, zone_is_named}

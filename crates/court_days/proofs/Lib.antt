@@ -1,11 +1,5 @@
-pub mod SearchLemmas
-pub mod RolledLemmas
-pub mod DistinctDates
-pub mod DateLemmas
-pub mod TextLemmas
-pub mod ReadingLemmas
-pub mod NamesLemmas
-pub mod CivilLemmas
-pub mod SteadyLemmas
-pub mod ZoneLemmas
+pub mod DayLemmas
+pub mod DaysLemmas
+pub mod ClockLemmas
+pub mod CourtLemmas
 pub mod CallerLemmas

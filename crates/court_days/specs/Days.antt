@@ -1,4 +1,8 @@
 -- The days of one court: the span that its file covers, its holidays, and when the clerk's office was inaccessible.
+pub mod Search
+pub mod Rolled
+pub mod Table
+pub mod Marks
 use Rattle.std.specs.Prelude.{ℕ, ℤ, ◌≤ℤ◌, ◌&&◌, ◌||◌, not, int_le, Bool, true, false, List, [], ◌∷◌, ◌++◌, if◌then◌else◌}
 use Rattle.std.specs.Ordering.{int_eq}
 use Rattle.std.specs.List.{list_any}
@@ -6,7 +10,7 @@ use Rattle.court_days.specs.declared.direction.Direction.{Direction}
 use Rattle.court_days.specs.declared.direction.Direction.TheVariants.{After, Before}
 use Rattle.court_days.specs.declared.holiday_list.HolidayList.{HolidayList}
 use Rattle.court_days.specs.declared.holiday_list.HolidayList.TheVariants.{Federal, State}
-use Rattle.court_days.specs.Number.{is_weekend, IsDayNumber}
+use Rattle.court_days.specs.Day.{is_weekend, IsDayNumber}
 
 -- the clerk's office is inaccessible on this day from one minute of the day up to another, which is not included
 pub record OutageView : Type 0 where

@@ -1,12 +1,6 @@
-pub mod Number
+pub mod Day
 pub mod Days
-pub mod Search
-pub mod Rolled
-pub mod Date
-pub mod Minute
+pub mod Clock
 pub mod Key
-pub mod Zone
-pub mod Civil
 pub mod Court
-pub mod Names
 pub mod Words

@@ -1,25 +1,40 @@
 //! The court's clock.
 
-ghost use Rattle.std.specs.Prelude.{◌≡◌, ◌↔◌, ◌<◌, ◌<ℤ◌, ◌≤ℤ◌, ◌-ℤ◌, ℤ, pos, true, option_map, None, IsNone, IfSome};
-ghost use Rattle.std.specs.Int.{int_div_euclid};
-ghost use Rattle.jiff.specs.Words.{plain_zone, IsOffsetSeconds, IsWithin, nanos_of_seconds, next_at};
-ghost use Rattle.court_days.specs.Civil.{ClockView, CivilTime, is_ruled, offset_seconds, shown_second, second_of, civil_of, larger_offset, smaller_offset, standard_offset, daylight_offset, instant_of};
+ghost use Rattle.std.specs.Prelude.{◌≡◌, ◌<◌, ◌<ℤ◌, ◌≤ℤ◌, ◌-ℤ◌, ℤ, true, option_map, IfSome, IfOk, All};
+ghost use Rattle.std.specs.Arc.{arc_value};
+ghost use Rattle.jiff.specs.Words.{plain_zone, IsOffsetSeconds, IsWithin};
+ghost use Rattle.court_days.specs.Clock.{ClockView, CivilTime, is_ruled, offset_seconds, shown_second, second_of, civil_of, larger_offset, smaller_offset, standard_offset, daylight_offset, instant_of, IsClock};
+ghost use Rattle.court_days.specs.Clock.Stretch.{IsSteady};
 
 use crate::day::Day;
-use crate::instant::Instant;
-use jiff::Timestamp;
 use jiff::tz::TimeZone;
+use std::alloc::{AllocError, Global};
 use std::marker::Model;
+use std::sync::Arc;
+
+mod instant;
+pub(crate) mod minute;
+mod stretch;
+pub(crate) mod zone;
+
+pub use instant::Instant;
+pub use minute::minute_from_text;
+use stretch::{Stretch, offset_at, steady_until, stretch_at, stretches_of};
 
 /// The seconds of a day.
 const DAY: i64 = 86_400;
 
-/// The court's time zone, and the hours at which the clerk's office is scheduled to open and close.
-#[derive(Clone, Copy)]
+/// The most seconds that a zone's clock may be ahead of UTC.
+const MOST_OFFSET: i32 = 93_599;
+
+/// The court's time zone, and the hours at which the clerk's office is scheduled to open and close. The stretches
+/// between the zone's transitions within the court's span are listed, so that an offset there is found in the list.
+#[derive(Drop)]
 pub struct Clock {
     zone: TimeZone<'static>,
     opens: u16,
     closes: u16,
+    stretches: Arc<Vec<Stretch>>,
 }
 
 impl Model for Clock {
@@ -27,24 +42,32 @@ impl Model for Clock {
 
     ghost view = { λ c. record { zone = plain_zone c.zone; opens = c.opens; closes = c.closes } };
 
-    ghost invariant = { λ c. (is_ruled (plain_zone c.zone) ≡ true) × (c.opens < c.closes) × (c.closes < 1440) };
-
-    ghost inverse = { λ v. record { zone = record { inner = v.zone }; opens = v.opens; closes = v.closes } };
+    ghost invariant = { λ c. IsClock (plain_zone c.zone) c.opens c.closes × All (λ s. IsSteady (plain_zone c.zone) s.from s.until s.offset) (arc_value c.stretches).items };
 }
 
 impl Clock {
-    /// The clock of a zone, with an office that opens and closes at these minutes of the day.
-    pub(crate) fn new(zone: TimeZone<'static>, opens: u16, closes: u16) -> Clock
-        requires ruled { is_ruled (plain_zone zone) ≡ true }
-        requires ordered { opens < closes }
-        requires within_the_day { closes < 1440 }
-        ensures { result ≡ record { zone = plain_zone zone.entry; opens = opens; closes = closes } }
+    /// The clock of a zone, with an office that opens and closes at these minutes of the day, for a court whose span
+    /// goes from the one day to the other.
+    pub(crate) fn new(
+        alloc: Global,
+        zone: TimeZone<'static>,
+        hours: (u16, u16),
+        from: Day,
+        to: Day,
+    ) -> Result<Clock, AllocError>
+        requires { IsClock (plain_zone zone) hours.0 hours.1 }
+        ensures { IfOk result (λ c. c ≡ record { zone = plain_zone zone.entry; opens = hours.0; closes = hours.1 }) }
     {
-        Clock {
+        let first = instant_by(second_of(from, 0), MOST_OFFSET);
+        let last = instant_by(second_of(to, 86_399), -MOST_OFFSET);
+        let stretches = stretches_of(alloc, zone, first, last)?;
+        let (opens, closes) = hours;
+        Ok(Clock {
             zone,
             opens,
             closes,
-        }
+            stretches: Arc::new(alloc, stretches)?,
+        })
     }
 
     /// The minute of the day, counted from midnight, at which the clerk's office is scheduled to open.
@@ -69,13 +92,15 @@ impl Clock {
         ensures value { result ≡ offset_seconds self.now.zone instant }
         ensures in_range { IsOffsetSeconds result }
     {
-        let offset = self.zone.to_offset(timestamp(instant)).to_plain();
-        offset.seconds
+        match stretch_at(&self.stretches, instant.seconds()) {
+            Some(stretch) => stretch.offset,
+            None => offset_at(self.zone, instant),
+        }
     }
 
     /// The day and the second of the day, counted from midnight, that the clock shows at the instant. None exactly
     /// where that day is no `Day`.
-    #[tactic(auto, unfolding(crate::specs::Civil::civil_of, crate::specs::Civil::civil_time))]
+    #[tactic(auto, unfolding(crate::specs::Clock::civil_of, crate::specs::Clock::civil_time))]
     pub fn civil_of(&self, instant: Instant) -> Option<(Day, u32)>
         ensures value { option_map (λ c. record { day = c.0; second = c.1 }) result ≡ civil_of self.now.zone instant }
         ensures second { IfSome result (λ c. c.1 < 86_400) }
@@ -94,39 +119,36 @@ impl Clock {
     {
         let civil = second_of(day, second);
         let (smaller, larger) = self.offsets();
-        let earlier = instant(civil, larger);
+        let earlier = instant_by(civil, larger);
         if self.shown_at(earlier) == civil {
             return earlier;
         }
-        instant(civil, smaller)
+        instant_by(civil, smaller)
     }
 
-    /// A later second up to which the clock's offset stays as it is at the instant: that of the zone's next
-    /// transition, or the end of the day of UTC where that comes first. The contract asks for some later second
-    /// only, since its user goes on from there in any case; that it is a far one is tested.
+    /// A later second up to which the clock's offset stays as it is at the instant. The contract asks for some later
+    /// second only, since its user goes on from there in any case; that it is a far one is tested: the clock's next
+    /// change or the end of the year of UTC, and, where the zone has one offset, a second after every instant.
     pub fn steady_until(&self, instant: Instant) -> i64
         ensures later { instant <ℤ result }
         ensures steady { (t : ℤ) → instant ≤ℤ t → t <ℤ result → offset_seconds self.now.zone t ≡ offset_seconds self.now.zone instant }
     {
-        let now = instant.seconds();
-        let midnight = end_of_utc_day(instant);
-        match self.next_change(instant) {
-            Some(change) => change.clamp(now + 1, midnight),
-            None => midnight,
+        match stretch_at(&self.stretches, instant.seconds()) {
+            Some(stretch) => stretch.until,
+            None => steady_until(self.zone, instant),
         }
     }
 
-    /// The first whole second at or after the zone's next transition.
-    fn next_change(&self, instant: Instant) -> Option<i64>
-        ensures some { IfSome result (λ change. (t : ℤ) → t <ℤ change → IfSome (next_at self.now.zone (nanos_of_seconds instant)) (λ next. nanos_of_seconds t <ℤ next.0)) }
-        ensures none { IsNone result ↔ (next_at self.now.zone (nanos_of_seconds instant) ≡ None) }
-        ensures ruled { is_ruled self.now.zone ≡ true }
+    /// The same clock, which shares its list of stretches.
+    pub fn copy(&self) -> Result<Clock, AllocError>
+        ensures { IfOk result (λ c. c ≡ self.now) }
     {
-        let transition = self
-            .zone
-            .to_plain()
-            .next_transition(timestamp(instant).to_plain())?;
-        Some(ceil_second(transition.timestamp))
+        Ok(Clock {
+            zone: self.zone,
+            opens: self.opens,
+            closes: self.closes,
+            stretches: self.stretches.clone()?,
+        })
     }
 
     /// What the clock shows at the instant, in seconds from the midnight that begins 1970-01-01 on it.
@@ -178,15 +200,6 @@ impl Clock {
     }
 }
 
-fn timestamp(instant: Instant) -> Timestamp
-    ensures { result.nanosecond ≡ nanos_of_seconds instant }
-{
-    match Timestamp::from_second(instant.seconds()) {
-        Ok(timestamp) => timestamp,
-        Err(_) => unreachable!(),
-    }
-}
-
 /// A civil time in seconds from the midnight that begins 1970-01-01 on the clock.
 fn second_of(day: Day, second: u32) -> i64
     requires { second < 86_400 }
@@ -197,7 +210,7 @@ fn second_of(day: Day, second: u32) -> i64
 }
 
 /// The instant of a civil time by an offset.
-fn instant(civil: i64, offset: i32) -> Instant
+fn instant_by(civil: i64, offset: i32) -> Instant
     requires civil_in { IsWithin 9_504_086_400 civil }
     requires offset_in { IsOffsetSeconds offset }
     ensures { result ≡ civil -ℤ offset }
@@ -206,26 +219,4 @@ fn instant(civil: i64, offset: i32) -> Instant
         Some(instant) => instant,
         None => unreachable!(),
     }
-}
-
-/// The first whole second at or after a moment.
-fn ceil_second(moment: jiff_core::Timestamp) -> i64
-    ensures reached { moment.nanosecond ≤ℤ nanos_of_seconds result }
-    ensures first { nanos_of_seconds (result -ℤ pos 1) <ℤ moment.nanosecond }
-{
-    let floor = moment.floor_second();
-    if i128::from(floor) * 1_000_000_000 < moment.nanosecond {
-        floor + 1
-    } else {
-        floor
-    }
-}
-
-/// The first second after the instant's day, on a clock at UTC.
-fn end_of_utc_day(instant: Instant) -> i64
-    ensures later { instant <ℤ result }
-    ensures same_day { (t : ℤ) → instant ≤ℤ t → t <ℤ result → int_div_euclid t (pos 86_400) ≡ int_div_euclid instant (pos 86_400) }
-    ensures bound { IsWithin 9_600_086_400 result }
-{
-    (instant.seconds().div_euclid(DAY) + 1) * DAY
 }

@@ -3,23 +3,28 @@
 ghost use Rattle.std.specs.Prelude.{◌≡◌, true, ◌<◌, ◌≤◌, ℕ, length, slice_get, IfSome, IfOk, option_copied, Ok};
 ghost use Rattle.toml.specs.View.{table_view};
 ghost use Rattle.jiff.specs.Words.{plain_zone};
-ghost use Rattle.court_days.specs.Civil.{is_ruled};
-ghost use Rattle.court_days.specs.Court.{CourtView, Gives, file_of, court_of, court_in, zone_at, hours_at, days_at, is_span};
-ghost use Rattle.court_days.specs.Names.{name_index};
-ghost use Rattle.court_days.specs.Zone.{zone_view};
+ghost use Rattle.court_days.specs.Clock.{is_ruled};
+ghost use Rattle.court_days.specs.Court.{CourtView, file_of, court_of, court_in, zone_at, hours_at, days_at, is_span};
+ghost use Rattle.court_days.specs.Court.Reading.{Gives};
+ghost use Rattle.court_days.specs.Court.Names.{name_index};
+ghost use Rattle.court_days.specs.Clock.Zone.{zone_view};
 
 use crate::clock::Clock;
+use crate::clock::zone::zone_from_text;
+use crate::court::names::Names;
+use crate::court::reading::{date_at, dates_at, minute_at, names_at, text_at};
 use crate::day::Day;
 use crate::days::Days;
+use crate::days::holidays::Holidays;
 use crate::fault::CourtFault;
 use crate::key::Key;
-use crate::names::Names;
-use crate::reading::{date_at, dates_at, minute_at, names_at, text_at};
-use crate::zone::zone_from_text;
 use jiff::tz::TimeZone;
 use std::alloc::Global;
 use std::marker::Model;
 use toml::Table;
+
+mod names;
+mod reading;
 
 /// The most days that a calendar may cover.
 const MOST_DAYS: i32 = 36_525;
@@ -65,12 +70,12 @@ impl Court {
         ensures { Gives file_of result (court_of (table_view file.now)) }
     {
         let zone = zone_at(file)?;
-        let (opens, closes) = hours_at(file)?;
+        let hours = hours_at(file)?;
         let days = days_at(alloc, file)?;
         let judges = names_at(alloc, file, Key::Judges)?;
         let rooms = names_at(alloc, file, Key::Rooms)?;
         Ok(Court {
-            clock: Clock::new(zone, opens, closes),
+            clock: Clock::new(alloc, zone, hours, days.from(), days.to())?,
             days,
             judges,
             rooms,
@@ -182,7 +187,8 @@ fn days_at(alloc: Global, file: &Table) -> Result<Days, CourtFault>
     }
     let federal = dates_at(alloc, file, Key::Federal, from, to)?;
     let state = dates_at(alloc, file, Key::State, from, to)?;
-    Ok(Days::new(alloc, from, to, federal, state))
+    let holidays = Holidays::new(alloc, from, to, federal, state)?;
+    Ok(Days::new(alloc, holidays)?)
 }
 
 /// Whether a calendar may cover the days from the one to the other.

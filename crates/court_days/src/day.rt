@@ -1,9 +1,11 @@
 //! Days, counted from 1970-01-01.
 
 ghost use Rattle.std.specs.Prelude.{◌≡◌, ◌↔◌, ℤ, IsSome, IfSome};
-ghost use Rattle.court_days.specs.Number.{IsDayNumber, weekday_of};
+ghost use Rattle.court_days.specs.Day.{IsDayNumber, weekday_of};
 
 use std::marker::Model;
+
+mod date;
 
 /// A day of the calendar: whole days from 1970-01-01, from -110,000 to 110,000.
 #[derive(Clone, Copy, Debug, PartialEq, Eq, PartialOrd, Ord)]

@@ -1,53 +1,66 @@
 //! Which days of a court are open.
 
-ghost use Rattle.std.specs.Prelude.{◌≡◌, ◌≤ℤ◌, ◌<ℤ◌, ◌+ℤ◌, ◌-ℤ◌, ℤ, pos, true, [], IsTrue, IfSome, IfNone, IfOk, length};
+ghost use Rattle.std.specs.Prelude.{◌≡◌, ◌≤ℤ◌, ◌<ℤ◌, ◌≤◌, ◌+ℤ◌, ◌-ℤ◌, ℤ, pos, true, false, [], IsTrue, IfSome, IfNone, IfOk, length};
 ghost use Rattle.std.specs.Ordering.{int_eq};
 ghost use Rattle.std.specs.List.{IsDistinct};
+ghost use Rattle.std.specs.Arc.{arc_value};
 ghost use Rattle.court_days.specs.Days.{DaysView, IsSpan, is_covered, is_holiday, is_permitted, is_open, is_among, has_outage, dates_of, add_holiday, add_outage};
-ghost use Rattle.court_days.specs.Search.{earliest_day, latest_day};
-ghost use Rattle.court_days.specs.Rolled.{rolled, next_accessible};
+ghost use Rattle.court_days.specs.Days.Search.{earliest_day, days_through};
+ghost use Rattle.court_days.specs.Days.Rolled.{rolled, next_accessible};
+ghost use Rattle.court_days.specs.Days.Table.{HasTables, entry_day, with_outages};
 
-use crate::dates::Dates;
 use crate::day::Day;
 use crate::direction::Direction;
 use crate::holiday_list::HolidayList;
-use crate::outage::Outage;
 use std::alloc::{AllocError, Global};
 use std::marker::Model;
+use std::sync::Arc;
 
-/// The days of a court: the span that its file covers, its two holiday lists, and the outages entered so far.
+pub(crate) mod dates;
+pub(crate) mod holidays;
+mod outage;
+mod outages;
+mod table;
+
+use holidays::Holidays;
+pub use outage::Outage;
+use outages::Outages;
+use table::{and_holiday, entry_day, table_of};
+
+/// The days of a court: the span that its file covers, its two holiday lists, and the outages entered so far. For
+/// each direction a table says how far each covered day lies from the day to which it rolls. All is shared, so that
+/// a copy takes no memory.
 #[derive(Debug, Drop)]
 pub struct Days {
-    from: Day,
-    to: Day,
-    federal: Dates,
-    state: Dates,
-    outages: Vec<Outage>,
+    holidays: Holidays,
+    after: Arc<Vec<u16>>,
+    before: Arc<Vec<u16>>,
+    outages: Arc<Outages>,
 }
 
 impl Model for Days {
     ghost Value = { DaysView };
 
-    ghost view = { λ d. record { from = d.from; to = d.to; federal = d.federal; state = d.state; outages = d.outages.items } };
+    ghost view = { λ d. with_outages d.holidays (arc_value d.outages) };
 
-    ghost invariant = { λ d. IsSpan d.from d.to };
+    ghost invariant = { λ d. HasTables d.holidays (arc_value d.after).items (arc_value d.before).items };
 }
 
 impl Days {
-    /// The days from the one to the other, with these holidays and no outages.
-    pub(crate) fn new(alloc: Global, from: Day, to: Day, federal: Dates, state: Dates) -> Days
-        requires { from ≤ℤ to }
-        ensures { result ≡ record { from = from; to = to; federal = federal; state = state; outages = [] } }
+    /// The days with these holidays and no outages.
+    pub(crate) fn new(alloc: Global, holidays: Holidays) -> Result<Days, AllocError>
+        requires { days_through holidays.from holidays.to ≤ 36525 }
+        ensures { IfOk result (λ d. d ≡ with_outages holidays []) }
     {
-        let _first = from.number();
-        let _last = to.number();
-        Days {
-            from,
-            to,
-            federal,
-            state,
-            outages: Vec::new(alloc),
-        }
+        let after = table_of(alloc, &holidays, Direction::After)?;
+        let before = table_of(alloc, &holidays, Direction::Before)?;
+        let outages = Outages::empty(alloc, holidays.from(), holidays.to())?;
+        Ok(Days {
+            holidays,
+            after: Arc::new(alloc, after)?,
+            before: Arc::new(alloc, before)?,
+            outages: Arc::new(alloc, outages)?,
+        })
     }
 
     /// The first day that is covered.
@@ -55,7 +68,7 @@ impl Days {
         ensures value { result ≡ self.now.from }
         ensures span { IsSpan self.now.from self.now.to }
     {
-        self.from
+        self.holidays.from()
     }
 
     /// The last day that is covered.
@@ -63,7 +76,7 @@ impl Days {
         ensures value { result ≡ self.now.to }
         ensures span { IsSpan self.now.from self.now.to }
     {
-        self.to
+        self.holidays.to()
     }
 
     /// Whether the day lies in the span, both ends included.
@@ -71,18 +84,14 @@ impl Days {
         ensures value { result ≡ is_covered self.now day }
         ensures span { IsSpan self.now.from self.now.to }
     {
-        let number = day.number();
-        self.from.number() <= number && number <= self.to.number()
+        self.holidays.covered(day)
     }
 
     /// Whether the day stands in the list.
     pub fn in_list(&self, list: HolidayList, day: Day) -> bool
         ensures { result ≡ is_among (dates_of self.now list) day }
     {
-        match list {
-            HolidayList::Federal => self.federal.contains(day),
-            HolidayList::State => self.state.contains(day),
-        }
+        self.holidays.in_list(list, day)
     }
 
     /// Whether the day is a legal holiday (Fed. R. Civ. P. 6(a)(6)): of the federal list, or, for a period
@@ -90,25 +99,25 @@ impl Days {
     pub fn is_holiday(&self, day: Day, direction: Direction) -> bool
         ensures { result ≡ is_holiday self.now direction day }
     {
-        match direction {
-            Direction::After => self.federal.contains(day) || self.state.contains(day),
-            Direction::Before => self.federal.contains(day),
-        }
+        self.holidays.is_holiday(day, direction)
     }
 
     /// Whether the day is covered and no Saturday, Sunday or legal holiday (Fed. R. Civ. P. 6(a)(1)(C)).
-    #[tactic(auto, unfolding(crate::specs::Days::is_permitted))]
+    #[tactic(auto, using(crate::proofs::DaysLemmas::EntryLemmas::permitted_by_entry, crate::proofs::DaysLemmas::EntryLemmas::uncovered_by_entry))]
     pub fn is_permitted(&self, day: Day, direction: Direction) -> bool
         ensures { result ≡ is_permitted self.now direction day }
     {
-        self.covered(day) && day.weekday() < 5 && !self.is_holiday(day, direction)
+        match self.entry(day, direction) {
+            Some(entry) => entry == 0,
+            None => false,
+        }
     }
 
     /// Whether the clerk's office was inaccessible at any minute of the day.
     pub fn has_outage(&self, day: Day) -> bool
         ensures { result ≡ has_outage self.now day }
     {
-        self.outages.iter().any(|outage| outage.day() == day)
+        self.outages.lie_on(day)
     }
 
     /// The covered day after this one, if there is one.
@@ -116,21 +125,24 @@ impl Days {
         ensures some { IfSome result (λ d. (d ≡ day +ℤ pos 1) × (d ≤ℤ self.now.to)) }
         ensures none { IfNone result (self.now.to ≤ℤ day) }
     {
-        if day.number() >= self.to.number() {
+        if day.number() >= self.to().number() {
             return None;
         }
         Day::new(day.number() + 1)
     }
 
-    /// The covered day before this one, if there is one.
-    fn day_before(&self, day: Day) -> Option<Day>
-        ensures some { IfSome result (λ d. (d ≡ day -ℤ pos 1) × (self.now.from ≤ℤ d)) }
-        ensures none { IfNone result (day ≤ℤ self.now.from) }
+    /// How far the day lies from the one to which it rolls, as the table has it, if the day is covered.
+    fn entry(&self, day: Day, direction: Direction) -> Option<u16>
+        ensures some { IfSome result (λ e. entry_day direction day e ≡ rolled self.now day direction) }
+        ensures covered { IfSome result (λ _. is_covered self.now day ≡ true) }
+        ensures none { IfNone result (is_covered self.now day ≡ false) }
     {
-        if day.number() <= self.from.number() {
-            return None;
-        }
-        Day::new(day.number() - 1)
+        let place = self.holidays.place_of(day, direction)?;
+        let entry = match direction {
+            Direction::After => self.after[place],
+            Direction::Before => self.before[place],
+        };
+        Some(entry)
     }
 
     /// Whether the day is permitted and, where asked, the clerk's office was accessible throughout it.
@@ -141,7 +153,7 @@ impl Days {
     }
 
     /// The least open day at or after the covered day `start`.
-    #[tactic(auto, using(crate::proofs::SearchLemmas::earliest_skips, crate::proofs::SearchLemmas::earliest_finds, crate::proofs::SearchLemmas::earliest_stops))]
+    #[tactic(auto, using(crate::proofs::DaysLemmas::SearchLemmas::earliest_skips, crate::proofs::DaysLemmas::SearchLemmas::earliest_finds, crate::proofs::DaysLemmas::SearchLemmas::earliest_stops))]
     fn earliest(&self, start: Day, direction: Direction, accessible: bool) -> Option<Day>
         requires { is_covered self.now start ≡ true }
         ensures { result ≡ earliest_day self.now (is_open self.now direction accessible) start }
@@ -153,23 +165,9 @@ impl Days {
         Some(current)
     }
 
-    /// The greatest permitted day at or before the covered day `start`.
-    #[tactic(auto, using(crate::proofs::SearchLemmas::latest_skips, crate::proofs::SearchLemmas::latest_finds, crate::proofs::SearchLemmas::latest_stops))]
-    fn latest(&self, start: Day, direction: Direction) -> Option<Day>
-        requires { is_covered self.now start ≡ true }
-        ensures { result ≡ latest_day self.now (is_permitted self.now direction) start }
-    {
-        let mut current = start;
-        'days: while !self.is_permitted(current, direction) {
-            current = self.day_before(current)?;
-        }
-        Some(current)
-    }
-
     /// The nearest permitted day: the least at or after `day`, or, for a period measured before an event, the
     /// greatest at or before it (Fed. R. Civ. P. 6(a)(1)(C), (5)). None where `day` isn't covered or no covered
     /// day qualifies.
-    #[tactic(auto, unfolding(crate::specs::Rolled::rolled))]
     pub fn roll(&self, day: Day, direction: Direction) -> Option<Day>
         ensures value { result ≡ rolled self.now day direction }
         ensures span { IsSpan self.now.from self.now.to }
@@ -177,20 +175,19 @@ impl Days {
         if !self.covered(day) {
             return None;
         }
-        match direction {
-            Direction::After => self.earliest(day, direction, false),
-            Direction::Before => self.latest(day, direction),
-        }
+        let entry = self.entry(day, direction)?;
+        entry_day(day, direction, entry)
     }
 
     /// The least covered day later than `day` that is permitted in that direction and has no outage
     /// (Fed. R. Civ. P. 6(a)(3)), which looks forward for either direction. None where there is no such day.
-    #[tactic(auto, unfolding(crate::specs::Rolled::next_accessible), using(crate::proofs::SearchLemmas::earliest_ends, crate::proofs::SearchLemmas::earliest_starts))]
+    #[tactic(auto, unfolding(crate::specs::Days::Rolled::next_accessible), using(crate::proofs::DaysLemmas::SearchLemmas::earliest_ends, crate::proofs::DaysLemmas::SearchLemmas::earliest_starts))]
     pub fn first_accessible(&self, day: Day, direction: Direction) -> Option<Day>
         ensures { result ≡ next_accessible self.now direction day }
     {
-        if day.number() < self.from.number() {
-            return self.earliest(self.from, direction, true);
+        let first = self.from();
+        if day.number() < first.number() {
+            return self.earliest(first, direction, true);
         }
         let next = self.day_after(day)?;
         self.earliest(next, direction, true)
@@ -200,7 +197,7 @@ impl Days {
     pub fn outages(&self) -> &[Outage]
         ensures { result.now ≡ self.now.outages }
     {
-        &self.outages
+        self.outages.as_slice()
     }
 
     /// How many different dates the list has.
@@ -208,10 +205,7 @@ impl Days {
         ensures value { result ≡ length (dates_of self.now list) }
         ensures distinct { IsDistinct int_eq (dates_of self.now list) }
     {
-        match list {
-            HolidayList::Federal => self.federal.len(),
-            HolidayList::State => self.state.len(),
-        }
+        self.holidays.dates(list)
     }
 
     /// These days with one more date in a holiday list, which keeps a date that it has already once. This value
@@ -224,12 +218,15 @@ impl Days {
     ) -> Result<Days, AllocError>
         ensures { IfOk result (λ d. d ≡ add_holiday self.now list day) }
     {
-        let mut days = self.duplicate(alloc)?;
-        match list {
-            HolidayList::Federal => days.federal.add(day)?,
-            HolidayList::State => days.state.add(day)?,
-        }
-        Ok(days)
+        let holidays = &self.holidays;
+        let after = and_holiday(alloc, &self.after, holidays, Direction::After, list, day)?;
+        let before = and_holiday(alloc, &self.before, holidays, Direction::Before, list, day)?;
+        Ok(Days {
+            holidays: holidays.with(alloc, list, day)?,
+            after,
+            before,
+            outages: self.outages.clone()?,
+        })
     }
 
     /// These days with one more outage, behind the others. This value stays as it is. An `Err` says that memory
@@ -237,20 +234,24 @@ impl Days {
     pub fn with_outage(&self, alloc: Global, outage: Outage) -> Result<Days, AllocError>
         ensures { IfOk result (λ d. d ≡ add_outage self.now outage) }
     {
-        let mut days = self.duplicate(alloc)?;
-        days.outages.push(outage)?;
-        Ok(days)
+        let outages = self.outages.with(alloc, outage)?;
+        Ok(Days {
+            holidays: self.holidays.copy()?,
+            after: self.after.clone()?,
+            before: self.before.clone()?,
+            outages: Arc::new(alloc, outages)?,
+        })
     }
 
-    fn duplicate(&self, alloc: Global) -> Result<Days, AllocError>
+    /// The same days, which share everything with these: it costs the same however many dates and outages there are.
+    pub fn copy(&self) -> Result<Days, AllocError>
         ensures { IfOk result (λ d. d ≡ self.now) }
     {
         Ok(Days {
-            from: self.from,
-            to: self.to,
-            federal: self.federal.copy(alloc)?,
-            state: self.state.copy(alloc)?,
-            outages: Vec::from_slice(alloc, &self.outages)?,
+            holidays: self.holidays.copy()?,
+            after: self.after.clone()?,
+            before: self.before.clone()?,
+            outages: self.outages.clone()?,
         })
     }
 }

@@ -3,10 +3,13 @@
 ghost use Rattle.std.specs.Prelude.{◌≡◌};
 ghost use Rattle.court_days.specs.declared.fault.CourtFault.TheVariants.{OutOfMemory};
 
-use crate::fault_text::FaultText;
 use crate::key::Key;
 use std::alloc::{AllocError, AllocFailed};
 use thiserror::Error;
+
+mod fault_text;
+
+pub use fault_text::FaultText;
 
 /// The first fault of a court's file, in the order in which its keys are read.
 #[derive(Debug, Drop, Error)]

@@ -1,10 +1,10 @@
 //! Laws of the definitions: what rolling and looking for a day mean.
 
-ghost use Rattle.court_days.specs.Search.{EarliestIsLeast, LatestIsGreatest};
-ghost use Rattle.court_days.specs.Rolled.{RolledIsNearest};
-ghost use Rattle.court_days.specs.Date.{DaysHaveDates, TextsAreDays};
-ghost use Rattle.court_days.specs.Civil.{InstantsAreEarliest};
-ghost use Rattle.court_days.specs.Zone.{TextsNameClocks};
+ghost use Rattle.court_days.specs.Days.Search.{EarliestIsLeast, LatestIsGreatest};
+ghost use Rattle.court_days.specs.Days.Rolled.{RolledIsNearest};
+ghost use Rattle.court_days.specs.Day.Date.{DaysHaveDates, TextsAreDays};
+ghost use Rattle.court_days.specs.Clock.{InstantsAreEarliest};
+ghost use Rattle.court_days.specs.Clock.Zone.{TextsNameClocks};
 
 /// Rolling gives the nearest permitted day, and none only where the day isn't covered or no covered day is that.
 pub fn rolled_is_nearest()

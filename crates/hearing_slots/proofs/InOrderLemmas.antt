@@ -1,9 +1,9 @@
 -- Bookings that are put in order one by one.
-use Rattle.std.proofs.Common.{◌≡◌, ◌⊎◌, ◌↔◌, ℕ, ◌<◌, ◌≤◌, Bool, true, false, not, List, [], ◌∷◌, ◌++◌, length, get_or, take, drop, refl, sym, ap, ◌∙◌, subst, arith, inl, inr}
+use Rattle.std.proofs.Common.{◌≡◌, ◌⊎◌, ◌↔◌, ℕ, ◌≤◌, Bool, true, false, not, List, [], ◌∷◌, ◌++◌, length, get_or, refl, sym, ap, ◌∙◌, arith, inl, inr}
 use Rattle.std.specs.List.{All, AllPairs, Contains, filter, fold}
 use Rattle.std.specs.List.Sorted.{IsPartitionPoint}
 use Rattle.std.proofs.lemmas.Int.{ints}
-use Rattle.std.proofs.lemmas.Bool.{cases_Bool, not_from_false, both_ways}
+use Rattle.std.proofs.lemmas.Bool.{cases_Bool, not_from_false}
 use Rattle.std.proofs.lemmas.List.{take-append-drop}
 use Rattle.std.proofs.lemmas.List.Sums.{fold-append}
 use Rattle.std.proofs.lemmas.List.Elements.{All-head, All-tail, All-append, All-cons, All-filter, All-contains, All-contains_itself, filter-append}
@@ -115,7 +115,7 @@ All-placed P placed (b ∷ bs) held all =
     let earlier = λ (a : Booking). begins_before a b in
     let later = λ (a : Booking). not (begins_before a b) in
     let more = All-append P (filter earlier placed) (b ∷ filter later placed) (All-filter earlier P placed held)
-      (All-cons P b (filter later placed) (All-head P b bs all) (All-filter later P placed held)) in
+    (All-cons P b (filter later placed) (All-head P b bs all) (All-filter later P placed held)) in
     All-placed P (in_place b placed) bs more (All-tail P b bs all)
 
 pub All-in_order : (P : Booking → Type 0) (bookings : List Booking) → All P bookings → All P (in_order bookings)

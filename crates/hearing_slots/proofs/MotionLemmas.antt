@@ -1,16 +1,16 @@
 -- The booking of each motion, after one booking is put in or taken out.
-use Rattle.std.proofs.Common.{◌≡◌, ℕ, ◌+◌, ◌<◌, true, false, not, ◌&&◌, ◌==◌, Option, Some, None, List, [], ◌∷◌, ◌++◌, length, get_or, take, refl, sym, ap, ◌∙◌, subst, arith, inl, inr}
+use Rattle.std.proofs.Common.{◌≡◌, ℕ, true, false, not, ◌&&◌, ◌==◌, Option, Some, None, List, [], ◌∷◌, ◌++◌, sym, ap, ◌∙◌, arith, inl, inr}
 use Rattle.std.specs.HashMap.{HashMap}
-use Rattle.std.specs.List.{All, AllPairs, filter, find}
+use Rattle.std.specs.List.{All, filter, find}
 use Rattle.std.proofs.lemmas.Bool.{cases_Bool, not-true, not_from_false}
 use Rattle.std.proofs.lemmas.List.{append-nil}
 use Rattle.std.proofs.lemmas.List.Elements.{All-filter, filter_passes}
 use Rattle.hearing_slots.specs.declared.booking.Booking.{Booking}
 use Rattle.hearing_slots.specs.Booking.{is_of, begins_before}
 use Rattle.hearing_slots.specs.Calendar.{IsCalendar, in_place, without_motion, with_booking}
-use Rattle.hearing_slots.specs.Motions.{NotesBookings, NotesOnly, noted, same_motion}
+use Rattle.hearing_slots.specs.Motions.{NotesBookings, NotesOnly, same_motion}
 use Rattle.hearing_slots.proofs.Filters.{find-filter}
-use Rattle.hearing_slots.proofs.Finds.{find_absent, find_here, find_other, find-None}
+use Rattle.hearing_slots.proofs.Finds.{find_absent, find_here, find_other}
 use Rattle.hearing_slots.proofs.CalendarLemmas.{IsCalendar-filter}
 use Rattle.hearing_slots.proofs.InOrderLemmas.{rejoined, none_too_late}
 

@@ -33,7 +33,12 @@ fn main(rt: HostRuntime) -> io::Result<()> {
 /// Measures each kind of change on calendars of so many bookings.
 fn measure(rt: &HostRuntime, bookings: u32, timed: bool) -> io::Result<()> {
     let in_place = ["in_order", "random_order", "moved", "cancelled"];
-    let copying = ["copied", "shared_in_order", "shared_moved", "shared_cancelled"];
+    let copying = [
+        "copied",
+        "shared_in_order",
+        "shared_moved",
+        "shared_cancelled",
+    ];
     for (kind, name) in (0..4u8).zip(in_place) {
         let calendar = start(rt.alloc(), kind, bookings)?;
         let since = Instant::now(rt)?;

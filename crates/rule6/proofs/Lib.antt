@@ -1,2 +1,5 @@
 pub mod HourLemmas
 pub mod AccessLemmas
+pub mod ServiceLemmas
+pub mod DayLemmas
+pub mod EndOfHoursLemmas

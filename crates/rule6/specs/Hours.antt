@@ -1,8 +1,8 @@
 -- The end of a period that is stated in hours.
-use Rattle.std.specs.Prelude.{ℕ, ◌*◌, ℤ, pos, ◌+ℤ◌, ◌-ℤ◌, Option, Some, if◌then◌else◌, option_map}
+use Rattle.std.specs.Prelude.{◌≡◌, ◌↔◌, ℕ, ◌*◌, ℤ, pos, ◌+ℤ◌, ◌-ℤ◌, true, false, Option, Some, if◌then◌else◌, option_map}
 use Rattle.std.specs.Option.{option_and_then}
 use Rattle.court_days.specs.declared.direction.Direction.{Direction}
-use Rattle.court_days.specs.Words.{DaysView, is_permitted, ClockView, CivilTime, civil_of, instant_of, rolled}
+use Rattle.court_days.specs.Words.{DaysView, IsRolled, is_permitted, ClockView, CivilTime, Shows, IsInstantOf, is_ruled, is_day_number, civil_of, instant_of, rolled}
 use Rattle.court_days.specs.declared.direction.Direction.TheVariants.{After, Before}
 
 -- the instant that lies h hours after an event, or before it: counting begins at once and every hour counts
@@ -26,3 +26,25 @@ continued c clock direction end shown =
 unfoldable pub end_of_hours_from : DaysView → ClockView → ℤ → ℕ → Direction → Option ℤ
 end_of_hours_from c clock event h direction =
     option_and_then (continued c clock direction (hours_from event h direction)) (civil_of clock.zone (hours_from event h direction))
+
+-- the end is at the same time of day on the nearest permitted day, backward for a period measured before its event
+pub record IsContinued (c : DaysView) (clock : ClockView) (direction : Direction) (shown : CivilTime) (end : ℤ) : Type 0 where
+  pub next : ℤ
+  pub nearest : IsRolled c shown.day direction next
+  pub same_time : IsInstantOf clock.zone next shown.second end
+
+-- The period of h hours ends at this instant: every hour of 3,600 seconds from the event on is counted (6(a)(2)(A),
+-- (B)). An end that the clock shows on a permitted day is kept, and another is continued (6(a)(2)(C)).
+pub record IsEndOfHours (c : DaysView) (clock : ClockView) (event : ℤ) (h : ℕ) (direction : Direction) (end : ℤ) : Type 0 where
+  pub counted : ℤ
+  pub every_hour : counted ≡ hours_from event h direction
+  pub shown : CivilTime
+  pub is_shown : Shows clock.zone shown.day shown.second counted
+  pub is_a_day : is_day_number shown.day ≡ true
+  pub kept : is_permitted c direction shown.day ≡ true → end ≡ counted
+  pub continued_else : is_permitted c direction shown.day ≡ false → IsContinued c clock direction shown end
+
+-- what the end of hours means, on a clock as a court's file can name it: it is counted so, and there is none only
+-- where no instant is
+abbrev pub EndOfHoursIsCounted : Type 0
+EndOfHoursIsCounted = (c : DaysView) (clock : ClockView) (event : ℤ) (h : ℕ) (direction : Direction) (end : ℤ) → is_ruled clock.zone ≡ true → (end_of_hours_from c clock event h direction ≡ Some end) ↔ IsEndOfHours c clock event h direction end

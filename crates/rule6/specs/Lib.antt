@@ -1,6 +1,6 @@
-pub mod LastDay
+pub mod Days
 pub mod Hours
 pub mod Access
 pub mod Service
-pub mod Timely
+pub mod Timeliness
 pub mod Words

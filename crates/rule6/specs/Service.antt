@@ -1,11 +1,12 @@
 -- The kinds of service after which three days are added.
 use Rattle.std.specs.Prelude.{ℤ, pos, int_lt, Bool, true, false}
+use Rattle.jiff_core.specs.Calendar.{days_from_civil}
 use Rattle.rule6.specs.declared.service.ServiceKind.{ServiceKind}
 use Rattle.rule6.specs.declared.service.ServiceKind.TheVariants.{HandA, LeftB, MailC, ClerkD, ElectronicE, OtherF}
 
 -- 2016-12-01, the day on which the amendment of Rule 6(d) took effect
 abbrev pub electronic_service_amended : ℤ
-electronic_service_amended = pos 17_136
+electronic_service_amended = days_from_civil (pos 2016) 12 1
 
 -- Three days are added after service by mail, by leaving with the clerk and by other means consented to
 -- (Fed. R. Civ. P. 6(d)), and before the amendment of 2016 after electronic service too.

@@ -2,7 +2,7 @@
 
 ghost use Rattle.std.specs.Prelude.{◌≡◌, ◌≤◌, false, IsTrue, IfSome, IfNone};
 ghost use Rattle.court_days.specs.Words.{is_covered, counted_from};
-ghost use Rattle.rule6.specs.LastDay.{expiry_of, last_day_of};
+ghost use Rattle.rule6.specs.Days.{expiry_of, last_day_of};
 
 use court_days::{Day, Days, Direction};
 
@@ -14,7 +14,7 @@ const ADDED_DAYS: u32 = 3;
 /// holiday gives way to the next day that is none, forward for a period measured after its event and backward for
 /// one measured before it. Where three days are `added` (6(d)), they are counted from that last day, and the
 /// result is rolled forward again. None where a day that this needs lies outside the days covered.
-#[tactic(auto, unfolding(crate::specs::LastDay::last_day_of))]
+#[tactic(auto, unfolding(crate::specs::Days::last_day_of))]
 pub fn last_day(days: &Days, event: Day, n: u32, direction: Direction, added: bool) -> Option<Day>
     requires length { (1 ≤ n) × (n ≤ 3650) }
     requires added_after { IsTrue added → direction ≡ Direction.After }
@@ -28,7 +28,7 @@ pub fn last_day(days: &Days, event: Day, n: u32, direction: Direction, added: bo
 }
 
 /// The day on which `n` days from `event` expire.
-#[tactic(auto, unfolding(court_days::specs::Rolled::rolled))]
+#[tactic(auto, unfolding(court_days::specs::Words::rolled))]
 fn expiry(days: &Days, event: Day, n: u32, direction: Direction) -> Option<Day>
     requires { n ≤ 3650 }
     ensures { result ≡ expiry_of days.now event n direction }

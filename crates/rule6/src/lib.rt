@@ -13,6 +13,6 @@ mod timeliness;
 pub use access::{extended_for_access, extended_for_access_hours};
 pub use days::last_day;
 pub use hours::end_of_hours;
-pub use laws::last_hour_is_by_seconds;
+pub use laws::{end_of_hours_is_counted, last_day_is_counted, last_hour_is_by_seconds};
 pub use service::{ServiceKind, adds_three};
 pub use timeliness::{Act, Filing, Means, Shown, is_timely};

@@ -28,6 +28,7 @@ const ELECTRONIC_SERVICE_AMENDED: i32 = 17_136;
 /// Whether three days are added to a period that runs from service of this kind (Fed. R. Civ. P. 6(d)): after
 /// mail, service on the clerk and other means consented to, and after electronic service on a day before the
 /// amendment of 2016-12-01.
+#[tactic(auto, using(crate::proofs::ServiceLemmas::amended_is))]
 pub fn adds_three(kind: ServiceKind, served: Day) -> bool
     ensures { result ≡ adds_three_days kind served }
 {

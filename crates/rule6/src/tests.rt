@@ -2,8 +2,9 @@
 //! of 2009 to Rule 6(a), and, for the hours, from the offsets of the C library for the same rule texts.
 
 use crate::{
-    Act, Filing, Means, ServiceKind, Shown, adds_three, end_of_hours, extended_for_access,
-    extended_for_access_hours, is_timely, last_day, last_hour_is_by_seconds,
+    Act, Filing, Means, ServiceKind, Shown, adds_three, end_of_hours, end_of_hours_is_counted,
+    extended_for_access, extended_for_access_hours, is_timely, last_day, last_day_is_counted,
+    last_hour_is_by_seconds,
 };
 use court_days::{Clock, Court, Day, Direction, HolidayList, Instant, Outage};
 use std::alloc::Global;
@@ -18,11 +19,11 @@ mod timeliness;
 /// Eastern time, by the rules of the years from 2007 on.
 const EASTERN: &str = "EST5EDT,M3.2.0/2,M11.1.0/2";
 
+/// The sample court in another zone.
 fn court(alloc: Global, zone: &str) -> Result<Court, Fail> {
-    let text = format!(in alloc;
-        "zone = \"{zone}\"\nopens = \"08:30\"\ncloses = \"17:00\"\nfrom = \"2007-01-01\"\nto = \"2026-12-31\"\nfederal = [\"2007-09-03\", \"2025-05-26\", \"2025-06-19\", \"2025-07-04\", \"2025-09-01\"]\nstate = [\"2025-03-28\"]\njudges = []\nrooms = []\n"
-    )?;
-    Ok(Court::from_bytes(alloc, text.as_bytes())?)
+    let line = format!(in alloc; "zone = \"{zone}\"")?;
+    let file = sample_court::file_with(alloc, "zone", &line)?;
+    Ok(Court::from_bytes(alloc, file.as_bytes())?)
 }
 
 fn day(rt: &impl Abort, text: &str) -> Day {

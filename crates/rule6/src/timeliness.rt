@@ -1,7 +1,7 @@
 //! Whether an act was done in time.
 
 ghost use Rattle.std.specs.Prelude.{◌≡◌, ◌<◌};
-ghost use Rattle.rule6.specs.Timely.{is_within_the_day, is_in_time};
+ghost use Rattle.rule6.specs.Timeliness.{is_within_the_day, is_in_time};
 
 use court_days::{Clock, Day, Instant};
 
@@ -54,7 +54,7 @@ pub enum Shown {
 /// day until midnight, or, for a paper filing, until the closing minute, which is in time. For a period in hours
 /// the act counts at the first second of its minute, and is in time at or before the end, by either means. Nothing
 /// is in time for `Beyond`.
-#[tactic(auto, unfolding(crate::specs::Timely::is_in_time))]
+#[tactic(auto, unfolding(crate::specs::Timeliness::is_in_time))]
 pub fn is_timely(clock: &Clock, shown: &Shown, filing: Filing) -> bool
     requires { filing.minute < 1440 }
     ensures { result ≡ is_in_time clock.now shown.now filing }

@@ -1,5 +1,5 @@
 -- What is shown of a deadline.
-use Rattle.std.specs.Prelude.{◌-◌, length, slice_get, Bool, true, false, not, List, [], ◌∷◌, option_map, Option, Some, None, if◌then◌else◌}
+use Rattle.std.specs.Prelude.{◌-◌, length, slice_get, Bool, false, not, List, [], ◌∷◌, option_map, Option, Some, None, if◌then◌else◌}
 use Rattle.std.specs.Option.{option_and_then, option_map_or}
 use Rattle.court_days.specs.declared.direction.Direction.{Direction}
 use Rattle.court_days.specs.declared.direction.Direction.TheVariants.{After}

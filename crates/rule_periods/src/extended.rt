@@ -49,7 +49,7 @@ pub(crate) fn granted(
 }
 
 /// So many days more than a last day, rolled forward.
-#[tactic(auto, unfolding(rule6::specs::LastDay::last_day_of))]
+#[tactic(auto, unfolding(rule6::specs::Days::last_day_of))]
 fn by_days(days: &Days, end: Expiry, n: u32) -> Option<Expiry>
     requires { is_grant_length (Grant.ByDays n) ≡ true }
     ensures { result ≡ by_days days.now n end }

@@ -55,7 +55,7 @@ fn covered_at_or_before(days: &Days, number: i32) -> Day
 }
 
 /// The greatest day at or before a covered one that is permitted in a period measured before its event.
-#[tactic(auto, unfolding(court_days::specs::Rolled::rolled))]
+#[tactic(auto, unfolding(court_days::specs::Words::rolled))]
 fn latest_permitted(days: &Days, day: Day) -> Option<Day>
     requires { is_covered days.now day ≡ true }
     ensures { result ≡ latest_day days.now (is_permitted days.now Direction.Before) day }

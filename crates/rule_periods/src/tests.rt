@@ -5,15 +5,16 @@ ghost use Rattle.std.specs.List.{list_all};
 ghost use Rattle.rule_periods.specs.Grant.{is_grant_length};
 
 use crate::{
-    DeadlineRow, Entered, Event, Grant, Length, Mark, Period, PeriodRefusal, Request, RulePeriod,
-    affidavit_day, check_start, may_extend, notice_day, shown,
+    DeadlineRow, DocketRow, Entered, Event, Grant, Length, Mark, Period, PeriodRefusal, Request,
+    RulePeriod, affidavit_day, check_start, may_extend, notice_day, shown,
 };
 use court_days::{Court, Day, Days, Direction, Outage};
-use rule6::{Act, Shown};
+use rule6::{Act, Filing, Means, Shown};
 use std::alloc::Global;
 use std::process::Abort;
 use std::test::Fail;
 
+mod docket_row;
 mod extension;
 mod grants;
 mod notice;

@@ -8,6 +8,19 @@ use Rattle.versioned_steps.specs.History.{write_to, written, answer_on, writes_o
 use Rattle.versioned_steps.specs.declared.entry.Entry.{Entry}
 
 module _ {Part Value Command Answer : Type 0} (r : Rules Part Value Command Answer) where
+  -- the empty history is legal, and leaves each part with its opening value and version 0
+  pub legal_empty : is_legal r [] ≡ true
+  unfolding is_legal_from
+  legal_empty = refl
+
+  pub value_empty : (part : Part) → value_of r [] part ≡ r.opening part
+  unfolding values_after
+  value_empty part = refl
+
+  pub version_empty : (part : Part) → version_of r [] part ≡ 0
+  unfolding last_touch
+  version_empty part = refl
+
   -- the values after one history and then another
   pub values_after-append : (values : Part → Value) (h k : List (Entry Command Answer)) → values_after r values (h ++ k) ≡ values_after r (values_after r values h) k
   unfolding values_after

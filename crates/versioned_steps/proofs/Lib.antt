@@ -1,7 +1,9 @@
 pub mod DraftLemmas
 pub mod HistoryLemmas
 pub mod ReadLemmas
+pub mod PreparedLemmas
 pub mod StoreLemmas
 pub mod WorldLemmas
 pub mod RunLemmas
 pub mod TouchLemmas
+pub mod CallerLemmas

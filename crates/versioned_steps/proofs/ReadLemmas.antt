@@ -9,7 +9,7 @@ use mathlib.Core.List.{IsPrefix}
 use Rattle.versioned_steps.specs.Rules.{Rules, IsLawful, AreReadAfter, AreReadsOf, AreAllReadsOf}
 use Rattle.versioned_steps.specs.History.{answer_on, reads_from, reads_on, writes_on, value_of, version_of, MayFollow}
 use Rattle.versioned_steps.specs.Reads.{Read, copies_of, first_stale, read_now, IsRead, IsFresh, IsStale}
-use Rattle.versioned_steps.specs.Drafts.{Drafted, Decided, decided, IsDraftOf, MayCommit, entry_of}
+use Rattle.versioned_steps.specs.Drafts.{DraftView, DecisionView, decided, IsDraftOf, MayCommit, entry_of}
 use Rattle.versioned_steps.specs.Moves.{IsReady}
 use Rattle.versioned_steps.specs.declared.entry.Entry.{Entry}
 use Rattle.versioned_steps.specs.declared.stale.Stale.{Stale}
@@ -92,22 +92,27 @@ module _ {Part Value Command Answer : Type 0} (r : Rules Part Value Command Answ
       (reads_most laws command [] (copies_of reads) tt (omega arith) all_read.in_order)
 
   -- a settled draft whose reads are all fresh may follow: its answer and its writes are those of the parts as they all are now
-  pub may_follow : IsLawful r → (h : List (Entry Command Answer)) (d : Drafted Part Value Command Answer) → MayCommit r h d → MayFollow r h (entry_of r d)
+  pub may_follow : IsLawful r → (h : List (Entry Command Answer)) (d : DraftView Part Value Command Answer) → MayCommit r h d → MayFollow r h (entry_of r d)
   may_follow laws h d ready =
-      record { answer = ap (λ reads. r.answer d.command reads) (sym (reads_now laws h d.command d.reads ready.all_read ready.made ready.fresh)) }
+      record { answer = ap (λ reads. r.answer d.command reads) (sym (reads_now laws h d.command d.reads ready.prepared.all_read ready.prepared.made ready.fresh)) }
 
-  pub may_follow_writes : IsLawful r → (h : List (Entry Command Answer)) (d : Drafted Part Value Command Answer) → MayCommit r h d
+  pub may_follow_writes : IsLawful r → (h : List (Entry Command Answer)) (d : DraftView Part Value Command Answer) → MayCommit r h d
       → writes_on r (value_of r h) d.command ≡ (decided r d.command d.reads).writes
-  may_follow_writes laws h d ready = ap (λ reads. r.writes d.command reads) (reads_now laws h d.command d.reads ready.all_read ready.made ready.fresh)
+  may_follow_writes laws h d ready = ap (λ reads. r.writes d.command reads) (reads_now laws h d.command d.reads ready.prepared.all_read ready.prepared.made ready.fresh)
 
   -- what is staged of such a draft is what its command writes on the parts as they all are now
-  pub staged_writes : IsLawful r → (h : List (Entry Command Answer)) (d : Drafted Part Value Command Answer) → MayCommit r h d → (writes : List (Part × Value))
+  pub staged_writes : IsLawful r → (h : List (Entry Command Answer)) (d : DraftView Part Value Command Answer) → MayCommit r h d → (writes : List (Part × Value))
       → option_map (λ x. x.writes) d.decision ≡ Some writes → writes ≡ writes_on r (value_of r h) d.command
   staged_writes laws h d ready writes staged =
-      sym (same_Some _ _ (sym (ap (option_map (λ (x : Decided Part Value Answer). x.writes)) ready.settled) ∙ staged)) ∙ sym (may_follow_writes laws h d ready)
+      sym (same_Some _ _ (sym (ap (option_map (λ (x : DecisionView Part Value Answer). x.writes)) ready.prepared.settled) ∙ staged)) ∙ sym (may_follow_writes laws h d ready)
+
+  -- one more copy in the command's order
+  pub reads_more : (command : Command) (reads : List (Read Part Value)) (x : Read Part Value) → r.next_part command (copies_of reads) ≡ Some x.part → AreReadsOf r command (copies_of reads)
+      → AreReadsOf r command (copies_of (reads ++ x ∷ []))
+  reads_more command reads x next in_order = rw map-append (AreReadAfter-push command [] (copies_of reads) (x.part, x.value) in_order next)
 
   -- a draft of a history that reads its next part as it now is stays one
-  pub draft_add : (h : List (Entry Command Answer)) (d : Drafted Part Value Command Answer) (part : Part) (value : Value) (version at : ℕ)
+  pub draft_add : (h : List (Entry Command Answer)) (d : DraftView Part Value Command Answer) (part : Part) (value : Value) (version at : ℕ)
       → at ≡ length h → version ≡ version_of r h part → value ≡ value_of r h part → r.next_part d.command (copies_of d.reads) ≡ Some part → IsDraftOf r h d
       → IsDraftOf r h (record d { reads = d.reads ++ record { part = part; value = value; version = version; at = at } ∷ []; decision = None })
   draft_add h d part value version at at_is version_is value_is next was =
@@ -119,19 +124,19 @@ module _ {Part Value Command Answer : Type 0} (r : Rules Part Value Command Answ
         version = version_is ∙ ap (λ l. version_of r l part) (sym whole);
       } in
       record {
-        in_order = rw map-append (AreReadAfter-push d.command [] (copies_of d.reads) (part, value) was.in_order next);
+        in_order = reads_more d.command d.reads x next was.in_order;
         made = All-push (IsRead r h) d.reads x was.made made;
       }
 
   -- a ready draft that is settled may be committed
-  pub settled_ready : (h : List (Entry Command Answer)) (d settled : Drafted Part Value Command Answer) → IsReady r h d
+  pub settled_ready : (h : List (Entry Command Answer)) (d settled : DraftView Part Value Command Answer) → IsReady r h d
       → settled ≡ record d { decision = Some (decided r d.command d.reads) } → MayCommit r h settled
   settled_ready h d settled ready same =
-      let P : Drafted Part Value Command Answer → Type 0 = λ x. MayCommit r h x in
-      subst P (sym same) (record { all_read = ready.all_read; made = ready.made; fresh = ready.fresh; settled = refl })
+      let P : DraftView Part Value Command Answer → Type 0 = λ x. MayCommit r h x in
+      subst P (sym same) (record { prepared = record { all_read = ready.all_read; made = ready.made; settled = refl }; fresh = ready.fresh })
 
   -- the entry of a ready draft has the answer of the parts as they all are now
-  pub ready_entry : IsLawful r → (h : List (Entry Command Answer)) (d : Drafted Part Value Command Answer) → IsReady r h d → (e : Entry Command Answer) (clerk : ℕ)
+  pub ready_entry : IsLawful r → (h : List (Entry Command Answer)) (d : DraftView Part Value Command Answer) → IsReady r h d → (e : Entry Command Answer) (clerk : ℕ)
       → e.clerk ≡ clerk → e.command ≡ d.command → e.answer ≡ r.answer d.command (copies_of d.reads)
       → e ≡ record { clerk = clerk; command = d.command; answer = answer_on r (value_of r h) d.command }
   ready_entry laws h d ready e clerk clerk_is command_is answer_is =
@@ -141,14 +146,14 @@ module _ {Part Value Command Answer : Type 0} (r : Rules Part Value Command Answ
       (answer_is ∙ ap (λ reads. r.answer d.command reads) (sym (reads_now laws h d.command d.reads ready.all_read ready.made ready.fresh)))
 
   -- so has the entry that is made of the settled draft
-  pub settled_entry : IsLawful r → (h : List (Entry Command Answer)) (d settled : Drafted Part Value Command Answer) → IsReady r h d
+  pub settled_entry : IsLawful r → (h : List (Entry Command Answer)) (d settled : DraftView Part Value Command Answer) → IsReady r h d
       → settled ≡ record d { decision = Some (decided r d.command d.reads) } → (e : Entry Command Answer) (clerk : ℕ)
       → e.clerk ≡ clerk → e.command ≡ settled.command → option_map (λ x. x.answer) settled.decision ≡ Some e.answer
       → e ≡ record { clerk = clerk; command = d.command; answer = answer_on r (value_of r h) d.command }
   settled_entry laws h d settled ready same e clerk clerk_is command_is answer_is =
       ready_entry laws h d ready e clerk clerk_is
-      (command_is ∙ ap (λ (x : Drafted Part Value Command Answer). x.command) same)
-      (same_Some _ _ (sym answer_is ∙ ap (λ (x : Drafted Part Value Command Answer). option_map (λ (y : Decided Part Value Answer). y.answer) x.decision) same))
+      (command_is ∙ ap (λ (x : DraftView Part Value Command Answer). x.command) same)
+      (same_Some _ _ (sym answer_is ∙ ap (λ (x : DraftView Part Value Command Answer). option_map (λ (y : DecisionView Part Value Answer). y.answer) x.decision) same))
 
 -- versions that agree give the same stale read
 pub first_stale_same : {Part Value : Type 0} (f g : Part → ℕ) → ((part : Part) → f part ≡ g part) → (reads : List (Read Part Value)) → first_stale f reads ≡ first_stale g reads

@@ -61,11 +61,6 @@ module _ {Part Value Command Answer : Type 0} (r : Rules Part Value Command Answ
   run_legal laws w [] (o ∷ os) after legal run = absurd run
   run_legal laws w (s ∷ ss) [] after legal run = absurd run
 
-  -- the empty history is legal
-  pub legal_empty : is_legal r [] ≡ true
-  unfolding is_legal_from
-  legal_empty = refl
-
   -- the parts after a history are those that its commands, each decided alone, leave
   served_values : (values : Part → Value) (h : List (Entry Command Answer)) → values_after r values h ≡ (served r values (map (λ e. e.command) h)).values
   unfolding values_after

@@ -1,12 +1,12 @@
 -- What a store finds for a part, and how it follows a history.
-use Rattle.std.proofs.Common.{◌≡◌, ℕ, All, IfSome, IfNone, ◌+◌, Bool, true, false, cond, if◌then◌else◌, Option, Some, None, is_some, unwrap_or, List, [], ◌∷◌, ◌++◌, length, refl, ap, sym, ◌∙◌}
+use Rattle.std.proofs.Common.{◌≡◌, ℕ, All, IfSome, IfNone, ◌+◌, Bool, true, false, cond, if◌then◌else◌, Option, Some, None, is_some, unwrap_or, List, [], ◌∷◌, ◌++◌, length, refl, ap, sym, ◌∙◌, subst}
 use Rattle.std.proofs.lemmas.List.{length-append}
 use Rattle.std.specs.Option.{option_map_or}
 use Rattle.std.specs.Map.{lookup}
 use Rattle.std.specs.Cmp.{IsEquivalence}
 use Rattle.versioned_steps.specs.Rules.{Rules}
 use Rattle.versioned_steps.specs.History.{write_to, writes_on, value_of, version_of, values_after, last_touch}
-use Rattle.versioned_steps.specs.Stores.{Stored, found_in, slot_of, Replays}
+use Rattle.versioned_steps.specs.Stores.{StoreView, found_in, slot_of, Replays}
 use Rattle.versioned_steps.specs.declared.entry.Entry.{Entry}
 use Rattle.versioned_steps.specs.declared.slot.Slot.{Slot}
 use Rattle.versioned_steps.specs.Reads.{Read, first_stale, IsFresh, IsStale}
@@ -46,7 +46,7 @@ put_one {eq = eq} laws q version (x ∷ xs) write older now put =
 
 module _ {Owner Part Value Command Answer : Type 0} (r : Rules Part Value Command Answer) where
   -- a store in which nothing was written stands for the empty history
-  pub replays_opening : (s : Stored Owner Part Value) → s.length ≡ 0 → s.recent ≡ [] → s.older ≡ [] → Replays {Command = Command} {Answer = Answer} r [] s
+  pub replays_opening : (s : StoreView Owner Part Value) → s.length ≡ 0 → s.recent ≡ [] → s.older ≡ [] → Replays {Command = Command} {Answer = Answer} r [] s
   unfolding values_after last_touch
   replays_opening s no_length no_recent no_older =
       let slot : (part : Part) → slot_of r s part ≡ record { version = 0; value = r.opening part } =
@@ -59,7 +59,7 @@ module _ {Owner Part Value Command Answer : Type 0} (r : Rules Part Value Comman
       }
 
   -- a store that finds each part as before stands for what it stood for
-  pub replays_kept : (h : List (Entry Command Answer)) (s t : Stored Owner Part Value) → t.length ≡ s.length
+  pub replays_kept : (h : List (Entry Command Answer)) (s t : StoreView Owner Part Value) → t.length ≡ s.length
       → ((part : Part) → found_in (r.same_part part) t.length t.recent t.older ≡ found_in (r.same_part part) s.length s.recent s.older)
       → Replays r h s → Replays r h t
   replays_kept h s t same found replays =
@@ -71,7 +71,7 @@ module _ {Owner Part Value Command Answer : Type 0} (r : Rules Part Value Comman
       }
 
   -- a part that is found among the older slots alone
-  pub slot_older : (eq : Part → Part → Bool) → ((x y : Part) → r.same_part x y ≡ eq x y) → (s : Stored Owner Part Value) (part : Part) (slot : Slot Value)
+  pub slot_older : (eq : Part → Part → Bool) → ((x y : Part) → r.same_part x y ≡ eq x y) → (s : StoreView Owner Part Value) (part : Part) (slot : Slot Value)
       → None ≡ lookup (eq part) s.recent → Some slot ≡ lookup (eq part) s.older → slot_of r s part ≡ slot
   slot_older eq agrees s part slot none some =
       ap (λ o. unwrap_or o (record { version = 0; value = r.opening part }))
@@ -80,11 +80,11 @@ module _ {Owner Part Value Command Answer : Type 0} (r : Rules Part Value Comman
       ∙ sym some)
 
   -- the slots of a store with no recent writes
-  slot_before : (s : Stored Owner Part Value) → s.recent ≡ [] → (part : Part) → slot_of r s part ≡ unwrap_or (lookup (r.same_part part) s.older) (record { version = 0; value = r.opening part })
+  slot_before : (s : StoreView Owner Part Value) → s.recent ≡ [] → (part : Part) → slot_of r s part ≡ unwrap_or (lookup (r.same_part part) s.older) (record { version = 0; value = r.opening part })
   slot_before s none part = ap (λ l. unwrap_or (found_in (r.same_part part) s.length l s.older) (record { version = 0; value = r.opening part })) none
 
   -- the slots once the writes of the next entry are recent
-  slot_put : (h : List (Entry Command Answer)) (e : Entry Command Answer) (s t : Stored Owner Part Value)
+  slot_put : (h : List (Entry Command Answer)) (e : Entry Command Answer) (s t : StoreView Owner Part Value)
       → t.length ≡ s.length + 1 → t.recent ≡ writes_on r (value_of r h) e.command → t.older ≡ s.older → (part : Part)
       → slot_of r t part ≡ unwrap_or (option_map_or (λ value. Some (record { version = s.length + 1; value = value })) (write_to r part (writes_on r (value_of r h) e.command)) (lookup (r.same_part part) s.older)) (record { version = 0; value = r.opening part })
   slot_put h e s t longer writes same part =
@@ -93,7 +93,7 @@ module _ {Owner Part Value Command Answer : Type 0} (r : Rules Part Value Comman
       ∙ ap (λ l. unwrap_or (found_in (r.same_part part) (s.length + 1) (writes_on r (value_of r h) e.command) l) (record { version = 0; value = r.opening part })) same
 
   -- a store that gets the writes of the next entry stands for the longer history
-  pub replays_put : (h : List (Entry Command Answer)) (e : Entry Command Answer) (s t : Stored Owner Part Value) → s.recent ≡ []
+  pub replays_put : (h : List (Entry Command Answer)) (e : Entry Command Answer) (s t : StoreView Owner Part Value) → s.recent ≡ []
       → t.length ≡ s.length + 1 → t.recent ≡ writes_on r (value_of r h) e.command → t.older ≡ s.older
       → Replays r h s → Replays r (h ++ e ∷ []) t
   replays_put h e s t none longer writes same replays =
@@ -120,7 +120,7 @@ module _ {Owner Part Value Command Answer : Type 0} (r : Rules Part Value Comman
       }
 
   -- the first stale read by the versions of a store is the first by the versions of its history
-  pub check_first : (h : List (Entry Command Answer)) (s : Stored Owner Part Value) (reads : List (Read Part Value)) → Replays r h s
+  pub check_first : (h : List (Entry Command Answer)) (s : StoreView Owner Part Value) (reads : List (Read Part Value)) → Replays r h s
       → first_stale (λ part. (slot_of r s part).version) reads ≡ first_stale (version_of r h) reads
   check_first h s reads replays = first_stale_same (λ part. (slot_of r s part).version) (version_of r h) replays.versions reads
 
@@ -135,3 +135,15 @@ module _ {Part Value Command Answer : Type 0} (r : Rules Part Value Command Answ
       → IfNone o (All (IsFresh r h) reads)
   check_none h reads None same = first_stale_none (version_of r h) reads (sym same)
   check_none h reads (Some s) same = tt
+
+module _ {Owner Part Value Command Answer : Type 0} (rules : Owner → Rules Part Value Command Answer) (a b : Owner) (same : a ≡ b) (s t : StoreView Owner Part Value) where
+  -- what a call on a store says by the rules of its owner, said of an owner that is the same
+  pub kept_by : ((h : List (Entry Command Answer)) → Replays (rules a) h s → Replays (rules a) h t) → (h : List (Entry Command Answer)) → Replays (rules b) h s → Replays (rules b) h t
+  kept_by kept = let P : Owner → Type 0 = λ o. (h : List (Entry Command Answer)) → Replays (rules o) h s → Replays (rules o) h t in subst P same kept
+
+  pub put_by : (writes : List (Part × Value))
+      → ((h : List (Entry Command Answer)) (e : Entry Command Answer) → Replays (rules a) h s → writes ≡ writes_on (rules a) (value_of (rules a) h) e.command → Replays (rules a) (h ++ e ∷ []) t)
+      → (h : List (Entry Command Answer)) (e : Entry Command Answer) → Replays (rules b) h s → writes ≡ writes_on (rules b) (value_of (rules b) h) e.command → Replays (rules b) (h ++ e ∷ []) t
+  put_by writes put =
+      let P : Owner → Type 0 = λ o. (h : List (Entry Command Answer)) (e : Entry Command Answer) → Replays (rules o) h s → writes ≡ writes_on (rules o) (value_of (rules o) h) e.command → Replays (rules o) (h ++ e ∷ []) t in
+      subst P same put

@@ -1,26 +1,44 @@
 -- From what one clerk's call does to a step of the world, and from steps to a run.
-use Rattle.std.proofs.Common.{◌≡◌, ℕ, zero, suc, inl, inr, true, false, nat_lt, ◌<◌, Option, Some, None, IfSome, option_map, List, [], ◌∷◌, ◌++◌, length, map, replicate, slice_get, slice_set, All, refl, ap, sym, ◌∙◌, subst, arith}
+use Rattle.std.proofs.Common.{◌≡◌, ℕ, zero, suc, ◌⊎◌, inl, inr, true, false, nat_lt, ◌<◌, Option, Some, None, IfSome, option_map, List, [], ◌∷◌, ◌++◌, length, map, replicate, slice_get, slice_set, All, refl, ap, sym, ◌∙◌, subst, arith}
 use Rattle.std.proofs.lemmas.List.{append-nil, map-set}
-use Rattle.std.proofs.lemmas.List.Elements.{All-set, All-weaker}
-use Rattle.std.proofs.lemmas.Option.{slice_get-map, slice_get_past, same_Some}
+use Rattle.std.proofs.lemmas.List.Elements.{All-head, All-tail, All-set, All-weaker}
+use Rattle.std.proofs.lemmas.Option.{slice_get-map, slice_get_past, none-some, same_Some}
 use borrow.Author.Tests.{ltb-true, ltb-false, clash}
 use mathlib.Core.List.{IsPrefix}
 use Rattle.versioned_steps.specs.Rules.{Rules}
-use Rattle.versioned_steps.specs.Drafts.{Drafted, IsDraftOf}
-use Rattle.versioned_steps.specs.Reads.{IsRead}
+use Rattle.versioned_steps.specs.Drafts.{DraftView, IsDraftOf, AreOwn}
 use Rattle.versioned_steps.specs.World.{Hand, World, Move, IsStep, IsStepOf, IsRun, clerk_of, move_of, hand_of, world_of}
-use Rattle.versioned_steps.specs.Moves.{Moves}
+use Rattle.versioned_steps.specs.Stores.{StoreView, Replays}
+use Rattle.versioned_steps.specs.Moves.{Moves, IsSound}
 use Rattle.versioned_steps.specs.declared.entry.Entry.{Entry}
 use Rattle.versioned_steps.specs.declared.step.Step.{Step}
 use Rattle.versioned_steps.specs.declared.step.Outcome.{Outcome}
 use Rattle.versioned_steps.specs.declared.step.Outcome.TheVariants.{NoClerk}
-use Rattle.versioned_steps.proofs.ReadLemmas.{read_longer}
+use Rattle.versioned_steps.proofs.PreparedLemmas.{draft_longer}
 
 -- a list whose element at k is this stays as it is when this is put there
 pub set_same : {X : Type 0} (xs : List X) (k : ℕ) (x : X) → slice_get xs k ≡ Some x → slice_set xs k x ≡ xs
 set_same [] k x at = refl
 set_same (y ∷ ys) zero x at = ap (λ z. z ∷ ys) (sym (same_Some y x at))
 set_same (y ∷ ys) (suc k) x at = ap (λ l. y ∷ l) (set_same ys k x at)
+
+-- what stands in a list after one element was exchanged: the new one, or what stood there before
+get_set : {X : Type 0} (xs : List X) (i : ℕ) (x : X) (j : ℕ) (y : X) → slice_get (slice_set xs i x) j ≡ Some y → ((j ≡ i) × (x ≡ y)) ⊎ (slice_get xs j ≡ Some y)
+get_set [] i x j y at = inr at
+get_set (z ∷ zs) zero x zero y at = inl (refl, same_Some x y at)
+get_set (z ∷ zs) zero x (suc j) y at = inr at
+get_set (z ∷ zs) (suc i) x zero y at = inr at
+get_set (z ∷ zs) (suc i) x (suc j) y at =
+    elim (get_set zs i x j y at) as (λ _. ((suc j ≡ suc i) × (x ≡ y)) ⊎ (slice_get zs j ≡ Some y)) [
+      | inl new ↦ inl (ap suc new.0, new.1)
+      | inr old ↦ inr old
+    ]
+
+-- what holds of all holds of the element at a place
+all_at : {X : Type 0} (P : X → Type 0) (xs : List X) (i : ℕ) (x : X) → slice_get xs i ≡ Some x → All P xs → P x
+all_at P [] i x at all = absurd (none-some x at)
+all_at P (y ∷ ys) zero x at all = subst P (same_Some y x at) (All-head P y ys all)
+all_at P (y ∷ ys) (suc i) x at all = all_at P ys i x at (All-tail P y ys all)
 
 -- what isn't below the length is past the end
 pub past_end : {X : Type 0} (xs : List X) (n i : ℕ) → n ≡ length xs → (i < n → false ≡ true) → slice_get xs i ≡ None
@@ -45,9 +63,25 @@ module _ {Part Value Command Answer : Type 0} where
   moves_grow h k move before outcome hand (inl whole) = (move.entries, sym whole.history_is)
   moves_grow h k move before outcome hand (inr none) = ([], append-nil h ∙ sym none.history_is)
 
+module _ {Part Value Command Answer : Type 0} where
+  -- each draft stays its clerk's where one of them is exchanged for another of that clerk
+  own_after : (drafts : List (Option (DraftView Part Value Command Answer))) (clerk : ℕ) (after : Option (DraftView Part Value Command Answer))
+      → IfSome after (λ d. d.clerk ≡ clerk) → AreOwn drafts → AreOwn (slice_set drafts clerk after)
+  own_after drafts clerk after new own = λ other d at.
+      elim (get_set drafts clerk after other (Some d) at) as (λ _. d.clerk ≡ other) [
+        | inl this ↦ let P : Option (DraftView Part Value Command Answer) → Type 0 = λ o. IfSome o (λ x. x.clerk ≡ clerk) in subst P this.1 new ∙ sym this.0
+        | inr old ↦ own other d old
+      ]
+
+  -- where nobody has a draft, there is none of another clerk
+  pub idle_own : (n clerk : ℕ) (d : DraftView Part Value Command Answer) → slice_get (replicate n None) clerk ≡ Some (Some d) → ⊥
+  idle_own zero clerk d at = none-some (Some d) at
+  idle_own (suc n) zero d at = none-some d (same_Some None (Some d) at)
+  idle_own (suc n) (suc clerk) d at = idle_own n clerk d at
+
 module _ {Part Value Command Answer : Type 0} (r : Rules Part Value Command Answer) where
   -- a clerk's move is a step of the world
-  pub step_of_moves : (h k : List (Entry Command Answer)) (drafts : List (Option (Drafted Part Value Command Answer))) (step : Step Command) (before after : Option (Drafted Part Value Command Answer)) (outcome : Outcome Part Answer)
+  pub step_of_moves : (h k : List (Entry Command Answer)) (drafts : List (Option (DraftView Part Value Command Answer))) (step : Step Command) (before after : Option (DraftView Part Value Command Answer)) (outcome : Outcome Part Answer)
       → slice_get drafts (clerk_of step) ≡ Some before → Moves (move_of r h step (hand_of before)) (hand_of before) h outcome (hand_of after) k
       → IsStep r (world_of h drafts) step outcome (world_of k (slice_set drafts (clerk_of step) after))
   step_of_moves h k drafts step before after outcome at moves =
@@ -74,7 +108,7 @@ module _ {Part Value Command Answer : Type 0} (r : Rules Part Value Command Answ
       ])
 
   -- a step of no clerk
-  pub step_of_nobody : (h : List (Entry Command Answer)) (drafts : List (Option (Drafted Part Value Command Answer))) (step : Step Command)
+  pub step_of_nobody : (h : List (Entry Command Answer)) (drafts : List (Option (DraftView Part Value Command Answer))) (step : Step Command)
       → slice_get drafts (clerk_of step) ≡ None → IsStep r (world_of h drafts) step NoClerk (world_of h drafts)
   step_of_nobody h drafts step at =
       let none : None ≡ slice_get (map hand_of drafts) (clerk_of step) = sym (slice_get-map hand_of drafts (clerk_of step) ∙ ap (option_map hand_of) at) in
@@ -82,20 +116,39 @@ module _ {Part Value Command Answer : Type 0} (r : Rules Part Value Command Answ
       subst P none (refl, refl)
 
   -- drafts of a history are drafts of each longer one
-  pub draft_longer : (h k : List (Entry Command Answer)) → IsPrefix h k → (d : Drafted Part Value Command Answer) → IsDraftOf r h d → IsDraftOf r k d
-  draft_longer h k begins d was =
-      record { in_order = was.in_order; made = All-weaker (IsRead r h) (IsRead r k) (λ x. read_longer r h k x begins) d.reads was.made }
-
-  some_draft_longer : (h k : List (Entry Command Answer)) → IsPrefix h k → (d : Option (Drafted Part Value Command Answer)) → IfSome d (IsDraftOf r h) → IfSome d (IsDraftOf r k)
+  some_draft_longer : (h k : List (Entry Command Answer)) → IsPrefix h k → (d : Option (DraftView Part Value Command Answer)) → IfSome d (IsDraftOf r h) → IfSome d (IsDraftOf r k)
   some_draft_longer h k begins None was = tt
-  some_draft_longer h k begins (Some d) was = draft_longer h k begins d was
+  some_draft_longer h k begins (Some d) was = draft_longer r h k begins d was
 
   -- and stay so where one of them is exchanged
-  pub drafts_after : (h k : List (Entry Command Answer)) → IsPrefix h k → (drafts : List (Option (Drafted Part Value Command Answer))) (clerk : ℕ) (after : Option (Drafted Part Value Command Answer))
+  pub drafts_after : (h k : List (Entry Command Answer)) → IsPrefix h k → (drafts : List (Option (DraftView Part Value Command Answer))) (clerk : ℕ) (after : Option (DraftView Part Value Command Answer))
       → IfSome after (IsDraftOf r k) → All (λ d. IfSome d (IsDraftOf r h)) drafts → All (λ d. IfSome d (IsDraftOf r k)) (slice_set drafts clerk after)
   drafts_after h k begins drafts clerk after new were =
       All-set (λ d. IfSome d (IsDraftOf r k)) drafts clerk after new
       (All-weaker (λ d. IfSome d (IsDraftOf r h)) (λ d. IfSome d (IsDraftOf r k)) (some_draft_longer h k begins) drafts were)
+
+  -- a sound state stays sound where one clerk's draft is exchanged, and the history has grown with its store
+  pub sound_after : {Owner : Type 0} (h k : List (Entry Command Answer)) (s t : StoreView Owner Part Value) (drafts : List (Option (DraftView Part Value Command Answer))) (clerk : ℕ) (after : Option (DraftView Part Value Command Answer))
+      → IsPrefix h k → Replays r k t → IfSome after (IsDraftOf r k) → IfSome after (λ d. d.clerk ≡ clerk) → IsSound r h s drafts → IsSound r k t (slice_set drafts clerk after)
+  sound_after h k s t drafts clerk after begins replays new own sound =
+      record { replays = replays; drafts_read = drafts_after h k begins drafts clerk after new sound.drafts_read; drafts_own = own_after drafts clerk after own sound.drafts_own }
+
+  -- what one clerk has in hand in a sound state was read from the history, by that clerk
+  pub sound_read : {Owner : Type 0} (h : List (Entry Command Answer)) (s : StoreView Owner Part Value) (drafts : List (Option (DraftView Part Value Command Answer))) (clerk : ℕ) (draft : Option (DraftView Part Value Command Answer))
+      → slice_get drafts clerk ≡ Some draft → IsSound r h s drafts → IfSome draft (IsDraftOf r h)
+  sound_read h s drafts clerk draft at sound = all_at (λ d. IfSome d (IsDraftOf r h)) drafts clerk draft at sound.drafts_read
+
+  pub sound_own : {Owner : Type 0} (h : List (Entry Command Answer)) (s : StoreView Owner Part Value) (drafts : List (Option (DraftView Part Value Command Answer))) (clerk : ℕ) (draft : Option (DraftView Part Value Command Answer))
+      → slice_get drafts clerk ≡ Some draft → IsSound r h s drafts → IfSome draft (λ d. d.clerk ≡ clerk)
+  sound_own h s drafts clerk None at sound = tt
+  sound_own h s drafts clerk (Some d) at sound = sound.drafts_own clerk d at
+
+  -- and stays so where a move of that clerk looks at no history, and leaves it
+  pub sound_beside : {Owner : Type 0} (h : List (Entry Command Answer)) (s : StoreView Owner Part Value) (drafts : List (Option (DraftView Part Value Command Answer))) (clerk : ℕ) (before after : Option (DraftView Part Value Command Answer))
+      → slice_get drafts clerk ≡ Some before → (IfSome before (IsDraftOf r h) → IfSome after (IsDraftOf r h)) → (IfSome before (λ d. d.clerk ≡ clerk) → IfSome after (λ d. d.clerk ≡ clerk))
+      → IsSound r h s drafts → IsSound r h s (slice_set drafts clerk after)
+  sound_beside h s drafts clerk before after at reads own sound =
+      sound_after h h s s drafts clerk after ([], append-nil h) sound.replays (reads (sound_read h s drafts clerk before at sound)) (own (sound_own h s drafts clerk before at sound)) sound
 
   -- a run goes on by one step
   pub run_push : (w : World Part Value Command Answer) (steps : List (Step Command)) (outcomes : List (Outcome Part Answer)) (mid : World Part Value Command Answer) (step : Step Command) (outcome : Outcome Part Answer) (after : World Part Value Command Answer)

@@ -6,6 +6,4 @@ pub mod Stores
 pub mod World
 pub mod Moves
 pub mod Serial
-pub mod Counters
-pub mod CounterLaws
 pub mod Words

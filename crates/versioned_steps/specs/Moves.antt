@@ -1,11 +1,11 @@
--- What the calls behind the steps do, to the draft in one clerk's hand and to the history.
+-- What the calls behind the steps do, to the draft in one clerk's hand and to the history, and what every step keeps.
 use Rattle.std.specs.Prelude.{◌≡◌, ℕ, ◌+◌, [], ◌∷◌, ◌++◌, ◌⊎◌, length, Option, IfSome, List, All}
 use Rattle.versioned_steps.specs.Rules.{Rules, AreAllReadsOf}
 use Rattle.versioned_steps.specs.History.{answer_on, value_of}
 use Rattle.versioned_steps.specs.Reads.{IsRead, IsFresh, copies_of}
-use Rattle.versioned_steps.specs.Drafts.{Drafted, IsDraftOf}
-use Rattle.versioned_steps.specs.Stores.{Stored, Replays}
-use Rattle.versioned_steps.specs.World.{Hand, Move, TakesMemory}
+use Rattle.versioned_steps.specs.Drafts.{DraftView, IsDraftOf, AreOwn}
+use Rattle.versioned_steps.specs.Stores.{StoreView, Replays}
+use Rattle.versioned_steps.specs.World.{Hand, World, Move, TakesMemory}
 use Rattle.versioned_steps.specs.declared.entry.Entry.{Entry}
 use Rattle.versioned_steps.specs.declared.step.Outcome.{Outcome}
 use Rattle.versioned_steps.specs.declared.step.Outcome.TheVariants.{NoMemory}
@@ -29,14 +29,20 @@ module _ {Part Value Command Answer : Type 0} where
   Moves move before h outcome hand k = IsWhole move h outcome hand k ⊎ IsNone move before h outcome hand k
 
 module _ {Owner Part Value Command Answer : Type 0} (r : Rules Part Value Command Answer) where
-  -- the store stands for the history, and each draft was read from it
-  pub record IsSound (h : List (Entry Command Answer)) (store : Stored Owner Part Value) (drafts : List (Option (Drafted Part Value Command Answer))) : Type 0 where
+  -- the store stands for the history, and each draft was read from it by the clerk who has it in hand
+  pub record IsSound (h : List (Entry Command Answer)) (store : StoreView Owner Part Value) (drafts : List (Option (DraftView Part Value Command Answer))) : Type 0 where
     pub replays : Replays r h store
     pub drafts_read : All (λ draft. IfSome draft (IsDraftOf r h)) drafts
+    pub drafts_own : AreOwn drafts
+
+-- what contracts see of the state of a run: the parts that its store is of, and its world
+pub record StateView (Owner Part Value Command Answer : Type 0) : Type 0 where
+  pub owner : Owner
+  pub world : World Part Value Command Answer
 
 module _ {Part Value Command Answer : Type 0} (r : Rules Part Value Command Answer) where
   -- the draft has read all, from this history, and every read is fresh
-  pub record IsReady (h : List (Entry Command Answer)) (d : Drafted Part Value Command Answer) : Type 0 where
+  pub record IsReady (h : List (Entry Command Answer)) (d : DraftView Part Value Command Answer) : Type 0 where
     pub all_read : AreAllReadsOf r d.command (copies_of d.reads)
     pub made : All (IsRead r h) d.reads
     pub fresh : All (IsFresh r h) d.reads

@@ -16,6 +16,10 @@ pub record Read (Part Value : Type 0) : Type 0 where
 abbrev pub copies_of : {Part Value : Type 0} → List (Read Part Value) → List (Part × Value)
 copies_of reads = map (λ read. (read.part, read.value)) reads
 
+-- these were read at the end of this history
+abbrev pub AreAt : {Part Value Command Answer : Type 0} → List (Entry Command Answer) → List (Read Part Value) → Type 0
+AreAt history reads = All (λ x. x.at ≡ length history) reads
+
 -- the first read, in read order, whose part has a version now that is greater than the length at the read
 abbrev pub first_stale : {Part Value : Type 0} → (Part → ℕ) → List (Read Part Value) → Option (Stale Part)
 first_stale version [] = None

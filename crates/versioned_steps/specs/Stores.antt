@@ -9,14 +9,14 @@ use Rattle.versioned_steps.specs.declared.slot.Slot.{Slot}
 
 -- what contracts see of a store: whose rules it follows, how many entries were finished, what the last of them wrote where it isn't
 -- yet among the others, and the parts that were written before, each with its version and value
-pub record Stored (Owner Part Value : Type 0) : Type 0 where
+pub record StoreView (Owner Part Value : Type 0) : Type 0 where
   pub owner : Owner
   pub length : ℕ
   pub recent : List (Part × Value)
   pub older : List (Part × Slot Value)
 
 -- the writes of an entry that waits to be finished, and the place that it will have
-pub record Changed (Part Value : Type 0) : Type 0 where
+pub record ChangeView (Part Value : Type 0) : Type 0 where
   pub place : ℕ
   pub writes : List (Part × Value)
 
@@ -26,17 +26,17 @@ found_in test version recent older =
     option_map_or (λ value. Some (record { version = version; value = value })) (lookup test recent) (lookup test older)
 
 -- the change was staged on this store, and nothing was finished since
-pub record IsStaged {Owner Part Value : Type 0} (s : Stored Owner Part Value) (change : Changed Part Value) : Type 0 where
+pub record IsStaged {Owner Part Value : Type 0} (s : StoreView Owner Part Value) (change : ChangeView Part Value) : Type 0 where
   pub place : change.place ≡ s.length + 1
   pub none_since : s.recent ≡ []
 
 module _ {Owner Part Value Command Answer : Type 0} (r : Rules Part Value Command Answer) where
   -- the version and value that the store has for a part; a part never written has version 0 and its opening value
-  abbrev pub slot_of : Stored Owner Part Value → Part → Slot Value
+  abbrev pub slot_of : StoreView Owner Part Value → Part → Slot Value
   slot_of s part = unwrap_or (found_in (r.same_part part) s.length s.recent s.older) (record { version = 0; value = r.opening part })
 
   -- the store stands for this history: as long as it, and each part with its version and value after it
-  pub record Replays (history : List (Entry Command Answer)) (s : Stored Owner Part Value) : Type 0 where
+  pub record Replays (history : List (Entry Command Answer)) (s : StoreView Owner Part Value) : Type 0 where
     pub length : s.length ≡ length history
     pub versions : (part : Part) → (slot_of s part).version ≡ version_of r history part
     pub values : (part : Part) → (slot_of s part).value ≡ value_of r history part

@@ -3,7 +3,7 @@ use Rattle.std.specs.Prelude.{◌≡◌, ℕ, ◌+◌, Option, Some, None, optio
 use Rattle.versioned_steps.specs.Rules.{Rules}
 use Rattle.versioned_steps.specs.History.{value_of, version_of, answer_on}
 use Rattle.versioned_steps.specs.Reads.{Read, copies_of, first_stale, read_now}
-use Rattle.versioned_steps.specs.Drafts.{Drafted}
+use Rattle.versioned_steps.specs.Drafts.{DraftView}
 use Rattle.versioned_steps.specs.declared.entry.Entry.{Entry}
 use Rattle.versioned_steps.specs.declared.stale.Stale.{Stale}
 use Rattle.versioned_steps.specs.declared.step.Step.{Step}
@@ -133,9 +133,9 @@ abbrev pub opening_world : {Part Value Command Answer : Type 0} → ℕ → Worl
 opening_world clerks = record { history = []; hands = replicate clerks None }
 
 -- what a clerk has in hand, of a draft
-abbrev pub hand_of : {Part Value Command Answer : Type 0} → Option (Drafted Part Value Command Answer) → Option (Hand Part Value Command)
+abbrev pub hand_of : {Part Value Command Answer : Type 0} → Option (DraftView Part Value Command Answer) → Option (Hand Part Value Command)
 hand_of draft = option_map (λ d. record { command = d.command; reads = d.reads }) draft
 
 -- the world that a history and the clerks' drafts are
-abbrev pub world_of : {Part Value Command Answer : Type 0} → List (Entry Command Answer) → List (Option (Drafted Part Value Command Answer)) → World Part Value Command Answer
+abbrev pub world_of : {Part Value Command Answer : Type 0} → List (Entry Command Answer) → List (Option (DraftView Part Value Command Answer)) → World Part Value Command Answer
 world_of history drafts = record { history = history; hands = map hand_of drafts }

@@ -1,7 +1,7 @@
 //! A command in hand, with copies of the parts that it has read.
 ghost use Rattle.std.specs.Prelude.{◌≡◌, [], ◌∷◌, ◌++◌, None, Some, OnOk, OnErr, length, option_map};
 ghost use Rattle.versioned_steps.specs.Reads.{copies_of};
-ghost use Rattle.versioned_steps.specs.Drafts.{decided, with_marks, decision_seen};
+ghost use Rattle.versioned_steps.specs.Drafts.{decided, with_notes, decision_view};
 
 use crate::decision::Decision;
 use crate::parted::Parted;
@@ -10,7 +10,7 @@ use std::marker::Model;
 
 /// The numbers noted at a read: the part's version then, and the length of the history then.
 #[derive(Clone, Copy, Debug, PartialEq, Eq)]
-pub struct Mark {
+pub struct ReadNote {
     pub version: u64,
     pub at: u64,
 }
@@ -22,24 +22,24 @@ pub struct Draft<P: Parted, A: Allocator = Global> {
     clerk: u32,
     command: P::Command,
     copies: Vec<(P::Part, P::Value), A>,
-    marks: Vec<Mark, A>,
+    notes: Vec<ReadNote, A>,
     decision: Option<Decision<P::Part, P::Value, P::Answer>>,
 }
 
 impl<P: Parted, A: Allocator> Model for Draft<P, A> {
     ghost use Rattle.std.specs.Prelude.{◌≡◌, vec_len, option_map};
-    ghost use Rattle.versioned_steps.specs.Drafts.{Drafted, with_marks, decision_seen};
+    ghost use Rattle.versioned_steps.specs.Drafts.{DraftView, with_notes, decision_view};
 
-    ghost Value = { Drafted P.Part P.Value P.Command P.Answer };
+    ghost Value = { DraftView P.Part P.Value P.Command P.Answer };
 
     ghost view = { λ d. record {
       clerk = d.clerk;
       command = d.command;
-      reads = with_marks d.copies.items d.marks.items;
-      decision = option_map decision_seen d.decision;
+      reads = with_notes d.copies.items d.notes.items;
+      decision = option_map decision_view d.decision;
     } };
 
-    ghost invariant = { λ d. vec_len d.copies ≡ vec_len d.marks };
+    ghost invariant = { λ d. vec_len d.copies ≡ vec_len d.notes };
 }
 
 impl<P: Parted, A: Allocator + Copy> Draft<P, A> {
@@ -51,7 +51,7 @@ impl<P: Parted, A: Allocator + Copy> Draft<P, A> {
             clerk,
             command,
             copies: Vec::new(alloc),
-            marks: Vec::new(alloc),
+            notes: Vec::new(alloc),
             decision: None,
         }
     }
@@ -68,7 +68,7 @@ impl<P: Parted, A: Allocator + Copy> Draft<P, A> {
         &self.command
     }
 
-    #[tactic(auto, using(crate::proofs::DraftLemmas::copies_of_marked))]
+    #[tactic(auto, using(crate::proofs::DraftLemmas::copies_of_noted))]
     /// What was read, in read order.
     pub fn copies(&self) -> &[(P::Part, P::Value)]
         ensures { result.now ≡ copies_of self.now.reads }
@@ -76,23 +76,23 @@ impl<P: Parted, A: Allocator + Copy> Draft<P, A> {
         &self.copies
     }
 
-    #[tactic(auto, using(crate::proofs::DraftLemmas::copies_of_marked, crate::proofs::DraftLemmas::length_with_marks))]
+    #[tactic(auto, using(crate::proofs::DraftLemmas::copies_of_noted, crate::proofs::DraftLemmas::length_with_notes))]
     /// The numbers noted at each read, in read order.
-    pub fn marks(&self) -> &[Mark]
+    pub fn notes(&self) -> &[ReadNote]
         ensures len { length result.now ≡ length self.now.reads }
-        ensures reads { with_marks (copies_of self.now.reads) result.now ≡ self.now.reads }
+        ensures reads { with_notes (copies_of self.now.reads) result.now ≡ self.now.reads }
     {
-        &self.marks
+        &self.notes
     }
 
     /// The decision; none before the draft is settled.
     pub fn decision(&self) -> Option<&Decision<P::Part, P::Value, P::Answer>>
-        ensures { option_map (λ d. decision_seen d.now) result ≡ self.now.decision }
+        ensures { option_map (λ d. decision_view d.now) result ≡ self.now.decision }
     {
         self.decision.as_ref()
     }
 
-    #[tactic(auto, using(crate::proofs::DraftLemmas::copies_of_marked))]
+    #[tactic(auto, using(crate::proofs::DraftLemmas::copies_of_noted))]
     /// The part to read next; none where all is read. It takes no memory.
     pub fn next(&self, parts: &P) -> Option<P::Part>
         ensures { result ≡ (P.rules parts.now).next_part self.now.command (copies_of self.now.reads) }
@@ -100,7 +100,7 @@ impl<P: Parted, A: Allocator + Copy> Draft<P, A> {
         parts.next_part(&self.command, &self.copies)
     }
 
-    #[tactic(auto, using(crate::proofs::DraftLemmas::with_marks_push))]
+    #[tactic(auto, using(crate::proofs::DraftLemmas::with_notes_push))]
     /// Adds a read of the next part: its value and version, and the length of the history, all at one moment. A decision
     /// made before is dropped. An Err leaves the draft as it was.
     // A body that always found no memory would meet this contract; the tests call it with ample memory.
@@ -119,15 +119,15 @@ impl<P: Parted, A: Allocator + Copy> Draft<P, A> {
         }) }
         ensures err { OnErr result (self.new ≡ self.old) }
     {
-        self.marks.reserve(1)?;
+        self.notes.reserve(1)?;
         self.copies.reserve(1)?;
         self.copies.push_reserved((part, value));
-        self.marks.push_reserved(Mark { version, at });
+        self.notes.push_reserved(ReadNote { version, at });
         self.decision = None;
         Ok(())
     }
 
-    #[tactic(auto, using(crate::proofs::DraftLemmas::copies_of_marked))]
+    #[tactic(auto, using(crate::proofs::DraftLemmas::copies_of_noted))]
     /// Decides on what was read. An Err leaves the draft as it was.
     // A body that always found no memory would meet this contract; the tests call it with ample memory.
     pub fn settle(&mut self, alloc: Global, parts: &P) -> Result<(), AllocError>

@@ -1,20 +1,22 @@
 //! Laws of the definitions, each the contract of a function that does nothing.
-ghost use Rattle.std.specs.Prelude.{ℕ, ◌<◌, ◌≤◌, List, length};
+ghost use Rattle.std.specs.Prelude.{◌≡◌, ℕ, true, [], ◌<◌, ◌≤◌, List, length};
 ghost use Rattle.versioned_steps.specs.declared.entry.Entry.{Entry};
 ghost use Rattle.versioned_steps.specs.declared.step.Step.{Step};
 ghost use Rattle.versioned_steps.specs.declared.step.Outcome.{Outcome};
-ghost use Rattle.versioned_steps.specs.History.{version_of, TouchesAt, IsLastTouch};
+ghost use Rattle.versioned_steps.specs.History.{is_legal, version_of, TouchesAt, IsLastTouch};
 ghost use Rattle.versioned_steps.specs.Reads.{Read, IsFresh};
-ghost use Rattle.versioned_steps.specs.World.{World, IsRun, opening_world};
+ghost use Rattle.versioned_steps.specs.World.{World, IsRun};
 ghost use Rattle.versioned_steps.specs.Serial.{IsSerial};
 
 use crate::parted::Parted;
 
-/// What is finished in any run, of any number of clerks, is a serial history: its commands in order, each decided alone,
-/// give the same answers and the same parts.
+/// Every legal history is a serial one: its commands in order, each decided alone, give the same answers and the same
+/// parts. What is finished in any run of any clerks from a legal history on, as from the empty one, is legal.
 pub fn serial_history<P: Parted>()
-    ensures { (parts : P) (clerks : ℕ) (steps : List (Step P.Command)) (outcomes : List (Outcome P.Part P.Answer)) (after : World P.Part P.Value P.Command P.Answer) →
-        IsRun (P.rules parts) (opening_world clerks) steps outcomes after → IsSerial (P.rules parts) after.history }
+    ensures legal { (parts : P) (history : List (Entry P.Command P.Answer)) → is_legal (P.rules parts) history ≡ true → IsSerial (P.rules parts) history }
+    ensures run { (parts : P) (before after : World P.Part P.Value P.Command P.Answer) (steps : List (Step P.Command)) (outcomes : List (Outcome P.Part P.Answer)) →
+        is_legal (P.rules parts) before.history ≡ true → IsRun (P.rules parts) before steps outcomes after → is_legal (P.rules parts) after.history ≡ true }
+    ensures empty { (parts : P) → is_legal (P.rules parts) [] ≡ true }
 {}
 
 /// The version of a part is the place of the last entry that touches it, and 0 where none does.

@@ -16,7 +16,7 @@ mod step;
 mod store;
 
 pub use decision::Decision;
-pub use draft::{Draft, Mark};
+pub use draft::{Draft, ReadNote};
 pub use entry::Entry;
 pub use laws::{fresh_means_untouched, serial_history, versions_are_last_touches};
 pub use parted::Parted;
@@ -24,6 +24,3 @@ pub use run::{World, run_steps, run_steps_in};
 pub use stale::Stale;
 pub use step::{Outcome, Step};
 pub use store::{Change, Store};
-
-#[cfg(test)]
-mod tests;

@@ -1,5 +1,5 @@
 //! What each step does to the draft in its clerk's hand.
-ghost use Rattle.std.specs.Prelude.{◌≡◌, ◌++◌, ◌∷◌, [], Some, IfSome, IfOk, OnErr, IsSome, List, length, option_map};
+ghost use Rattle.std.specs.Prelude.{◌≡◌, ℕ, ◌++◌, ◌∷◌, [], None, Some, IfSome, IfOk, OnErr, IsSome, List, length, option_map};
 ghost use Rattle.versioned_steps.specs.declared.entry.Entry.{Entry};
 ghost use Rattle.versioned_steps.specs.Drafts.{IsDraftOf};
 ghost use Rattle.versioned_steps.specs.Stores.{Replays};
@@ -24,6 +24,7 @@ pub(crate) fn begin<P: Parted, A: Allocator + Copy>(
 ) -> Outcome<P::Part, P::Answer>
     ensures moves { Moves (begin_move command.now (hand_of place.old)) (hand_of place.old) [] result (hand_of place.new) [] }
     ensures reads { (h : List (Entry P.Command P.Answer)) → IfSome place.old (IsDraftOf (P.rules parts.now) h) → IfSome place.new (IsDraftOf (P.rules parts.now) h) }
+    ensures own { IfSome place.old (λ d. d.clerk ≡ clerk) → IfSome place.new (λ d. d.clerk ≡ clerk) }
 {
     if place.is_some() {
         return Outcome::Busy;
@@ -47,6 +48,7 @@ pub(crate) fn read<P: Parted, A: Allocator + Copy>(
         Moves (read_move (P.rules store.now.owner) h (hand_of place.old)) (hand_of place.old) [] result (hand_of place.new) [] }
     ensures reads { (h : List (Entry P.Command P.Answer)) → Replays (P.rules store.now.owner) h store.now →
         IfSome place.old (IsDraftOf (P.rules store.now.owner) h) → IfSome place.new (IsDraftOf (P.rules store.now.owner) h) }
+    ensures own { (clerk : ℕ) → IfSome place.old (λ d. d.clerk ≡ clerk) → IfSome place.new (λ d. d.clerk ≡ clerk) }
 {
     let Some(draft) = place else {
         return Outcome::Idle;
@@ -70,7 +72,7 @@ pub(crate) fn discard<P: Parted, A: Allocator + Copy>(
     place: &mut Option<Draft<P, A>>,
 ) -> Outcome<P::Part, P::Answer>
     ensures moves { Moves (discard_move (hand_of place.old)) (hand_of place.old) [] result (hand_of place.new) [] }
-    ensures reads { IfSome place.new (λ _. ⊥) }
+    ensures none { place.new ≡ None }
 {
     if place.is_none() {
         return Outcome::Idle;
@@ -95,6 +97,7 @@ fn finish<P: Parted, A: Allocator + Copy>(
     ensures replays { Replays (P.rules store.old.owner) history.new.items store.new }
     ensures err { OnErr result (history.new.items ≡ history.old.items) }
     ensures hand { hand_of (Some draft.new) ≡ hand_of (Some draft.old) }
+    ensures own { draft.new.clerk ≡ draft.old.clerk }
 {
     draft.settle(alloc, store.parts())?;
     let entry = entry_of(alloc, store.parts(), draft, clerk)?;
@@ -143,6 +146,7 @@ pub(crate) fn commit<P: Parted, A: Allocator + Copy>(
         history.old.items result (hand_of place.new) history.new.items }
     ensures replays { Replays (P.rules store.old.owner) history.new.items store.new }
     ensures reads { IfSome place.new (IsDraftOf (P.rules store.old.owner) history.new.items) }
+    ensures own { IfSome place.old (λ d. d.clerk ≡ clerk) → IfSome place.new (λ d. d.clerk ≡ clerk) }
 {
     let Some(draft) = place else {
         return Outcome::Idle;

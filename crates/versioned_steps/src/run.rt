@@ -1,7 +1,7 @@
 //! All interleavings: a list of small steps of any clerks, one after another.
 ghost use Rattle.std.specs.Prelude.{◌≡◌, true, IfOk, IfSome, All};
 ghost use Rattle.versioned_steps.specs.History.{is_legal};
-ghost use Rattle.versioned_steps.specs.Drafts.{IsDraftOf};
+ghost use Rattle.versioned_steps.specs.Drafts.{IsDraftOf, AreOwn};
 ghost use Rattle.versioned_steps.specs.Stores.{Replays};
 ghost use Rattle.versioned_steps.specs.World.{IsRun, opening_world, world_of};
 
@@ -34,10 +34,13 @@ pub fn run_steps<P: Parted>(
 ) -> Result<World<P>, AllocError>
     // Outcomes, history and hands are a run of the world on these steps.
     ensures run { IfOk result (λ w. IsRun (P.rules parts) (opening_world clerks) steps.now w.outcomes.items (world_of w.history.items w.drafts.items)) }
+    // The store is of these parts, so that what it is asked is answered by their rules.
+    ensures owner { IfOk result (λ w. w.store.owner ≡ parts) }
     // The store has each part with its version and value after the history.
     ensures store { IfOk result (λ w. Replays (P.rules parts) w.history.items w.store) }
-    // What is in hand was read from the history.
+    // What is in hand was read from the history, by the clerk who has it.
     ensures drafts { IfOk result (λ w. All (λ d. IfSome d (IsDraftOf (P.rules parts) w.history.items)) w.drafts.items) }
+    ensures own { IfOk result (λ w. AreOwn w.drafts.items) }
     // Each entry's answer is the decision on the parts as the entries before it left them.
     ensures legal { IfOk result (λ w. is_legal (P.rules parts) w.history.items ≡ true) }
 {
@@ -54,8 +57,10 @@ pub fn run_steps_in<P: Parted, A: Allocator + Copy>(
     steps: &[Step<P::Command>],
 ) -> Result<World<P, A>, AllocError>
     ensures run { IfOk result (λ w. IsRun (P.rules parts) (opening_world clerks) steps.now w.outcomes.items (world_of w.history.items w.drafts.items)) }
+    ensures owner { IfOk result (λ w. w.store.owner ≡ parts) }
     ensures store { IfOk result (λ w. Replays (P.rules parts) w.history.items w.store) }
     ensures drafts { IfOk result (λ w. All (λ d. IfSome d (IsDraftOf (P.rules parts) w.history.items)) w.drafts.items) }
+    ensures own { IfOk result (λ w. AreOwn w.drafts.items) }
     ensures legal { IfOk result (λ w. is_legal (P.rules parts) w.history.items ≡ true) }
 {
     let mut outcomes = Vec::with_capacity(heap, steps.len())?;
@@ -64,15 +69,5 @@ pub fn run_steps_in<P: Parted, A: Allocator + Copy>(
         let outcome = state.make(alloc, step);
         outcomes.push_reserved(outcome);
     }
-    let State {
-        store,
-        history,
-        drafts,
-    } = state;
-    Ok(World {
-        store,
-        history,
-        drafts,
-        outcomes,
-    })
+    Ok(state.close(outcomes))
 }

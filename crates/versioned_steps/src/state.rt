@@ -8,24 +8,37 @@ use crate::draft::Draft;
 use crate::entry::Entry;
 use crate::moves;
 use crate::parted::Parted;
+use crate::run::World;
 use crate::step::{Outcome, Step};
 use crate::store::Store;
 use std::alloc::{AllocError, Allocator, Global};
+use std::marker::Model;
 
+/// Store, history and hands of a run so far. The store stands for the history, and each draft was read from it by the
+/// clerk who has it in hand.
 #[derive(Drop)]
 pub(crate) struct State<P: Parted, A: Allocator> {
-    pub store: Store<P, A>,
-    pub history: Vec<Entry<P::Command, P::Answer>, A>,
-    pub drafts: Vec<Option<Draft<P, A>>, A>,
+    store: Store<P, A>,
+    history: Vec<Entry<P::Command, P::Answer>, A>,
+    drafts: Vec<Option<Draft<P, A>>, A>,
+}
+
+impl<P: Parted, A: Allocator> Model for State<P, A> {
+    ghost use Rattle.versioned_steps.specs.World.{world_of};
+    ghost use Rattle.versioned_steps.specs.Moves.{StateView, IsSound};
+
+    ghost Value = { StateView P P.Part P.Value P.Command P.Answer };
+
+    ghost view = { λ s. record { owner = s.store.owner; world = world_of s.history.items s.drafts.items } };
+
+    ghost invariant = { λ s. IsSound (P.rules s.store.owner) s.history.items s.store s.drafts.items };
 }
 
 impl<P: Parted, A: Allocator + Copy> State<P, A> {
     /// No entry, and nobody has a command in hand.
     // A body that always found no memory would meet this contract; the tests call it with ample memory.
     pub fn open(heap: A, parts: P, clerks: u32) -> Result<State<P, A>, AllocError>
-        ensures owner { IfOk result (λ s. s.store.owner ≡ parts) }
-        ensures sound { IfOk result (λ s. IsSound (P.rules parts) s.history.items s.store s.drafts.items) }
-        ensures world { IfOk result (λ s. world_of s.history.items s.drafts.items ≡ opening_world clerks) }
+        ensures { IfOk result (λ s. s ≡ record { owner = parts; world = opening_world clerks }) }
     {
         let mut drafts = Vec::with_capacity(heap, clerks as usize)?;
         for _clerk in 0..clerks {
@@ -45,76 +58,79 @@ impl<P: Parted, A: Allocator + Copy> State<P, A> {
         clerk: u32,
         command: &P::Command,
     ) -> Outcome<P::Part, P::Answer>
-        requires { IsSound (P.rules self.old.store.owner) self.old.history.items self.old.store self.old.drafts.items }
-        ensures owner { self.new.store.owner ≡ self.old.store.owner }
-        ensures sound { IsSound (P.rules self.old.store.owner) self.new.history.items self.new.store self.new.drafts.items }
-        ensures step { IsStep (P.rules self.old.store.owner) (world_of self.old.history.items self.old.drafts.items)
-            (Begin clerk command.now) result (world_of self.new.history.items self.new.drafts.items) }
+        ensures owner { self.new.owner ≡ self.old.owner }
+        ensures step { IsStep (P.rules self.old.owner) self.old.world (Begin clerk command.now) result self.new.world }
     {
-        match self.drafts.get_mut(clerk as usize) {
-            Some(place) => {
-                let heap = *self.history.allocator();
-                moves::begin(alloc, heap, self.store.parts(), place, clerk, command)
-            }
-            None => Outcome::NoClerk,
-        }
+        let heap = *self.history.allocator();
+        let Some(place) = self.drafts.get_mut(clerk as usize) else {
+            return Outcome::NoClerk;
+        };
+        moves::begin(alloc, heap, self.store.parts(), place, clerk, command)
     }
 
     // The clerk reads the next part.
     fn read(&mut self, alloc: Global, clerk: u32) -> Outcome<P::Part, P::Answer>
-        requires { IsSound (P.rules self.old.store.owner) self.old.history.items self.old.store self.old.drafts.items }
-        ensures owner { self.new.store.owner ≡ self.old.store.owner }
-        ensures sound { IsSound (P.rules self.old.store.owner) self.new.history.items self.new.store self.new.drafts.items }
-        ensures step { IsStep (P.rules self.old.store.owner) (world_of self.old.history.items self.old.drafts.items)
-            (Read clerk) result (world_of self.new.history.items self.new.drafts.items) }
+        ensures owner { self.new.owner ≡ self.old.owner }
+        ensures step { IsStep (P.rules self.old.owner) self.old.world (Read clerk) result self.new.world }
     {
-        match self.drafts.get_mut(clerk as usize) {
-            Some(place) => moves::read(alloc, &self.store, place),
-            None => Outcome::NoClerk,
-        }
+        let Some(place) = self.drafts.get_mut(clerk as usize) else {
+            return Outcome::NoClerk;
+        };
+        moves::read(alloc, &self.store, place)
     }
 
     // The clerk's command is validated, decided and becomes an entry.
     fn commit(&mut self, alloc: Global, clerk: u32) -> Outcome<P::Part, P::Answer>
-        requires { IsSound (P.rules self.old.store.owner) self.old.history.items self.old.store self.old.drafts.items }
-        ensures owner { self.new.store.owner ≡ self.old.store.owner }
-        ensures sound { IsSound (P.rules self.old.store.owner) self.new.history.items self.new.store self.new.drafts.items }
-        ensures step { IsStep (P.rules self.old.store.owner) (world_of self.old.history.items self.old.drafts.items)
-            (Commit clerk) result (world_of self.new.history.items self.new.drafts.items) }
+        ensures owner { self.new.owner ≡ self.old.owner }
+        ensures step { IsStep (P.rules self.old.owner) self.old.world (Commit clerk) result self.new.world }
     {
-        match self.drafts.get_mut(clerk as usize) {
-            Some(place) => moves::commit(alloc, &mut self.store, &mut self.history, place, clerk),
-            None => Outcome::NoClerk,
-        }
+        let Some(place) = self.drafts.get_mut(clerk as usize) else {
+            return Outcome::NoClerk;
+        };
+        moves::commit(alloc, &mut self.store, &mut self.history, place, clerk)
     }
 
     // The clerk drops the command.
     fn discard(&mut self, clerk: u32) -> Outcome<P::Part, P::Answer>
-        requires { IsSound (P.rules self.old.store.owner) self.old.history.items self.old.store self.old.drafts.items }
-        ensures owner { self.new.store.owner ≡ self.old.store.owner }
-        ensures sound { IsSound (P.rules self.old.store.owner) self.new.history.items self.new.store self.new.drafts.items }
-        ensures step { IsStep (P.rules self.old.store.owner) (world_of self.old.history.items self.old.drafts.items)
-            (Discard clerk) result (world_of self.new.history.items self.new.drafts.items) }
+        ensures owner { self.new.owner ≡ self.old.owner }
+        ensures step { IsStep (P.rules self.old.owner) self.old.world (Discard clerk) result self.new.world }
     {
-        match self.drafts.get_mut(clerk as usize) {
-            Some(place) => moves::discard(place),
-            None => Outcome::NoClerk,
-        }
+        let Some(place) = self.drafts.get_mut(clerk as usize) else {
+            return Outcome::NoClerk;
+        };
+        moves::discard(place)
     }
 
     /// Makes one step.
     pub fn make(&mut self, alloc: Global, step: &Step<P::Command>) -> Outcome<P::Part, P::Answer>
-        requires { IsSound (P.rules self.old.store.owner) self.old.history.items self.old.store self.old.drafts.items }
-        ensures owner { self.new.store.owner ≡ self.old.store.owner }
-        ensures sound { IsSound (P.rules self.old.store.owner) self.new.history.items self.new.store self.new.drafts.items }
-        ensures step { IsStep (P.rules self.old.store.owner) (world_of self.old.history.items self.old.drafts.items)
-            step.now result (world_of self.new.history.items self.new.drafts.items) }
+        ensures owner { self.new.owner ≡ self.old.owner }
+        ensures step { IsStep (P.rules self.old.owner) self.old.world step.now result self.new.world }
     {
         match step {
             Step::Begin(clerk, command) => self.begin(alloc, *clerk, command),
             Step::Read(clerk) => self.read(alloc, *clerk),
             Step::Commit(clerk) => self.commit(alloc, *clerk),
             Step::Discard(clerk) => self.discard(*clerk),
+        }
+    }
+
+    /// The world, with the outcomes of the steps that led to it.
+    pub fn close(self, outcomes: Vec<Outcome<P::Part, P::Answer>, A>) -> World<P, A>
+        ensures owner { result.store.owner ≡ self.owner }
+        ensures sound { IsSound (P.rules self.owner) result.history.items result.store result.drafts.items }
+        ensures world { world_of result.history.items result.drafts.items ≡ self.world }
+        ensures outcomes { result.outcomes ≡ outcomes }
+    {
+        let State {
+            store,
+            history,
+            drafts,
+        } = self;
+        World {
+            store,
+            history,
+            drafts,
+            outcomes,
         }
     }
 }

@@ -3,10 +3,10 @@ ghost use Rattle.std.specs.Prelude.{◌≡◌, ◌+◌, ◌<◌, ◌^◌, [], �
 ghost use Rattle.versioned_steps.specs.declared.entry.Entry.{Entry};
 ghost use Rattle.versioned_steps.specs.History.{value_of, version_of, writes_on};
 ghost use Rattle.versioned_steps.specs.Reads.{first_stale, IsStale, IsFresh};
-ghost use Rattle.versioned_steps.specs.Drafts.{MayCommit, with_marks};
+ghost use Rattle.versioned_steps.specs.Drafts.{MayCommit, IsReadAll, with_notes};
 ghost use Rattle.versioned_steps.specs.Stores.{slot_of, Replays, IsStaged};
 
-use crate::draft::{Draft, Mark};
+use crate::draft::{Draft, ReadNote};
 use crate::found::{put_away, value_written};
 use crate::parted::Parted;
 use crate::slot::{Slot, Slots};
@@ -22,9 +22,9 @@ pub struct Change<P: Parted, A: Allocator = Global> {
 }
 
 impl<P: Parted, A: Allocator> Model for Change<P, A> {
-    ghost use Rattle.versioned_steps.specs.Stores.{Changed};
+    ghost use Rattle.versioned_steps.specs.Stores.{ChangeView};
 
-    ghost Value = { Changed P.Part P.Value };
+    ghost Value = { ChangeView P.Part P.Value };
 
     ghost view = { λ c. record { place = c.place; writes = c.writes.items } };
 }
@@ -55,9 +55,9 @@ pub struct Store<P: Parted, A: Allocator = Global> {
 }
 
 impl<P: Parted, A: Allocator> Model for Store<P, A> {
-    ghost use Rattle.versioned_steps.specs.Stores.{Stored};
+    ghost use Rattle.versioned_steps.specs.Stores.{StoreView};
 
-    ghost Value = { Stored P P.Part P.Value };
+    ghost Value = { StoreView P P.Part P.Value };
 
     ghost view = { λ s. record { owner = s.parts; length = s.length; recent = s.recent.items; older = s.older.entries } };
 }
@@ -129,14 +129,41 @@ impl<P: Parted, A: Allocator + Copy> Store<P, A> {
         Ok((self.version(part), value))
     }
 
+    /// A draft of this command with all that it reads, every part as it now is, and its decision. The command is spent, also
+    /// where an Err comes.
+    // A body that always found no memory would meet this contract; the tests call it with ample memory.
+    pub fn prepare(
+        &self,
+        alloc: Global,
+        clerk: u32,
+        command: P::Command,
+    ) -> Result<Draft<P, A>, AllocError>
+        ensures clerk { IfOk result (λ d. d.clerk ≡ clerk) }
+        ensures command { IfOk result (λ d. d.command ≡ command) }
+        ensures read { (h : List (Entry P.Command P.Answer)) → Replays (P.rules self.now.owner) h self.now →
+            IfOk result (IsReadAll (P.rules self.now.owner) h) }
+    {
+        let mut draft = Draft::begin(*self.recent.allocator(), clerk, command);
+        while let Some(part) = draft.next(&self.parts) {
+            let (version, value) = self.read(alloc, part)?;
+            draft.add(&self.parts, part, version, self.length, value)?;
+        }
+        draft.settle(alloc, &self.parts)?;
+        Ok(draft)
+    }
+
     // The first of these reads whose part has a version greater than the length at the read.
-    fn first_stale(&self, copies: &[(P::Part, P::Value)], marks: &[Mark]) -> Option<Stale<P::Part>>
-        requires { length copies.now ≡ length marks.now }
-        ensures { result ≡ first_stale (λ part. (slot_of (P.rules self.now.owner) self.now part).version) (with_marks copies.now marks.now) }
+    fn first_stale(
+        &self,
+        copies: &[(P::Part, P::Value)],
+        notes: &[ReadNote],
+    ) -> Option<Stale<P::Part>>
+        requires { length copies.now ≡ length notes.now }
+        ensures { result ≡ first_stale (λ part. (slot_of (P.rules self.now.owner) self.now part).version) (with_notes copies.now notes.now) }
     {
         for (i, copy) in copies.iter().enumerate() {
             let version = self.version(copy.0);
-            if marks[i].at < version {
+            if notes[i].at < version {
                 return Some(Stale {
                     part: copy.0,
                     version,
@@ -156,7 +183,7 @@ impl<P: Parted, A: Allocator + Copy> Store<P, A> {
         ensures fresh { (h : List (Entry P.Command P.Answer)) → Replays (P.rules self.now.owner) h self.now →
             IfNone result (All (IsFresh (P.rules self.now.owner) h) draft.now.reads) }
     {
-        self.first_stale(draft.copies(), draft.marks())
+        self.first_stale(draft.copies(), draft.notes())
     }
 
     // Puts what the last entry wrote to the older parts.

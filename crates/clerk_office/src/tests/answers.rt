@@ -1,4 +1,5 @@
-use super::{COURT, FIRST_LINE, FIRST_ROW, input_of, told};
+use super::{FIRST_LINE, FIRST_ROW, input_of, told};
+use sample_court::file;
 use std::test::Fail;
 
 #[test]
@@ -70,7 +71,7 @@ fn answers_compute_rows(rt: HostRuntime) -> Result<(), Fail> {
     ];
     for (row, answer) in cases {
         let rows = format!(in alloc; "1,compute,{row}\n")?;
-        let input = input_of(alloc, COURT, rows.as_str())?;
+        let input = input_of(alloc, file(), rows.as_str())?;
         let line = format!(in alloc; "1 1 {answer}\n")?;
         assert_eq!(rt;
             told(alloc, input.as_bytes())?.as_str(),
@@ -97,30 +98,34 @@ fn numbers_rows_and_takes_csv_as_it_comes(rt: HostRuntime) -> Result<(), Fail> {
         ),
     ];
     for (rows, text) in cases {
-        let input = input_of(alloc, COURT, rows)?;
+        let input = input_of(alloc, file(), rows)?;
         assert_eq!(rt; told(alloc, input.as_bytes())?.as_str(), text, "{rows:?}");
     }
     Ok(())
 }
 
 #[test]
-fn ends_the_courts_file_at_the_first_mark(rt: HostRuntime) -> Result<(), Fail> {
+fn ends_the_courts_file_at_the_first_divider(rt: HostRuntime) -> Result<(), Fail> {
     let alloc = rt.alloc();
     let cases = [
         ("%%\n", FIRST_ROW, FIRST_LINE),
         ("%%\r\n", FIRST_ROW, FIRST_LINE),
         ("# 100%%\n%%\n", FIRST_ROW, FIRST_LINE),
         ("%%", "", ""),
-        ("# no mark", "", ""),
+        ("# no divider", "", ""),
         ("%%\n%%\n", "", "3 row 1 fault 3 WrongCount"),
         ("%%\r", "", "2 court fault 1 NotToml"),
         ("%% \n", "", "2 court fault 1 NotToml"),
     ];
-    for (mark, rows, text) in cases {
-        let mut input = String::from_str(alloc, COURT)?;
-        input.push_str(mark)?;
+    for (divider, rows, text) in cases {
+        let mut input = String::from_str(alloc, file())?;
+        input.push_str(divider)?;
         input.push_str(rows)?;
-        assert_eq!(rt; told(alloc, input.as_bytes())?.as_str(), text, "{mark:?}");
+        assert_eq!(rt;
+            told(alloc, input.as_bytes())?.as_str(),
+            text,
+            "{divider:?}"
+        );
     }
     Ok(())
 }

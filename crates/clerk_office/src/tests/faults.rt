@@ -1,4 +1,5 @@
-use super::{COURT, FIRST_LINE, FIRST_ROW, input_of, told};
+use super::{FIRST_LINE, FIRST_ROW, input_of, told};
+use sample_court::{file, file_with};
 use std::fmt::Write;
 use std::test::Fail;
 
@@ -107,7 +108,7 @@ fn tells_the_first_fault_of_a_row(rt: HostRuntime) -> Result<(), Fail> {
         ),
     ];
     for (rows, line) in cases {
-        let input = input_of(alloc, COURT, rows)?;
+        let input = input_of(alloc, file(), rows)?;
         assert_eq!(rt; told(alloc, input.as_bytes())?.as_str(), line, "{rows}");
     }
     for (rows, line) in [
@@ -115,7 +116,7 @@ fn tells_the_first_fault_of_a_row(rt: HostRuntime) -> Result<(), Fail> {
         ("0,fly\n1\n", "3 row 2 fault 1 BadClerk"),
     ] {
         let after_a_good_one = format!(in alloc; "{good}{rows}")?;
-        let input = input_of(alloc, COURT, after_a_good_one.as_str())?;
+        let input = input_of(alloc, file(), after_a_good_one.as_str())?;
         assert_eq!(rt; told(alloc, input.as_bytes())?.as_str(), line, "{rows:?}");
     }
     Ok(())
@@ -132,7 +133,7 @@ fn tells_of_a_field_that_is_no_text(rt: HostRuntime) -> Result<(), Fail> {
         (b"1,\xc3\"\xa9".as_slice(), "3 row 1 fault 5 NotText"),
         (b"\xc3\xa9,1".as_slice(), "3 row 1 fault 1 BadClerk"),
     ] {
-        let start = input_of(alloc, COURT, "")?;
+        let start = input_of(alloc, file(), "")?;
         let mut input = Vec::from_slice(alloc, start.as_bytes())?;
         input.extend_from_slice(row)?;
         assert_eq!(rt; told(alloc, input.as_slice())?.as_str(), line, "{row:?}");
@@ -150,7 +151,11 @@ fn tells_the_first_fault_of_the_courts_file(rt: HostRuntime) -> Result<(), Fail>
             "",
             "2 court fault 2 Missing zone",
         ),
-        ("rooms = []\n", "", "2 court fault 2 Missing rooms"),
+        (
+            "rooms = [\"R1\", \"R2\"]\n",
+            "",
+            "2 court fault 2 Missing rooms",
+        ),
         (
             "opens = \"08:30\"",
             "opens = 830",
@@ -175,48 +180,48 @@ fn tells_the_first_fault_of_the_courts_file(rt: HostRuntime) -> Result<(), Fail>
         ("17:00", "24:00", "2 court fault 6 BadHours"),
         ("2026-12-31", "2006-12-31", "2 court fault 7 BadSpan"),
         (
-            "judges = []",
+            "judges = [\"Ames\", \"Brandt\"]",
             "judges = [\"A B\"]",
             "2 court fault 8 BadName A B",
         ),
         (
-            "judges = []",
+            "judges = [\"Ames\", \"Brandt\"]",
             "judges = [\"Ames\", \"Ames\"]",
             "2 court fault 9 TwiceNamed Ames",
         ),
         (
-            "judges = []",
+            "judges = [\"Ames\", \"Brandt\"]",
             "judges = [\"Ames\", \"\", \"Ames\"]",
             "2 court fault 8 BadName ",
         ),
         (
-            "judges = []",
+            "judges = [\"Ames\", \"Brandt\"]",
             "judges = [\"a-judge-whose-name-has-33-letters\"]",
             "2 court fault 8 BadName a-judge-whose-name-has-33-letters",
         ),
         (
-            "judges = []\nrooms = []",
+            "judges = [\"Ames\", \"Brandt\"]\nrooms = [\"R1\", \"R2\"]",
             "judges = [\"A/B\"]\nrooms = \"R1\"",
             "2 court fault 8 BadName A/B",
         ),
         (
-            "rooms = []",
+            "rooms = [\"R1\", \"R2\"]",
             "rooms = \"R1\"",
             "2 court fault 3 WrongKind rooms",
         ),
         (
-            "rooms = []",
+            "rooms = [\"R1\", \"R2\"]",
             "rooms = [1]",
             "2 court fault 3 WrongKind rooms",
         ),
         (
-            "judges = []\nrooms = []",
+            "judges = [\"Ames\", \"Brandt\"]\nrooms = [\"R1\", \"R2\"]",
             "judges = [\"R1\"]\nrooms = [\"R1\", \"R1\"]",
             "2 court fault 9 TwiceNamed R1",
         ),
     ];
     for (old, new, line) in cases {
-        let Some((before, after)) = COURT.split_once(old) else {
+        let Some((before, after)) = file().split_once(old) else {
             return Err(Fail::new("the court's file has no such part"));
         };
         let court = format!(in alloc; "{before}{new}{after}")?;
@@ -239,10 +244,9 @@ fn tells_of_a_list_that_is_too_long(rt: HostRuntime) -> Result<(), Fail> {
     for number in 0..33 {
         write!(names, "\"J{number}\",")?;
     }
-    let Some((before, after)) = COURT.split_once("judges = []") else {
-        return Err(Fail::new("the court's file has no judges"));
-    };
-    let input = format!(in alloc; "{before}judges = [{names}]{after}")?;
+    let line = format!(in alloc; "judges = [{names}]")?;
+    let court = file_with(alloc, "judges", line.as_str())?;
+    let input = input_of(alloc, court.as_str(), "")?;
     assert_eq!(rt;
         told(alloc, input.as_bytes())?.as_str(),
         "2 court fault 10 TooMany judges"
@@ -250,10 +254,26 @@ fn tells_of_a_list_that_is_too_long(rt: HostRuntime) -> Result<(), Fail> {
     Ok(())
 }
 
+// The fault's line is written whole however long the text is that it names, and though no memory would hold it twice.
+#[test]
+fn tells_of_a_text_of_many_bytes(rt: HostRuntime) -> Result<(), Fail> {
+    let alloc = rt.alloc();
+    let mut name = String::new(alloc);
+    for _ in 0..1_000_000 {
+        name.push('x')?;
+    }
+    let line = format!(in alloc; "rooms = [\"R1\", \"{name}\"]")?;
+    let court = file_with(alloc, "rooms", line.as_str())?;
+    let input = input_of(alloc, court.as_str(), FIRST_ROW)?;
+    let fault = format!(in alloc; "2 court fault 8 BadName {name}")?;
+    assert!(rt; told(alloc, input.as_bytes())?.as_str() == fault.as_str());
+    Ok(())
+}
+
 #[test]
 fn answers_or_names_a_fault_wherever_the_input_is_cut(rt: HostRuntime) -> Result<(), Fail> {
     let alloc = rt.alloc();
-    let input = input_of(alloc, COURT, FIRST_ROW)?;
+    let input = input_of(alloc, file(), FIRST_ROW)?;
     let bytes = input.as_bytes();
     for length in 0..bytes.len() {
         let text = told(alloc, &bytes[..length])?;

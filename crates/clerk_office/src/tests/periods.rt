@@ -1,4 +1,5 @@
-use super::{COURT, input_of, told};
+use super::{input_of, told};
+use sample_court::file;
 use std::alloc::Global;
 use std::process::Abort;
 use std::test::Fail;
@@ -180,7 +181,7 @@ fn answers(rt: &impl Abort, alloc: Global, table: &str) -> Result<(), Fail> {
             return Err(Fail::new("a line of the table has no answer"));
         };
         let rows = format!(in alloc; "1,compute,{row}\n")?;
-        let input = input_of(alloc, COURT, rows.as_str())?;
+        let input = input_of(alloc, file(), rows.as_str())?;
         let text = format!(in alloc; "1 1 {answer}\n")?;
         assert_eq!(rt;
             told(alloc, input.as_bytes())?.as_str(),

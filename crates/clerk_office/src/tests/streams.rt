@@ -1,8 +1,9 @@
-use super::{COURT, FIRST_LINE, FIRST_ROW, input_of, make_page, one_clerk, told};
+use super::{FIRST_LINE, FIRST_ROW, input_of, make_page, one_clerk, told};
 use crate::fault::OfficeFault;
 use crate::fault_line::{fault_line, status_of};
 use crate::office::run_office;
 use crate::watched::Watched;
+use sample_court::file;
 use std::io;
 use std::io::Read;
 use std::test::Fail;
@@ -46,7 +47,7 @@ impl Read for Endless {
 #[test]
 fn takes_and_gives_bytes_in_any_pieces(rt: HostRuntime) -> Result<(), Fail> {
     let alloc = rt.alloc();
-    let input = input_of(alloc, COURT, FIRST_ROW)?;
+    let input = input_of(alloc, file(), FIRST_ROW)?;
     for (most, at_once) in [(1, 1), (7, 3), (4096, 100)] {
         let mut reader = Watched::new(Pieces {
             bytes: input.as_bytes(),
@@ -62,9 +63,27 @@ fn takes_and_gives_bytes_in_any_pieces(rt: HostRuntime) -> Result<(), Fail> {
 }
 
 #[test]
+fn takes_two_megabytes_a_byte_at_a_time(rt: HostRuntime) -> Result<(), Fail> {
+    let alloc = rt.alloc();
+    let mut input = input_of(alloc, file(), FIRST_ROW)?;
+    for _ in input.len()..2_000_000 {
+        input.push('\n')?;
+    }
+    let mut reader = Watched::new(Pieces {
+        bytes: input.as_bytes(),
+        most: 1,
+        reads_left: u64::MAX,
+    });
+    let mut writer = Watched::new(make_page(alloc, 1, usize::MAX));
+    run_office(alloc, &mut reader, &mut writer, one_clerk())?;
+    assert_eq!(rt; writer.inner().text.as_slice(), FIRST_LINE.as_bytes());
+    Ok(())
+}
+
+#[test]
 fn stops_at_a_read_that_fails(rt: HostRuntime) -> Result<(), Fail> {
     let alloc = rt.alloc();
-    let input = input_of(alloc, COURT, FIRST_ROW)?;
+    let input = input_of(alloc, file(), FIRST_ROW)?;
     // With 7 bytes a read, this many reads come before the one that tells of the end.
     let reads = (input.len() as u64).div_ceil(7);
     for reads_left in 0..=reads {
@@ -84,6 +103,7 @@ fn stops_at_a_read_that_fails(rt: HostRuntime) -> Result<(), Fail> {
             return Err(Fail::new("no fault"));
         };
         assert_eq!(rt; fault_line(alloc, &fault)?.as_str(), "read fault");
+        assert_eq!(rt; format!(in alloc; "{fault}")?.as_str(), "read fault");
         assert_eq!(rt; status_of(&fault), 4);
     }
     Ok(())
@@ -92,7 +112,7 @@ fn stops_at_a_read_that_fails(rt: HostRuntime) -> Result<(), Fail> {
 #[test]
 fn leaves_the_beginning_that_a_failing_writer_took(rt: HostRuntime) -> Result<(), Fail> {
     let alloc = rt.alloc();
-    let input = input_of(alloc, COURT, FIRST_ROW)?;
+    let input = input_of(alloc, file(), FIRST_ROW)?;
     for (at_once, room) in [(100, 10), (3, 10), (1, 0)] {
         let mut reader = Watched::new(input.as_bytes());
         let mut writer = Watched::new(make_page(alloc, at_once, room));
@@ -110,7 +130,7 @@ fn leaves_the_beginning_that_a_failing_writer_took(rt: HostRuntime) -> Result<()
 #[test]
 fn keeps_the_limits_of_its_input(rt: HostRuntime) -> Result<(), Fail> {
     let alloc = rt.alloc();
-    let mut input = input_of(alloc, COURT, FIRST_ROW)?;
+    let mut input = input_of(alloc, file(), FIRST_ROW)?;
     for _ in input.len()..16_777_216 {
         input.push('\n')?;
     }
@@ -133,7 +153,7 @@ fn takes_a_hundred_thousand_rows(rt: HostRuntime) -> Result<(), Fail> {
     for _ in 0..100_000 {
         rows.push_str(FIRST_ROW)?;
     }
-    let input = input_of(alloc, COURT, rows.as_str())?;
+    let input = input_of(alloc, file(), rows.as_str())?;
     let text = told(alloc, input.as_bytes())?;
     assert!(rt;
         text.as_str()

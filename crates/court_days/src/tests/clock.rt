@@ -81,9 +81,11 @@ fn offsets_hold_until_the_clocks_change(rt: HostRuntime) -> Result<(), Fail> {
     let first_of_summer = instant(&rt, 1_741_503_600);
     assert_eq!(rt; clock.offset_at(last_of_winter), -18_000);
     assert_eq!(rt; clock.offset_at(first_of_summer), -14_400);
-    // The next change, and the end of 2025-03-09 at UTC. No clause says that it is as late as that.
+    // The next change, in November. No clause says that it is as late as that.
     assert_eq!(rt; clock.steady_until(last_of_winter), 1_741_503_600);
-    assert_eq!(rt; clock.steady_until(first_of_summer), 1_741_564_800);
+    assert_eq!(rt; clock.steady_until(first_of_summer), 1_762_063_200);
+    let fixed = court_in(rt.alloc(), "-05:00")?;
+    assert_eq!(rt; fixed.clock().steady_until(first_of_summer), 10_000_000_000);
     assert_eq!(rt; clock.civil_of(instant(&rt, 9_600_000_000)), None);
     Ok(())
 }

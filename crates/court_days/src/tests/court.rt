@@ -12,6 +12,7 @@ zone = \"+15:00\" -> the court's zone is neither an offset, as `-05:00`, nor a P
 zone = \"+05:60\" -> the court's zone is neither an offset, as `-05:00`, nor a POSIX rule
 zone = \"+5:00\" -> the court's zone is neither an offset, as `-05:00`, nor a POSIX rule
 zone = \"America/New_York\" -> the court's zone is neither an offset, as `-05:00`, nor a POSIX rule
+zone = x -> the court's file is not TOML
 zone = \"\" -> the court's zone is neither an offset, as `-05:00`, nor a POSIX rule
 opens = \"8:30\" -> the clerk's office must open before it closes, at times as `08:30`
 closes = \"08:30\" -> the clerk's office must open before it closes, at times as `08:30`
@@ -31,14 +32,6 @@ judges = [{}] -> the key `judges` of the court's file holds a value of another t
 rooms = [\"R1\", \"r1\"] -> a court
 rooms = [\"R1\", \"R2\", \"R1\"] -> `R1` is named twice
 ";
-
-/// What is made of a court's file.
-fn made_of(alloc: Global, file: &str) -> Result<String, AllocError> {
-    match Court::from_bytes(alloc, file.as_bytes()) {
-        Ok(_) => String::from_str(alloc, "a court"),
-        Err(fault) => format!(in alloc; "{fault}"),
-    }
-}
 
 #[test]
 fn reads_each_key(rt: HostRuntime) -> Result<(), Fail> {
@@ -73,17 +66,60 @@ fn reads_each_line_as_said(rt: HostRuntime) -> Result<(), Fail> {
     Ok(())
 }
 
+/// So many names, as the court's file writes them.
+fn names(alloc: Global, key: &str, count: u8) -> Result<String, AllocError> {
+    let mut list = format!(in alloc; "{key} = [")?;
+    for number in 0..count {
+        list.push_str(format!(in alloc; "\"a-name-of-twenty-and-9-bytes-{number}\", ")?.as_str())?;
+    }
+    list.push(']')?;
+    Ok(list)
+}
+
+fn reads_names(rt: &impl Abort, alloc: Global, key: &str) -> Result<(), Fail> {
+    let most = names(alloc, key, 32)?;
+    let file = file_with(alloc, key, most.as_str())?;
+    assert_eq!(rt; made_of(alloc, file.as_str())?.as_str(), "a court");
+    let more = names(alloc, key, 33)?;
+    let file = file_with(alloc, key, more.as_str())?;
+    let long = format!(in alloc; "the list `{key}` of the court's file is too long")?;
+    assert_eq!(rt; made_of(alloc, file.as_str())?.as_str(), long.as_str());
+    Ok(())
+}
+
+#[test]
+fn reads_as_many_names_as_there_may_be(rt: HostRuntime) -> Result<(), Fail> {
+    reads_names(&rt, rt.alloc(), "judges")?;
+    reads_names(&rt, rt.alloc(), "rooms")
+}
+
+#[test]
+fn names_a_long_text(rt: HostRuntime) -> Result<(), Fail> {
+    let alloc = rt.alloc();
+    let mut text = String::new(alloc);
+    for _ in 0..100_000u32 {
+        text.push('9')?;
+    }
+    let line = format!(in alloc; "from = \"{text}\"")?;
+    let file = file_with(alloc, "from", line.as_str())?;
+    let fault = format!(in alloc; "`{text}` is no date")?;
+    assert_eq!(rt; made_of(alloc, file.as_str())?.as_str(), fault.as_str());
+    let none = format!(in alloc; "{}", CourtFault::OutOfMemory)?;
+    assert_eq!(rt; none.as_str(), "out of memory");
+    Ok(())
+}
+
 fn has_its_names(rt: &impl Abort, court: &Court) {
     assert_eq!(rt; court.judges(), 2);
     assert_eq!(rt; court.judge("Brandt"), Some(1));
     assert_eq!(rt; court.judge("R1"), None);
     assert_eq!(rt; court.judge_name(0), Some("Ames"));
     assert_eq!(rt; court.judge_name(2), None);
-    assert_eq!(rt; court.rooms(), 3);
-    assert_eq!(rt; court.room("R3"), Some(2));
+    assert_eq!(rt; court.rooms(), 2);
+    assert_eq!(rt; court.room("R2"), Some(1));
     assert_eq!(rt; court.room("Ames"), None);
     assert_eq!(rt; court.room_name(1), Some("R2"));
-    assert_eq!(rt; court.room_name(3), None);
+    assert_eq!(rt; court.room_name(2), None);
 }
 
 fn has_its_hours_and_days(rt: &impl Abort, court: &Court) {

@@ -28,6 +28,7 @@ fn ends_as_said(rt: &impl Abort, court: &Court, period: &Period) {
 
 #[test]
 fn last_days(rt: HostRuntime) -> Result<(), Fail> {
+    last_day_is_counted();
     let court = court(rt.alloc(), EASTERN)?;
     for period in &PERIODS {
         ends_as_said(&rt, &court, period);

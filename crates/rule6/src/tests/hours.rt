@@ -217,6 +217,7 @@ fn ends_as_said(rt: &impl Abort, court: &Court, period: &Period) {
 
 #[test]
 fn hours_over_changes_of_clocks(rt: HostRuntime) -> Result<(), Fail> {
+    end_of_hours_is_counted();
     for period in &PERIODS {
         let court = court(rt.alloc(), period.0)?;
         ends_as_said(&rt, &court, period);

@@ -1,24 +1,24 @@
 use Rattle.std.proofs.Common.{◌≡◌, ◌∙◌, Some, None, sym, drop, append-nil, length, ◌≤◌, arith}
 use Rattle.std.proofs.lemmas.List.{drop_all, take_all}
-use Rattle.clerk_office.specs.Division.{behind_mark}
-use Rattle.clerk_office.proofs.DivisionLemmas.{divided-mark, divided-other, divided-nil}
+use Rattle.clerk_office.specs.Division.{behind_divider}
+use Rattle.clerk_office.proofs.DivisionLemmas.{divided-here, divided-other, divided-nil}
 use Rattle.clerk_office.proofs.division.divide.Goals as goal
 
 pub returns-in-Some-clause-court : goal.returns-in-Some-clause-court
 returns-in-Some-clause-court c =
-    let found : behind_mark c.loop-at.begins_line (drop c.loop-at.at c.args.input.now) ≡ Some c.in-Some.rows.now = rw c.split_at.ensures.back at (sym c.in-Some.ensures) in
-    let mark = divided-mark c.loop-at.begins_line c.args.input.now c.loop-at.at c.in-Some.rows.now c.loop-at-test.true found in
-    c.split_at.ensures.front ∙ sym (rw (mark, append-nil) at c.loop-at.invariant.court)
+    let found : behind_divider c.loop-at.begins_line (drop c.loop-at.at c.args.input.now) ≡ Some c.in-Some.rows.now = rw c.split_at.ensures.back at (sym c.in-Some.ensures) in
+    let here = divided-here c.loop-at.begins_line c.args.input.now c.loop-at.at c.in-Some.rows.now c.loop-at-test.true found in
+    c.split_at.ensures.front ∙ sym (rw (here, append-nil) at c.loop-at.invariant.court)
 
 pub returns-in-Some-clause-rows : goal.returns-in-Some-clause-rows
 returns-in-Some-clause-rows c =
-    let found : behind_mark c.loop-at.begins_line (drop c.loop-at.at c.args.input.now) ≡ Some c.in-Some.rows.now = rw c.split_at.ensures.back at (sym c.in-Some.ensures) in
-    let mark = divided-mark c.loop-at.begins_line c.args.input.now c.loop-at.at c.in-Some.rows.now c.loop-at-test.true found in
-    sym (rw mark at c.loop-at.invariant.rows)
+    let found : behind_divider c.loop-at.begins_line (drop c.loop-at.at c.args.input.now) ≡ Some c.in-Some.rows.now = rw c.split_at.ensures.back at (sym c.in-Some.ensures) in
+    let here = divided-here c.loop-at.begins_line c.args.input.now c.loop-at.at c.in-Some.rows.now c.loop-at-test.true found in
+    sym (rw here at c.loop-at.invariant.rows)
 
 pub loop-at-preserved : goal.loop-at-preserved
 loop-at-preserved c =
-    let none : behind_mark c.loop-at.begins_line (drop c.loop-at.at c.args.input.now) ≡ None = rw c.split_at.ensures.back at (sym c.in_default.ensures) in
+    let none : behind_divider c.loop-at.begins_line (drop c.loop-at.at c.args.input.now) ≡ None = rw c.split_at.ensures.back at (sym c.in_default.ensures) in
     let more = divided-other c.loop-at.begins_line c.args.input.now c.loop-at.at c.loop-at-test.true none in
     record { court = c.loop-at.invariant.court ∙ more.0; rows = c.loop-at.invariant.rows ∙ more.1 }
 

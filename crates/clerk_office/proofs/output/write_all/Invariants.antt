@@ -1,6 +1,6 @@
 use Rattle.std.proofs.Common.{◌≡◌, ◌++◌, ℕ, List, false, length}
 use Rattle.std.specs.Io.KnownBytes.{Appends}
-use Rattle.clerk_office.specs.Watching.{watched, has_failed}
+use Rattle.clerk_office.specs.Watched.{watched, has_failed}
 use Rattle.clerk_office.proofs.output.write_all.Given as goal
 
 -- what was written, and what is left, make up the text

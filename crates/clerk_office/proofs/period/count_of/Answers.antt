@@ -1,6 +1,6 @@
 use Rattle.std.proofs.Common.{[], ◌∷◌}
 use Rattle.std.proofs.lemmas.Str.Pattern.{strip_suffix_char}
-use Rattle.clerk_office.specs.Periods.{count_of}
+use Rattle.clerk_office.specs.Period.{count_of}
 use Rattle.clerk_office.proofs.Slashes.{ends_with-none}
 use Rattle.clerk_office.proofs.period.count_of.Goals as goal
 

@@ -4,9 +4,9 @@ use Rattle.std.specs.Result.{is_ok}
 use Rattle.std.proofs.lemmas.Grind.{common_steps}
 use Rattle.std.proofs.lemmas.Result.{err_from_is_err_and}
 use Rattle.csv.specs.Records.{fields_of}
-use Rattle.clerk_office.specs.declared.read_rows.TheConstants.{MAX_ROWS}
 use Rattle.clerk_office.specs.declared.row.Row.{Row}
 use Rattle.clerk_office.specs.Records.{records_left}
+use Rattle.clerk_office.specs.Rows.{most_rows}
 use Rattle.clerk_office.proofs.ReadingLemmas.{another}
 use Rattle.clerk_office.proofs.RowsLemmas.{row_of-no_text, rows_from-err, rows_from-fault, rows_from-nil, rows_from-past, rows_from-row}
 use Rattle.clerk_office.proofs.read_rows.take_rows.Goals as goal
@@ -19,7 +19,7 @@ returns-in-End c =
 pub returns-in-NotText : goal.returns-in-NotText
 returns-in-NotText c =
     let meets = c.in_ok-read_next.ensures.no_text (ap Ok c.in-NotText.is) in
-    let few : c.loop-number.number ≤ MAX_ROWS = omega arith in
+    let few : c.loop-number.number ≤ most_rows = omega arith in
     sym c.loop-number.invariant.so_far
     ∙ rw meets.next (rows_from-fault c.args.clerks c.loop-number.number meets.fields meets.later c.loop-number.rows.items _ few (row_of-no_text c.args.clerks meets.fields meets.no_text))
 
@@ -27,13 +27,13 @@ pub returns-in_err-clerk-in-Text : goal.returns-in_err-clerk-in-Text
 returns-in_err-clerk-in-Text c =
     let p = err_from_is_err_and c.from_residual-in_err-clerk-in-Text.result c.from_residual-in_err-clerk-in-Text.ensures.1 in
     let takes = c.in_ok-read_next.ensures.text (ap Ok c.in-Text.is) in
-    let few : c.loop-number.number ≤ MAX_ROWS = omega arith in
+    let few : c.loop-number.number ≤ most_rows = omega arith in
     rw (p.1, p.2) (rows_from-err (λ (rows : Vec Row). rows.items) c.args.clerks c.loop-number.number (fields_of c.read_next.new.fields) (records_left c.read_next.new.reader) c.loop-number.rows.items _ c.in_err-clerk-in-Text.field-0.0 few (rw takes.next at c.loop-number.invariant.so_far) c.in_err-clerk-in-Text.ensures)
 
 pub loop-number-preserved : goal.loop-number-preserved
 loop-number-preserved c =
     let takes = c.in_ok-read_next.ensures.text (ap Ok c.in-Text.is) in
-    let few : c.loop-number.number ≤ MAX_ROWS = omega arith in
+    let few : c.loop-number.number ≤ most_rows = omega arith in
     let good : is_ok c.push.result ≡ true = grind (arith, common_steps) in
     let items = rw good at c.push.ensures.items in
     let spelled = c.in_ok-clerk-in-Text.ensures in

@@ -1,6 +1,6 @@
 use Rattle.std.proofs.Common.{◌≤◌, ◌+◌, ◌∙◌, ◌++◌, drop, length, string_bytes, sym, ap, append_assoc, append-nil, arith}
 use Rattle.std.proofs.lemmas.List.{at_drop_more, at_drop_all}
-use Rattle.clerk_office.specs.Answers.{line_of, lines_from}
+use Rattle.clerk_office.specs.Text.{line_of, lines_from}
 use Rattle.clerk_office.proofs.text.run_text.Goals as goal
 
 pub loop-row-preserved : goal.loop-row-preserved

@@ -1,5 +1,5 @@
 use Rattle.std.proofs.Common.{◌≡◌, ◌+◌, ◌++◌, drop, string_bytes}
-use Rattle.clerk_office.specs.Answers.{lines_from}
+use Rattle.clerk_office.specs.Text.{lines_from}
 use Rattle.clerk_office.proofs.text.run_text.Given as goal
 
 -- the lines so far, and those of the rows that are left, are all the lines

@@ -1,4 +1,4 @@
-use Rattle.court_days.proofs.RolledLemmas.{earliest_law}
+use Rattle.court_days.proofs.DaysLemmas.RolledLemmas.{earliest_law}
 use Rattle.court_days.proofs.laws.earliest_is_least.Goals as goal
 
 pub returns : goal.returns

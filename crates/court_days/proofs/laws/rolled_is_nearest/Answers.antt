@@ -1,4 +1,4 @@
-use Rattle.court_days.proofs.RolledLemmas.{rolled_law}
+use Rattle.court_days.proofs.DaysLemmas.RolledLemmas.{rolled_law}
 use Rattle.court_days.proofs.laws.rolled_is_nearest.Goals as goal
 
 pub returns : goal.returns

@@ -17,8 +17,8 @@ loop-booking-preserved c =
     let within : i < length all = omega (arith, c.loop-booking-test.true) in
     let more : take (i + 1) all ≡ take i all ++ b ∷ [] = take_more all i b within ∙ ap (λ (x : Booking). take i all ++ x ∷ []) (sym c.booking-item.is) in
     let only : All (λ a. is_of b.case b.motion a ≡ false) (take i all) = All-front (λ a. is_of b.case b.motion a ≡ false) all i (λ k d low high.
-        let here : get_or all i d ≡ b = get_or_default all i d b within ∙ sym c.booking-item.is in
-        is_of-sym b (get_or all k d) (subst (λ (x : Booking). is_of (get_or all k d).case (get_or all k d).motion x ≡ false) here (c.requires k i d high within))) in
+    let here : get_or all i d ≡ b = get_or_default all i d b within ∙ sym c.booking-item.is in
+    is_of-sym b (get_or all k d) (subst (λ (x : Booking). is_of (get_or all k d).case (get_or all k d).motion x ≡ false) here (c.requires k i d high within))) in
     record {
       notes = subst (λ (bs : List Booking). NotesBookings bs c.note.new.motions) (sym more) (noted_more b (take i all) c.loop-booking.motions c.note.new.motions only c.loop-booking.invariant.notes c.note.ensures.rest);
       room = omega (arith, c.loop-booking.invariant.room, c.note.ensures.room);

@@ -1,5 +1,5 @@
 use Rattle.std.proofs.Common.{sym, ◌∙◌}
-use Rattle.court_days.proofs.TextLemmas.{reads}
+use Rattle.court_days.proofs.DayLemmas.TextLemmas.{reads}
 use Rattle.court_days.proofs.day.Day.from_text.Goals as goal
 
 pub returns : goal.returns

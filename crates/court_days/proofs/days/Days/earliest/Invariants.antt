@@ -1,6 +1,6 @@
 use Rattle.std.proofs.Common.{◌≡◌, true, unsigned_abs, ◌-ℤ◌}
 use Rattle.court_days.specs.Days.{is_covered, is_open}
-use Rattle.court_days.specs.Search.{earliest_day}
+use Rattle.court_days.specs.Days.Search.{earliest_day}
 use Rattle.court_days.proofs.days.Days.earliest.Given as goal
 
 -- what is left to search gives the answer that the whole search gives

@@ -1,5 +1,4 @@
-use Rattle.std.proofs.Common.{◌≡◌, ◌∙◌, List, Some, ap, sym, subst, arith}
-use Rattle.std.specs.HashMap.{spare}
+use Rattle.std.proofs.Common.{◌∙◌, List, Some, ap, sym, subst, arith}
 use Rattle.hearing_slots.specs.declared.booking.Booking.{Booking}
 use Rattle.hearing_slots.specs.Calendar.{IsFree}
 use Rattle.hearing_slots.specs.Motions.{NotesBookings}

@@ -1,4 +1,4 @@
-use Rattle.std.proofs.Common.{◌≡◌, ◌∙◌, ap, not, Some}
+use Rattle.std.proofs.Common.{◌∙◌, ap, not, Some}
 use Rattle.std.proofs.lemmas.Bool.{not-true}
 use Rattle.std.proofs.lemmas.List.Elements.{All-filter, filter_passes}
 use Rattle.hearing_slots.specs.declared.booking.Booking.{Booking}

@@ -1,4 +1,4 @@
-use Rattle.std.proofs.Common.{◌≡◌, ◌∙◌, ℕ, sym, ap, subst, Some, None}
+use Rattle.std.proofs.Common.{◌≡◌, ◌∙◌, ℕ, sym, ap, subst, Some}
 use Rattle.std.specs.List.{find}
 use Rattle.hearing_slots.specs.Booking.{is_of}
 use Rattle.hearing_slots.specs.Calendar.{without_motion}

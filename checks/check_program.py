@@ -1,0 +1,106 @@
+#!/usr/bin/env python3
+"""Runs the built program for every status that it may end with, and looks at all that it writes.
+
+    check_program.py PROGRAM
+
+The gate sees one run of the program, which ends with 0. Here each status from 0 to 5 is met: with what stands on
+standard input, on the command line and behind the two outputs, the status, standard output and standard error must
+be what is written below. It needs Python 3.8 and Linux (/dev/full, a limit of memory), and nothing else. The last
+line counts the runs as 'N passed, M failed'; the status is 0 where none failed.
+"""
+import os
+import resource
+import subprocess
+import sys
+
+COURT = b"""\
+zone = "EST5EDT,M3.2.0/2,M11.1.0/2"
+opens = "08:30"
+closes = "17:00"
+from = "2007-01-01"
+to = "2026-12-31"
+federal = ["2025-07-04", "2025-09-01"]
+state = []
+judges = ["Ames"]
+rooms = ["R1"]
+"""
+
+ROW = b"1,compute,28d/after/filing/event/plain,2025-08-04,,,\n"
+LINE = b"1 1 last 2025-09-02\n"
+ROWS = COURT + b"%%\n" + ROW
+
+USAGE = b"clerk_office takes no arguments: it reads standard input\n"
+MOST_BYTES = 16777216
+MEGABYTE = 1000000
+
+# Each run: what it is, the words of the command line, standard input, and then the status, standard output and standard
+# error that are wanted.
+RUNS = [
+    ("a row", [], ROWS, 0, LINE, b""),
+    ("a refused row", [], ROWS.replace(b"28d", b"0d"), 0, b"1 1 refused 6 BadLength\n", b""),
+    ("no row behind the divider", [], COURT + b"%%\n", 0, b"", b""),
+    ("no divider", [], COURT, 0, b"", b""),
+    ("two rows", [], ROWS + ROW, 0, LINE + b"2" + LINE[1:], b""),
+    ("as many bytes as are taken", [], ROWS + b"\n" * (MOST_BYTES - len(ROWS)), 0, LINE, b""),
+    ("an argument", ["x"], ROWS, 1, b"", USAGE),
+    ("an empty argument", [""], ROWS, 1, b"", USAGE),
+    ("an option", ["--clerks", "2"], ROWS, 1, b"", USAGE),
+    ("a request for help", ["--help"], b"", 1, b"", USAGE),
+    ("an argument that is no text", [b"\xff"], ROWS, 1, b"", USAGE),
+    ("nothing", [], b"", 2, b"", b"court fault 2 Missing zone\n"),
+    ("a divider alone", [], b"%%\n", 2, b"", b"court fault 2 Missing zone\n"),
+    ("no TOML", [], b"zone = \n%%\n" + ROW, 2, b"", b"court fault 1 NotToml\n"),
+    ("a name twice", [], ROWS.replace(b'"R1"', b'"R1", "R1"'), 2, b"", b"court fault 9 TwiceNamed R1\n"),
+    ("a clerk too many", [], ROWS + b"2" + ROW[1:], 3, b"", b"row 2 fault 1 BadClerk\n"),
+    ("the clerk 64", [], COURT + b"%%\n64" + ROW[1:], 3, b"", b"row 1 fault 1 BadClerk\n"),
+    ("another command", [], COURT + b"%%\n1,file,1,\"1\"\n", 3, b"", b"row 1 fault 2 UnknownCommand\n"),
+    ("a field that is no text", [], COURT + b"%%\n1,\xff\n", 3, b"", b"row 1 fault 5 NotText\n"),
+    ("a byte too many", [], ROWS + b"\n" * (MOST_BYTES + 1 - len(ROWS)), 4, b"", b"read fault\n"),
+]
+
+
+def with_little_memory():
+    resource.setrlimit(resource.RLIMIT_AS, (16 * MEGABYTE, 16 * MEGABYTE))
+
+
+def ended(command, text, **more):
+    """The status of a run, and what it wrote to standard output and to standard error."""
+    streams = {"stdout": subprocess.PIPE, "stderr": subprocess.PIPE}
+    if "stdin" not in more:
+        streams["input"] = text
+    streams.update(more)
+    ran = subprocess.run(command, check=False, **streams)
+    return ran.returncode, ran.stdout, ran.stderr
+
+
+def runs(program):
+    """Each run by its name, how it ended, and how it had to."""
+    for name, words, text, status, output, error in RUNS:
+        yield name, ended([program] + words, text), (status, output, error)
+    folder = os.open("/", os.O_RDONLY)
+    yield "a folder for input", ended([program], None, stdin=folder), (4, b"", b"read fault\n")
+    os.close(folder)
+    with open("/dev/full", "wb") as full:
+        yield "a full disk", ended([program], ROWS, stdout=full), (4, None, b"write fault\n")
+        yield "a full disk and no line", ended([program], COURT, stdout=full), (0, None, b"")
+        yield "no room for a fault", ended([program], b"", stderr=full), (2, b"", None)
+    little = ended([program], ROWS + b"\n" * (MOST_BYTES - len(ROWS)), preexec_fn=with_little_memory)
+    yield "little memory", little, (5, b"", b"out of memory\n")
+
+
+def main(program):
+    passed = failed = 0
+    for name, got, wanted in runs(program):
+        if got == wanted:
+            passed += 1
+        else:
+            failed += 1
+            print("{}: it ended with {}, and not with {}".format(name, got, wanted))
+    print("{} passed, {} failed".format(passed, failed))
+    sys.exit(0 if failed == 0 else 1)
+
+
+if __name__ == "__main__":
+    if len(sys.argv) != 2:
+        sys.exit("usage: check_program.py PROGRAM")
+    main(sys.argv[1])

@@ -1,0 +1,4 @@
+-- A court's file.
+pub mod ReadingLemmas
+pub mod NamesLemmas
+pub mod NamedZoneLemmas

@@ -1,0 +1,3 @@
+-- Days and their dates.
+pub mod DateLemmas
+pub mod TextLemmas

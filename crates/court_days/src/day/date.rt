@@ -1,0 +1,87 @@
+//! The text of a day.
+
+ghost use Rattle.std.specs.Prelude.{◌≡◌, ◌↔◌, ◌&&◌, Some, IsSome, IfSome, int_le};
+ghost use Rattle.std.specs.Str.{bytes_eq};
+ghost use Rattle.jiff_core.specs.Calendar.{days_from_civil};
+ghost use Rattle.jiff_core.specs.Date.{epoch_day};
+ghost use Rattle.jiff_fmt.specs.Text.{date_text as jiff_date_text};
+ghost use Rattle.court_days.specs.Day.{IsDayNumber};
+ghost use Rattle.court_days.specs.Day.Date.{day_text, day_of_text, is_written_day};
+
+use crate::day::Day;
+use jiff::civil::Date;
+use jiff::fmt::temporal::DateTimePrinter;
+use std::fmt;
+
+/// 1900-01-01.
+const FIRST_WRITTEN: i32 = -25_567;
+
+/// 2199-12-31.
+const LAST_WRITTEN: i32 = 84_005;
+
+impl Day {
+    /// The day that `text` spells as `YYYY-MM-DD`, exactly as `Display` writes it, with a year from 1900 to 2199.
+    /// None for any other text, as one with a date that the calendar lacks.
+    #[tactic(auto, using(crate::proofs::DayLemmas::TextLemmas::unreadable, crate::proofs::DayLemmas::TextLemmas::reads_none))]
+    pub fn from_text(text: &str) -> Option<Day>
+        ensures { result ≡ day_of_text text.now }
+    {
+        let date = text.parse::<Date>().ok()?;
+        if !is_spelled_by(date, text) {
+            return None;
+        }
+        day_of(date)
+    }
+
+    /// The date of this day.
+    fn date(self) -> Date
+        ensures date { epoch_day result ≡ self }
+        ensures day { IsDayNumber self }
+    {
+        match jiff_core::civil::Date::from_unix_epoch_day(i64::from(self.number())) {
+            Ok(date) => Date::from_plain(date),
+            Err(_) => unreachable!(),
+        }
+    }
+}
+
+/// Writes the day as `YYYY-MM-DD`.
+impl fmt::Display for Day {
+    ghost output = { λ d. Some (day_text d) };
+
+    #[tactic(auto, using(crate::proofs::DayLemmas::TextLemmas::written_date))]
+    fn fmt<W: fmt::Write>(&self, f: &mut fmt::Formatter<W>) -> fmt::Result {
+        let date = self.date();
+        write!(f, "{date}")
+    }
+}
+
+/// The day that has the date, if it is one.
+fn day_of(date: Date) -> Option<Day>
+    ensures some { IsSome result ↔ IsDayNumber (epoch_day date) }
+    ensures value { IfSome result (λ d. d ≡ epoch_day date) }
+{
+    let number = date.to_plain().to_unix_epoch_day();
+    Day::new(number)
+}
+
+/// Whether the date lies in the years 1900 to 2199 and is written so.
+fn is_spelled_by(date: Date, text: &str) -> bool
+    ensures { result ≡ (is_written_day (epoch_day date) && bytes_eq (jiff_date_text date) text.now) }
+{
+    is_written(date) && is_text_of(date, text)
+}
+
+#[tactic(auto, using(crate::proofs::DayLemmas::TextLemmas::first_written_day, crate::proofs::DayLemmas::TextLemmas::last_written_day))]
+fn is_written(date: Date) -> bool
+    ensures { result ≡ is_written_day (epoch_day date) }
+{
+    let number = date.to_plain().to_unix_epoch_day();
+    FIRST_WRITTEN <= number && number <= LAST_WRITTEN
+}
+
+fn is_text_of(date: Date, text: &str) -> bool
+    ensures { result ≡ bytes_eq (jiff_date_text date) text.now }
+{
+    DateTimePrinter::new().date_text(date.to_plain()).as_str() == text
+}

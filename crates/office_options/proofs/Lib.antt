@@ -1,0 +1,4 @@
+pub mod DefaultLemmas
+pub mod FaultLemmas
+pub mod NumberLemmas
+pub mod ParseLemmas

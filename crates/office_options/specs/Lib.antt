@@ -1,0 +1,4 @@
+pub mod CommandLine
+pub mod Held
+pub mod Kinds
+pub mod Words

@@ -1,0 +1,14 @@
+//! The command line of the clerk's office: how many clerks there are and how many entries the journal takes, read
+//! from the words after the program's name.
+#![tactic(auto)]
+
+mod command;
+mod fault;
+mod options;
+mod reading;
+#[cfg(test)]
+mod tests;
+
+pub use fault::OptionsFault;
+pub use options::Options;
+pub use reading::options_of;

@@ -1,0 +1,4 @@
+pub mod Counters
+pub mod Lawful
+pub mod Switches
+pub mod SwitchesLawful
