@@ -1,9 +1,10 @@
 //! What of a court no command changes.
 
-ghost use Rattle.std.specs.Prelude.{◌≡◌, ◌≤◌};
-ghost use Rattle.docket_rows.specs.Words.{Bench};
+ghost use Rattle.std.specs.Prelude.{◌≡◌, ◌≤◌, IfOk};
+ghost use Rattle.docket_rows.specs.Words.{Bench, bench_of};
 
-use court_days::{Clock, Days};
+use court_days::{Clock, Court, Days};
+use std::alloc::AllocError;
 use std::marker::Model;
 
 /// The court's clock, the days of its file, and how many judges and rooms it has: by these each command is decided.
@@ -24,6 +25,18 @@ impl Model for DocketRules {
 }
 
 impl DocketRules {
+    /// The rules of this court. `Err` says that memory ran out.
+    pub fn new(court: &Court) -> Result<DocketRules, AllocError>
+        ensures { IfOk result (λ rules. rules ≡ bench_of court.now) }
+    {
+        Ok(DocketRules {
+            clock: court.clock().copy()?,
+            days: court.days().copy()?,
+            judges: court.judges(),
+            rooms: court.rooms(),
+        })
+    }
+
     /// The court's clock.
     pub(crate) fn clock(&self) -> &Clock
         ensures { result.now ≡ self.now.clock }
