@@ -1,3 +1,4 @@
+pub mod DocketLemmas
 pub mod HolidayLemmas
 pub mod MadeLemmas
 pub mod NextLemmas

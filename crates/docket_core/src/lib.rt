@@ -5,6 +5,7 @@ mod answers;
 mod cases;
 mod decide;
 mod deadlines;
+mod docket;
 mod hearings;
 mod holidays;
 mod judgement;
@@ -15,6 +16,9 @@ mod reads;
 mod rules;
 mod seen;
 mod sight;
+#[cfg(test)]
+mod tests;
 mod writes;
 
+pub use docket::Docket;
 pub use rules::DocketRules;
