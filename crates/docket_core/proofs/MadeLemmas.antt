@@ -97,11 +97,11 @@ pub free_of : (bookings : List Booking) (day : ℤ) (first count : ℕ) (except 
 unfolding first_conflict
 free_of bookings day first count except h =
     All-weaker (λ b. conflicts day first count except b ≡ false) (λ b. IsConflict day first count except b → ⊥) (no_conflict day first count except) bookings (find-None (conflicts day first count except) bookings h) where
-  no_conflict : (day : ℤ) (first count : ℕ) (except : Option (ℕ × ℕ)) (b : Booking) → conflicts day first count except b ≡ false → IsConflict day first count except b → ⊥
-  no_conflict day first count except b fails conflict =
-      let shares : shares_slot b day first count ≡ true = test_from_SharesSlot b day first count conflict.1 in
-      let both : conflicts day first count except b ≡ true = rw (shares, conflict.0) refl in
-      false≢true (sym fails ∙ both)
+      no_conflict : (day : ℤ) (first count : ℕ) (except : Option (ℕ × ℕ)) (b : Booking) → conflicts day first count except b ≡ false → IsConflict day first count except b → ⊥
+      no_conflict day first count except b fails conflict =
+          let shares : shares_slot b day first count ≡ true = test_from_SharesSlot b day first count conflict.1 in
+          let both : conflicts day first count except b ≡ true = rw (shares, conflict.0) refl in
+          false≢true (sym fails ∙ both)
 
 -- a span that is free of all bookings is free of all but one
 pub free_anyway : (bookings : List Booking) (day : ℤ) (first count : ℕ) (except : ℕ × ℕ) → IsFree bookings day first count None → IsFree bookings day first count (Some except)

@@ -10,9 +10,9 @@ written_more h xs i d within =
     ap (filter_map h) (take_at_read xs i d within).1
     ∙ filter_map-append h (take i xs) (get_or xs i d ∷ [])
     ∙ ap (λ ys. filter_map h (take i xs) ++ ys) (one (h (get_or xs i d))) where
-  one : {Y : Type 0} (o : Option Y) → cons_option o [] ≡ option_to_list o
-  one None = refl
-  one (Some y) = refl
+      one : {Y : Type 0} (o : Option Y) → cons_option o [] ≡ option_to_list o
+      one None = refl
+      one (Some y) = refl
 
 -- one read more, and what is written on it
 pub written_step : {X Y : Type 0} (h : X → Option Y) (xs : List X) (i : ℕ) (x : X) (w : Option Y) (before after : List Y) → i < length xs → x ≡ get_or xs i x → before ≡ filter_map h (take i xs) → w ≡ h x → after ≡ before ++ option_to_list w → after ≡ filter_map h (take (i + 1) xs)

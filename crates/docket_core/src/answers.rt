@@ -67,7 +67,11 @@ fn is_act_timely<S: Sight>(
     ensures { result ≡ has_one (λ row. is_in_time rules.now.clock (shown_now rules.now (S.parts sight.now) row) (kept_filing filing)) (deadline_in (S.parts sight.now) case deadline) }
 {
     match deadline_in(sight, case, deadline) {
-        Some(row) => is_timely(rules.clock(), &shown_now(rules, sight, row.row()), kept(filing)),
+        Some(row) => is_timely(
+            rules.clock(),
+            &shown_now(rules, sight, row.row()),
+            kept(filing),
+        ),
         None => false,
     }
 }
@@ -123,7 +127,9 @@ pub(crate) fn answer_if_made<S: Sight>(
             event,
             second,
             service,
-        } => answer_to_start(alloc, rules, sight, *case, period, *event, *second, *service),
+        } => answer_to_start(
+            alloc, rules, sight, *case, period, *event, *second, *service,
+        ),
         Command::FileAct {
             case,
             deadline,

@@ -15,11 +15,7 @@ use std::alloc::{AllocError, Global};
 
 impl DocketRules {
     /// The part that the command reads next, after these; none where it has read all. It takes no memory.
-    pub fn next_part(
-        &self,
-        command: &Command,
-        reads: &[(PartId, PartValue)],
-    ) -> Option<PartId>
+    pub fn next_part(&self, command: &Command, reads: &[(PartId, PartValue)]) -> Option<PartId>
         ensures { result ≡ next_part self.now command.now reads.now }
     {
         next_part(self, command, reads)

@@ -32,9 +32,7 @@ pub(crate) fn refusal<S: Sight>(
             event,
             second,
             service,
-        } => Ok(start_deadline_refusal(
-            alloc, rules, sight, *case, period, event, second, service,
-        )),
+        } => Ok(start_deadline_refusal(alloc, rules, sight, *case, period, event, second, service)),
         Command::FileAct {
             case,
             deadline,

@@ -3,8 +3,8 @@
 
 mod answers;
 mod cases;
-mod decide;
 mod deadlines;
+mod decide;
 mod docket;
 mod hearings;
 mod holidays;
@@ -16,8 +16,6 @@ mod reads;
 mod rules;
 mod seen;
 mod sight;
-#[cfg(test)]
-mod tests;
 mod writes;
 
 pub use docket::Docket;

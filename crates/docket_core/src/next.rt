@@ -148,11 +148,7 @@ fn next_of_booking(
 
 /// The next part of a move.
 #[tactic(auto, using(crate::proofs::NextLemmas::first_unread_joined))]
-fn next_of_move(
-    rules: &DocketRules,
-    reads: &[(PartId, PartValue)],
-    s: &Setting,
-) -> Option<PartId>
+fn next_of_move(rules: &DocketRules, reads: &[(PartId, PartValue)], s: &Setting) -> Option<PartId>
     ensures { result ≡ first_unread reads.now (about_case s.now.case (Court ∷ calendars_now rules.now (parts_read rules.now reads.now) s.now.case s.now.motion ++ calendars_of rules.now s.now.judges s.now.room)) }
 {
     if !is_case_number(s.case) {

@@ -22,5 +22,7 @@ pub use motion::MotionRecord;
 pub use part::{PartId, PartValue};
 pub use query::Query;
 pub use refusal::Refusal;
-pub use sheet::{Sheet, SheetDeadline, SheetDeadlines, SheetHearing, SheetMotion, SheetMotions, State};
+pub use sheet::{
+    Sheet, SheetDeadline, SheetDeadlines, SheetHearing, SheetMotion, SheetMotions, State,
+};
 pub use view::View;

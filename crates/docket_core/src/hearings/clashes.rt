@@ -18,7 +18,11 @@ pub(crate) struct Span {
 
 /// The first booking of a calendar that clashes; no calendar has none.
 #[tactic(auto, unfolding(hearing_slots::specs::Calendar::first_conflict))]
-fn conflict_in(calendar: Option<&Calendar>, span: &Span, except: Option<(u32, u32)>) -> Option<Booking>
+fn conflict_in(
+    calendar: Option<&Calendar>,
+    span: &Span,
+    except: Option<(u32, u32)>,
+) -> Option<Booking>
     requires some_slot { 1 ≤ span.now.count }
     requires ends { span.now.first + span.now.count ≤ 96 }
     ensures { result ≡ first_conflict (unwrap_or (option_copied calendar.entry) []) span.now.day span.now.first span.now.count except }

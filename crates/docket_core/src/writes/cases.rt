@@ -244,7 +244,9 @@ pub(crate) fn case_written<S: Sight>(
             service,
         } => {
             if number == *case {
-                started_in(alloc, rules, sight, *case, period, *event, *second, *service)
+                started_in(
+                    alloc, rules, sight, *case, period, *event, *second, *service,
+                )
             } else {
                 Ok(None)
             }
