@@ -73,8 +73,8 @@ pub fn may_extend(
     Ok(())
 }
 
-/// What would be shown with one more extension.
-fn shown_with(days: &Days, clock: &Clock, row: &DeadlineRow, grant: Grant) -> Shown
+/// What would be shown with one more extension, which is of the period's kind or leaves the deadline without an end.
+pub fn shown_with(days: &Days, clock: &Clock, row: &DeadlineRow, grant: Grant) -> Shown
     requires { is_grant_length grant ≡ true }
     ensures { result ≡ shown_of days.now clock.now (with_grant row.now grant) }
 {

@@ -22,7 +22,7 @@ mod tests;
 pub use deadline::DeadlineRow;
 pub use docket_row::DocketRow;
 pub use event::Event;
-pub use extension::may_extend;
+pub use extension::{may_extend, shown_with};
 pub use grant::{Grant, Request};
 pub use laws::codes_name_periods;
 pub use notice::{affidavit_day, notice_day};

@@ -1,0 +1,194 @@
+-- What holds where a command isn't refused.
+use Rattle.std.proofs.Common.{◌≡◌, ℕ, ◌<◌, ◌≤◌, ◌+◌, ℤ, Bool, true, false, not, ◌&&◌, ◌||◌, ◌==◌, is_none, nat_eq, nat_le, List, [], ◌∷◌, length, map, find, Option, Some, None, IfSome, option_map, option_and_then, Result, IfOk, refl, ap, sym, subst, ◌∙◌, arith, inl, inr, eq-eqb}
+use Rattle.std.specs.Option.{option_or}
+use Rattle.std.proofs.lemmas.Bool.{cases_Bool, false≢true}
+use Rattle.std.proofs.lemmas.Bool.Decides.{nat_tests}
+use Rattle.std.proofs.lemmas.List.Elements.{All-weaker}
+use Rattle.court_days.specs.Words.{DaysView, ClockView}
+use Rattle.rule6.specs.declared.service.ServiceKind.{ServiceKind}
+use Rattle.rule6.specs.declared.timeliness.Filing.{Filing}
+use Rattle.rule_periods.specs.declared.period.Period.{Period}
+use Rattle.rule_periods.specs.declared.grant.Request.{Request}
+use Rattle.rule_periods.specs.Words.{EventView, DeadlineRowView, when, first_of, suits, has_length, start_refusal, start_checks, extension_refusal, extension_checks, is_grant_length, grant_fits, is_in_hours, with_grant, with_filing}
+use Rattle.hearing_slots.specs.declared.booking.Booking.{Booking}
+use Rattle.hearing_slots.specs.declared.need.Need.{Need}
+use Rattle.hearing_slots.specs.Words.{first_conflict, conflicts, IsFree, IsConflict, IsWithinDay, shares_slot}
+use Rattle.hearing_slots.proofs.CallerLemmas.{find-None, test_from_SharesSlot}
+use Rattle.docket_rows.specs.declared.command.Command.{Command}
+use Rattle.docket_rows.specs.declared.command.Command.TheVariants.{FileAct, Extend}
+use Rattle.docket_rows.specs.declared.hearing.Setting.{Setting}
+use Rattle.docket_rows.specs.declared.refusal.Refusal.{Refusal}
+use Rattle.docket_rows.specs.declared.refusal.Refusal.TheVariants.{NoSuchDeadline}
+use Rattle.docket_core.specs.CanSet.{CanSet}
+use Rattle.docket_rows.specs.Words.{Bench, Parts, CaseRecordView, NumberedDeadline, booking_of, change_deadline, case_written, refusal_of, deadlines_in, deadline_in, motions_in, fits_day, sits, start_deadline_refusal, start_deadline_checks, extend_refusal, extend_checks, motion_refusal, motion_checks, hearing_checks, book_refusal, move_refusal, outage_refusal, outage_checks}
+
+-- no line of the list applies
+abbrev pub NoneOf : {R : Type 0} → List (Option R) → Type 0
+NoneOf [] = Unit {0}
+NoneOf (line ∷ lines) = (line ≡ None) × NoneOf lines
+
+-- where the first that applies is none, none applies
+pub none_of : {R : Type 0} (lines : List (Option R)) → first_of lines ≡ None → NoneOf lines
+none_of [] h = tt
+none_of (None ∷ lines) h = (refl, none_of lines h)
+none_of (Some r ∷ lines) h = absurd cc
+
+-- a line that doesn't apply has a test that fails
+pub when-None : {R : Type 0} (b : Bool) (r : R) → when b r ≡ None → b ≡ false
+when-None true r h = absurd cc
+when-None false r h = refl
+
+pub when-not-None : {R : Type 0} (b : Bool) (r : R) → when (not b) r ≡ None → b ≡ true
+when-not-None true r h = refl
+when-not-None false r h = absurd cc
+
+pub option_map-None : {A B : Type 0} (f : A → B) (o : Option A) → option_map f o ≡ None → o ≡ None
+option_map-None f None h = refl
+option_map-None f (Some x) h = absurd cc
+
+-- a period that starts suits its service, and has a length
+pub start_made : (c : DaysView) (period : Period) (event : EventView) (second : Option ℤ) (service : Option ServiceKind) → start_refusal c period event second service ≡ None → (suits period second service ≡ true) × (has_length period ≡ true)
+unfolding start_refusal
+start_made c period event second service h =
+    let n = none_of (start_checks c period event second service) h in
+    (when-not-None _ _ n.1.0, when-not-None _ _ n.1.1.0)
+
+-- so does the period of a deadline that starts, and there is room for it
+pub record CanStart (parts : Parts) (case : ℕ) (period : Period) (second : Option ℤ) (service : Option ServiceKind) : Type 0 where
+  pub suits : suits period second service ≡ true
+  pub ranged : has_length period ≡ true
+  pub room : length (deadlines_in parts case) < 64
+
+pub can_start : (bench : Bench) (parts : Parts) (case : ℕ) (period : Period) (event : EventView) (second : Option ℤ) (service : Option ServiceKind) → start_deadline_refusal bench parts case period event second service ≡ None → CanStart parts case period second service
+unfolding start_deadline_refusal
+can_start bench parts case period event second service h =
+    let n = none_of (start_deadline_checks bench parts case period event second service) h in
+    let made = start_made parts.days period event second service (option_map-None _ _ n.1.0) in
+    let full = when-None _ _ n.1.1.0 in
+    record { suits = made.0; ranged = made.1; room = grind (arith, nat_tests) }
+
+-- there is room for a motion that is entered
+pub can_enter : (parts : Parts) (case : ℕ) (served : ℤ) (need : Need) → motion_refusal parts case served need ≡ None → length (motions_in parts case) < 64
+unfolding motion_refusal
+can_enter parts case served need h =
+    let n = none_of (motion_checks parts case served need) h in
+    let full = when-None _ _ n.1.1.1.0 in
+    grind (arith, nat_tests)
+
+-- an extension that may be granted has a length, and is of the period's kind
+pub record CanExtend (row : DeadlineRowView) (request : Request) : Type 0 where
+  pub ranged : is_grant_length request.grant ≡ true
+  pub fits : grant_fits (is_in_hours row.period) request.grant ≡ true
+
+pub extension_made : (c : DaysView) (clock : ClockView) (row : DeadlineRowView) (request : Request) → extension_refusal c clock row request ≡ None → CanExtend row request
+unfolding extension_refusal
+extension_made c clock row request h =
+    let n = none_of (extension_checks c clock row request) h in
+    record { ranged = when-not-None _ _ n.1.1.1.1.0; fits = when-not-None _ _ n.1.1.1.0 }
+
+pub can_extend : (bench : Bench) (parts : Parts) (case deadline : ℕ) (request : Request) (row : DeadlineRowView) → extend_refusal bench parts case deadline request ≡ None → deadline_in parts case deadline ≡ Some row → CanExtend row request
+unfolding extend_refusal
+can_extend bench parts case deadline request row h found =
+    let n = none_of (extend_checks bench parts case deadline request) h in
+    extension_made parts.days bench.clock row request (option_map-None _ _ (rw found at n.1.1.1.0))
+
+-- where no booking conflicts with the span, it is free
+pub free_of : (bookings : List Booking) (day : ℤ) (first count : ℕ) (except : Option (ℕ × ℕ)) → first_conflict bookings day first count except ≡ None → IsFree bookings day first count except
+unfolding first_conflict
+free_of bookings day first count except h =
+    All-weaker (λ b. conflicts day first count except b ≡ false) (λ b. IsConflict day first count except b → ⊥) (no_conflict day first count except) bookings (find-None (conflicts day first count except) bookings h) where
+      no_conflict : (day : ℤ) (first count : ℕ) (except : Option (ℕ × ℕ)) (b : Booking) → conflicts day first count except b ≡ false → IsConflict day first count except b → ⊥
+      no_conflict day first count except b fails conflict =
+          let shares : shares_slot b day first count ≡ true = test_from_SharesSlot b day first count conflict.1 in
+          let both : conflicts day first count except b ≡ true = rw (shares, conflict.0) refl in
+          false≢true (sym fails ∙ both)
+
+-- a span that is free of all bookings is free of all but one
+pub free_anyway : (bookings : List Booking) (day : ℤ) (first count : ℕ) (except : ℕ × ℕ) → IsFree bookings day first count None → IsFree bookings day first count (Some except)
+free_anyway bookings day first count except free =
+    All-weaker (λ b. IsConflict day first count None b → ⊥) (λ b. IsConflict day first count (Some except) b → ⊥) (λ b none conflict. none (refl, conflict.1)) bookings free
+
+-- where none of the judges has such a booking, a judge who sits has none
+pub none_of_judges : (found : ℕ → Option Booking) (judge : ℕ) (panel : List ℕ) → first_of (map found panel) ≡ None → sits judge panel ≡ true → found judge ≡ None
+none_of_judges found judge [] h sitting = absurd (false≢true sitting)
+none_of_judges found judge (j ∷ panel) h sitting =
+    let n = none_of (map found (j ∷ panel)) h in
+    elim (cases_Bool (nat_eq judge j)) [
+      | inl same ↦ (let e : judge ≡ j = grind (arith, nat_tests) in ap found e ∙ n.0)
+      | inr other ↦ none_of_judges found judge panel (rw n.0 at h) (rw other at sitting)
+    ]
+
+-- a hearing that isn't refused can be set
+can_set : (bench : Bench) (parts : Parts) (s : Setting) (set : Option Refusal) (except : Option (ℕ × ℕ)) → ((bookings : List Booking) → IsFree bookings s.day s.first s.count except → IsFree bookings s.day s.first s.count (Some (s.case, s.motion))) → first_of (hearing_checks bench parts s set except) ≡ None → CanSet parts s
+can_set bench parts s set except widen h =
+    let n = none_of (hearing_checks bench parts s set except) h in
+    let m = n.1.1.1.1.1.1.1.1.1.1.1.1 in
+    record {
+      fits = when-not-None _ _ n.1.1.1.1.1.1.0;
+      judges = λ judge sitting. widen (parts.judge judge) (free_of (parts.judge judge) s.day s.first s.count except (none_of_judges (λ j. first_conflict (parts.judge j) s.day s.first s.count except) judge s.judges (option_map-None _ _ m.0) sitting));
+      room = widen (parts.room s.room) (free_of (parts.room s.room) s.day s.first s.count except (option_map-None _ _ m.1.0));
+    }
+
+pub can_book : (bench : Bench) (parts : Parts) (s : Setting) → book_refusal bench parts s ≡ None → CanSet parts s
+unfolding book_refusal
+can_book bench parts s h = can_set bench parts s _ None (λ bookings free. free_anyway bookings s.day s.first s.count (s.case, s.motion) free) h
+
+pub can_move : (bench : Bench) (parts : Parts) (s : Setting) → move_refusal bench parts s ≡ None → CanSet parts s
+unfolding move_refusal
+can_move bench parts s h = can_set bench parts s _ (Some (s.case, s.motion)) (λ bookings free. free) h
+
+-- an outage that isn't refused ends after it begins, and in its day
+pub can_enter_outage : (parts : Parts) (day : ℤ) (from to : ℕ) → outage_refusal parts day from to ≡ None → (from < to) × (to ≤ 1440)
+unfolding outage_refusal
+can_enter_outage parts day from to h =
+    let n = none_of (outage_checks parts day from to) h in
+    let within = when-not-None _ _ n.1.0 in
+    (grind (arith, nat_tests), grind (arith, nat_tests))
+
+-- a hearing that takes slots of a day takes one at least, and 96 at the most
+pub slots_of : (first count : ℕ) → fits_day first count ≡ true → (1 ≤ count) × (first + count ≤ 96)
+slots_of first count h = (grind (arith, nat_tests), grind (arith, nat_tests))
+
+pub count_of : (first count : ℕ) → fits_day first count ≡ true → count ≤ 96
+count_of first count h = let s = slots_of first count h in omega (arith, s.0, s.1)
+
+-- the booking of a hearing that can be set lies within its day
+pub booking_within : (parts : Parts) (other : ℕ) (s : Setting) (b : Booking) → CanSet parts s → b ≡ booking_of parts other s → IsWithinDay b
+booking_within parts other s b can is =
+    let slots = slots_of s.first s.count can.fits in
+    rw is (record { some_slot = slots.0; ends = slots.1 })
+
+-- and its slots are free in the calendar of a judge who sits, and of its room
+pub judge_free : (parts : Parts) (other : ℕ) (s : Setting) (judge : ℕ) (b : Booking) (bookings : List Booking) (panel : List ℕ) (belongs : Bool) → CanSet parts s → b ≡ booking_of parts other s → bookings ≡ parts.judge judge → panel ≡ s.judges → belongs ≡ sits judge panel → belongs ≡ true → IsFree bookings b.day b.first b.count (Some (b.case, b.motion))
+judge_free parts other s judge b bookings panel belongs can is in_calendar named sitting h =
+    rw (is, in_calendar) (can.judges judge (ap (sits judge) (sym named) ∙ sym sitting ∙ h))
+
+pub room_free : (parts : Parts) (other : ℕ) (s : Setting) (room : ℕ) (b : Booking) (bookings : List Booking) → CanSet parts s → b ≡ booking_of parts other s → bookings ≡ parts.room room → (s.room == room) ≡ true → IsFree bookings b.day b.first b.count (Some (b.case, b.motion))
+room_free parts other s room b bookings can is in_calendar h =
+    let same : s.room ≡ room = grind (arith, nat_tests) in
+    rw (is, in_calendar) (subst (λ (r : ℕ). IsFree (parts.room r) s.day s.first s.count (Some (s.case, s.motion))) same can.room)
+
+-- the deadline of an extension that isn't refused is one of the case's
+extends : (c : DaysView) (clock : ClockView) (request : Request) (row : Option DeadlineRowView) → when (is_none row) NoSuchDeadline ≡ None → option_and_then (λ r. option_map refusal_of (extension_refusal c clock r request)) row ≡ None → (is_grant_length request.grant ≡ true) × IfSome row (λ r. grant_fits (is_in_hours r.period) request.grant ≡ true)
+extends c clock request None none h = absurd cc
+extends c clock request (Some row) none h =
+    let made = extension_made c clock row request (option_map-None _ _ h) in
+    (made.ranged, made.fits)
+
+pub can_extend_in : (bench : Bench) (parts : Parts) (case deadline : ℕ) (request : Request) (c : CaseRecordView) → extend_refusal bench parts case deadline request ≡ None → parts.case case ≡ Some c → (is_grant_length request.grant ≡ true) × IfSome (option_map (λ (d : NumberedDeadline). d.row) (find (λ (d : NumberedDeadline). d.number == deadline) c.deadlines)) (λ r. grant_fits (is_in_hours r.period) request.grant ≡ true)
+unfolding extend_refusal
+can_extend_in bench parts case deadline request c h found =
+    let n = none_of (extend_checks bench parts case deadline request) h in
+    let all = extends parts.days bench.clock request (deadline_in parts case deadline) n.1.0 n.1.1.1.0 in
+    (all.0, rw found at all.1)
+
+-- what an act, and an extension, writes into its case
+pub act_written : {E : Type 0} (parts : Parts) (command : Command) (case deadline : ℕ) (filing : Filing) (number : ℕ) (r : Result (Option CaseRecordView) E) → command ≡ FileAct case deadline filing → number ≡ case → IfOk r (λ c. c ≡ option_map (change_deadline deadline (λ row. with_filing row filing)) (parts.case case)) → IfOk r (λ c. c ≡ case_written parts command number)
+act_written parts command case deadline filing number r is same written =
+    let test : (case == case) ≡ true = eq-eqb case case refl in
+    rw (is, same, test) written
+
+pub extension_written : {E : Type 0} (parts : Parts) (command : Command) (case deadline : ℕ) (request : Request) (number : ℕ) (r : Result (Option CaseRecordView) E) → command ≡ Extend case deadline request → number ≡ case → IfOk r (λ c. c ≡ option_map (change_deadline deadline (λ row. with_grant row request.grant)) (parts.case case)) → IfOk r (λ c. c ≡ case_written parts command number)
+extension_written parts command case deadline request number r is same written =
+    let test : (case == case) ≡ true = eq-eqb case case refl in
+    rw (is, same, test) written

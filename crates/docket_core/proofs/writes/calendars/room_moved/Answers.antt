@@ -1,0 +1,5 @@
+use Rattle.docket_core.proofs.MadeLemmas.{can_move}
+use Rattle.docket_core.proofs.writes.calendars.room_moved.Goals as goal
+
+pub room_rebooked-requires : goal.room_rebooked-requires
+room_rebooked-requires g c = can_move _ _ _ c.requires

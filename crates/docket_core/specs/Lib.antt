@@ -1,0 +1,5 @@
+pub mod CanSet
+pub mod Docket
+pub mod Holidays
+pub mod Next
+pub mod Written

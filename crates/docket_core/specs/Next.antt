@@ -1,0 +1,17 @@
+-- Of some parts the first that wasn't read.
+use Rattle.std.specs.Prelude.{ℕ, nat_lt, not, List, [], ◌∷◌, map, filter, find, take, Option, if◌then◌else◌}
+use Rattle.docket_rows.specs.declared.part.PartId.{PartId}
+use Rattle.docket_rows.specs.declared.part.PartId.TheVariants.{Judge, Room}
+use Rattle.docket_rows.specs.declared.part.PartValue.{PartValue}
+use Rattle.docket_rows.specs.Words.{Bench, is_read}
+
+-- of some parts, in their order, the first that isn't among those read
+abbrev pub first_unread : List (PartId × PartValue) → List PartId → Option PartId
+first_unread reads parts = find (λ part. not (is_read reads part)) parts
+
+-- the calendars of some judges, and of a room, which the court has
+abbrev pub judges_of : Bench → (judges : List ℕ) → List PartId
+judges_of bench judges = map Judge (filter (λ j. nat_lt j bench.judges) judges)
+
+abbrev pub rooms_of : Bench → (room : ℕ) → List PartId
+rooms_of bench room = if nat_lt room bench.rooms then Room room ∷ [] else []

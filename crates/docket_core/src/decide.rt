@@ -1,0 +1,104 @@
+//! What is decided on the parts that were read.
+
+ghost use Rattle.std.specs.Prelude.{◌≡◌, ◌++◌, None, IfOk, OnOk, filter_map, option_map, option_to_list};
+ghost use Rattle.docket_rows.specs.Words.{refusal, parts_read, next_part, answered, changed, written_on};
+ghost use Rattle.docket_core.specs.Written.{written_into};
+
+use crate::answers::answer_if_made;
+use crate::judgement::refusal;
+use crate::next::next_part;
+use crate::reads::Seen;
+use crate::rules::DocketRules;
+use crate::writes::changed;
+use docket_rows::{Answer, Command, Decision, PartId, PartValue, Writes};
+use std::alloc::{AllocError, Global};
+
+impl DocketRules {
+    /// The part that the command reads next, after these; none where it has read all. It takes no memory.
+    pub fn next_part(&self, command: &Command, reads: &[(PartId, PartValue)]) -> Option<PartId>
+        ensures { result ≡ next_part self.now command.now reads.now }
+    {
+        next_part(self, command, reads)
+    }
+
+    /// What the command is answered, and what it writes, where these are the parts that it read. They need never have
+    /// been true together. `Err` says that memory ran out.
+    #[tactic(auto, unfolding(docket_rows::specs::Step::answered, docket_rows::specs::Writes::written_on))]
+    pub fn decide(
+        &self,
+        alloc: Global,
+        command: &Command,
+        reads: &[(PartId, PartValue)],
+    ) -> Result<Decision, AllocError>
+        requires { next_part self.now command.now reads.now ≡ None }
+        ensures answer { IfOk result (λ d. d.answer ≡ answered self.now (parts_read self.now reads.now) command.now) }
+        ensures writes { IfOk result (λ d. d.writes ≡ written_on self.now command.now reads.now) }
+    {
+        let seen = Seen::of(self, reads);
+        if let Some(refusal) = refusal(alloc, self, &seen, command)? {
+            return Ok(Decision {
+                answer: Answer::Refused(refusal),
+                writes: Writes::from_vec(Vec::new(alloc)),
+            });
+        }
+        let answer = answer_if_made(alloc, self, &seen, command);
+        let writes = written(alloc, self, command, reads)?;
+        Ok(Decision {
+            answer,
+            writes: Writes::from_vec(writes),
+        })
+    }
+}
+
+/// The part with its new value, if the command changes it.
+fn written_into(
+    alloc: Global,
+    rules: &DocketRules,
+    command: &Command,
+    reads: &[(PartId, PartValue)],
+    part: PartId,
+) -> Result<Option<(PartId, PartValue)>, AllocError>
+    requires { refusal rules.now (parts_read rules.now reads.now) command.now ≡ None }
+    ensures { IfOk result (λ w. w ≡ option_map (λ v. (part, v)) (changed (parts_read rules.now reads.now) command.now part)) }
+{
+    let seen = Seen::of(rules, reads);
+    match changed(alloc, rules, &seen, command, part)? {
+        Some(value) => Ok(Some((part, value))),
+        None => Ok(None),
+    }
+}
+
+/// Adds the item, if there is one. An error leaves the list as it was.
+#[tactic(auto, using(crate::proofs::WrittenLemmas::nothing_more))]
+fn push_if(
+    list: &mut Vec<(PartId, PartValue)>,
+    item: Option<(PartId, PartValue)>,
+) -> Result<(), AllocError>
+    ensures { OnOk result (list.new.items ≡ list.old.items ++ option_to_list item) }
+{
+    match item {
+        Some(item) => {
+            list.push(item)?;
+            Ok(())
+        }
+        None => Ok(()),
+    }
+}
+
+/// The parts read that the command changes, with their new values, in read order.
+fn written(
+    alloc: Global,
+    rules: &DocketRules,
+    command: &Command,
+    reads: &[(PartId, PartValue)],
+) -> Result<Vec<(PartId, PartValue)>, AllocError>
+    requires { refusal rules.now (parts_read rules.now reads.now) command.now ≡ None }
+    ensures { IfOk result (λ writes. writes.items ≡ filter_map (written_into (parts_read rules.now reads.now) command.now) reads.now) }
+{
+    let mut writes = Vec::new(alloc);
+    for read in reads {
+        let write = written_into(alloc, rules, command, reads, read.0)?;
+        push_if(&mut writes, write)?;
+    }
+    Ok(writes)
+}

@@ -1,0 +1,70 @@
+//! Bookings that a hearing clashes with.
+
+ghost use Rattle.std.specs.Prelude.{◌≡◌, ◌≤◌, ◌+◌, [], map, unwrap_or, option_copied};
+ghost use Rattle.rule_periods.specs.Words.{first_of};
+ghost use Rattle.hearing_slots.specs.Words.{first_conflict};
+
+use crate::sight::Sight;
+use court_days::Day;
+use hearing_slots::{Booking, Calendar};
+
+/// When a hearing is held: some slots of a day.
+#[derive(Clone, Copy, Debug, PartialEq, Eq)]
+pub(crate) struct Span {
+    pub(crate) day: Day,
+    pub(crate) first: u8,
+    pub(crate) count: u8,
+}
+
+/// The first booking of a calendar that clashes; no calendar has none.
+#[tactic(auto, unfolding(hearing_slots::specs::Calendar::first_conflict))]
+fn conflict_in(
+    calendar: Option<&Calendar>,
+    span: &Span,
+    except: Option<(u32, u32)>,
+) -> Option<Booking>
+    requires some_slot { 1 ≤ span.now.count }
+    requires ends { span.now.first + span.now.count ≤ 96 }
+    ensures { result ≡ first_conflict (unwrap_or (option_copied calendar.entry) []) span.now.day span.now.first span.now.count except }
+{
+    match calendar {
+        Some(calendar) => calendar.conflict(span.day, span.first, span.count, except),
+        None => None,
+    }
+}
+
+/// The first booking, of the first of these judges who has one, that clashes.
+pub(crate) fn judge_clash<S: Sight>(
+    sight: &S,
+    except: Option<(u32, u32)>,
+    judges: &[u8],
+    span: &Span,
+) -> Option<Booking>
+    requires some_slot { 1 ≤ span.now.count }
+    requires ends { span.now.first + span.now.count ≤ 96 }
+    ensures { result ≡ first_of (map (λ j. first_conflict ((S.parts sight.now).judge j) span.now.day span.now.first span.now.count except) judges.now) }
+{
+    match judges {
+        [] => None,
+        [judge, rest @ ..] => {
+            if let Some(booking) = conflict_in(sight.judge(*judge), span, except) {
+                return Some(booking);
+            }
+            judge_clash(sight, except, rest, span)
+        }
+    }
+}
+
+/// The first booking of the room that clashes.
+pub(crate) fn room_clash<S: Sight>(
+    sight: &S,
+    except: Option<(u32, u32)>,
+    room: u8,
+    span: &Span,
+) -> Option<Booking>
+    requires some_slot { 1 ≤ span.now.count }
+    requires ends { span.now.first + span.now.count ≤ 96 }
+    ensures { result ≡ first_conflict ((S.parts sight.now).room room) span.now.day span.now.first span.now.count except }
+{
+    conflict_in(sight.room(room), span, except)
+}

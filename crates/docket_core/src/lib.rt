@@ -1,0 +1,22 @@
+//! What a command is answered, which parts it reads, and how it changes the docket.
+#![tactic(auto)]
+
+mod answers;
+mod cases;
+mod deadlines;
+mod decide;
+mod docket;
+mod hearings;
+mod holidays;
+mod judgement;
+mod motions;
+mod next;
+mod outages;
+mod reads;
+mod rules;
+mod seen;
+mod sight;
+mod writes;
+
+pub use docket::Docket;
+pub use rules::DocketRules;

@@ -1,0 +1,29 @@
+//! Where the parts come from on which a command is judged.
+
+ghost use Rattle.std.specs.Prelude.{◌≡◌, [], option_copied, unwrap_or};
+ghost use Rattle.docket_rows.specs.Words.{Parts};
+
+use court_days::Days;
+use docket_rows::CaseRecord;
+use hearing_slots::Calendar;
+
+/// What shows the parts of a docket: the docket itself, or the copies that were read of it. One judgement serves both.
+pub trait Sight {
+    ghost parts: { Self → Parts };
+
+    /// The days of the court.
+    fn days(&self) -> &Days
+        ensures { result.now ≡ (parts self.now).days };
+
+    /// The case of that number, if it is open.
+    fn case(&self, case: u32) -> Option<&CaseRecord>
+        ensures { option_copied result ≡ (parts self.now).case case };
+
+    /// The calendar of the judge of that number; None has no bookings.
+    fn judge(&self, judge: u8) -> Option<&Calendar>
+        ensures { unwrap_or (option_copied result) [] ≡ (parts self.now).judge judge };
+
+    /// The calendar of the room of that number; None has no bookings.
+    fn room(&self, room: u8) -> Option<&Calendar>
+        ensures { unwrap_or (option_copied result) [] ≡ (parts self.now).room room };
+}

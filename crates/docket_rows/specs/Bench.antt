@@ -1,0 +1,13 @@
+-- What of a court no command changes.
+use Rattle.std.specs.Prelude.{ℕ, length}
+use Rattle.court_days.specs.Words.{DaysView, ClockView, CourtView}
+
+-- the court's clock, its days as its file has them, and how many judges and rooms it has, which are numbered from 0
+pub record Bench : Type 0 where
+  pub clock : ClockView
+  pub days : DaysView
+  pub judges : ℕ
+  pub rooms : ℕ
+
+abbrev pub bench_of : CourtView → Bench
+bench_of court = record { clock = court.clock; days = court.days; judges = length court.judges; rooms = length court.rooms }

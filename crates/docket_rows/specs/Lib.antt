@@ -1,0 +1,15 @@
+pub mod Bench
+pub mod Cases
+pub mod Clash
+pub mod Hearings
+pub mod Lawful
+pub mod Parts
+pub mod Reads
+pub mod Reasons
+pub mod Refusals
+pub mod Rows
+pub mod Seen
+pub mod Step
+pub mod View
+pub mod Words
+pub mod Writes

@@ -1,0 +1,207 @@
+-- Why a command or a query is refused. For each there is a list of lines, each of which says when it applies and what
+-- is then refused, and the answer is the first line that applies.
+use Rattle.std.specs.Prelude.{ℕ, nat_lt, nat_le, ℤ, ◌&&◌, not, is_some, is_none, List, [], ◌∷◌, length, filter, Option, Some, None, option_map}
+use Rattle.std.specs.Option.{option_and_then}
+use Rattle.court_days.specs.declared.holiday_list.HolidayList.{HolidayList}
+use Rattle.court_days.specs.declared.holiday_list.HolidayList.TheVariants.{Federal, State}
+use Rattle.court_days.specs.Words.{is_covered, is_among, dates_of, add_holiday, later_day}
+use Rattle.rule6.specs.declared.service.ServiceKind.{ServiceKind}
+use Rattle.rule6.specs.declared.timeliness.Filing.{Filing}
+use Rattle.rule_periods.specs.declared.period.Period.{Period}
+use Rattle.rule_periods.specs.declared.grant.Request.{Request}
+use Rattle.rule_periods.specs.Words.{EventView, when, first_of, start_refusal, extension_refusal, is_beyond}
+use Rattle.hearing_slots.specs.declared.booking.Booking.{Booking}
+use Rattle.hearing_slots.specs.declared.need.Need.{Need}
+use Rattle.hearing_slots.specs.Words.{is_on}
+use Rattle.docket_rows.specs.declared.command.Command.{Command}
+use Rattle.docket_rows.specs.declared.command.Command.TheVariants.{OpenCase, Start, FileAct, Extend, Motion, Book, MoveHearing, Cancel, Holiday, Inaccessible}
+use Rattle.docket_rows.specs.declared.hearing.Setting.{Setting}
+use Rattle.docket_rows.specs.declared.query.Query.{Query}
+use Rattle.docket_rows.specs.declared.query.Query.TheVariants.{Sheet, JudgeDay, Compute}
+use Rattle.docket_rows.specs.declared.refusal.Refusal.{Refusal}
+use Rattle.docket_rows.specs.declared.refusal.Refusal.TheVariants.{NoSuchCase, CaseIsOpen, NoSuchDeadline, NoSuchMotion, BadDay, BadLength, Beyond, AlreadyMet, AlreadySet, NotSet, NotACourtDay, OutsideHours, ShortNotice, JudgeBusy, RoomBusy, AlreadyHoliday, HearingThatDay, NoticeLost, Full, NoSuchJudge, NoSuchRoom, BadPanel}
+use Rattle.docket_rows.specs.Bench.{Bench}
+use Rattle.docket_rows.specs.Hearings.{hearing_asked, has_judges, is_panel, fits_day, is_court_day, is_within_hours, is_need, lacks_last_service, missed_service, judge_clash, room_clash, all_booked, least, lacks_notice}
+use Rattle.docket_rows.specs.Parts.{Parts}
+use Rattle.docket_rows.specs.Reasons.{refusal_of}
+use Rattle.docket_rows.specs.Seen.{has_one, is_case_number, has_case, deadlines_in, deadline_in, motions_in, motion_in, hearing_in, started, shown_now}
+
+-- Cases
+
+abbrev pub open_case_checks : Parts → (case : ℕ) → (filed : ℤ) → List (Option Refusal)
+open_case_checks parts case filed =
+    (when (not (is_case_number case)) NoSuchCase
+    ∷ when (not (is_covered parts.days filed)) BadDay
+    ∷ when (is_some (parts.case case)) CaseIsOpen
+    ∷ [])
+
+-- Deadlines
+
+-- the second line stands for the three that a period is refused by when it starts
+abbrev pub start_deadline_checks : Bench → Parts → (case : ℕ) → Period → EventView → (second : Option ℤ) → Option ServiceKind → List (Option Refusal)
+start_deadline_checks bench parts case period event second service =
+    (when (not (has_case parts case)) NoSuchCase
+    ∷ option_map refusal_of (start_refusal parts.days period event second service)
+    ∷ when (nat_le 64 (length (deadlines_in parts case))) Full
+    ∷ when (is_beyond (shown_now bench parts (started period event second service))) Beyond
+    ∷ [])
+
+abbrev pub file_act_checks : Bench → Parts → (case deadline : ℕ) → Filing → List (Option Refusal)
+file_act_checks bench parts case deadline filing =
+    let row = deadline_in parts case deadline in
+    (when (not (has_case parts case)) NoSuchCase
+    ∷ when (is_none row) NoSuchDeadline
+    ∷ when (not (is_covered parts.days filing.day)) BadDay
+    ∷ when (has_one (λ row. is_some row.filed) row) AlreadyMet
+    ∷ when (has_one (λ row. is_beyond (shown_now bench parts row)) row) Beyond
+    ∷ [])
+
+-- the fourth line stands for the ten that an extension is refused by
+abbrev pub extend_checks : Bench → Parts → (case deadline : ℕ) → Request → List (Option Refusal)
+extend_checks bench parts case deadline request =
+    let row = deadline_in parts case deadline in
+    (when (not (has_case parts case)) NoSuchCase
+    ∷ when (is_none row) NoSuchDeadline
+    ∷ when (has_one (λ row. is_some row.filed) row) AlreadyMet
+    ∷ option_and_then (λ row. option_map refusal_of (extension_refusal parts.days bench.clock row request)) row
+    ∷ when (has_one (λ row. nat_le 32 (length row.grants)) row) Full
+    ∷ [])
+
+-- Motions
+
+abbrev pub motion_checks : Parts → (case : ℕ) → (served : ℤ) → Need → List (Option Refusal)
+motion_checks parts case served need =
+    (when (not (has_case parts case)) NoSuchCase
+    ∷ when (not (is_covered parts.days served)) BadDay
+    ∷ when (not (is_need need)) BadLength
+    ∷ when (nat_le 64 (length (motions_in parts case))) Full
+    ∷ [])
+
+-- Hearings
+
+-- `set` is the line on whether the motion has a hearing already; the booking of the excepted case and motion clashes
+-- with nothing
+abbrev pub hearing_checks : Bench → Parts → Setting → (set : Option Refusal) → (except : Option (ℕ × ℕ)) → List (Option Refusal)
+hearing_checks bench parts s set except =
+    let motion = motion_in parts s.case s.motion in
+    (when (not (has_case parts s.case)) NoSuchCase
+    ∷ when (is_none motion) NoSuchMotion
+    ∷ when (not (has_judges bench s.judges)) NoSuchJudge
+    ∷ when (not (nat_lt s.room bench.rooms)) NoSuchRoom
+    ∷ when (not (is_panel s.judges)) BadPanel
+    ∷ when (not (is_covered parts.days s.day && is_covered parts.days s.notice)) BadDay
+    ∷ when (not (fits_day s.first s.count)) BadLength
+    ∷ set
+    ∷ when (not (is_court_day parts.days s.day)) NotACourtDay
+    ∷ when (not (is_within_hours bench.clock s.first s.count)) OutsideHours
+    ∷ when (has_one (λ m. lacks_last_service parts.days s.day m.need) motion) Beyond
+    ∷ option_map ShortNotice (option_and_then (λ m. missed_service parts.days s.day m.need (later_day m.served s.notice)) motion)
+    ∷ option_map (λ b. JudgeBusy b.case b.motion) (judge_clash parts except (hearing_asked s))
+    ∷ option_map (λ b. RoomBusy b.case b.motion) (room_clash parts except (hearing_asked s))
+    ∷ [])
+
+abbrev pub book_checks : Bench → Parts → Setting → List (Option Refusal)
+book_checks bench parts s = hearing_checks bench parts s (when (is_some (hearing_in parts s.case s.motion)) AlreadySet) None
+
+abbrev pub move_checks : Bench → Parts → Setting → List (Option Refusal)
+move_checks bench parts s = hearing_checks bench parts s (when (is_none (hearing_in parts s.case s.motion)) NotSet) (Some (s.case, s.motion))
+
+abbrev pub cancel_checks : Parts → (case motion : ℕ) → List (Option Refusal)
+cancel_checks parts case motion =
+    (when (not (has_case parts case)) NoSuchCase
+    ∷ when (is_none (motion_in parts case motion)) NoSuchMotion
+    ∷ when (is_none (hearing_in parts case motion)) NotSet
+    ∷ [])
+
+-- Holidays and outages
+
+-- of the hearings on the day the first, by case and motion
+abbrev pub hearing_that_day : Bench → Parts → ℤ → Option Booking
+hearing_that_day bench parts day = least (filter (is_on day) (all_booked bench parts))
+
+-- of the hearings that a holiday would take the notice from the first, by case and motion: notice is counted backward,
+-- where holidays of the state don't count
+abbrev pub notice_lost : Bench → Parts → HolidayList → ℤ → Option Booking
+notice_lost bench parts Federal day = least (filter (lacks_notice (add_holiday parts.days Federal day)) (all_booked bench parts))
+notice_lost bench parts State day = None
+
+abbrev pub holiday_checks : Bench → Parts → (day : ℤ) → HolidayList → List (Option Refusal)
+holiday_checks bench parts day list =
+    (when (not (is_covered parts.days day)) BadDay
+    ∷ when (is_among (dates_of parts.days list) day) AlreadyHoliday
+    ∷ when (nat_le 4096 (length (dates_of parts.days list))) Full
+    ∷ option_map (λ b. HearingThatDay b.case b.motion) (hearing_that_day bench parts day)
+    ∷ option_map (λ b. NoticeLost b.case b.motion) (notice_lost bench parts list day)
+    ∷ [])
+
+abbrev pub outage_checks : Parts → (day : ℤ) → (from to : ℕ) → List (Option Refusal)
+outage_checks parts day from to =
+    (when (not (is_covered parts.days day)) BadDay
+    ∷ when (not (nat_lt from to && nat_le to 1440)) BadLength
+    ∷ when (nat_le 512 (length parts.days.outages)) Full
+    ∷ [])
+
+-- The first refusal of each command, or none.
+
+unfoldable pub open_case_refusal : Parts → (case : ℕ) → (filed : ℤ) → Option Refusal
+open_case_refusal parts case filed = first_of (open_case_checks parts case filed)
+
+unfoldable pub start_deadline_refusal : Bench → Parts → (case : ℕ) → Period → EventView → (second : Option ℤ) → Option ServiceKind → Option Refusal
+start_deadline_refusal bench parts case period event second service = first_of (start_deadline_checks bench parts case period event second service)
+
+unfoldable pub file_act_refusal : Bench → Parts → (case deadline : ℕ) → Filing → Option Refusal
+file_act_refusal bench parts case deadline filing = first_of (file_act_checks bench parts case deadline filing)
+
+unfoldable pub extend_refusal : Bench → Parts → (case deadline : ℕ) → Request → Option Refusal
+extend_refusal bench parts case deadline request = first_of (extend_checks bench parts case deadline request)
+
+unfoldable pub motion_refusal : Parts → (case : ℕ) → (served : ℤ) → Need → Option Refusal
+motion_refusal parts case served need = first_of (motion_checks parts case served need)
+
+unfoldable pub book_refusal : Bench → Parts → Setting → Option Refusal
+book_refusal bench parts s = first_of (book_checks bench parts s)
+
+unfoldable pub move_refusal : Bench → Parts → Setting → Option Refusal
+move_refusal bench parts s = first_of (move_checks bench parts s)
+
+unfoldable pub cancel_refusal : Parts → (case motion : ℕ) → Option Refusal
+cancel_refusal parts case motion = first_of (cancel_checks parts case motion)
+
+unfoldable pub holiday_refusal : Bench → Parts → (day : ℤ) → HolidayList → Option Refusal
+holiday_refusal bench parts day list = first_of (holiday_checks bench parts day list)
+
+unfoldable pub outage_refusal : Parts → (day : ℤ) → (from to : ℕ) → Option Refusal
+outage_refusal parts day from to = first_of (outage_checks parts day from to)
+
+abbrev pub refusal : Bench → Parts → Command → Option Refusal
+refusal bench parts (OpenCase case filed) = open_case_refusal parts case filed
+refusal bench parts (Start case period event second service) = start_deadline_refusal bench parts case period event second service
+refusal bench parts (FileAct case deadline filing) = file_act_refusal bench parts case deadline filing
+refusal bench parts (Extend case deadline request) = extend_refusal bench parts case deadline request
+refusal bench parts (Motion case served need) = motion_refusal parts case served need
+refusal bench parts (Book s) = book_refusal bench parts s
+refusal bench parts (MoveHearing s) = move_refusal bench parts s
+refusal bench parts (Cancel case motion) = cancel_refusal parts case motion
+refusal bench parts (Holiday day list) = holiday_refusal bench parts day list
+refusal bench parts (Inaccessible day from to) = outage_refusal parts day from to
+
+-- Queries
+
+abbrev pub sheet_checks : Parts → (case : ℕ) → List (Option Refusal)
+sheet_checks parts case = when (not (has_case parts case)) NoSuchCase ∷ []
+
+abbrev pub judge_day_checks : Bench → Parts → (judge : ℕ) → (day : ℤ) → List (Option Refusal)
+judge_day_checks bench parts judge day =
+    (when (not (nat_lt judge bench.judges)) NoSuchJudge
+    ∷ when (not (is_covered parts.days day)) BadDay
+    ∷ [])
+
+-- the three that a period is refused by when it starts
+abbrev pub compute_checks : Parts → Period → EventView → (second : Option ℤ) → Option ServiceKind → List (Option Refusal)
+compute_checks parts period event second service = option_map refusal_of (start_refusal parts.days period event second service) ∷ []
+
+-- the first refusal of a query, or none
+unfoldable pub query_refusal : Bench → Parts → Query → Option Refusal
+query_refusal bench parts (Sheet case) = first_of (sheet_checks parts case)
+query_refusal bench parts (JudgeDay judge day) = first_of (judge_day_checks bench parts judge day)
+query_refusal bench parts (Compute period event second service) = first_of (compute_checks parts period event second service)

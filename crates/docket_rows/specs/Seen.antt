@@ -1,0 +1,57 @@
+-- What the parts show of a case: its deadlines, its motions and their hearings.
+use Rattle.std.specs.Prelude.{ℕ, ◌+◌, ◌==◌, ℤ, nat_le, Bool, false, ◌&&◌, is_some, List, [], length, find, Option, None, option_map}
+use Rattle.std.specs.Option.{option_map_or, option_and_then}
+use Rattle.rule6.specs.declared.service.ServiceKind.{ServiceKind}
+use Rattle.rule6.specs.declared.timeliness.Shown.{Shown}
+use Rattle.rule_periods.specs.declared.period.Period.{Period}
+use Rattle.rule_periods.specs.Words.{DeadlineRowView, EventView, shown_of}
+use Rattle.docket_rows.specs.declared.hearing.Hearing.{Hearing}
+use Rattle.docket_rows.specs.Bench.{Bench}
+use Rattle.docket_rows.specs.Cases.{CaseRecordView, NumberedDeadline, NumberedMotion}
+use Rattle.docket_rows.specs.Parts.{Parts}
+
+-- there is one, and it passes the test
+abbrev pub has_one : {A : Type 0} → (A → Bool) → Option A → Bool
+has_one test found = option_map_or test found false
+
+-- cases are numbered from 1 to 4,096
+abbrev pub is_case_number : ℕ → Bool
+is_case_number case = nat_le 1 case && nat_le case 4096
+
+-- the case is open
+abbrev pub has_case : Parts → (case : ℕ) → Bool
+has_case parts case = is_case_number case && is_some (parts.case case)
+
+-- the deadlines of the case, and the one of that number
+abbrev pub deadlines_in : Parts → (case : ℕ) → List NumberedDeadline
+deadlines_in parts case = option_map_or (λ (c : CaseRecordView). c.deadlines) (parts.case case) []
+
+abbrev pub deadline_in : Parts → (case number : ℕ) → Option DeadlineRowView
+deadline_in parts case number =
+    option_map (λ (d : NumberedDeadline). d.row) (find (λ (d : NumberedDeadline). d.number == number) (deadlines_in parts case))
+
+-- the motions of the case, the one of that number, and the hearing that is set for it
+abbrev pub motions_in : Parts → (case : ℕ) → List NumberedMotion
+motions_in parts case = option_map_or (λ (c : CaseRecordView). c.motions) (parts.case case) []
+
+abbrev pub motion_in : Parts → (case number : ℕ) → Option NumberedMotion
+motion_in parts case number = find (λ (m : NumberedMotion). m.number == number) (motions_in parts case)
+
+abbrev pub hearing_in : Parts → (case motion : ℕ) → Option Hearing
+hearing_in parts case motion = option_and_then (λ (m : NumberedMotion). m.hearing) (motion_in parts case motion)
+
+-- deadlines and motions are numbered from 1 in their case
+abbrev pub next_deadline : Parts → (case : ℕ) → ℕ
+next_deadline parts case = length (deadlines_in parts case) + 1
+
+abbrev pub next_motion : Parts → (case : ℕ) → ℕ
+next_motion parts case = length (motions_in parts case) + 1
+
+-- a deadline as it starts: no extension was granted, and no act is recorded
+abbrev pub started : Period → EventView → Option ℤ → Option ServiceKind → DeadlineRowView
+started period event second service =
+    record { period = period; event = event; second = second; service = service; grants = []; filed = None }
+
+-- when the time of a deadline ends: by the days as they are docketed now
+abbrev pub shown_now : Bench → Parts → DeadlineRowView → Shown
+shown_now bench parts row = shown_of parts.days bench.clock row

@@ -1,0 +1,78 @@
+-- What each command does to the rows, and what it is answered.
+use Rattle.std.specs.Prelude.{ℕ, not, List, [], ◌∷◌, ◌++◌, map, filter, if◌then◌else◌}
+use Rattle.std.specs.Option.{option_map_or}
+use Rattle.court_days.specs.Words.{add_holiday, add_outage}
+use Rattle.rule6.specs.declared.timeliness.Shown.TheVariants as shown
+use Rattle.rule6.specs.Words.{is_in_time}
+use Rattle.rule_periods.specs.Words.{DeadlineRowView, kept_filing, with_grant, with_filing}
+use Rattle.docket_rows.specs.declared.answer.Answer.{Answer}
+use Rattle.docket_rows.specs.declared.answer.Answer.TheVariants as answer
+use Rattle.docket_rows.specs.declared.command.Command.{Command}
+use Rattle.docket_rows.specs.declared.command.Command.TheVariants.{OpenCase, Start, FileAct, Extend, Motion, Book, MoveHearing, Cancel, Holiday, Inaccessible}
+use Rattle.docket_rows.specs.declared.hearing.Setting.{Setting}
+use Rattle.docket_rows.specs.Bench.{Bench}
+use Rattle.docket_rows.specs.Hearings.{hearing_asked}
+use Rattle.docket_rows.specs.Parts.{Parts, parts_of}
+use Rattle.docket_rows.specs.Refusals.{refusal}
+use Rattle.docket_rows.specs.Rows.{Rows, DocketedDeadline, is_deadline, is_hearing}
+use Rattle.docket_rows.specs.Seen.{has_one, deadline_in, next_deadline, next_motion, started, shown_now}
+
+-- the row with a change, if it is that deadline's
+abbrev pub with_deadline : (case number : ℕ) → (DeadlineRowView → DeadlineRowView) → DocketedDeadline → DocketedDeadline
+with_deadline case number change d = if is_deadline case number d then record d { row = change d.row } else d
+
+-- the rows with a change of that deadline, with one more hearing, and without the hearing of that motion
+abbrev pub with_changed : (case number : ℕ) → (DeadlineRowView → DeadlineRowView) → Rows → Rows
+with_changed case number change rows = record rows { deadlines = map (with_deadline case number change) rows.deadlines }
+
+abbrev pub with_hearing : Setting → Rows → Rows
+with_hearing s rows = record rows { hearings = rows.hearings ++ record { case = s.case; motion = s.motion; hearing = hearing_asked s } ∷ [] }
+
+abbrev pub without_hearing : (case motion : ℕ) → Rows → Rows
+without_hearing case motion rows = record rows { hearings = filter (λ h. not (is_hearing case motion h)) rows.hearings }
+
+-- the rows after a command that isn't refused
+abbrev pub rows_after : Rows → Command → Rows
+rows_after rows (OpenCase case filed) =
+    record rows { cases = rows.cases ++ record { case = case; filed = filed } ∷ [] }
+rows_after rows (Start case period event second service) =
+    record rows { deadlines = rows.deadlines ++ record { case = case; number = next_deadline (parts_of rows) case; row = started period event second service } ∷ [] }
+rows_after rows (FileAct case deadline filing) = with_changed case deadline (λ row. with_filing row filing) rows
+rows_after rows (Extend case deadline request) = with_changed case deadline (λ row. with_grant row request.grant) rows
+rows_after rows (Motion case served need) =
+    record rows { motions = rows.motions ++ record { case = case; number = next_motion (parts_of rows) case; served = served; need = need } ∷ [] }
+rows_after rows (Book s) = with_hearing s rows
+rows_after rows (MoveHearing s) = with_hearing s (without_hearing s.case s.motion rows)
+rows_after rows (Cancel case motion) = without_hearing case motion rows
+rows_after rows (Holiday day list) = record rows { days = add_holiday rows.days list day }
+rows_after rows (Inaccessible day from to) = record rows { days = add_outage rows.days (record { day = day; from = from; to = to }) }
+
+-- what a command that isn't refused is answered; an act is timely by Rule 6(a)(4)
+abbrev pub answer_if_made : Bench → Parts → Command → Answer
+answer_if_made bench parts (OpenCase case filed) = answer.Opened
+answer_if_made bench parts (Start case period event second service) =
+    answer.Started (next_deadline parts case) (shown_now bench parts (started period event second service))
+answer_if_made bench parts (FileAct case deadline filing) =
+    answer.Filed (has_one (λ row. is_in_time bench.clock (shown_now bench parts row) (kept_filing filing)) (deadline_in parts case deadline))
+answer_if_made bench parts (Extend case deadline request) =
+    answer.Extended (option_map_or (λ row. shown_now bench parts (with_grant row request.grant)) (deadline_in parts case deadline) shown.Beyond)
+answer_if_made bench parts (Motion case served need) = answer.MotionEntered (next_motion parts case)
+answer_if_made bench parts (Book s) = answer.Booked
+answer_if_made bench parts (MoveHearing s) = answer.Moved
+answer_if_made bench parts (Cancel case motion) = answer.Cancelled
+answer_if_made bench parts (Holiday day list) = answer.HolidayEntered
+answer_if_made bench parts (Inaccessible day from to) = answer.OutageEntered
+
+-- what a command is answered where the parts are these
+unfoldable pub answered : Bench → Parts → Command → Answer
+answered bench parts command = option_map_or answer.Refused (refusal bench parts command) (answer_if_made bench parts command)
+
+-- One step of the docket: the rows after a command, and its answer. A refused command leaves the rows as they are.
+unfoldable pub step : Bench → Rows → Command → Rows × Answer
+step bench rows command =
+    (option_map_or (λ r. rows) (refusal bench (parts_of rows) command) (rows_after rows command), answered bench (parts_of rows) command)
+
+-- the rows after some commands, from the first on
+unfoldable pub rows_from : Bench → Rows → List Command → Rows
+rows_from bench rows [] = rows
+rows_from bench rows (c ∷ cs) = rows_from bench (step bench rows c).0 cs

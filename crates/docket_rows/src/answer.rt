@@ -1,0 +1,43 @@
+//! What a command is answered.
+
+ghost use Rattle.std.specs.Prelude.{◌≡◌, IfOk};
+
+use crate::refusal::Refusal;
+use rule6::Shown;
+use std::alloc::AllocError;
+
+/// The answer to a command.
+#[derive(Clone, Copy, Debug, PartialEq, Eq)]
+pub enum Answer {
+    /// The case is open.
+    Opened,
+    /// The deadline was given this number in its case, and ends so.
+    Started(u32, Shown),
+    /// The act is recorded; whether it was timely.
+    Filed(bool),
+    /// The time is extended, and ends so.
+    Extended(Shown),
+    /// The motion was given this number in its case.
+    MotionEntered(u32),
+    /// The hearing is booked.
+    Booked,
+    /// The hearing is moved.
+    Moved,
+    /// The hearing is off the calendar.
+    Cancelled,
+    /// The holiday is entered.
+    HolidayEntered,
+    /// The outage of the clerk's office is entered.
+    OutageEntered,
+    /// The command is refused, and changes nothing.
+    Refused(Refusal),
+}
+
+impl Answer {
+    /// The same answer. It takes no memory.
+    pub fn copy(&self) -> Result<Answer, AllocError>
+        ensures { IfOk result (λ answer. answer ≡ self.now) }
+    {
+        Ok(*self)
+    }
+}

@@ -1,0 +1,156 @@
+//! Cases.
+mod changes;
+
+ghost use Rattle.std.specs.Prelude.{◌≡◌, ◌==◌, [], length, find, slice_get, IfOk, option_map, option_copied};
+ghost use Rattle.std.specs.Arc.{arc_value};
+ghost use Rattle.docket_rows.specs.Cases.{NumberedDeadline, NumberedMotion, numbered_deadlines, numbered_motions};
+
+use crate::motion::MotionRecord;
+use court_days::Day;
+use rule_periods::DocketRow;
+use std::alloc::{AllocError, Global};
+use std::marker::Model;
+use std::sync::Arc;
+
+/// A case: the day on which it was filed, and its deadlines and motions, each numbered from 1 in its list.
+#[derive(Debug, Drop)]
+pub struct CaseRecord {
+    filed: Day,
+    deadlines: Vec<DocketRow>,
+    motions: Vec<MotionRecord>,
+}
+
+impl Model for CaseRecord {
+    ghost use Rattle.docket_rows.specs.Cases.{CaseRecordView, numbered_deadlines, numbered_motions};
+
+    ghost Value = { CaseRecordView };
+
+    ghost view = { λ c. record { filed = c.filed; deadlines = numbered_deadlines 1 c.deadlines.items; motions = numbered_motions 1 c.motions.items } };
+}
+
+impl CaseRecord {
+    /// The case that was filed on that day, with no deadlines and no motions.
+    pub fn new(alloc: Global, filed: Day) -> CaseRecord
+        ensures { result ≡ record { filed = filed; deadlines = []; motions = [] } }
+    {
+        CaseRecord {
+            filed,
+            deadlines: Vec::new(alloc),
+            motions: Vec::new(alloc),
+        }
+    }
+
+    /// The day on which the case was filed.
+    pub fn filed(&self) -> Day
+        ensures { result ≡ self.now.filed }
+    {
+        self.filed
+    }
+
+    /// The deadlines, in the order of their numbers, which begin at 1.
+    pub fn deadlines(&self) -> &[DocketRow]
+        ensures value { numbered_deadlines 1 result.now ≡ self.now.deadlines }
+        ensures count { length result.now ≡ length self.now.deadlines }
+    {
+        &self.deadlines
+    }
+
+    /// The motions, in the order of their numbers, which begin at 1.
+    pub fn motions(&self) -> &[MotionRecord]
+        ensures value { numbered_motions 1 result.now ≡ self.now.motions }
+        ensures count { length result.now ≡ length self.now.motions }
+    {
+        &self.motions
+    }
+
+    /// The deadline of that number, if there is one.
+    pub fn deadline(&self, number: u32) -> Option<&DocketRow>
+        ensures { option_copied result ≡ option_map (λ (d : NumberedDeadline). d.row) (find (λ (d : NumberedDeadline). d.number == number) self.now.deadlines) }
+    {
+        deadline_of(self.deadlines(), number)
+    }
+
+    /// The motion of that number, if there is one.
+    pub fn motion(&self, number: u32) -> Option<MotionRecord>
+        ensures { option_map (λ m. record { number = number; served = m.served; need = m.need; hearing = m.hearing }) result ≡ find (λ (m : NumberedMotion). m.number == number) self.now.motions }
+    {
+        motion_of(self.motions(), number)
+    }
+}
+
+/// The deadline of that number, in a list that is numbered from 1.
+fn deadline_of(rows: &[DocketRow], number: u32) -> Option<&DocketRow>
+    ensures { option_copied result ≡ option_map (λ (d : NumberedDeadline). d.row) (find (λ (d : NumberedDeadline). d.number == number) (numbered_deadlines 1 rows.now)) }
+{
+    if number == 0 {
+        return None;
+    }
+    deadline_at(rows, (number - 1) as usize)
+}
+
+/// The deadline at that place.
+fn deadline_at(rows: &[DocketRow], place: usize) -> Option<&DocketRow>
+    ensures { option_copied result ≡ slice_get rows.now place }
+{
+    rows.get(place)
+}
+
+/// The motion of that number, in a list that is numbered from 1.
+fn motion_of(rows: &[MotionRecord], number: u32) -> Option<MotionRecord>
+    ensures { option_map (λ m. record { number = number; served = m.served; need = m.need; hearing = m.hearing }) result ≡ find (λ (m : NumberedMotion). m.number == number) (numbered_motions 1 rows.now) }
+{
+    if number == 0 {
+        return None;
+    }
+    motion_at(rows, (number - 1) as usize)
+}
+
+/// The motion at that place.
+fn motion_at(rows: &[MotionRecord], place: usize) -> Option<MotionRecord>
+    ensures { result ≡ slice_get rows.now place }
+{
+    rows.get(place).copied()
+}
+
+/// A case that copies share, so that a copy takes no time that grows with the case.
+#[derive(Debug, Drop)]
+pub struct SharedCase {
+    contents: Arc<CaseRecord>,
+}
+
+impl Model for SharedCase {
+    ghost use Rattle.docket_rows.specs.Cases.{CaseRecordView};
+    ghost use Rattle.std.specs.Arc.{arc_value};
+
+    ghost Value = { CaseRecordView };
+
+    ghost view = { λ c. arc_value c.contents };
+}
+
+impl SharedCase {
+    /// The case, to be shared. An `Err` says that memory ran out.
+    pub fn new(alloc: Global, contents: CaseRecord) -> Result<SharedCase, AllocError>
+        ensures { IfOk result (λ case. case ≡ contents) }
+    {
+        Ok(SharedCase {
+            contents: Arc::new(alloc, contents)?,
+        })
+    }
+
+    /// The case.
+    pub fn contents(&self) -> &CaseRecord
+        ensures { result.now ≡ self.now }
+    {
+        &self.contents
+    }
+
+    /// The same case, shared once more. It takes no memory; `Err` says that there are as many copies as can be
+    /// counted.
+    pub fn copy(&self) -> Result<SharedCase, AllocError>
+        ensures { IfOk result (λ case. case ≡ self.now) }
+    {
+        Ok(SharedCase {
+            contents: Arc::try_clone(&self.contents)?,
+        })
+    }
+}

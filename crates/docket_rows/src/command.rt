@@ -1,0 +1,98 @@
+//! What a clerk can ask of a docket.
+
+ghost use Rattle.std.specs.Prelude.{◌≡◌, IfOk};
+
+use crate::hearing::Setting;
+use court_days::{Day, HolidayList};
+use hearing_slots::Need;
+use rule_periods::{Event, Period, Request};
+use rule6::{Filing, ServiceKind};
+use std::alloc::AllocError;
+
+/// A command: it changes the docket, or is refused.
+#[derive(Clone, Copy, Debug, PartialEq, Eq)]
+pub enum Command {
+    /// Opens a case.
+    OpenCase {
+        /// The number of the case, 1 to 4,096.
+        case: u32,
+        /// The day on which it was filed.
+        filed: Day,
+    },
+    /// Starts a deadline in a case.
+    Start {
+        /// The number of the case.
+        case: u32,
+        /// The period within which something must be done.
+        period: Period,
+        /// The event from which it is measured.
+        event: Event,
+        /// The second day, where the period takes one.
+        second: Option<Day>,
+        /// The kind of service, where the period takes one.
+        service: Option<ServiceKind>,
+    },
+    /// Records the act by which a deadline was met, or missed.
+    FileAct {
+        /// The number of the case.
+        case: u32,
+        /// The number of the deadline in its case.
+        deadline: u32,
+        /// The act. A minute of 1,440 or more is kept as 1,439, the last of the day.
+        filing: Filing,
+    },
+    /// Extends the time of a deadline (Fed. R. Civ. P. 6(b)).
+    Extend {
+        /// The number of the case.
+        case: u32,
+        /// The number of the deadline in its case.
+        deadline: u32,
+        /// The extension that is asked, and what the court found.
+        request: Request,
+    },
+    /// Enters a motion in a case.
+    Motion {
+        /// The number of the case.
+        case: u32,
+        /// The day on which the motion was served.
+        served: Day,
+        /// What notice it needs: 1 to 365 days, or none.
+        need: Need,
+    },
+    /// Books the hearing of a motion.
+    Book(Setting),
+    /// Moves the hearing of a motion, for which it takes a new notice.
+    MoveHearing(Setting),
+    /// Takes the hearing of a motion off the calendar.
+    Cancel {
+        /// The number of the case.
+        case: u32,
+        /// The number of the motion in its case.
+        motion: u32,
+    },
+    /// Enters a legal holiday (Fed. R. Civ. P. 6(a)(6)).
+    Holiday {
+        /// The day.
+        day: Day,
+        /// Whether it is declared by the United States or by the state.
+        list: HolidayList,
+    },
+    /// Enters that the clerk's office was inaccessible (Fed. R. Civ. P. 6(a)(3)).
+    Inaccessible {
+        /// The day.
+        day: Day,
+        /// The first minute, counted from midnight in the court's zone.
+        from: u16,
+        /// The first minute after it, 1,440 at the most.
+        to: u16,
+    },
+}
+
+impl Command {
+    /// The same command. It takes no memory.
+    pub fn copy(&self) -> Result<Command, AllocError>
+        ensures { IfOk result (λ command. command ≡ self.now) }
+    {
+        Ok(*self)
+    }
+}

@@ -1,0 +1,42 @@
+//! Hearings of motions.
+
+use court_days::Day;
+use hearing_slots::Panel;
+
+/// A hearing, as it is set.
+#[derive(Clone, Copy, Debug, PartialEq, Eq)]
+pub struct Hearing {
+    /// The judges before whom it is held.
+    pub judges: Panel,
+    /// The number of its room.
+    pub room: u8,
+    /// Its day.
+    pub day: Day,
+    /// The first slot that it takes: slot s begins at minute 15·s of the day.
+    pub first: u8,
+    /// How many slots of 15 minutes it takes.
+    pub count: u8,
+    /// The day on which the notice of it was served.
+    pub notice: Day,
+}
+
+/// The hearing that a clerk asks for.
+#[derive(Clone, Copy, Debug, PartialEq, Eq)]
+pub struct Setting {
+    /// The number of the case.
+    pub case: u32,
+    /// The number of the motion in its case.
+    pub motion: u32,
+    /// The judges before whom the hearing is to be held.
+    pub judges: Panel,
+    /// The number of its room.
+    pub room: u8,
+    /// Its day.
+    pub day: Day,
+    /// The first slot: slot s begins at minute 15·s of the day.
+    pub first: u8,
+    /// How many slots of 15 minutes.
+    pub count: u32,
+    /// The day on which the notice of the hearing was served.
+    pub notice: Day,
+}

@@ -1,0 +1,28 @@
+//! What a docket is: the commands that change it, the parts that they read and write, what it answers and refuses.
+#![tactic(auto)]
+
+mod answer;
+mod cases;
+mod command;
+mod decision;
+mod hearing;
+mod motion;
+mod part;
+mod query;
+mod refusal;
+mod sheet;
+mod view;
+
+pub use answer::Answer;
+pub use cases::{CaseRecord, SharedCase};
+pub use command::Command;
+pub use decision::{Decision, Writes};
+pub use hearing::{Hearing, Setting};
+pub use motion::MotionRecord;
+pub use part::{PartId, PartValue};
+pub use query::Query;
+pub use refusal::Refusal;
+pub use sheet::{
+    Sheet, SheetDeadline, SheetDeadlines, SheetHearing, SheetMotion, SheetMotions, State,
+};
+pub use view::View;

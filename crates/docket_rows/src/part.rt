@@ -1,0 +1,47 @@
+//! The parts of a docket, which commands read and write.
+
+ghost use Rattle.std.specs.Prelude.{◌≡◌, IfOk};
+
+use crate::cases::SharedCase;
+use court_days::Days;
+use hearing_slots::Calendar;
+use std::alloc::{AllocError, Global};
+
+/// The name of a part.
+#[derive(Clone, Copy, Debug, PartialEq, Eq, Hash)]
+pub enum PartId {
+    /// The days of the court.
+    Court,
+    /// The calendar of the judge with that number.
+    Judge(u8),
+    /// The calendar of the room with that number.
+    Room(u8),
+    /// The case with that number.
+    Case(u32),
+}
+
+/// What a part holds.
+#[derive(Debug, Drop)]
+pub enum PartValue {
+    /// The days of the court.
+    Days(Days),
+    /// The calendar of a judge or a room.
+    Calendar(Calendar),
+    /// A case, or none where it isn't open.
+    Case(Option<SharedCase>),
+}
+
+impl PartValue {
+    /// The same value. A copy shares what it can: only a calendar that was changed in place copies its bookings. `Err`
+    /// says that memory ran out, or that there are as many copies as can be counted.
+    pub fn copy(&self, alloc: Global) -> Result<PartValue, AllocError>
+        ensures { IfOk result (λ value. value ≡ self.now) }
+    {
+        match self {
+            PartValue::Days(days) => Ok(PartValue::Days(days.copy()?)),
+            PartValue::Calendar(calendar) => Ok(PartValue::Calendar(calendar.copy(alloc)?)),
+            PartValue::Case(Some(case)) => Ok(PartValue::Case(Some(case.copy()?))),
+            PartValue::Case(None) => Ok(PartValue::Case(None)),
+        }
+    }
+}
