@@ -11,7 +11,6 @@ use std::test::Fail;
 
 mod clock;
 mod court;
-mod tables;
 
 /// The sample court with another line at a key of its file.
 fn court_with(alloc: Global, key: &str, line: &str) -> Result<Court, Fail> {
