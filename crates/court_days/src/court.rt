@@ -48,7 +48,7 @@ impl Model for Court {
 
 impl Court {
     /// The court whose file the bytes are, or the file's first fault in the order of its keys.
-    /// `NotToml` exactly where the bytes are no TOML document, and `OutOfMemory` where memory ran out.
+    /// `NotToml` exactly where the crate `toml` reads no document in them, and `OutOfMemory` where memory ran out.
     #[tactic(auto, unfolding(crate::specs::Court::court_in))]
     pub fn from_bytes(alloc: Global, bytes: &[u8]) -> Result<Court, CourtFault>
         ensures { Gives file_of result (court_in bytes.now) }
