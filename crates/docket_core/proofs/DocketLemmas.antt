@@ -1,11 +1,10 @@
 -- The parts of a docket before any command.
-use Rattle.std.proofs.Common.{◌≡◌, ℕ, zero, suc, List, [], ◌∷◌, get_or, Option, None, All, ap, refl}
+use Rattle.std.proofs.Common.{◌≡◌, ℕ, zero, suc, List, [], ◌∷◌, get_or, None, All, ap, refl}
 use Rattle.std.proofs.lemmas.List.Elements.{All-head, All-tail}
-use Rattle.hearing_slots.specs.declared.booking.Booking.{Booking}
 use Rattle.docket_rows.specs.declared.part.PartId.{PartId}
 use Rattle.docket_rows.specs.declared.part.PartId.TheVariants.{Court, Judge, Room, Case}
 use Rattle.docket_rows.specs.declared.part.PartValue.TheVariants as value
-use Rattle.docket_rows.specs.Words.{Bench, CaseRecordView, part_value, parts_of, opening_rows}
+use Rattle.docket_rows.specs.Words.{Bench, part_value, parts_of, opening_rows}
 use Rattle.docket_core.specs.Docket.{DocketView, parts_held}
 
 -- where each element is the same, so is what stands at a place or past the end

@@ -1,5 +1,5 @@
 pub mod DocketLemmas
 pub mod HolidayLemmas
-pub mod MadeLemmas
+pub mod SettingLemmas
 pub mod NextLemmas
 pub mod WrittenLemmas

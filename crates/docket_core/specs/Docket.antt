@@ -1,5 +1,5 @@
 -- A docket, as contracts see it.
-use Rattle.std.specs.Prelude.{ℕ, ◌+◌, nat_lt, List, [], Option, None, get_or, if◌then◌else◌}
+use Rattle.std.specs.Prelude.{List, [], Option, None, get_or}
 use Rattle.court_days.specs.Words.{DaysView}
 use Rattle.hearing_slots.specs.declared.booking.Booking.{Booking}
 use Rattle.docket_rows.specs.Words.{Bench, CaseRecordView, Parts}

@@ -1,4 +1,3 @@
-pub mod CanSet
 pub mod Docket
 pub mod Holidays
 pub mod Next

@@ -1,5 +1,5 @@
 -- Of some parts the first that wasn't read.
-use Rattle.std.specs.Prelude.{ℕ, nat_lt, not, List, [], ◌∷◌, map, filter, find, take, Option, if◌then◌else◌}
+use Rattle.std.specs.Prelude.{ℕ, nat_lt, not, List, [], ◌∷◌, map, filter, find, Option, if◌then◌else◌}
 use Rattle.docket_rows.specs.declared.part.PartId.{PartId}
 use Rattle.docket_rows.specs.declared.part.PartId.TheVariants.{Judge, Room}
 use Rattle.docket_rows.specs.declared.part.PartValue.{PartValue}

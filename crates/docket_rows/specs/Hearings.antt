@@ -27,9 +27,9 @@ abbrev pub is_distinct : List ℕ → Bool
 is_distinct [] = true
 is_distinct (j ∷ js) = not (sits j js) && is_distinct js
 
--- a panel has at most three judges, none of them twice
+-- a panel has one to three judges, none of them twice
 abbrev pub is_panel : List ℕ → Bool
-is_panel panel = nat_le (length panel) 3 && is_distinct panel
+is_panel panel = nat_le 1 (length panel) && nat_le (length panel) 3 && is_distinct panel
 
 -- at least one slot, and none past the last of the day, which has 96
 abbrev pub fits_day : (first count : ℕ) → Bool

@@ -34,7 +34,6 @@ pub record AreLawful (bench : Bench) (rows : Rows) : Type 0 where
 
 -- a hearing is before one to three of the court's judges, none of them twice, in one of its rooms, and takes slots of a day
 pub record IsSettable (bench : Bench) (h : Hearing) : Type 0 where
-  pub some_judge : 0 < length h.judges
   pub panel : is_panel h.judges ≡ true
   pub judges : has_judges bench h.judges ≡ true
   pub room : h.room < bench.rooms

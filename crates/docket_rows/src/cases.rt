@@ -1,7 +1,7 @@
 //! Cases.
 mod changes;
 
-ghost use Rattle.std.specs.Prelude.{◌≡◌, ◌==◌, [], length, find, slice_get, IfOk, option_map, option_copied};
+ghost use Rattle.std.specs.Prelude.{◌≡◌, ◌≤◌, ◌==◌, [], length, find, slice_get, IfOk, option_map, option_copied};
 ghost use Rattle.std.specs.Arc.{arc_value};
 ghost use Rattle.docket_rows.specs.Cases.{NumberedDeadline, NumberedMotion, numbered_deadlines, numbered_motions};
 
@@ -12,7 +12,8 @@ use std::alloc::{AllocError, Global};
 use std::marker::Model;
 use std::sync::Arc;
 
-/// A case: the day on which it was filed, and its deadlines and motions, each numbered from 1 in its list.
+/// A case: the day on which it was filed, and its deadlines and motions, each numbered from 1 in its list, and at most
+/// 64 of each.
 #[derive(Debug, Drop)]
 pub struct CaseRecord {
     filed: Day,
@@ -21,11 +22,14 @@ pub struct CaseRecord {
 }
 
 impl Model for CaseRecord {
+    ghost use Rattle.std.specs.Prelude.{◌≤◌, length};
     ghost use Rattle.docket_rows.specs.Cases.{CaseRecordView, numbered_deadlines, numbered_motions};
 
     ghost Value = { CaseRecordView };
 
     ghost view = { λ c. record { filed = c.filed; deadlines = numbered_deadlines 1 c.deadlines.items; motions = numbered_motions 1 c.motions.items } };
+
+    ghost invariant = { λ c. (length c.deadlines.items ≤ 64) × (length c.motions.items ≤ 64) };
 }
 
 impl CaseRecord {
@@ -51,6 +55,7 @@ impl CaseRecord {
     pub fn deadlines(&self) -> &[DocketRow]
         ensures value { numbered_deadlines 1 result.now ≡ self.now.deadlines }
         ensures count { length result.now ≡ length self.now.deadlines }
+        ensures few { length result.now ≤ 64 }
     {
         &self.deadlines
     }
@@ -59,6 +64,7 @@ impl CaseRecord {
     pub fn motions(&self) -> &[MotionRecord]
         ensures value { numbered_motions 1 result.now ≡ self.now.motions }
         ensures count { length result.now ≡ length self.now.motions }
+        ensures few { length result.now ≤ 64 }
     {
         &self.motions
     }

@@ -35,9 +35,9 @@ fn is_distinct(panel: &[u8]) -> bool
     }
 }
 
-/// Whether these are three judges at the most, none of them twice.
+/// Whether these are one to three judges, none of them twice.
 pub(crate) fn is_panel(panel: &[u8]) -> bool
     ensures { result ≡ is_panel panel.now }
 {
-    panel.len() <= 3 && is_distinct(panel)
+    1 <= panel.len() && panel.len() <= 3 && is_distinct(panel)
 }

@@ -1,6 +1,6 @@
 //! The calendar of a judge or a room, as a command changes it: a changed copy.
 
-ghost use Rattle.docket_core.specs.CanSet.{CanSet};
+ghost use Rattle.docket_laws.specs.Words.{CanSet};
 ghost use Rattle.docket_rows.specs.declared.command.Command.TheVariants.{Book, MoveHearing};
 ghost use Rattle.std.specs.Prelude.{◌≡◌, ◌==◌, ◌≤◌, [], true, None, Some, IfOk, unwrap_or, option_copied};
 ghost use Rattle.hearing_slots.specs.Words.{IsWithinDay, IsFree, with_booking, without_motion};

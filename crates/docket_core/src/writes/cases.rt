@@ -1,8 +1,8 @@
 //! A case, as a command changes it: a changed copy.
 
-ghost use Rattle.std.specs.Prelude.{◌≡◌, ◌+◌, ◌≤◌, true, None, Some, length, find, option_map, ◌==◌, IfOk, IfSome};
+ghost use Rattle.std.specs.Prelude.{◌≡◌, ◌+◌, ◌<◌, ◌≤◌, true, None, Some, length, find, option_map, ◌==◌, IfOk, IfSome};
 ghost use Rattle.rule_periods.specs.Words.{suits, has_length, is_grant_length, grant_fits, is_in_hours, with_grant, with_filing};
-ghost use Rattle.docket_rows.specs.Words.{CaseRecordView, NumberedDeadline, started, refusal, start_deadline_refusal, extend_refusal, book_refusal, move_refusal, add_deadline, change_deadline, add_motion, set_hearing, hearing_asked, case_written};
+ghost use Rattle.docket_rows.specs.Words.{CaseRecordView, NumberedDeadline, started, refusal, start_deadline_refusal, extend_refusal, motion_refusal, book_refusal, move_refusal, add_deadline, change_deadline, add_motion, set_hearing, hearing_asked, case_written};
 
 use crate::rules::DocketRules;
 use crate::sight::Sight;
@@ -24,6 +24,7 @@ fn with_deadline(
 ) -> Result<CaseRecord, AllocError>
     requires suits { suits period.now second service ≡ true }
     requires length { has_length period.now ≡ true }
+    requires room { length case.now.deadlines < 64 }
     ensures { IfOk result (λ c. c ≡ add_deadline (started period.now event second service) case.now) }
 {
     let mut changed = case.copy(alloc)?;
@@ -69,6 +70,7 @@ fn with_motion(
     served: Day,
     need: Need,
 ) -> Result<CaseRecord, AllocError>
+    requires { length case.now.motions < 64 }
     ensures { IfOk result (λ c. c ≡ add_motion (record { number = length case.now.motions + 1; served = served; need = need; hearing = None }) case.now) }
 {
     let mut changed = case.copy(alloc)?;
@@ -152,6 +154,7 @@ fn entered_in<S: Sight>(
     served: Day,
     need: Need,
 ) -> Result<Option<CaseRecord>, AllocError>
+    requires { motion_refusal (S.parts sight.now) number served need ≡ None }
     ensures { IfOk result (λ c. c ≡ option_map (λ (c : CaseRecordView). add_motion (record { number = length c.motions + 1; served = served; need = need; hearing = None }) c) ((S.parts sight.now).case number)) }
 {
     match sight.case(number) {

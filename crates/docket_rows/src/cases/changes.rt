@@ -1,6 +1,6 @@
 //! Changes of a case, in place.
 
-ghost use Rattle.std.specs.Prelude.{◌≡◌, ◌==◌, ◌+◌, true, None, length, find, map, is_ok, option_map, IfSome, IfOk, if◌then◌else◌};
+ghost use Rattle.std.specs.Prelude.{◌≡◌, ◌<◌, ◌==◌, ◌+◌, true, None, length, find, map, is_ok, option_map, IfSome, IfOk, if◌then◌else◌};
 ghost use Rattle.rule_periods.specs.Words.{grant_fits, is_grant_length, is_in_hours, with_grant, with_filing};
 ghost use Rattle.docket_rows.specs.Cases.{NumberedDeadline, NumberedMotion, numbered_deadlines, numbered_motions};
 ghost use Rattle.docket_rows.specs.Writes.{add_deadline, change_deadline, add_motion, set_hearing};
@@ -18,6 +18,7 @@ impl CaseRecord {
     /// Adds a deadline. An error leaves the case as it was.
     #[tactic(auto, using(crate::proofs::NumberedLemmas::push_deadline, crate::proofs::NumberedLemmas::count_deadlines))]
     pub fn add_deadline(&mut self, row: DocketRow) -> Result<(), AllocError>
+        requires { length self.old.deadlines < 64 }
         ensures { self.new ≡ (if is_ok result then add_deadline row self.old else self.old) }
     {
         self.deadlines.push(row)?;
@@ -43,6 +44,7 @@ impl CaseRecord {
     /// Adds a motion, with no hearing. An error leaves the case as it was.
     #[tactic(auto, using(crate::proofs::NumberedLemmas::push_motion, crate::proofs::NumberedLemmas::count_motions))]
     pub fn add_motion(&mut self, served: Day, need: Need) -> Result<(), AllocError>
+        requires { length self.old.motions < 64 }
         ensures { self.new ≡ (if is_ok result then add_motion (record { number = length self.old.motions + 1; served = served; need = need; hearing = None }) self.old else self.old) }
     {
         self.motions.push(MotionRecord {
@@ -74,7 +76,8 @@ impl CaseRecord {
 
 /// Records the act in the deadline of that number, in a list that is numbered from 1.
 fn record_act(rows: &mut Vec<DocketRow>, number: u32, filing: Filing)
-    ensures { numbered_deadlines 1 rows.new.items ≡ map (λ (d : NumberedDeadline). if d.number == number then record d { row = with_filing d.row filing } else d) (numbered_deadlines 1 rows.old.items) }
+    ensures count { length rows.new.items ≡ length rows.old.items }
+    ensures rows { numbered_deadlines 1 rows.new.items ≡ map (λ (d : NumberedDeadline). if d.number == number then record d { row = with_filing d.row filing } else d) (numbered_deadlines 1 rows.old.items) }
 {
     if number == 0 || rows.len() < number as usize {
         return;
@@ -87,7 +90,8 @@ fn record_act(rows: &mut Vec<DocketRow>, number: u32, filing: Filing)
 fn add_grant(rows: &mut Vec<DocketRow>, number: u32, grant: Grant) -> Result<(), AllocError>
     requires length { is_grant_length grant ≡ true }
     requires fits { IfSome (option_map (λ (d : NumberedDeadline). d.row) (find (λ (d : NumberedDeadline). d.number == number) (numbered_deadlines 1 rows.old.items))) (λ row. grant_fits (is_in_hours row.period) grant ≡ true) }
-    ensures { numbered_deadlines 1 rows.new.items ≡ (if is_ok result then map (λ (d : NumberedDeadline). if d.number == number then record d { row = with_grant d.row grant } else d) (numbered_deadlines 1 rows.old.items) else numbered_deadlines 1 rows.old.items) }
+    ensures count { length rows.new.items ≡ length rows.old.items }
+    ensures rows { numbered_deadlines 1 rows.new.items ≡ (if is_ok result then map (λ (d : NumberedDeadline). if d.number == number then record d { row = with_grant d.row grant } else d) (numbered_deadlines 1 rows.old.items) else numbered_deadlines 1 rows.old.items) }
 {
     if number == 0 || rows.len() < number as usize {
         return Ok(());
@@ -98,7 +102,8 @@ fn add_grant(rows: &mut Vec<DocketRow>, number: u32, grant: Grant) -> Result<(),
 
 /// Sets the hearing of the motion of that number, in a list that is numbered from 1.
 fn set_hearing(motions: &mut Vec<MotionRecord>, number: u32, hearing: Option<Hearing>)
-    ensures { numbered_motions 1 motions.new.items ≡ map (λ (m : NumberedMotion). if m.number == number then record m { hearing = hearing } else m) (numbered_motions 1 motions.old.items) }
+    ensures count { length motions.new.items ≡ length motions.old.items }
+    ensures rows { numbered_motions 1 motions.new.items ≡ map (λ (m : NumberedMotion). if m.number == number then record m { hearing = hearing } else m) (numbered_motions 1 motions.old.items) }
 {
     if number == 0 || motions.len() < number as usize {
         return;

@@ -1,4 +1,4 @@
-use Rattle.docket_core.proofs.MadeLemmas.{can_enter}
+use Rattle.docket_laws.proofs.CallerLemmas.{can_enter}
 use Rattle.docket_core.proofs.answers.answer_to_motion.Goals as goal
 
 pub next_motion-requires : goal.next_motion-requires

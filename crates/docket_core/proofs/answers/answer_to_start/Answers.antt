@@ -1,5 +1,4 @@
-use Rattle.std.proofs.Common.{arith}
-use Rattle.docket_core.proofs.MadeLemmas.{can_start}
+use Rattle.docket_laws.proofs.CallerLemmas.{can_start}
 use Rattle.docket_core.proofs.answers.answer_to_start.Goals as goal
 
 pub shown_at_start-shown-requires : goal.shown_at_start-shown-requires

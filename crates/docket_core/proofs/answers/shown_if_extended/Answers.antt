@@ -1,5 +1,5 @@
-use Rattle.std.proofs.Common.{◌∙◌, sym, ap, Some, option_map, refl}
-use Rattle.docket_core.proofs.MadeLemmas.{can_extend}
+use Rattle.std.proofs.Common.{sym}
+use Rattle.docket_laws.proofs.CallerLemmas.{can_extend}
 use Rattle.docket_core.proofs.answers.shown_if_extended.Goals as goal
 
 pub shown_with-requires : goal.shown_with-requires

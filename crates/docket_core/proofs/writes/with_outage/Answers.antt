@@ -1,6 +1,6 @@
 use Rattle.std.proofs.Common.{IsSome}
 use Rattle.std.proofs.lemmas.Bool.{false≢true}
-use Rattle.docket_core.proofs.MadeLemmas.{can_enter_outage}
+use Rattle.docket_laws.proofs.CallerLemmas.{can_enter_outage}
 use Rattle.docket_core.proofs.writes.with_outage.Goals as goal
 
 pub unreachable-requires : goal.unreachable-requires

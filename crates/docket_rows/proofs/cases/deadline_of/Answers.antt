@@ -1,4 +1,4 @@
-use Rattle.std.proofs.Common.{sym, ap, ◌∙◌, refl, arith, option_map, rules}
+use Rattle.std.proofs.Common.{sym, ap, ◌∙◌, arith, option_map}
 use Rattle.docket_rows.specs.Cases.{NumberedDeadline}
 use Rattle.docket_rows.proofs.NumberedLemmas.{find-numbered_deadlines, find-numbered_deadlines-below}
 use Rattle.docket_rows.proofs.cases.deadline_of.Goals as goal

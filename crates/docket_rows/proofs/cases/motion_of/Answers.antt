@@ -1,5 +1,4 @@
-use Rattle.std.proofs.Common.{sym, ap, ◌∙◌, refl, arith, option_map, rules}
-use Rattle.docket_rows.specs.Cases.{NumberedMotion}
+use Rattle.std.proofs.Common.{sym, ap, ◌∙◌, arith, option_map}
 use Rattle.docket_rows.specs.declared.motion.MotionRecord.{MotionRecord}
 use Rattle.docket_rows.proofs.NumberedLemmas.{find-numbered_motions, find-numbered_motions-below}
 use Rattle.docket_rows.proofs.cases.motion_of.Goals as goal

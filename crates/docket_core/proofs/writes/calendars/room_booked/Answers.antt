@@ -1,4 +1,4 @@
-use Rattle.docket_core.proofs.MadeLemmas.{can_book}
+use Rattle.docket_laws.proofs.CallerLemmas.{can_book}
 use Rattle.docket_core.proofs.writes.calendars.room_booked.Goals as goal
 
 pub room_rebooked-requires : goal.room_rebooked-requires

@@ -1,4 +1,5 @@
-use Rattle.docket_core.proofs.MadeLemmas.{booking_within, room_free, count_of}
+use Rattle.docket_laws.proofs.CallerLemmas.{count_of}
+use Rattle.docket_core.proofs.SettingLemmas.{booking_within, room_free}
 use Rattle.docket_core.proofs.writes.calendars.room_rebooked.Goals as goal
 
 pub booking_of-booking-requires : goal.booking_of-booking-requires

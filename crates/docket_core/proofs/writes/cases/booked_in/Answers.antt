@@ -1,4 +1,4 @@
-use Rattle.docket_core.proofs.MadeLemmas.{can_book, count_of}
+use Rattle.docket_laws.proofs.CallerLemmas.{can_book, count_of}
 use Rattle.docket_core.proofs.writes.cases.booked_in.Goals as goal
 
 pub hearing_asked-requires : goal.hearing_asked-requires

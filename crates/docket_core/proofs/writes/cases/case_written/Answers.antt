@@ -1,4 +1,4 @@
-use Rattle.docket_core.proofs.MadeLemmas.{act_written, extension_written}
+use Rattle.docket_core.proofs.SettingLemmas.{act_written, extension_written}
 use Rattle.docket_core.proofs.writes.cases.case_written.Goals as goal
 
 pub returns-then-number-case-3 : goal.returns-then-number-case-3

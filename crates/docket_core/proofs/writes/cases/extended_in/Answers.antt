@@ -1,5 +1,5 @@
 use Rattle.std.proofs.Common.{sym}
-use Rattle.docket_core.proofs.MadeLemmas.{can_extend_in}
+use Rattle.docket_laws.proofs.CallerLemmas.{can_extend_in}
 use Rattle.docket_core.proofs.writes.cases.extended_in.Goals as goal
 
 pub with_extension-requires : goal.with_extension-requires

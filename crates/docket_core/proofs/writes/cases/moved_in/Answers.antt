@@ -1,4 +1,4 @@
-use Rattle.docket_core.proofs.MadeLemmas.{can_move, count_of}
+use Rattle.docket_laws.proofs.CallerLemmas.{can_move, count_of}
 use Rattle.docket_core.proofs.writes.cases.moved_in.Goals as goal
 
 pub hearing_asked-requires : goal.hearing_asked-requires

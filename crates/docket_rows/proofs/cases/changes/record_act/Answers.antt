@@ -1,4 +1,5 @@
-use Rattle.std.proofs.Common.{◌-◌, set, sym, ap, ◌∙◌, arith}
+use Rattle.std.proofs.Common.{◌-◌, set, refl, sym, ap, ◌∙◌, arith}
+use Rattle.std.proofs.lemmas.List.{length-set}
 use Rattle.rule_periods.specs.Words.{DeadlineRowView, with_filing}
 use Rattle.docket_rows.specs.Cases.{numbered_deadlines}
 use Rattle.docket_rows.proofs.NumberedLemmas.{with_row-above, with_row-past, with_row-at}
@@ -9,13 +10,17 @@ pub returns-then-number-eq0 : goal.returns-then-number-eq0
 returns-then-number-eq0 c =
     let change = λ (row : DeadlineRowView). with_filing row c.args.filing in
     elim c.then-number-eq0.branch [
-      | then-number-eq0-via-then-number-eq0 w ↦ sym (with_row-above change c.args.rows.now.items c.args.number 1 (omega arith))
-      | then-number-eq0-via-else-number-eq0+then-len-number w ↦ sym (with_row-past change c.args.rows.now.items c.args.number 1 (omega (arith, w.len.ensures, c.args.rows.now.ok.0)))
+      | then-number-eq0-via-then-number-eq0 w ↦ record { count = refl; rows = sym (with_row-above change c.args.rows.now.items c.args.number 1 (omega arith)) }
+      | then-number-eq0-via-else-number-eq0+then-len-number w ↦ record { count = refl; rows = sym (with_row-past change c.args.rows.now.items c.args.number 1 (omega (arith, w.len.ensures, c.args.rows.now.ok.0))) }
     ]
 
 pub returns : goal.returns
 returns c =
     let change = λ (row : DeadlineRowView). with_filing row c.args.filing in
     let rows = c.args.rows.now.items in
-    ap (λ (r : DeadlineRowView). numbered_deadlines 1 (set rows (c.args.number - 1) r)) (c.set_filed.ensures ∙ ap change c.index_mut-row.ensures.value)
-    ∙ sym (with_row-at change rows c.args.number 1 (c.args.number - 1) c.index_mut-row.result.now (omega arith) (omega (arith, c.len.ensures, c.args.rows.now.ok.0)))
+    record {
+      count = length-set c.args.rows.now.items (c.args.number - 1) _;
+      rows =
+          ap (λ (r : DeadlineRowView). numbered_deadlines 1 (set rows (c.args.number - 1) r)) (c.set_filed.ensures ∙ ap change c.index_mut-row.ensures.value)
+          ∙ sym (with_row-at change rows c.args.number 1 (c.args.number - 1) c.index_mut-row.result.now (omega arith) (omega (arith, c.len.ensures, c.args.rows.now.ok.0)));
+    }

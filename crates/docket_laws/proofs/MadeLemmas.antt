@@ -1,26 +1,22 @@
 -- What holds where a command isn't refused.
-use Rattle.std.proofs.Common.{◌≡◌, ℕ, ◌<◌, ◌≤◌, ◌+◌, ℤ, Bool, true, false, not, ◌&&◌, ◌||◌, ◌==◌, is_none, nat_eq, nat_le, List, [], ◌∷◌, length, map, find, Option, Some, None, IfSome, option_map, option_and_then, Result, IfOk, refl, ap, sym, subst, ◌∙◌, arith, inl, inr, eq-eqb}
-use Rattle.std.specs.Option.{option_or}
+use Rattle.std.proofs.Common.{◌≡◌, ℕ, ◌<◌, ◌≤◌, ◌+◌, ℤ, Bool, true, false, not, ◌==◌, is_none, nat_eq, List, [], ◌∷◌, length, map, find, Option, Some, None, IfSome, option_map, option_and_then, refl, ap, sym, ◌∙◌, arith, inl, inr}
 use Rattle.std.proofs.lemmas.Bool.{cases_Bool, false≢true}
 use Rattle.std.proofs.lemmas.Bool.Decides.{nat_tests}
 use Rattle.std.proofs.lemmas.List.Elements.{All-weaker}
 use Rattle.court_days.specs.Words.{DaysView, ClockView}
 use Rattle.rule6.specs.declared.service.ServiceKind.{ServiceKind}
-use Rattle.rule6.specs.declared.timeliness.Filing.{Filing}
 use Rattle.rule_periods.specs.declared.period.Period.{Period}
 use Rattle.rule_periods.specs.declared.grant.Request.{Request}
-use Rattle.rule_periods.specs.Words.{EventView, DeadlineRowView, when, first_of, suits, has_length, start_refusal, start_checks, extension_refusal, extension_checks, is_grant_length, grant_fits, is_in_hours, with_grant, with_filing}
+use Rattle.rule_periods.specs.Words.{EventView, DeadlineRowView, when, first_of, suits, has_length, start_refusal, start_checks, extension_refusal, extension_checks, is_grant_length, grant_fits, is_in_hours}
 use Rattle.hearing_slots.specs.declared.booking.Booking.{Booking}
 use Rattle.hearing_slots.specs.declared.need.Need.{Need}
-use Rattle.hearing_slots.specs.Words.{first_conflict, conflicts, IsFree, IsConflict, IsWithinDay, shares_slot}
+use Rattle.hearing_slots.specs.Words.{first_conflict, conflicts, IsFree, IsConflict, shares_slot}
 use Rattle.hearing_slots.proofs.CallerLemmas.{find-None, test_from_SharesSlot}
-use Rattle.docket_rows.specs.declared.command.Command.{Command}
-use Rattle.docket_rows.specs.declared.command.Command.TheVariants.{FileAct, Extend}
 use Rattle.docket_rows.specs.declared.hearing.Setting.{Setting}
 use Rattle.docket_rows.specs.declared.refusal.Refusal.{Refusal}
 use Rattle.docket_rows.specs.declared.refusal.Refusal.TheVariants.{NoSuchDeadline}
-use Rattle.docket_core.specs.CanSet.{CanSet}
-use Rattle.docket_rows.specs.Words.{Bench, Parts, CaseRecordView, NumberedDeadline, booking_of, change_deadline, case_written, refusal_of, deadlines_in, deadline_in, motions_in, fits_day, sits, start_deadline_refusal, start_deadline_checks, extend_refusal, extend_checks, motion_refusal, motion_checks, hearing_checks, book_refusal, move_refusal, outage_refusal, outage_checks}
+use Rattle.docket_laws.specs.CanSet.{CanSet}
+use Rattle.docket_rows.specs.Words.{Bench, Parts, CaseRecordView, NumberedDeadline, refusal_of, deadlines_in, deadline_in, motions_in, fits_day, sits, start_deadline_refusal, start_deadline_checks, extend_refusal, extend_checks, motion_refusal, motion_checks, hearing_checks, book_refusal, move_refusal, outage_refusal, outage_checks}
 
 -- no line of the list applies
 abbrev pub NoneOf : {R : Type 0} → List (Option R) → Type 0
@@ -74,6 +70,15 @@ can_enter parts case served need h =
     let n = none_of (motion_checks parts case served need) h in
     let full = when-None _ _ n.1.1.1.0 in
     grind (arith, nat_tests)
+
+-- in the case that the parts show, where it is open
+pub can_start_in : (bench : Bench) (parts : Parts) (case : ℕ) (period : Period) (event : EventView) (second : Option ℤ) (service : Option ServiceKind) (c : CaseRecordView) → start_deadline_refusal bench parts case period event second service ≡ None → parts.case case ≡ Some c → length c.deadlines < 64
+can_start_in bench parts case period event second service c h found =
+    let made = can_start bench parts case period event second service h in
+    rw found at made.room
+
+pub can_enter_in : (parts : Parts) (case : ℕ) (served : ℤ) (need : Need) (c : CaseRecordView) → motion_refusal parts case served need ≡ None → parts.case case ≡ Some c → length c.motions < 64
+can_enter_in parts case served need c h found = rw found at (can_enter parts case served need h)
 
 -- an extension that may be granted has a length, and is of the period's kind
 pub record CanExtend (row : DeadlineRowView) (request : Request) : Type 0 where
@@ -152,22 +157,6 @@ slots_of first count h = (grind (arith, nat_tests), grind (arith, nat_tests))
 pub count_of : (first count : ℕ) → fits_day first count ≡ true → count ≤ 96
 count_of first count h = let s = slots_of first count h in omega (arith, s.0, s.1)
 
--- the booking of a hearing that can be set lies within its day
-pub booking_within : (parts : Parts) (other : ℕ) (s : Setting) (b : Booking) → CanSet parts s → b ≡ booking_of parts other s → IsWithinDay b
-booking_within parts other s b can is =
-    let slots = slots_of s.first s.count can.fits in
-    rw is (record { some_slot = slots.0; ends = slots.1 })
-
--- and its slots are free in the calendar of a judge who sits, and of its room
-pub judge_free : (parts : Parts) (other : ℕ) (s : Setting) (judge : ℕ) (b : Booking) (bookings : List Booking) (panel : List ℕ) (belongs : Bool) → CanSet parts s → b ≡ booking_of parts other s → bookings ≡ parts.judge judge → panel ≡ s.judges → belongs ≡ sits judge panel → belongs ≡ true → IsFree bookings b.day b.first b.count (Some (b.case, b.motion))
-judge_free parts other s judge b bookings panel belongs can is in_calendar named sitting h =
-    rw (is, in_calendar) (can.judges judge (ap (sits judge) (sym named) ∙ sym sitting ∙ h))
-
-pub room_free : (parts : Parts) (other : ℕ) (s : Setting) (room : ℕ) (b : Booking) (bookings : List Booking) → CanSet parts s → b ≡ booking_of parts other s → bookings ≡ parts.room room → (s.room == room) ≡ true → IsFree bookings b.day b.first b.count (Some (b.case, b.motion))
-room_free parts other s room b bookings can is in_calendar h =
-    let same : s.room ≡ room = grind (arith, nat_tests) in
-    rw (is, in_calendar) (subst (λ (r : ℕ). IsFree (parts.room r) s.day s.first s.count (Some (s.case, s.motion))) same can.room)
-
 -- the deadline of an extension that isn't refused is one of the case's
 extends : (c : DaysView) (clock : ClockView) (request : Request) (row : Option DeadlineRowView) → when (is_none row) NoSuchDeadline ≡ None → option_and_then (λ r. option_map refusal_of (extension_refusal c clock r request)) row ≡ None → (is_grant_length request.grant ≡ true) × IfSome row (λ r. grant_fits (is_in_hours r.period) request.grant ≡ true)
 extends c clock request None none h = absurd cc
@@ -181,14 +170,3 @@ can_extend_in bench parts case deadline request c h found =
     let n = none_of (extend_checks bench parts case deadline request) h in
     let all = extends parts.days bench.clock request (deadline_in parts case deadline) n.1.0 n.1.1.1.0 in
     (all.0, rw found at all.1)
-
--- what an act, and an extension, writes into its case
-pub act_written : {E : Type 0} (parts : Parts) (command : Command) (case deadline : ℕ) (filing : Filing) (number : ℕ) (r : Result (Option CaseRecordView) E) → command ≡ FileAct case deadline filing → number ≡ case → IfOk r (λ c. c ≡ option_map (change_deadline deadline (λ row. with_filing row filing)) (parts.case case)) → IfOk r (λ c. c ≡ case_written parts command number)
-act_written parts command case deadline filing number r is same written =
-    let test : (case == case) ≡ true = eq-eqb case case refl in
-    rw (is, same, test) written
-
-pub extension_written : {E : Type 0} (parts : Parts) (command : Command) (case deadline : ℕ) (request : Request) (number : ℕ) (r : Result (Option CaseRecordView) E) → command ≡ Extend case deadline request → number ≡ case → IfOk r (λ c. c ≡ option_map (change_deadline deadline (λ row. with_grant row request.grant)) (parts.case case)) → IfOk r (λ c. c ≡ case_written parts command number)
-extension_written parts command case deadline request number r is same written =
-    let test : (case == case) ≡ true = eq-eqb case case refl in
-    rw (is, same, test) written

@@ -1,0 +1,2 @@
+pub mod CanSet
+pub mod Words
