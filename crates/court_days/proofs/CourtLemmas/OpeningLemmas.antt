@@ -1,5 +1,5 @@
 -- A court's file names no outages.
-use Rattle.std.proofs.Common.{◌≡◌, ℕ, ℤ, List, [], Result, Ok, Err, refl, sym, ap, ◌∙◌, ok_or}
+use Rattle.std.proofs.Common.{◌≡◌, ℕ, List, [], Result, Ok, Err, refl, sym, ap, ◌∙◌, ok_or}
 use Rattle.court_days.specs.declared.fault.CourtFault.{CourtFault}
 use Rattle.court_days.specs.declared.fault.CourtFault.TheVariants.{BadSpan, NotToml}
 use Rattle.court_days.specs.declared.key.Key.TheVariants as key

@@ -1,16 +1,17 @@
 -- A day's text is that of its date, and it's read as that day.
-use Rattle.std.proofs.Common.{◌≡◌, ◌&&◌, ℕ, ℤ, pos, neg_ℤ, ◌≤ℤ◌, int_le, Bool, true, false, List, IsSome, IfSome, ◌↔◌, Option, Some, None, Ok, Err, arith, refl, sym, ap, ◌∙◌}
+use Rattle.std.proofs.Common.{◌≡◌, ◌&&◌, ◌<ℤ◌, ◌-ℤ◌, ◌<◌, inl, inr, ℕ, ℤ, pos, negsuc, unsigned_abs, neg_ℤ, ◌≤ℤ◌, int_le, Bool, true, false, List, IsSome, IfSome, ◌↔◌, Option, Some, None, Ok, Err, arith, refl, sym, ap, ◌∙◌}
 use Rattle.std.specs.Str.{bytes_eq}
 use Rattle.std.specs.Cmp.Lexicographic.{same_text}
 use Rattle.std.proofs.lemmas.Cmp.{nat_list_eq_equiv}
-use Rattle.std.proofs.lemmas.Bool.{false_from_ne_true}
+use Rattle.std.proofs.lemmas.Bool.{cases_Bool, false_from_ne_true}
 use Rattle.std.proofs.lemmas.Int.{ints}
-use Rattle.jiff_core.specs.Calendar.{days_from_civil, days_of_years, days_of_months}
+use Rattle.jiff_core.specs.Calendar.{day_count, days_from_civil, days_of_years, days_of_months}
 use Rattle.jiff_core.specs.Date.{epoch_day}
 use Rattle.jiff_core.specs.declared.civil.date.Date.{Date}
 use Rattle.jiff_core.specs.declared.error.Error.{Error}
+use Rattle.jiff_core.proofs.CalendarLemmas.{day_count-lt_year}
 use Rattle.jiff_core.proofs.DateLemmas.{epoch_day_injective}
-use Rattle.jiff_fmt.specs.Text.{date_text as jiff_date_text}
+use Rattle.jiff_fmt.specs.Text.{date_text as jiff_date_text, year_text, pad4}
 use Rattle.jiff_fmt.specs.Temporal.{parse_date, date_parts}
 use Rattle.jiff_fmt.proofs.RoundTrip.{parse_date-date_text}
 use Rattle.court_days.specs.Day.{IsDayNumber}
@@ -173,3 +174,27 @@ reads_none text date parsed other = by_answer (day_of_text text) (λ d found.
     let equal : bytes_eq (jiff_date_text date) text ≡ true = rw spelled (bytes_eq-refl text) in
     let clash : true ≡ false = rw (written, equal) at other in
     absurd (cc))
+
+-- a lesser count of days stays the lesser, whatever day is counted from
+still_before : (a b c : ℕ) → int_le (pos a -ℤ pos c) (pos b -ℤ pos c) ≡ true → b < a → ⊥
+still_before a b c after before =
+    let reached : (pos a -ℤ pos c) ≤ℤ (pos b -ℤ pos c) = grind (arith, ints) in
+    omega (arith, ints, reached, before)
+
+-- such a day's year has four digits
+written_year : (date : Date) → is_written_day (epoch_day date) ≡ true → pos 1900 ≤ℤ date.year
+unfolding days_from_civil
+written_year date written = elim (cases_Bool (int_le (pos 1900) date.year)) [
+  | inl after ↦ grind (arith, ints)
+  | inr before ↦
+      let earlier : date.year <ℤ pos 1900 = grind (arith, ints) in
+      let fewer = day_count-lt_year date.year date.month date.day (pos 1900) 1 1 (date.year_in, date.month_in, date.day_in) (omega arith) earlier in
+      let reached : int_le (days_from_civil (pos 1900) 1 1) (epoch_day date) ≡ true = and_first _ _ written in
+      absurd (still_before (day_count (pos 1900) 1 1) (day_count date.year date.month date.day) (day_count (pos 1970) 1 1) reached fewer)
+]
+
+pub written_digits : (date : Date) → is_written_day (epoch_day date) ≡ true → year_text date.year ≡ pad4 (unsigned_abs date.year)
+written_digits date written = four date.year (written_year date written) where
+  four : (y : ℤ) → pos 1900 ≤ℤ y → year_text y ≡ pad4 (unsigned_abs y)
+  four (pos n) after = refl
+  four (negsuc n) after = absurd (omega (arith, ints, after))

@@ -1,6 +1,6 @@
 //! The text of a day.
 
-ghost use Rattle.std.specs.Prelude.{◌≡◌, ◌↔◌, ◌&&◌, Some, IsSome, IfSome, int_le};
+ghost use Rattle.std.specs.Prelude.{◌≡◌, ◌+◌, ◌/◌, ◌%◌, ◌<◌, ◌↔◌, ◌&&◌, true, Some, IsSome, IfSome, int_le, unsigned_abs};
 ghost use Rattle.std.specs.Str.{bytes_eq};
 ghost use Rattle.jiff_core.specs.Calendar.{days_from_civil};
 ghost use Rattle.jiff_core.specs.Date.{epoch_day};
@@ -10,7 +10,6 @@ ghost use Rattle.court_days.specs.Day.Date.{day_text, day_of_text, is_written_da
 
 use crate::day::Day;
 use jiff::civil::Date;
-use jiff::fmt::temporal::DateTimePrinter;
 use std::fmt;
 
 /// 1900-01-01.
@@ -80,8 +79,50 @@ fn is_written(date: Date) -> bool
     FIRST_WRITTEN <= number && number <= LAST_WRITTEN
 }
 
+/// Whether the text has the digits of the date, which lies in those years: its year has four.
+#[tactic(auto, using(crate::proofs::DayLemmas::TextLemmas::written_digits))]
 fn is_text_of(date: Date, text: &str) -> bool
+    requires { is_written_day (epoch_day date) ≡ true }
     ensures { result ≡ bytes_eq (jiff_date_text date) text.now }
 {
-    DateTimePrinter::new().date_text(date.to_plain()).as_str() == text
+    let year = year_number(date);
+    let (century, rest) = (year / 100, year % 100);
+    let date = date.to_plain();
+    let (month, day) = (u16::from(date.month), u16::from(date.day));
+    let digits = [
+        tens(century),
+        ones(century),
+        tens(rest),
+        ones(rest),
+        b'-',
+        tens(month),
+        ones(month),
+        b'-',
+        tens(day),
+        ones(day),
+    ];
+    &digits[..] == text.as_bytes()
+}
+
+/// The number of the date's year.
+fn year_number(date: Date) -> u16
+    ensures value { result ≡ unsigned_abs date.year }
+    ensures bound { result < 10_000 }
+{
+    date.year().unsigned_abs()
+}
+
+/// The first of the two digits of a number below 100.
+fn tens(number: u16) -> u8
+    requires { number < 100 }
+    ensures { result ≡ 48 + number / 10 }
+{
+    b'0' + (number / 10) as u8
+}
+
+/// The second of its two digits.
+fn ones(number: u16) -> u8
+    ensures { result ≡ 48 + number % 10 }
+{
+    b'0' + (number % 10) as u8
 }
