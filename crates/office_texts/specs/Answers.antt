@@ -1,0 +1,22 @@
+-- The text of what a command is answered.
+use Rattle.std.specs.Prelude.{List, ℕ, true, false, ◌++◌, codes}
+use Rattle.std.specs.Fmt.{decimal}
+use Rattle.court_days.specs.Words.{ClockView}
+use Rattle.docket_rows.specs.declared.answer.Answer.{Answer}
+use Rattle.docket_rows.specs.declared.answer.Answer.TheVariants.{Opened, Started, Filed, Extended, MotionEntered, Booked, Moved, Cancelled, HolidayEntered, OutageEntered, Refused}
+use Rattle.office_texts.specs.Refusals.{refusal_text}
+use Rattle.office_texts.specs.Shown.{shown_text}
+
+unfoldable pub answer_text : ClockView → Answer → List ℕ
+answer_text clock Opened = codes "opened"
+answer_text clock (Started number end) = codes "deadline " ++ decimal number ++ codes " " ++ shown_text clock end
+answer_text clock (Filed true) = codes "filed timely"
+answer_text clock (Filed false) = codes "filed late"
+answer_text clock (Extended end) = codes "extended " ++ shown_text clock end
+answer_text clock (MotionEntered number) = codes "motion " ++ decimal number
+answer_text clock Booked = codes "booked"
+answer_text clock Moved = codes "moved"
+answer_text clock Cancelled = codes "cancelled"
+answer_text clock HolidayEntered = codes "holiday entered"
+answer_text clock OutageEntered = codes "outage entered"
+answer_text clock (Refused refusal) = codes "refused " ++ refusal_text refusal

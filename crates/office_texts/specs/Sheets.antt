@@ -1,0 +1,73 @@
+-- The lines of a docket sheet.
+use Rattle.std.specs.Prelude.{ℕ, ℤ, List, [], ◌∷◌, ◌++◌, Option, Some, None, codes}
+use Rattle.std.specs.Fmt.{decimal}
+use Rattle.std.specs.List.{flat_map}
+use Rattle.court_days.specs.Words.{ClockView, CourtView, day_text, minute_text}
+use Rattle.rule6.specs.declared.timeliness.Filing.{Filing}
+use Rattle.rule6.specs.declared.timeliness.Means.{Means}
+use Rattle.rule6.specs.declared.timeliness.Means.TheVariants.{Electronic, Paper}
+use Rattle.hearing_slots.specs.declared.need.Need.{Need}
+use Rattle.hearing_slots.specs.declared.need.Need.TheVariants as need
+use Rattle.docket_rows.specs.declared.sheet.Sheet.{Sheet}
+use Rattle.docket_rows.specs.declared.sheet.SheetDeadline.{SheetDeadline}
+use Rattle.docket_rows.specs.declared.sheet.SheetHearing.{SheetHearing}
+use Rattle.docket_rows.specs.declared.sheet.SheetMotion.{SheetMotion}
+use Rattle.docket_rows.specs.declared.sheet.State.{State}
+use Rattle.docket_rows.specs.declared.sheet.State.TheVariants.{Pending, Timely, Late, Undecided}
+use Rattle.office_texts.specs.Calendars.{name_of, slot_text, slots_text}
+use Rattle.office_texts.specs.Periods.{period_text}
+use Rattle.office_texts.specs.Shown.{shown_text}
+
+abbrev pub state_word : State → List ℕ
+state_word Pending = codes "pending"
+state_word Timely = codes "timely"
+state_word Late = codes "late"
+state_word Undecided = codes "undecided"
+
+abbrev pub means_text : Means → List ℕ
+means_text Electronic = codes "electronic"
+means_text Paper = codes "paper"
+
+-- when and how the act was done, if one is recorded
+abbrev pub act_done_text : Option Filing → List ℕ
+act_done_text None = []
+act_done_text (Some f) = codes " " ++ day_text f.day ++ codes " " ++ minute_text f.minute ++ codes " " ++ means_text f.means
+
+-- `deadline 1 12a1Ai last 2025-03-24 timely 2025-03-24 23:59 electronic`
+unfoldable pub deadline_line : ClockView → SheetDeadline → List ℕ
+deadline_line clock d =
+    codes "deadline " ++ decimal d.number ++ codes " " ++ period_text d.row.period ++ codes " " ++ shown_text clock d.shown ++ codes " " ++ state_word d.state ++ act_done_text d.row.filed ++ 10 ∷ []
+
+abbrev pub need_text : Need → List ℕ
+need_text need.ExParte = codes "exparte"
+need_text (need.Days n) = decimal n
+
+-- the names of a panel's judges, in its order, joined by `+`
+abbrev pub panel_text : (names : List (List ℕ)) → (panel : List ℕ) → List ℕ
+panel_text names [] = []
+panel_text names (j ∷ []) = name_of names j
+panel_text names (j ∷ k ∷ panel) = name_of names j ++ codes "+" ++ panel_text names (k ∷ panel)
+
+-- the last day to serve an opposing affidavit, if there is one
+abbrev pub affidavits_text : Option ℤ → List ℕ
+affidavits_text None = codes "none"
+affidavits_text (Some day) = day_text day
+
+-- `hearing 2025-09-15 10:30 2 Ames R1 notice 2025-08-29 affidavits 2025-09-08`
+unfoldable pub hearing_line : CourtView → SheetHearing → List ℕ
+hearing_line court h =
+    codes "hearing " ++ day_text h.hearing.day ++ codes " " ++ slot_text h.hearing.first ++ codes " " ++ slots_text h.hearing.count ++ codes " " ++ panel_text court.judges h.hearing.judges ++ codes " " ++ name_of court.rooms h.hearing.room ++ codes " notice " ++ day_text h.hearing.notice ++ codes " affidavits " ++ affidavits_text h.affidavits ++ 10 ∷ []
+
+abbrev pub hearing_line_if_set : CourtView → Option SheetHearing → List ℕ
+hearing_line_if_set court None = []
+hearing_line_if_set court (Some h) = hearing_line court h
+
+-- `motion 1 served 2025-08-29 need 14`, and where it has a hearing the line of it
+unfoldable pub motion_lines : CourtView → SheetMotion → List ℕ
+motion_lines court m =
+    codes "motion " ++ decimal m.number ++ codes " served " ++ day_text m.served ++ codes " need " ++ need_text m.need ++ 10 ∷ hearing_line_if_set court m.hearing
+
+-- `case 1 filed 2025-03-03`, then its deadlines, then its motions
+unfoldable pub sheet_lines : CourtView → Sheet → List ℕ
+sheet_lines court s =
+    codes "case " ++ decimal s.case ++ codes " filed " ++ day_text s.filed ++ (10 ∷ []) ++ flat_map (deadline_line court.clock) s.deadlines ++ flat_map (motion_lines court) s.motions

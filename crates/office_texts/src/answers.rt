@@ -1,0 +1,46 @@
+//! What commands are answered.
+
+ghost use Rattle.std.specs.Prelude.{◌≡◌, ◌++◌, OnOk, string_bytes};
+ghost use Rattle.office_texts.specs.Answers.{answer_text};
+
+use crate::numbers::push_number;
+use crate::refusals::push_refusal;
+use crate::shown::push_shown;
+use court_days::Clock;
+use docket_rows::Answer;
+use std::alloc::AllocError;
+
+/// Adds what a command is answered, without the end of its line. `Err` says that memory ran out.
+#[tactic(auto, unfolding(crate::specs::Answers::answer_text))]
+pub fn push_answer(text: &mut String, clock: &Clock, answer: &Answer) -> Result<(), AllocError>
+    ensures { OnOk result (string_bytes text.new ≡ string_bytes text.old ++ answer_text clock.now answer.now) }
+{
+    match answer {
+        Answer::Opened => text.push_str("opened"),
+        Answer::Started(number, shown) => {
+            text.push_str("deadline ")?;
+            push_number(text, u64::from(*number))?;
+            text.push_str(" ")?;
+            push_shown(text, clock, shown)
+        }
+        Answer::Filed(true) => text.push_str("filed timely"),
+        Answer::Filed(false) => text.push_str("filed late"),
+        Answer::Extended(shown) => {
+            text.push_str("extended ")?;
+            push_shown(text, clock, shown)
+        }
+        Answer::MotionEntered(number) => {
+            text.push_str("motion ")?;
+            push_number(text, u64::from(*number))
+        }
+        Answer::Booked => text.push_str("booked"),
+        Answer::Moved => text.push_str("moved"),
+        Answer::Cancelled => text.push_str("cancelled"),
+        Answer::HolidayEntered => text.push_str("holiday entered"),
+        Answer::OutageEntered => text.push_str("outage entered"),
+        Answer::Refused(refusal) => {
+            text.push_str("refused ")?;
+            push_refusal(text, refusal)
+        }
+    }
+}

@@ -1,0 +1,18 @@
+//! The text of answers, sheets and calendars. Each function adds to a text; where memory runs out, what was added so
+//! far stays.
+#![tactic(auto)]
+
+mod answers;
+mod calendars;
+mod numbers;
+mod periods;
+mod refusals;
+mod sheets;
+mod shown;
+mod views;
+
+pub use answers::push_answer;
+pub use calendars::push_calendar;
+pub use numbers::push_number;
+pub use sheets::push_sheet;
+pub use views::push_view;

@@ -1,0 +1,90 @@
+//! Periods, as rows name them.
+
+ghost use Rattle.std.specs.Prelude.{◌≡◌, ◌++◌, OnOk, string_bytes};
+ghost use Rattle.office_texts.specs.Periods.{act_text, direction_text, entered_text, length_text, mark_text, period_text, start_text};
+
+use crate::numbers::push_number;
+use court_days::Direction;
+use rule_periods::{Entered, Length, Mark, Period};
+use rule6::Act;
+use std::alloc::AllocError;
+
+/// Adds the code of a period that the Rules set, or the five words of one that a court enters.
+#[tactic(auto, unfolding(crate::specs::Periods::period_text))]
+pub(crate) fn push_period(text: &mut String, period: &Period) -> Result<(), AllocError>
+    ensures { OnOk result (string_bytes text.new ≡ string_bytes text.old ++ period_text period.now) }
+{
+    match period {
+        Period::Rule(rule) => text.push_str(rule.code()),
+        Period::Entered(entered) => push_entered(text, entered),
+    }
+}
+
+/// Adds the five words of a period that a court enters.
+fn push_entered(text: &mut String, entered: &Entered) -> Result<(), AllocError>
+    ensures { OnOk result (string_bytes text.new ≡ string_bytes text.old ++ entered_text entered.now) }
+{
+    push_length(text, entered.length)?;
+    text.push_str("/")?;
+    text.push_str(direction_word(entered.direction))?;
+    text.push_str("/")?;
+    text.push_str(act_word(entered.act))?;
+    text.push_str("/")?;
+    text.push_str(start_word(entered.served))?;
+    text.push_str("/")?;
+    text.push_str(mark_word(entered.mark))
+}
+
+fn push_length(text: &mut String, length: Length) -> Result<(), AllocError>
+    ensures { OnOk result (string_bytes text.new ≡ string_bytes text.old ++ length_text length) }
+{
+    match length {
+        Length::Days(days) => {
+            push_number(text, u64::from(days))?;
+            text.push_str("d")
+        }
+        Length::Hours(hours) => {
+            push_number(text, u64::from(hours))?;
+            text.push_str("h")
+        }
+    }
+}
+
+fn direction_word(direction: Direction) -> &'static str
+    ensures { result.now ≡ direction_text direction }
+{
+    match direction {
+        Direction::After => "after",
+        Direction::Before => "before",
+    }
+}
+
+fn act_word(act: Act) -> &'static str
+    ensures { result.now ≡ act_text act }
+{
+    match act {
+        Act::Filing => "filing",
+        Act::Service => "service",
+    }
+}
+
+fn start_word(served: bool) -> &'static str
+    ensures { result.now ≡ start_text served }
+{
+    if served { "served" } else { "event" }
+}
+
+fn mark_word(mark: Mark) -> &'static str
+    ensures { result.now ≡ mark_text mark }
+{
+    match mark {
+        Mark::Plain => "plain",
+        Mark::Rule50b => "50b",
+        Mark::Rule50d => "50d",
+        Mark::Rule52b => "52b",
+        Mark::Rule59b => "59b",
+        Mark::Rule59d => "59d",
+        Mark::Rule59e => "59e",
+        Mark::Rule60b => "60b",
+    }
+}

@@ -1,0 +1,56 @@
+//! The lines of a docket sheet.
+mod deadlines;
+mod motions;
+
+ghost use Rattle.std.specs.Prelude.{◌≡◌, ◌++◌, OnOk, string_bytes};
+ghost use Rattle.std.specs.List.{flat_map};
+ghost use Rattle.office_texts.specs.Sheets.{deadline_line, motion_lines, sheet_lines};
+
+use crate::numbers::push_number;
+use court_days::{Clock, Court};
+use deadlines::push_deadline;
+use docket_rows::{Sheet, SheetDeadline, SheetMotion};
+use motions::push_motion;
+use std::alloc::AllocError;
+use std::fmt::Write;
+
+/// Adds the lines of a sheet: its case, then its deadlines, then its motions. `Err` says that memory ran out.
+#[tactic(auto, unfolding(crate::specs::Sheets::sheet_lines))]
+pub fn push_sheet(text: &mut String, court: &Court, sheet: &Sheet) -> Result<(), AllocError>
+    ensures { OnOk result (string_bytes text.new ≡ string_bytes text.old ++ sheet_lines court.now sheet.now) }
+{
+    let filed = sheet.filed;
+    text.push_str("case ")?;
+    push_number(text, u64::from(sheet.case))?;
+    write!(text, " filed {filed}\n")?;
+    push_deadlines(text, court.clock(), sheet.deadlines.as_slice())?;
+    push_motions(text, court, sheet.motions.as_slice())
+}
+
+/// Adds a line for each deadline.
+fn push_deadlines(
+    text: &mut String,
+    clock: &Clock,
+    deadlines: &[SheetDeadline],
+) -> Result<(), AllocError>
+    ensures { OnOk result (string_bytes text.new ≡ string_bytes text.old ++ flat_map (deadline_line clock.now) deadlines.now) }
+{
+    for deadline in deadlines {
+        push_deadline(text, clock, deadline)?;
+    }
+    Ok(())
+}
+
+/// Adds the lines of each motion.
+fn push_motions(
+    text: &mut String,
+    court: &Court,
+    motions: &[SheetMotion],
+) -> Result<(), AllocError>
+    ensures { OnOk result (string_bytes text.new ≡ string_bytes text.old ++ flat_map (motion_lines court.now) motions.now) }
+{
+    for motion in motions {
+        push_motion(text, court, motion)?;
+    }
+    Ok(())
+}

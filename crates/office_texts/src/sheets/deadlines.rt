@@ -1,0 +1,72 @@
+//! A deadline of a sheet.
+
+ghost use Rattle.std.specs.Prelude.{◌≡◌, ◌++◌, ◌<◌, OnOk, IfSome, string_bytes};
+ghost use Rattle.office_texts.specs.Sheets.{act_done_text, deadline_line, means_text, state_word};
+
+use crate::numbers::{push_minute, push_number};
+use crate::periods::push_period;
+use crate::shown::push_shown;
+use court_days::Clock;
+use docket_rows::{SheetDeadline, State};
+use rule6::{Filing, Means};
+use std::alloc::AllocError;
+use std::fmt::Write;
+
+/// Adds the line of a deadline: its number, its period, when its time ends, and whether it was met.
+#[tactic(auto, unfolding(crate::specs::Sheets::deadline_line))]
+pub(super) fn push_deadline(
+    text: &mut String,
+    clock: &Clock,
+    deadline: &SheetDeadline,
+) -> Result<(), AllocError>
+    ensures { OnOk result (string_bytes text.new ≡ string_bytes text.old ++ deadline_line clock.now deadline.now) }
+{
+    text.push_str("deadline ")?;
+    push_number(text, u64::from(deadline.number))?;
+    text.push_str(" ")?;
+    let period = deadline.row.period();
+    push_period(text, &period)?;
+    text.push_str(" ")?;
+    push_shown(text, clock, &deadline.shown)?;
+    text.push_str(" ")?;
+    text.push_str(state_word(deadline.state))?;
+    push_act_done(text, deadline.row.filed())?;
+    text.push_str("\n")
+}
+
+/// Whether the deadline was met.
+fn state_word(state: State) -> &'static str
+    ensures { result.now ≡ state_word state }
+{
+    match state {
+        State::Pending => "pending",
+        State::Timely => "timely",
+        State::Late => "late",
+        State::Undecided => "undecided",
+    }
+}
+
+/// Adds when and how the act was done, if one is recorded.
+fn push_act_done(text: &mut String, filed: Option<Filing>) -> Result<(), AllocError>
+    requires { IfSome filed (λ f. f.minute < 1440) }
+    ensures { OnOk result (string_bytes text.new ≡ string_bytes text.old ++ act_done_text filed) }
+{
+    match filed {
+        None => Ok(()),
+        Some(Filing { day, minute, means }) => {
+            write!(text, " {day} ")?;
+            push_minute(text, minute)?;
+            text.push_str(" ")?;
+            text.push_str(means_word(means))
+        }
+    }
+}
+
+fn means_word(means: Means) -> &'static str
+    ensures { result.now ≡ means_text means }
+{
+    match means {
+        Means::Electronic => "electronic",
+        Means::Paper => "paper",
+    }
+}

@@ -1,0 +1,99 @@
+//! A motion of a sheet, and its hearing.
+
+ghost use Rattle.std.specs.Prelude.{◌≡◌, ◌++◌, OnOk, string_bytes};
+ghost use Rattle.office_texts.specs.Sheets.{affidavits_text, hearing_line, hearing_line_if_set, motion_lines, need_text, panel_text};
+
+use crate::calendars::{judge_name, push_slot, push_slots, room_name};
+use crate::numbers::push_number;
+use court_days::{Court, Day};
+use docket_rows::{SheetHearing, SheetMotion};
+use hearing_slots::Need;
+use std::alloc::AllocError;
+use std::fmt::Write;
+
+/// Adds the line of a motion, and that of its hearing, if one is set.
+#[tactic(auto, unfolding(crate::specs::Sheets::motion_lines))]
+pub(super) fn push_motion(
+    text: &mut String,
+    court: &Court,
+    motion: &SheetMotion,
+) -> Result<(), AllocError>
+    ensures { OnOk result (string_bytes text.new ≡ string_bytes text.old ++ motion_lines court.now motion.now) }
+{
+    let served = motion.served;
+    text.push_str("motion ")?;
+    push_number(text, u64::from(motion.number))?;
+    write!(text, " served {served} need ")?;
+    push_need(text, motion.need)?;
+    text.push_str("\n")?;
+    push_hearing_if_set(text, court, motion.hearing)
+}
+
+/// Adds what notice a motion needs.
+fn push_need(text: &mut String, need: Need) -> Result<(), AllocError>
+    ensures { OnOk result (string_bytes text.new ≡ string_bytes text.old ++ need_text need) }
+{
+    match need {
+        Need::ExParte => text.push_str("exparte"),
+        Need::Days(days) => push_number(text, u64::from(days)),
+    }
+}
+
+fn push_hearing_if_set(
+    text: &mut String,
+    court: &Court,
+    hearing: Option<SheetHearing>,
+) -> Result<(), AllocError>
+    ensures { OnOk result (string_bytes text.new ≡ string_bytes text.old ++ hearing_line_if_set court.now hearing) }
+{
+    match hearing {
+        None => Ok(()),
+        Some(hearing) => push_hearing(text, court, &hearing),
+    }
+}
+
+/// Adds the line of a hearing.
+#[tactic(auto, unfolding(crate::specs::Sheets::hearing_line))]
+fn push_hearing(text: &mut String, court: &Court, sheet: &SheetHearing) -> Result<(), AllocError>
+    ensures { OnOk result (string_bytes text.new ≡ string_bytes text.old ++ hearing_line court.now sheet.now) }
+{
+    let hearing = sheet.hearing;
+    let day = hearing.day;
+    let notice = hearing.notice;
+    write!(text, "hearing {day} ")?;
+    push_slot(text, hearing.first)?;
+    text.push_str(" ")?;
+    push_slots(text, hearing.count)?;
+    text.push_str(" ")?;
+    push_panel(text, court, hearing.judges.judges())?;
+    text.push_str(" ")?;
+    text.push_str(room_name(court, hearing.room))?;
+    write!(text, " notice {notice} affidavits ")?;
+    push_affidavits(text, sheet.affidavits)?;
+    text.push_str("\n")
+}
+
+/// Adds the names of a panel's judges, in its order, joined by `+`.
+fn push_panel(text: &mut String, court: &Court, panel: &[u8]) -> Result<(), AllocError>
+    ensures { OnOk result (string_bytes text.new ≡ string_bytes text.old ++ panel_text court.now.judges panel.now) }
+{
+    match panel {
+        [] => Ok(()),
+        [judge] => text.push_str(judge_name(court, *judge)),
+        [judge, rest @ ..] => {
+            text.push_str(judge_name(court, *judge))?;
+            text.push_str("+")?;
+            push_panel(text, court, rest)
+        }
+    }
+}
+
+/// Adds the last day to serve an opposing affidavit (Fed. R. Civ. P. 6(c)(2)), or `none`.
+fn push_affidavits(text: &mut String, day: Option<Day>) -> Result<(), AllocError>
+    ensures { OnOk result (string_bytes text.new ≡ string_bytes text.old ++ affidavits_text day) }
+{
+    match day {
+        None => text.push_str("none"),
+        Some(day) => write!(text, "{day}"),
+    }
+}
