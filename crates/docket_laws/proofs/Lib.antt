@@ -1,2 +1,7 @@
 pub mod CallerLemmas
 pub mod MadeLemmas
+pub mod PartsCases
+pub mod PartsDeadlines
+pub mod PartsLists
+pub mod PartsMotions
+pub mod PartsSeen
