@@ -1,5 +1,6 @@
 pub mod CallerLemmas
 pub mod MadeLemmas
+pub mod PartsAfter
 pub mod PartsCases
 pub mod PartsDeadlines
 pub mod PartsHearings

@@ -1,10 +1,10 @@
 -- The cases of the parts after a case is opened.
-use Rattle.std.proofs.Common.{◌≡◌, ℕ, ℤ, Bool, true, false, ◌==◌, List, [], ◌∷◌, ◌++◌, length, get_or, map, find, filter, All, Option, Some, None, IsSome, option_map, if◌then◌else◌, refl, ap, sym, ◌∙◌, arith, inl, inr, subst}
+use Rattle.std.proofs.Common.{◌≡◌, ℕ, ℤ, true, false, ◌==◌, List, [], ◌∷◌, ◌++◌, get_or, find, filter, All, Option, Some, None, IsSome, option_map, if◌then◌else◌, refl, ap, sym, inl, inr, subst}
 use Rattle.std.specs.Option.{option_or}
 use Rattle.std.proofs.lemmas.Bool.{cases_Bool, cases_eq, false≢true, eqb-true, eq-eqb, ne_eqb}
 use Rattle.hearing_slots.proofs.CallerLemmas.{filter_none, find_here, find-Some, find-None}
 use Rattle.docket_rows.specs.declared.command.Command.TheVariants.{OpenCase}
-use Rattle.docket_rows.specs.Words.{Bench, Rows, Parts, DocketedCase, DocketedDeadline, DocketedMotion, CaseRecordView, AreSound, is_case, is_deadline_in, is_motion_in, deadline_shown, motion_shown, case_shown, parts_of, case_written, rows_after}
+use Rattle.docket_rows.specs.Words.{Bench, Rows, DocketedCase, CaseRecordView, AreSound, is_case, is_deadline_in, is_motion_in, case_shown, parts_of, case_written, rows_after}
 use Rattle.docket_laws.proofs.PartsLists.{find-push_other}
 
 -- what is written into one case, where the others stay

@@ -1,5 +1,5 @@
 -- The cases of the parts after a deadline is started, met or extended.
-use Rattle.std.proofs.Common.{◌≡◌, ℕ, ℤ, ◌+◌, Bool, true, false, ◌==◌, ◌&&◌, List, [], ◌∷◌, ◌++◌, length, map, find, filter, Option, Some, None, option_map, if◌then◌else◌, refl, ap, sym, ◌∙◌, inl, inr}
+use Rattle.std.proofs.Common.{◌≡◌, ℕ, ℤ, ◌+◌, true, false, ◌==◌, ◌&&◌, List, [], ◌∷◌, ◌++◌, length, map, find, filter, Option, None, option_map, if◌then◌else◌, refl, ap, sym, ◌∙◌, inl, inr}
 use Rattle.std.specs.Option.{option_or}
 use Rattle.std.proofs.lemmas.Bool.{cases_Bool, eqb-true, eq-eqb, ne_eqb}
 use Rattle.rule6.specs.declared.service.ServiceKind.{ServiceKind}
@@ -8,7 +8,7 @@ use Rattle.rule_periods.specs.declared.period.Period.{Period}
 use Rattle.rule_periods.specs.declared.grant.Request.{Request}
 use Rattle.rule_periods.specs.Words.{DeadlineRowView, EventView, with_grant, with_filing}
 use Rattle.docket_rows.specs.declared.command.Command.TheVariants.{Start, FileAct, Extend}
-use Rattle.docket_rows.specs.Words.{Rows, Parts, DocketedCase, DocketedDeadline, NumberedDeadline, CaseRecordView, is_case, is_deadline_in, deadline_shown, case_shown, parts_of, next_deadline, started, add_deadline, change_deadline, with_deadline, with_changed, case_written, rows_after}
+use Rattle.docket_rows.specs.Words.{Rows, DocketedDeadline, NumberedDeadline, is_case, is_deadline_in, deadline_shown, case_shown, parts_of, next_deadline, started, add_deadline, change_deadline, with_deadline, with_changed, case_written, rows_after}
 use Rattle.docket_laws.proofs.PartsLists.{map-map, map_changed, filter-push_other, map_filter-push}
 use Rattle.docket_laws.proofs.PartsCases.{written_at, number_found, shown_same, shown_changed}
 

@@ -1,21 +1,21 @@
 -- The parts after a hearing is set, moved or taken out.
-use Rattle.std.proofs.Common.{◌≡◌, ℕ, ℤ, Bool, true, false, not, ◌==◌, ◌&&◌, List, [], ◌∷◌, ◌++◌, length, map, find, filter, All, AllPairs, get_or, zero, suc, Option, Some, None, option_map, if◌then◌else◌, refl, ap, sym, ◌∙◌, arith, inl, inr}
+use Rattle.std.proofs.Common.{◌≡◌, ℕ, ℤ, Bool, true, false, not, ◌==◌, List, [], ◌∷◌, ◌++◌, map, find, filter, All, AllPairs, get_or, suc, Option, Some, None, option_map, if◌then◌else◌, refl, ap, sym, ◌∙◌, arith, inl, inr}
 use Rattle.std.specs.Option.{option_or, option_map_or, unwrap_or}
-use Rattle.std.proofs.lemmas.Bool.{cases_Bool, cases_eq, false≢true, eqb-true, eq-eqb, ne_eqb, and_parts, and_from, not_from_false, not-true, false_from_ne_true}
+use Rattle.std.proofs.lemmas.Bool.{cases_Bool, cases_eq, eqb-true, eq-eqb, ne_eqb, and_parts, and_from, not_from_false, not-true, false_from_ne_true}
 use Rattle.std.proofs.lemmas.List.Elements.{filter_passes}
 use Rattle.hearing_slots.specs.declared.booking.Booking.{Booking}
 use Rattle.hearing_slots.specs.declared.need.Need.{Need}
 use Rattle.hearing_slots.specs.declared.need.Need.TheVariants.{ExParte}
-use Rattle.hearing_slots.specs.Words.{in_order, is_of, without_motion, with_booking}
-use Rattle.hearing_slots.proofs.CallerLemmas.{filter_all, filter_comm, filter_kept, find_absent, find_here, find-filter, without_motion-in_order, with_booking-in_order}
+use Rattle.hearing_slots.specs.Words.{in_order, is_of, without_motion}
+use Rattle.hearing_slots.proofs.CallerLemmas.{filter_all, filter_comm, find_absent, find_here, find-filter, without_motion-in_order, with_booking-in_order}
 use Rattle.court_days.specs.Words.{later_day}
 use Rattle.docket_rows.specs.declared.hearing.Hearing.{Hearing}
 use Rattle.docket_rows.specs.declared.hearing.Setting.{Setting}
-use Rattle.docket_rows.specs.declared.command.Command.TheVariants.{Book, MoveHearing, Cancel}
-use Rattle.docket_rows.specs.Words.{Bench, Rows, Parts, DocketedCase, DocketedMotion, DocketedHearing, NumberedMotion, CaseRecordView, AreSound, is_case, is_motion_in, is_motion, is_hearing, hearing_of, motion_shown, case_shown, booked, parts_of, has_one, motion_in, hearing_in, hearing_asked, set_hearing, without_hearing, with_hearing, booking_of, rebooked, case_written, rows_after}
-use Rattle.docket_laws.proofs.PartsLists.{map-map, map_agree-kept, filter-map, filter-push, filter-push_other, map_filter-push, find-push_other}
+use Rattle.docket_rows.specs.declared.command.Command.TheVariants.{MoveHearing, Cancel}
+use Rattle.docket_rows.specs.Words.{Bench, Rows, DocketedMotion, DocketedHearing, NumberedMotion, AreSound, is_case, is_motion_in, is_motion, is_hearing, hearing_of, motion_shown, case_shown, booked, parts_of, has_one, hearing_asked, set_hearing, without_hearing, with_hearing, booking_of, rebooked, case_written, rows_after}
+use Rattle.docket_laws.proofs.PartsLists.{map-map, map_agree-kept, filter-map, filter-push_other, map_filter-push, find-push_other}
 use Rattle.docket_laws.proofs.PartsCases.{written_at, number_found, shown_same, shown_changed}
-use Rattle.docket_laws.proofs.PartsSeen.{motion_seen, hearing_seen}
+use Rattle.docket_laws.proofs.PartsSeen.{motion_seen}
 
 -- the bookings of the hearings that pass a test, beside the number of their room, or of their first judge
 abbrev pub calendar : Rows → (other : Hearing → ℕ) → (test : Hearing → Bool) → List Booking
@@ -62,14 +62,14 @@ module _ (case motion : ℕ) where
       ap (λ hs. in_order (map (λ h. booked rows (other h.hearing) h) hs)) (none_taken test rows.hearings once fails)
 
 -- a calendar after the hearing of a motion is taken out
-calendar_cancelled : (rows : Rows) (case motion : ℕ) (other : Hearing → ℕ) (test : Hearing → Bool) → AllPairs (λ (a b : DocketedHearing). is_hearing a.case a.motion b ≡ false) rows.hearings → calendar (without_hearing case motion rows) other test ≡ unwrap_or (if has_one test (hearing_of rows case motion) then Some (without_motion case motion (calendar rows other test)) else None) (calendar rows other test)
+pub calendar_cancelled : (rows : Rows) (case motion : ℕ) (other : Hearing → ℕ) (test : Hearing → Bool) → AllPairs (λ (a b : DocketedHearing). is_hearing a.case a.motion b ≡ false) rows.hearings → calendar (without_hearing case motion rows) other test ≡ unwrap_or (if has_one test (hearing_of rows case motion) then Some (without_motion case motion (calendar rows other test)) else None) (calendar rows other test)
 calendar_cancelled rows case motion other test once = elim (cases_Bool (has_one test (hearing_of rows case motion))) [
   | inl stood ↦ rw stood (sym (without_calendar case motion rows other test))
   | inr elsewhere ↦ rw elsewhere (untouched case motion rows other test once elsewhere)
 ]
 
 -- a calendar after the hearing of a motion is put elsewhere
-calendar_moved : (rows : Rows) (s : Setting) (other : Hearing → ℕ) (test : Hearing → Bool) → AllPairs (λ (a b : DocketedHearing). is_hearing a.case a.motion b ≡ false) rows.hearings → calendar (with_hearing s (without_hearing s.case s.motion rows)) other test ≡ unwrap_or (rebooked (test (hearing_asked s)) (has_one test (hearing_of rows s.case s.motion)) (booked rows (other (hearing_asked s)) (record { case = s.case; motion = s.motion; hearing = hearing_asked s })) (calendar rows other test)) (calendar rows other test)
+pub calendar_moved : (rows : Rows) (s : Setting) (other : Hearing → ℕ) (test : Hearing → Bool) → AllPairs (λ (a b : DocketedHearing). is_hearing a.case a.motion b ≡ false) rows.hearings → calendar (with_hearing s (without_hearing s.case s.motion rows)) other test ≡ unwrap_or (rebooked (test (hearing_asked s)) (has_one test (hearing_of rows s.case s.motion)) (booked rows (other (hearing_asked s)) (record { case = s.case; motion = s.motion; hearing = hearing_asked s })) (calendar rows other test)) (calendar rows other test)
 calendar_moved rows s other test once =
     let new : DocketedHearing = record { case = s.case; motion = s.motion; hearing = hearing_asked s } in
     let show = λ (h : DocketedHearing). booked rows (other h.hearing) h in

@@ -1,5 +1,5 @@
 -- Lists of which some elements are kept, and shown.
-use Rattle.std.proofs.Common.{◌≡◌, ℕ, Bool, true, false, List, [], ◌∷◌, ◌++◌, length, get_or, map, find, filter, All, Option, Some, None, IsSome, refl, ap, sym, ◌∙◌, arith, inl, inr}
+use Rattle.std.proofs.Common.{◌≡◌, Bool, true, false, List, [], ◌∷◌, ◌++◌, get_or, map, find, filter, All, Option, Some, None, IsSome, refl, ap, ◌∙◌, inl, inr}
 use Rattle.std.specs.Option.{option_or}
 use Rattle.std.proofs.lemmas.Bool.{cases_Bool, false≢true}
 use Rattle.std.proofs.lemmas.List.{append-nil, map-append}

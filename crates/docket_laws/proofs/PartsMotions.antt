@@ -1,14 +1,13 @@
 -- The parts after a motion is entered.
-use Rattle.std.proofs.Common.{◌≡◌, ℕ, ℤ, ◌+◌, Bool, true, false, ◌==◌, ◌&&◌, List, [], ◌∷◌, ◌++◌, length, map, find, filter, All, get_or, Option, Some, None, option_map, if◌then◌else◌, refl, ap, sym, ◌∙◌, inl, inr}
+use Rattle.std.proofs.Common.{◌≡◌, ℕ, ℤ, ◌+◌, Bool, true, false, ◌==◌, List, [], ◌∷◌, ◌++◌, length, map, find, filter, get_or, Option, None, option_map, refl, ap, sym, ◌∙◌}
 use Rattle.std.specs.Option.{option_or}
 use Rattle.std.proofs.lemmas.Bool.{eq-eqb, ne_eqb}
 use Rattle.std.proofs.lemmas.List.{length-map}
-use Rattle.hearing_slots.specs.declared.booking.Booking.{Booking}
 use Rattle.hearing_slots.specs.declared.need.Need.{Need}
 use Rattle.hearing_slots.specs.Words.{in_order}
 use Rattle.docket_rows.specs.declared.hearing.Hearing.{Hearing}
 use Rattle.docket_rows.specs.declared.command.Command.TheVariants.{Motion}
-use Rattle.docket_rows.specs.Words.{Bench, Rows, Parts, DocketedCase, DocketedMotion, DocketedHearing, NumberedMotion, CaseRecordView, AreSound, is_case, is_motion_in, is_motion, hearing_of, motion_shown, case_shown, booked, parts_of, next_motion, add_motion, case_written, rows_after}
+use Rattle.docket_rows.specs.Words.{Bench, Rows, DocketedMotion, DocketedHearing, NumberedMotion, CaseRecordView, AreSound, is_case, is_motion_in, is_motion, hearing_of, motion_shown, case_shown, booked, parts_of, next_motion, add_motion, case_written, rows_after}
 use Rattle.docket_laws.proofs.PartsLists.{map_agree-kept, filter-push_other, map_filter-push, find-push_found}
 use Rattle.docket_laws.proofs.PartsCases.{written_at, number_found, shown_same, shown_changed}
 use Rattle.docket_laws.proofs.PartsSeen.{unset, none_next}

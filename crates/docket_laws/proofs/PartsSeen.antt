@@ -1,13 +1,12 @@
 -- The motions and hearings that the parts of the rows show.
-use Rattle.std.proofs.Common.{◌≡◌, ℕ, ◌+◌, ◌<◌, Bool, true, false, ◌==◌, ◌&&◌, List, [], ◌∷◌, length, get_or, map, find, filter, All, Option, Some, None, IsSome, option_map, option_and_then, refl, ap, sym, ◌∙◌, arith, inl, inr, subst}
+use Rattle.std.proofs.Common.{◌≡◌, ℕ, ◌+◌, ◌<◌, true, false, ◌==◌, List, [], ◌∷◌, length, get_or, map, find, filter, All, Option, Some, None, IsSome, option_map, option_and_then, refl, ap, sym, ◌∙◌, arith, inl, inr}
 use Rattle.std.specs.List.{range_with_len}
 use Rattle.std.specs.Option.{option_map_or}
 use Rattle.std.proofs.lemmas.Bool.{cases_Bool, false≢true, eqb-true, ne_eqb, and_parts, and_right, false_from_ne_true}
-use Rattle.std.proofs.lemmas.List.{get_or-map, length-map}
+use Rattle.std.proofs.lemmas.List.{get_or-map}
 use Rattle.std.proofs.lemmas.List.FromFn.{get_or-range_with_len}
 use Rattle.hearing_slots.proofs.CallerLemmas.{find_absent, find-Some, find-filter}
-use Rattle.docket_rows.specs.declared.hearing.Hearing.{Hearing}
-use Rattle.docket_rows.specs.Words.{Bench, Rows, Parts, DocketedCase, DocketedMotion, DocketedHearing, NumberedMotion, CaseRecordView, AreSound, is_case, is_motion_in, is_motion, is_hearing, hearing_of, motion_shown, case_shown, parts_of, motions_in, motion_in, hearing_in}
+use Rattle.docket_rows.specs.Words.{Bench, Rows, DocketedCase, DocketedMotion, DocketedHearing, NumberedMotion, CaseRecordView, AreSound, is_case, is_motion_in, is_motion, is_hearing, hearing_of, motion_shown, case_shown, parts_of, motion_in, hearing_in}
 use Rattle.docket_laws.proofs.PartsCases.{number_found, none_of_case}
 
 -- the motion of a number, of those that a case shows
