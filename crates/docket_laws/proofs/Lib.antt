@@ -6,4 +6,5 @@ pub mod PartsDeadlines
 pub mod PartsHearings
 pub mod PartsLists
 pub mod PartsMotions
+pub mod PartsSame
 pub mod PartsSeen

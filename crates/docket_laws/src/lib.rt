@@ -5,4 +5,4 @@ mod opening;
 mod parts;
 
 pub use opening::nothing_is_docketed;
-pub use parts::parts_stand_for_rows_after;
+pub use parts::{commands_rest_on_parts, parts_stand_for_rows_after, queries_rest_on_parts};
