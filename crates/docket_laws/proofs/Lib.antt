@@ -1,6 +1,7 @@
 pub mod CallerLemmas
 pub mod MadeLemmas
 pub mod PartsAfter
+pub mod PartsCalendars
 pub mod PartsCases
 pub mod PartsDeadlines
 pub mod PartsHearings

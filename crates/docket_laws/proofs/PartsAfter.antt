@@ -13,9 +13,10 @@ use Rattle.docket_rows.specs.declared.part.PartId.TheVariants.{Court, Judge, Roo
 use Rattle.docket_rows.specs.declared.part.PartValue.TheVariants as value
 use Rattle.docket_rows.specs.Words.{Bench, Rows, Parts, DocketedHearing, CaseRecordView, AreSound, is_hearing, hearing_of, parts_of, part_value, sits, first_judge, hearing_asked, hearing_in, open_case_checks, open_case_refusal, book_checks, book_refusal, refusal, rows_after, changed}
 use Rattle.docket_laws.proofs.MadeLemmas.{none_of, when-None, option_map-None}
+use Rattle.docket_laws.proofs.PartsCalendars.{calendar_cancelled, calendar_moved, booking_seen}
 use Rattle.docket_laws.proofs.PartsCases.{case_after_opening}
 use Rattle.docket_laws.proofs.PartsDeadlines.{case_after_start, case_after_act, case_after_grant}
-use Rattle.docket_laws.proofs.PartsHearings.{calendar_cancelled, calendar_moved, booking_seen, case_after_cancel, case_after_move}
+use Rattle.docket_laws.proofs.PartsHearings.{case_after_cancel, case_after_move}
 use Rattle.docket_laws.proofs.PartsMotions.{case_after_motion, calendar_after_motion}
 use Rattle.docket_laws.proofs.PartsSeen.{hearing_seen}
 
@@ -50,6 +51,19 @@ may_book bench parts s h =
     let n = none_of (book_checks bench parts s) h in
     nothing_found _ (when-None _ _ n.1.1.1.1.1.1.1.0)
 
+-- to book is to move the hearing of a motion that has none
+booked_as_moved : (rows : Rows) (s : Setting) → hearing_of rows s.case s.motion ≡ None → rows_after rows (Book s) ≡ rows_after rows (MoveHearing s)
+booked_as_moved rows s none =
+    let absent = find-None (is_hearing s.case s.motion) rows.hearings (option_map-None _ _ none) in
+    let all = filter_all (λ h. not (is_hearing s.case s.motion h)) rows.hearings (λ k d within. not_from_false _ (absent k d within)) in
+    ap (λ (hs : List DocketedHearing). record rows { hearings = hs ++ record { case = s.case; motion = s.motion; hearing = hearing_asked s } ∷ [] }) (sym all)
+
+written_as_moved : (parts : Parts) (s : Setting) → hearing_in parts s.case s.motion ≡ None → (part : PartId) → changed parts (Book s) part ≡ changed parts (MoveHearing s) part
+written_as_moved parts s none Court = refl
+written_as_moved parts s none (Judge judge) = rw none refl
+written_as_moved parts s none (Room room) = rw none refl
+written_as_moved parts s none (Case n) = refl
+
 module _ (bench : Bench) (rows : Rows) (sound : AreSound bench rows) where
   after_opening : (case : ℕ) (filed : ℤ) → open_case_refusal (parts_of rows) case filed ≡ None → (part : PartId) → IsAfter rows (OpenCase case filed) part
   unfolding parts_of
@@ -83,23 +97,10 @@ module _ (bench : Bench) (rows : Rows) (sound : AreSound bench rows) where
       calendar_value _ _ _ (rw (hearing_seen bench rows sound s.case s.motion, booking_seen bench rows sound (first_judge s.judges) s) (calendar_moved rows s (λ h. first_judge h.judges) (λ h. h.room == room) sound.hearing_once))
   after_move s (Case n) = case_value _ _ _ (case_after_move rows s n)
 
-  -- to book is to move the hearing of a motion that has none
-  booked_as_moved : (s : Setting) → hearing_of rows s.case s.motion ≡ None → rows_after rows (Book s) ≡ rows_after rows (MoveHearing s)
-  booked_as_moved s none =
-      let absent = find-None (is_hearing s.case s.motion) rows.hearings (option_map-None _ _ none) in
-      let all = filter_all (λ h. not (is_hearing s.case s.motion h)) rows.hearings (λ k d within. not_from_false _ (absent k d within)) in
-      ap (λ (hs : List DocketedHearing). record rows { hearings = hs ++ record { case = s.case; motion = s.motion; hearing = hearing_asked s } ∷ [] }) (sym all)
-
-  written_as_moved : (parts : Parts) (s : Setting) → hearing_in parts s.case s.motion ≡ None → (part : PartId) → changed parts (Book s) part ≡ changed parts (MoveHearing s) part
-  written_as_moved parts s none Court = refl
-  written_as_moved parts s none (Judge judge) = rw none refl
-  written_as_moved parts s none (Room room) = rw none refl
-  written_as_moved parts s none (Case n) = refl
-
   after_booking : (s : Setting) → book_refusal bench (parts_of rows) s ≡ None → (part : PartId) → IsAfter rows (Book s) part
   after_booking s h part =
       let none = may_book bench (parts_of rows) s h in
-      rw (booked_as_moved s (sym (hearing_seen bench rows sound s.case s.motion) ∙ none), written_as_moved (parts_of rows) s none part) (after_move s part)
+      rw (booked_as_moved rows s (sym (hearing_seen bench rows sound s.case s.motion) ∙ none), written_as_moved (parts_of rows) s none part) (after_move s part)
 
 -- the whole
 pub parts_after : (bench : Bench) (rows : Rows) (command : Command) → AreSound bench rows → refusal bench (parts_of rows) command ≡ None → (part : PartId) → part_value (parts_of (rows_after rows command)) part ≡ unwrap_or (changed (parts_of rows) command part) (part_value (parts_of rows) part)
