@@ -1,2 +1,11 @@
 pub mod CallerLemmas
 pub mod MadeLemmas
+pub mod PartsAfter
+pub mod PartsCalendars
+pub mod PartsCases
+pub mod PartsDeadlines
+pub mod PartsHearings
+pub mod PartsLists
+pub mod PartsMotions
+pub mod PartsSame
+pub mod PartsSeen

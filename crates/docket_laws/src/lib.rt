@@ -2,5 +2,7 @@
 #![tactic(auto)]
 
 mod opening;
+mod parts;
 
 pub use opening::nothing_is_docketed;
+pub use parts::{commands_rest_on_parts, parts_stand_for_rows_after, queries_rest_on_parts};
