@@ -2,3 +2,11 @@
 pub mod ListLemmas
 pub mod NumberLemmas
 pub mod SeenLemmas
+pub mod CaseLemmas
+pub mod DeadlineLemmas
+pub mod MotionLemmas
+pub mod NoticeLemmas
+pub mod CalendarLemmas
+pub mod HearingLemmas
+pub mod HolidayLemmas
+pub mod StepLemmas

@@ -1,11 +1,10 @@
 -- What holds of the elements of a list that is made from another one, and what is found in it.
-use Rattle.std.proofs.Common.{◌≡◌, ℕ, zero, suc, ◌+◌, ◌<◌, ◌≤◌, Bool, true, false, not, ◌&&◌, List, [], ◌∷◌, ◌++◌, length, get_or, map, filter, find, flat_map, Option, Some, None, option_map, refl, ap, sym, ◌∙◌, arith, inl, inr}
-use Rattle.std.specs.List.{All, AllPairs, Contains, range_with_len}
+use Rattle.std.proofs.Common.{◌≡◌, Bool, true, false, ◌&&◌, List, [], ◌∷◌, ◌++◌, get_or, map, filter, find, flat_map, Option, Some, None, option_map, refl, ap, sym, ◌∙◌, inl, inr}
+use Rattle.std.specs.List.{All, Contains}
 use Rattle.std.specs.Option.{IsSome}
 use Rattle.std.proofs.lemmas.Bool.{cases_Bool, false≢true}
-use Rattle.std.proofs.lemmas.List.Elements.{All-nil, All-cons, All-head, All-tail, All-contains, All-contains_itself}
-use Rattle.std.proofs.lemmas.List.Folds.{find-append}
-use Rattle.hearing_slots.proofs.CallerLemmas.{IsFirst, find-Some, find_absent}
+use Rattle.std.proofs.lemmas.List.Elements.{All-nil, All-cons, All-head, All-tail}
+use Rattle.hearing_slots.proofs.CallerLemmas.{find-Some}
 
 -- All
 

@@ -1,14 +1,13 @@
 -- What the parts of some rows show of a case and of its motions.
-use Rattle.std.proofs.Common.{◌≡◌, ℕ, ◌+◌, Bool, true, false, ◌&&◌, ◌==◌, is_some, List, [], ◌∷◌, length, map, filter, find, Option, Some, None, option_map, refl, ap, sym, ◌∙◌, arith}
-use Rattle.std.specs.List.{All, Contains}
+use Rattle.std.proofs.Common.{◌≡◌, ℕ, true, false, ◌==◌, is_some, [], length, filter, find, Option, Some, None, option_map, refl, ap, sym, ◌∙◌, arith}
+use Rattle.std.specs.List.{All}
 use Rattle.std.specs.Option.{IsSome, option_and_then, option_map_or}
 use Rattle.std.proofs.lemmas.Bool.{and_parts}
 use Rattle.std.proofs.lemmas.Bool.Decides.{nat_tests}
 use Rattle.std.proofs.lemmas.List.{length-map}
 use Rattle.hearing_slots.proofs.CallerLemmas.{find-None}
-use Rattle.docket_rows.specs.declared.hearing.Hearing.{Hearing}
-use Rattle.docket_rows.specs.Words.{Rows, DocketedCase, DocketedDeadline, DocketedMotion, DocketedHearing, CaseRecordView, NumberedMotion, parts_of, case_shown, motion_shown, deadline_shown, hearing_of, is_case, is_deadline_in, is_motion_in, is_motion, is_hearing, is_case_number, has_case, deadlines_in, motions_in, motion_in, hearing_in}
-use Rattle.docket_laws.proofs.LawfulLemmas.ListLemmas.{Found, found_of, found_stands, find-map-filter}
+use Rattle.docket_rows.specs.Words.{Rows, DocketedCase, DocketedMotion, DocketedHearing, CaseRecordView, NumberedMotion, parts_of, case_shown, motion_shown, deadline_shown, hearing_of, is_case, is_deadline_in, is_motion_in, is_motion, is_hearing, is_case_number, has_case, deadlines_in, motions_in, motion_in, hearing_in}
+use Rattle.docket_laws.proofs.LawfulLemmas.ListLemmas.{found_of, found_stands, find-map-filter}
 
 -- a row that is found is that of its case, of its motion, or of the hearing of its motion
 pub case_is : (case : ℕ) (c : DocketedCase) → is_case case c ≡ true → c.case ≡ case
