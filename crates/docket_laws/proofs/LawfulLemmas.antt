@@ -10,3 +10,5 @@ pub mod CalendarLemmas
 pub mod HearingLemmas
 pub mod HolidayLemmas
 pub mod StepLemmas
+pub mod DocketLemmas
+pub mod SheetLemmas
