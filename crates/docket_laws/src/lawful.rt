@@ -11,7 +11,7 @@ pub fn no_judge_or_room_is_booked_twice()
     ensures { (bench : Bench) (commands : List Command) → NoneIsBookedTwice (docket_after bench commands) }
 {}
 
-/// Each hearing of a docket is that of a motion of the docket. Unless that is heard ex parte, there is a last day to serve
+/// Each hearing of a docket is that of a docketed motion. Unless the motion is heard ex parte, there is a last day to serve
 /// it as long before the hearing as the motion needs, and both the motion and the notice of its hearing were served by
 /// then (Fed. R. Civ. P. 6(c)(1)). That is so by the days as they are docketed now, with the holidays that were entered
 /// after the hearing was set.

@@ -76,25 +76,25 @@ some_of : {X : Type 0} (o : Option X) → is_none o ≡ false → IsSome o
 some_of None h = absurd cc
 some_of (Some x) h = refl
 
+-- the lines of the table, in its order
 placeable : (bench : Bench) (rows : Rows) (s : Setting) (set : Option Refusal) (except : Option (ℕ × ℕ)) → NoneOf (hearing_checks bench (parts_of rows) s set except) → CanSet (parts_of rows) s → IsPlaceable bench rows s
 unfolding parts_of
-placeable bench rows s set except n free =
-    let opened = is_open_of rows s.case (when-not-None _ _ n.0) in
-    let found = is_found_of rows s.case s.motion opened.stands (some_of _ (when-None _ _ n.1.0)) in
+placeable bench rows s set except (no_case, (no_motion, (no_judge, (no_room, (bad_panel, (bad_day, (bad_length, (already, (no_court_day, (outside_hours, (beyond, (short, clashes)))))))))))) free =
+    let opened = is_open_of rows s.case (when-not-None _ _ no_case) in
+    let found = is_found_of rows s.case s.motion opened.stands (some_of _ (when-None _ _ no_motion)) in
     let m = motion_shown rows found.motion in
-    let last = has_last_service rows.days s.day (motion_in (parts_of rows) s.case s.motion) m found.seen (when-None _ _ n.1.1.1.1.1.1.1.1.1.1.0) in
-    let met = meets_service rows.days s.day s.notice (motion_in (parts_of rows) s.case s.motion) m found.seen (option_map-None _ _ n.1.1.1.1.1.1.1.1.1.1.1.0) in
-    let court_day = when-not-None _ _ n.1.1.1.1.1.1.1.1.0 in
+    let last = has_last_service rows.days s.day (motion_in (parts_of rows) s.case s.motion) m found.seen (when-None _ _ beyond) in
+    let met = meets_service rows.days s.day s.notice (motion_in (parts_of rows) s.case s.motion) m found.seen (option_map-None _ _ short) in
     record {
       found = found;
       settable = record {
-        panel = when-not-None _ _ n.1.1.1.1.0;
-        judges = when-not-None _ _ n.1.1.0;
-        room = ltb-true s.room bench.rooms (when-not-None _ _ n.1.1.1.0);
-        slots = when-not-None _ _ n.1.1.1.1.1.1.0;
+        panel = when-not-None _ _ bad_panel;
+        judges = when-not-None _ _ no_judge;
+        room = ltb-true s.room bench.rooms (when-not-None _ _ no_room);
+        slots = when-not-None _ _ bad_length;
       };
-      permitted = (and_parts (is_permitted rows.days After s.day) (not (has_outage rows.days s.day)) court_day).0;
-      in_hours = when-not-None _ _ n.1.1.1.1.1.1.1.1.1.0;
+      permitted = (and_parts (is_permitted rows.days After s.day) (not (has_outage rows.days s.day)) (when-not-None _ _ no_court_day)).0;
+      in_hours = when-not-None _ _ outside_hours;
       noticed = noticed_of rows.days s.day found.motion.need found.motion.served s.notice last met;
       free = free;
     }

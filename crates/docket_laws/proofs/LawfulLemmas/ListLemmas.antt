@@ -1,5 +1,5 @@
 -- What holds of the elements of a list that is made from another one, and what is found in it.
-use Rattle.std.proofs.Common.{◌≡◌, Bool, true, false, ◌&&◌, List, [], ◌∷◌, ◌++◌, get_or, map, filter, find, flat_map, Option, Some, None, option_map, refl, ap, sym, ◌∙◌, inl, inr}
+use Rattle.std.proofs.Common.{◌≡◌, Bool, true, false, ◌&&◌, List, [], ◌∷◌, ◌++◌, map, filter, find, flat_map, Option, Some, None, option_map, refl, ap, sym, ◌∙◌, inl, inr}
 use Rattle.std.specs.List.{All, Contains}
 use Rattle.std.specs.Option.{IsSome}
 use Rattle.std.proofs.lemmas.Bool.{cases_Bool, false≢true}
@@ -44,10 +44,6 @@ none_pass p (x ∷ xs) h = elim (cases_Bool (p x)) [
   | inl passes ↦ (let some : x ∷ filter p xs ≡ [] = rw passes at h in absurd cc)
   | inr fails ↦ All-cons (λ y. p y ≡ false) x xs fails (none_pass p xs (rw fails at h))
 ]
-
--- two facts of each element together
-pub All-both : {X : Type 0} (P Q R : X → Type 0) → ((x : X) → P x → Q x → R x) → (xs : List X) → All P xs → All Q xs → All R xs
-All-both P Q R both xs p q k d within = both (get_or xs k d) (p k d within) (q k d within)
 
 -- find
 
