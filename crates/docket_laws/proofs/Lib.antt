@@ -1,4 +1,5 @@
 pub mod CallerLemmas
+pub mod LawfulLemmas
 pub mod MadeLemmas
 pub mod PartsAfter
 pub mod PartsCalendars

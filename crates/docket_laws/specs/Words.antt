@@ -1,2 +1,3 @@
 -- The words of clauses and definitions, for the crates above, from one place.
 pub use Rattle.docket_laws.specs.CanSet.{CanSet}
+pub use Rattle.docket_laws.specs.Lawful.{docket_after, NoneIsBookedTwice, AllAreOnCourtDays, AllHaveNotice, deadline_on_sheet, SheetShowsDeadlines}
