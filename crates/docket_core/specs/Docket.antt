@@ -1,8 +1,11 @@
 -- A docket, as contracts see it.
-use Rattle.std.specs.Prelude.{List, [], Option, None, get_or}
+use Rattle.std.specs.Prelude.{ℕ, is_none, List, [], Option, None, option_map, unwrap_or, get_or, set, if◌then◌else◌}
 use Rattle.court_days.specs.Words.{DaysView}
 use Rattle.hearing_slots.specs.declared.booking.Booking.{Booking}
-use Rattle.docket_rows.specs.Words.{Bench, CaseRecordView, Parts}
+use Rattle.docket_rows.specs.declared.command.Command.{Command}
+use Rattle.docket_rows.specs.declared.part.PartId.{PartId}
+use Rattle.docket_rows.specs.declared.part.PartValue.{PartValue}
+use Rattle.docket_rows.specs.Words.{Bench, CaseRecordView, Parts, part_value, changed, refusal}
 
 -- what no command changes; the days; the cases by their numbers, of which there is no number 0; and the calendars of
 -- the judges and of the rooms, by their numbers
@@ -21,3 +24,15 @@ parts_held d = record {
   judge = λ judge. get_or d.judges judge [];
   room = λ room. get_or d.rooms room [];
 }
+
+-- what a part holds after a command: what the command writes into it, where it isn't refused and touches the part, and
+-- else what it held
+abbrev pub part_after : Bench → Parts → Command → PartId → PartValue
+part_after bench parts command part =
+    if is_none (refusal bench parts command)
+    then unwrap_or (changed parts command part) (part_value parts part)
+    else part_value parts part
+
+-- some cases, of which the one of that number is changed, if it is open
+abbrev pub with_case : (number : ℕ) → (CaseRecordView → CaseRecordView) → List (Option CaseRecordView) → List (Option CaseRecordView)
+with_case number change cases = set cases number (option_map change (get_or cases number None))

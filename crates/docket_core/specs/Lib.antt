@@ -1,4 +1,5 @@
 pub mod Docket
 pub mod Holidays
 pub mod Next
+pub mod Rebooking
 pub mod Written

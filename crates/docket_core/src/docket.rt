@@ -1,4 +1,6 @@
 //! The docket of one thread.
+mod calendars;
+mod cases;
 
 ghost use Rattle.std.specs.Prelude.{◌≡◌, [], None, Some, All, option_copied, unwrap_or, get_or, length, nat_lt, IfOk, if◌then◌else◌};
 ghost use Rattle.docket_rows.specs.Words.{bench_of, has_case, opening_rows, parts_of, part_value};
