@@ -1,5 +1,5 @@
 -- A docket, as contracts see it.
-use Rattle.std.specs.Prelude.{ℕ, is_none, List, [], Option, None, option_map, unwrap_or, get_or, set, if◌then◌else◌}
+use Rattle.std.specs.Prelude.{◌≡◌, ℕ, ◌≤◌, length, is_none, List, [], Option, None, unwrap_or, get_or, if◌then◌else◌}
 use Rattle.court_days.specs.Words.{DaysView}
 use Rattle.hearing_slots.specs.declared.booking.Booking.{Booking}
 use Rattle.docket_rows.specs.declared.command.Command.{Command}
@@ -15,6 +15,14 @@ pub record DocketView : Type 0 where
   pub cases : List (Option CaseRecordView)
   pub judges : List (List Booking)
   pub rooms : List (List Booking)
+
+-- there is a place for each case that can be, and a calendar for each judge and each room of the court
+pub record HasPlaces (bench : Bench) (cases : List (Option CaseRecordView)) (judges rooms : List (List Booking)) : Type 0 where
+  pub of_cases : length cases ≡ 4097
+  pub of_judges : length judges ≡ bench.judges
+  pub of_rooms : length rooms ≡ bench.rooms
+  pub few_judges : bench.judges ≤ 32
+  pub few_rooms : bench.rooms ≤ 32
 
 -- the parts of the docket
 abbrev pub parts_held : DocketView → Parts
@@ -32,7 +40,3 @@ part_after bench parts command part =
     if is_none (refusal bench parts command)
     then unwrap_or (changed parts command part) (part_value parts part)
     else part_value parts part
-
--- some cases, of which the one of that number is changed, if it is open
-abbrev pub with_case : (number : ℕ) → (CaseRecordView → CaseRecordView) → List (Option CaseRecordView) → List (Option CaseRecordView)
-with_case number change cases = set cases number (option_map change (get_or cases number None))

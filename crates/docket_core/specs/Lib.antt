@@ -1,3 +1,4 @@
+pub mod Changes
 pub mod Docket
 pub mod Holidays
 pub mod Next

@@ -3,7 +3,7 @@
 ghost use Rattle.std.specs.Prelude.{◌≡◌, ◌<◌, ◌+◌, ◌==◌, true, None, Some, [], length, find, set, get_or, option_map, IfSome, OnOk, OnErr};
 ghost use Rattle.rule_periods.specs.Words.{suits, has_length, is_grant_length, grant_fits, is_in_hours, with_grant, with_filing};
 ghost use Rattle.docket_rows.specs.Words.{CaseRecordView, NumberedDeadline, started, add_deadline, change_deadline, add_motion, set_hearing};
-ghost use Rattle.docket_core.specs.Docket.{with_case};
+ghost use Rattle.docket_core.specs.Changes.{with_case, cases_after};
 
 use court_days::Day;
 use docket_rows::{CaseRecord, Hearing};
@@ -74,8 +74,7 @@ pub(crate) fn extend(
     deadline: u32,
     grant: Grant,
 ) -> Result<(), AllocError>
-    requires length { is_grant_length grant ≡ true }
-    requires fits { IfSome (get_or cases.old number None) (λ (c : CaseRecordView). IfSome (option_map (λ (d : NumberedDeadline). d.row) (find (λ (d : NumberedDeadline). d.number == deadline) c.deadlines)) (λ row. grant_fits (is_in_hours row.period) grant ≡ true)) }
+    requires { IfSome (get_or cases.old number None) (λ (c : CaseRecordView). (is_grant_length grant ≡ true) × IfSome (option_map (λ (d : NumberedDeadline). d.row) (find (λ (d : NumberedDeadline). d.number == deadline) c.deadlines)) (λ row. grant_fits (is_in_hours row.period) grant ≡ true)) }
     ensures ok { OnOk result (cases.new ≡ with_case number (change_deadline deadline (λ row. with_grant row grant)) cases.old) }
     ensures err { OnErr result (cases.new ≡ cases.old) }
 {
