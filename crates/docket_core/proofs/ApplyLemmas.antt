@@ -1,5 +1,5 @@
 -- The parts of a docket after a command that isn't refused.
-use Rattle.std.proofs.Common.{◌≡◌, ℕ, zero, suc, ◌+◌, ◌<◌, ◌≤◌, Bool, true, false, ◌&&◌, ◌==◌, nat_eq, nat_lt, List, [], ◌∷◌, length, find, get_or, set, Option, Some, None, IfSome, option_map, unwrap_or, if◌then◌else◌, refl, ap, sym, ◌∙◌, subst, arith, ℤ, inl, inr}
+use Rattle.std.proofs.Common.{◌≡◌, ℕ, zero, suc, ◌<◌, ◌≤◌, true, false, ◌==◌, nat_eq, nat_lt, List, [], ◌∷◌, length, find, get_or, set, Option, Some, None, IfSome, option_map, unwrap_or, if◌then◌else◌, refl, ap, sym, ◌∙◌, subst, arith, ℤ, inl, inr}
 use Rattle.std.specs.List.{list_all}
 use Rattle.std.specs.Option.{option_map_or}
 use Rattle.std.proofs.lemmas.Bool.{cases_Bool, false≢true}
@@ -9,12 +9,10 @@ use Rattle.docket_rows.specs.declared.command.Command.{Command}
 use Rattle.docket_rows.specs.declared.command.Command.TheVariants.{OpenCase, Start, FileAct, Extend, Motion, Book, MoveHearing, Cancel, Holiday, Inaccessible}
 use Rattle.docket_rows.specs.declared.hearing.Hearing.{Hearing}
 use Rattle.docket_rows.specs.declared.hearing.Setting.{Setting}
-use Rattle.docket_rows.specs.declared.part.PartId.{PartId}
 use Rattle.docket_rows.specs.declared.part.PartId.TheVariants.{Court, Judge, Room, Case}
 use Rattle.docket_rows.specs.declared.part.PartValue.TheVariants as value
 use Rattle.docket_rows.specs.declared.refusal.Refusal.{Refusal}
 use Rattle.court_days.specs.Words.{DaysView}
-use Rattle.hearing_slots.specs.declared.booking.Booking.{Booking}
 use Rattle.docket_rows.specs.Words.{Bench, Parts, CaseRecordView, refusal, NumberedDeadline, open_case_refusal, open_case_checks, extend_refusal, book_refusal, move_refusal, hearing_checks, days_written, judge_written, room_written, is_before_judge, is_in_room, booking_of, first_judge, sits, hearing_in, is_case_number}
 use Rattle.rule_periods.specs.declared.grant.Request.{Request}
 use Rattle.rule_periods.specs.Words.{first_of, is_grant_length, grant_fits, is_in_hours}

@@ -1,11 +1,10 @@
 -- Calendars after the change of each.
-use Rattle.std.proofs.Common.{◌≡◌, ℕ, zero, suc, ◌+◌, ◌<◌, ◌≤◌, Bool, true, false, List, [], ◌∷◌, length, get_or, Option, Some, None, option_map, unwrap_or, if◌then◌else◌, refl, ap, sym, ◌∙◌, subst, arith, add-one}
+use Rattle.std.proofs.Common.{◌≡◌, ℕ, zero, suc, ◌+◌, ◌≤◌, Bool, true, false, List, [], ◌∷◌, length, get_or, Some, None, option_map, unwrap_or, if◌then◌else◌, refl, ap, sym, ◌∙◌, subst, arith}
 use Rattle.hearing_slots.specs.declared.booking.Booking.{Booking}
 use Rattle.hearing_slots.specs.Words.{IsWithinDay, IsFree, without_motion}
 use Rattle.docket_rows.specs.declared.part.PartValue.TheVariants as value
 use Rattle.docket_rows.specs.Words.{rebooked}
 use Rattle.docket_core.specs.declared.docket.calendars.Change.{Change}
-use Rattle.docket_core.specs.declared.docket.calendars.Change.TheVariants.{Stays, Put, TakeOut}
 use Rattle.docket_core.specs.Rebooking.{calendar_after, calendars_after, change_to, CanChange, CanChangeAll}
 
 pub length-calendars_after : (number : ℕ) (change : ℕ → Change) (cs : List (List Booking)) → length (calendars_after number change cs) ≡ length cs
