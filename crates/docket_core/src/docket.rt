@@ -1,4 +1,7 @@
 //! The docket of one thread.
+mod apply;
+mod calendars;
+mod cases;
 
 ghost use Rattle.std.specs.Prelude.{◌≡◌, [], None, Some, All, option_copied, unwrap_or, get_or, length, nat_lt, IfOk, if◌then◌else◌};
 ghost use Rattle.docket_rows.specs.Words.{bench_of, has_case, opening_rows, parts_of, part_value};
@@ -25,14 +28,13 @@ pub struct Docket {
 }
 
 impl Model for Docket {
-    ghost use Rattle.std.specs.Prelude.{◌≡◌, length};
-    ghost use Rattle.docket_core.specs.Docket.{DocketView};
+    ghost use Rattle.docket_core.specs.Docket.{DocketView, HasPlaces};
 
     ghost Value = { DocketView };
 
     ghost view = { λ d. record { bench = d.rules; days = d.days; cases = d.cases.items; judges = d.judges.items; rooms = d.rooms.items } };
 
-    ghost invariant = { λ d. (length d.cases.items ≡ 4097) × (length d.judges.items ≡ d.rules.judges) × (length d.rooms.items ≡ d.rules.rooms) };
+    ghost invariant = { λ d. HasPlaces d.rules d.cases.items d.judges.items d.rooms.items };
 }
 
 impl Docket {

@@ -8,8 +8,10 @@ ghost use Rattle.court_days.specs.Words.{add_outage};
 
 use crate::rules::DocketRules;
 use crate::sight::Sight;
+pub(crate) use calendars::booking_of;
 use calendars::{judge_written, room_written};
 use cases::case_written;
+pub(crate) use cases::hearing_asked;
 use court_days::{Day, Days, Outage};
 use docket_rows::{Command, PartId, PartValue, SharedCase};
 use std::alloc::{AllocError, Global};
@@ -32,7 +34,7 @@ fn with_outage<S: Sight>(
 }
 
 /// The days, where the command changes them.
-fn days_written<S: Sight>(
+pub(crate) fn days_written<S: Sight>(
     alloc: Global,
     rules: &DocketRules,
     sight: &S,

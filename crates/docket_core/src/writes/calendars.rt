@@ -15,7 +15,7 @@ use hearing_slots::{Booking, Calendar, Need};
 use std::alloc::{AllocError, Global};
 
 /// The hearing that is asked for, as it stands in a calendar beside the number of its room, or of its first judge.
-fn booking_of<S: Sight>(sight: &S, other: u8, s: &Setting) -> Booking
+pub(crate) fn booking_of<S: Sight>(sight: &S, other: u8, s: &Setting) -> Booking
     requires { s.now.count ≤ 96 }
     ensures { result ≡ booking_of (S.parts sight.now) other s.now }
 {

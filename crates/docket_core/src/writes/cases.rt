@@ -180,7 +180,7 @@ fn set_in<S: Sight>(
 }
 
 /// The hearing that is asked for.
-fn hearing_asked(s: &Setting) -> Hearing
+pub(crate) fn hearing_asked(s: &Setting) -> Hearing
     requires { s.now.count ≤ 96 }
     ensures { result ≡ hearing_asked s.now }
 {
