@@ -10,3 +10,4 @@ pub mod PartsLists
 pub mod PartsMotions
 pub mod PartsSame
 pub mod PartsSeen
+pub mod PartsStep

@@ -11,5 +11,8 @@ pub use lawful::{
     no_judge_or_room_is_booked_twice, rows_stay_lawful, rows_stay_sound,
 };
 pub use opening::the_opening_docket_is_lawful;
-pub use parts::{commands_rest_on_parts, parts_stand_for_rows_after, queries_rest_on_parts};
+pub use parts::{
+    commands_rest_on_parts, parts_follow_the_steps_of_rows, parts_stand_for_rows_after,
+    queries_rest_on_parts,
+};
 pub use sheets::deadlines_are_shown_by_the_days_as_docketed;
