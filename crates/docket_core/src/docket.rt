@@ -4,14 +4,15 @@ mod calendars;
 mod cases;
 
 ghost use Rattle.std.specs.Prelude.{◌≡◌, [], None, Some, All, option_copied, unwrap_or, get_or, length, nat_lt, IfOk, if◌then◌else◌};
-ghost use Rattle.docket_rows.specs.Words.{bench_of, has_case, opening_rows, parts_of, part_value};
+ghost use Rattle.docket_rows.specs.Words.{bench_of, has_case, opening_rows, parts_of, part_value, seen_by};
 ghost use Rattle.docket_rows.specs.declared.part.PartId.{PartId};
 
 use crate::rules::DocketRules;
 use crate::seen::has_case;
 use crate::sight::Sight;
+use crate::views::view_of;
 use court_days::{Court, Days};
-use docket_rows::CaseRecord;
+use docket_rows::{CaseRecord, Query, View};
 use hearing_slots::Calendar;
 use std::alloc::{AllocError, Global};
 use std::marker::Model;
@@ -57,6 +58,13 @@ impl Docket {
             judges,
             rooms,
         })
+    }
+
+    /// What the query shows of the docket as it is, or why it is refused. `Err` says that memory ran out.
+    pub fn show(&self, alloc: Global, query: &Query) -> Result<View, AllocError>
+        ensures { IfOk result (λ v. v ≡ seen_by self.now.bench (parts_held self.now) query.now) }
+    {
+        view_of(alloc, &self.rules, self, query)
     }
 
     /// Whether the case is open.

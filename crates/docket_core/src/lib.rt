@@ -16,6 +16,7 @@ mod reads;
 mod rules;
 mod seen;
 mod sight;
+mod views;
 mod writes;
 
 pub use docket::Docket;
