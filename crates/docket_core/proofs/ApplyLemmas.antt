@@ -18,7 +18,7 @@ use Rattle.rule_periods.specs.declared.grant.Request.{Request}
 use Rattle.rule_periods.specs.Words.{first_of, is_grant_length, grant_fits, is_in_hours}
 use Rattle.docket_laws.specs.Words.{CanSet}
 use Rattle.docket_laws.proofs.CallerLemmas.{none_of, when-not-None, can_extend_in, can_book, can_move}
-use Rattle.docket_core.specs.declared.docket.calendars.Rebooking.{Rebooking}
+use Rattle.docket_core.specs.declared.holdings.calendars.Rebooking.{Rebooking}
 use Rattle.docket_core.specs.Docket.{DocketView, parts_held}
 use Rattle.docket_core.specs.Changes.{IsAfter, with_case, cases_after, placed_of, rebooking_of, docket_after}
 use Rattle.docket_core.specs.Rebooking.{judge_change, room_change, CanChangeAll}

@@ -4,7 +4,7 @@ use Rattle.hearing_slots.specs.declared.booking.Booking.{Booking}
 use Rattle.hearing_slots.specs.Words.{IsWithinDay, IsFree, without_motion}
 use Rattle.docket_rows.specs.declared.part.PartValue.TheVariants as value
 use Rattle.docket_rows.specs.Words.{rebooked}
-use Rattle.docket_core.specs.declared.docket.calendars.Change.{Change}
+use Rattle.docket_core.specs.declared.holdings.calendars.Change.{Change}
 use Rattle.docket_core.specs.Rebooking.{calendar_after, calendars_after, change_to, CanChange, CanChangeAll}
 
 pub length-calendars_after : (number : ℕ) (change : ℕ → Change) (cs : List (List Booking)) → length (calendars_after number change cs) ≡ length cs

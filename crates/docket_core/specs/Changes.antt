@@ -6,8 +6,8 @@ use Rattle.docket_rows.specs.declared.command.Command.TheVariants.{OpenCase, Sta
 use Rattle.docket_rows.specs.declared.hearing.Setting.{Setting}
 use Rattle.docket_rows.specs.declared.part.PartId.{PartId}
 use Rattle.docket_rows.specs.Words.{CaseRecordView, Parts, part_value, changed, started, add_deadline, change_deadline, add_motion, set_hearing, hearing_in, hearing_asked, booking_of, first_judge}
-use Rattle.docket_core.specs.declared.docket.calendars.Placed.{Placed}
-use Rattle.docket_core.specs.declared.docket.calendars.Rebooking.{Rebooking}
+use Rattle.docket_core.specs.declared.holdings.calendars.Placed.{Placed}
+use Rattle.docket_core.specs.declared.holdings.calendars.Rebooking.{Rebooking}
 use Rattle.docket_core.specs.Docket.{DocketView, parts_held}
 use Rattle.docket_core.specs.Rebooking.{judge_change, room_change, calendars_after}
 

@@ -1,11 +1,9 @@
 -- A docket, as contracts see it.
-use Rattle.std.specs.Prelude.{◌≡◌, ◌≤◌, length, is_none, List, [], Option, None, unwrap_or, get_or, if◌then◌else◌}
+use Rattle.std.specs.Prelude.{◌≡◌, ◌≤◌, length, List, [], Option, None, get_or}
 use Rattle.court_days.specs.Words.{DaysView}
 use Rattle.hearing_slots.specs.declared.booking.Booking.{Booking}
-use Rattle.docket_rows.specs.declared.command.Command.{Command}
 use Rattle.docket_rows.specs.declared.part.PartId.{PartId}
-use Rattle.docket_rows.specs.declared.part.PartValue.{PartValue}
-use Rattle.docket_rows.specs.Words.{Bench, CaseRecordView, Parts, part_value, changed, refusal}
+use Rattle.docket_rows.specs.Words.{Bench, CaseRecordView, Parts, Rows, AreSound, AreLawful, part_value, parts_of}
 
 -- what no command changes; the days; the cases by their numbers, of which there is no number 0; and the calendars of
 -- the judges and of the rooms, by their numbers
@@ -33,10 +31,10 @@ parts_held d = record {
   room = λ room. get_or d.rooms room [];
 }
 
--- what a part holds after a command: what the command writes into it, where it isn't refused and touches the part, and
--- else what it held
-abbrev pub part_after : Bench → Parts → Command → PartId → PartValue
-part_after bench parts command part =
-    if is_none (refusal bench parts command)
-    then unwrap_or (changed parts command part) (part_value parts part)
-    else part_value parts part
+-- the docket holds just what the rows say: each part of it is that of the rows
+abbrev pub StandsFor : DocketView → Rows → Type 0
+StandsFor d rows = (part : PartId) → part_value (parts_held d) part ≡ part_value (parts_of rows) part
+
+-- it stands for rows that fit together and are lawful
+abbrev pub IsDocket : DocketView → Type 0
+IsDocket d = ∥ ((rows : Rows) × AreSound d.bench rows × AreLawful d.bench rows × StandsFor d rows) ∥₁

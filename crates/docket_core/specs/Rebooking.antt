@@ -5,10 +5,10 @@ use Rattle.hearing_slots.specs.declared.booking.Booking.{Booking}
 use Rattle.hearing_slots.specs.Words.{IsWithinDay, IsFree, with_booking, without_motion}
 use Rattle.docket_rows.specs.declared.hearing.Hearing.{Hearing}
 use Rattle.docket_rows.specs.Words.{has_one, sits}
-use Rattle.docket_core.specs.declared.docket.calendars.Change.{Change}
-use Rattle.docket_core.specs.declared.docket.calendars.Change.TheVariants.{Stays, Put, TakeOut}
-use Rattle.docket_core.specs.declared.docket.calendars.Placed.{Placed}
-use Rattle.docket_core.specs.declared.docket.calendars.Rebooking.{Rebooking}
+use Rattle.docket_core.specs.declared.holdings.calendars.Change.{Change}
+use Rattle.docket_core.specs.declared.holdings.calendars.Change.TheVariants.{Stays, Put, TakeOut}
+use Rattle.docket_core.specs.declared.holdings.calendars.Placed.{Placed}
+use Rattle.docket_core.specs.declared.holdings.calendars.Rebooking.{Rebooking}
 
 -- a calendar after its change
 abbrev pub calendar_after : Change → List Booking → List Booking

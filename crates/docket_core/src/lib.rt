@@ -7,6 +7,7 @@ mod deadlines;
 mod decide;
 mod docket;
 mod hearings;
+mod holdings;
 mod holidays;
 mod judgement;
 mod motions;

@@ -2,7 +2,7 @@ use Rattle.std.proofs.Common.{ap, sym, ◌∙◌, get_or, None}
 use Rattle.docket_laws.proofs.CallerLemmas.{can_start, can_enter}
 use Rattle.docket_core.specs.Docket.{DocketView}
 use Rattle.docket_core.proofs.ApplyLemmas.{opens_place, starts_in, enters_in, extends_in}
-use Rattle.docket_core.proofs.docket.Docket.change_case.Goals as goal
+use Rattle.docket_core.proofs.holdings.Holdings.change_case.Goals as goal
 
 pub open-requires : goal.open-requires
 open-requires c =

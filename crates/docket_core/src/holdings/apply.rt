@@ -4,7 +4,7 @@ ghost use Rattle.std.specs.Prelude.{◌≡◌, ◌≤◌, None, IfOk, IfErr, OnO
 ghost use Rattle.docket_rows.specs.Words.{refusal, answered, part_value};
 ghost use Rattle.docket_rows.specs.declared.part.PartId.{PartId};
 
-use super::Docket;
+use super::Holdings;
 use super::calendars::{Placed, Rebooking, rebook};
 use super::cases::{enter, extend, open, record_act, set_hearing, start};
 use crate::answers::answer_if_made;
@@ -14,8 +14,9 @@ use crate::writes::{booking_of, days_written, hearing_asked};
 use docket_rows::{Answer, Command, Setting};
 use std::alloc::{AllocError, Global};
 
-impl Docket {
-    ghost use Rattle.docket_core.specs.Docket.{parts_held, part_after};
+impl Holdings {
+    ghost use Rattle.docket_core.specs.Docket.{parts_held};
+    ghost use Rattle.docket_rows.specs.Words.{part_after};
     ghost use Rattle.docket_core.specs.Changes.{IsAfter, cases_after, placed_of, rebooking_of, docket_after};
     ghost use Rattle.docket_core.specs.Rebooking.{CanChangeAll, judge_change, room_change};
 

@@ -1,5 +1,5 @@
 use Rattle.std.proofs.Common.{◌≡◌, [], All, length}
-use Rattle.docket_core.proofs.docket.no_bookings.Given as goal
+use Rattle.docket_core.proofs.holdings.no_bookings.Given as goal
 
 abbrev pub invariant-loop-number : goal.invariant-loop-number
 invariant-loop-number l = record {

@@ -3,7 +3,7 @@ use Rattle.std.proofs.lemmas.Result.{on_ok_weaker}
 use Rattle.docket_core.specs.Changes.{IsAfter}
 use Rattle.docket_core.specs.Docket.{DocketView, HasPlaces}
 use Rattle.docket_core.proofs.ApplyLemmas.{can_change_calendars, hearing_changed, cases_changed}
-use Rattle.docket_core.proofs.docket.Docket.change.Goals as goal
+use Rattle.docket_core.proofs.holdings.Holdings.change.Goals as goal
 
 pub rebook-requires-clause-judges : goal.rebook-requires-clause-judges
 rebook-requires-clause-judges c = (can_change_calendars _ _ _ c.requires c.in-Some-rebooking_of.ensures).0

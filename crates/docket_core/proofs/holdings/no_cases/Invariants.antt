@@ -1,5 +1,5 @@
 use Rattle.std.proofs.Common.{◌≡◌, None, All, length}
-use Rattle.docket_core.proofs.docket.no_cases.Given as goal
+use Rattle.docket_core.proofs.holdings.no_cases.Given as goal
 
 abbrev pub invariant-loop-case : goal.invariant-loop-case
 invariant-loop-case l = record {
