@@ -1,5 +1,5 @@
 -- The parts of a docket after a command that isn't refused.
-use Rattle.std.proofs.Common.{◌≡◌, ℕ, zero, suc, ◌<◌, ◌≤◌, true, false, ◌==◌, nat_eq, nat_lt, List, [], ◌∷◌, length, find, get_or, set, Option, Some, None, IfSome, option_map, unwrap_or, if◌then◌else◌, refl, ap, sym, ◌∙◌, subst, arith, ℤ, inl, inr}
+use Rattle.std.proofs.Common.{◌≡◌, ℕ, zero, suc, ◌<◌, ◌≤◌, true, false, ◌==◌, nat_eq, nat_lt, List, [], ◌∷◌, length, find, get_or, set, Option, Some, None, IfSome, option_map, unwrap_or, if◌then◌else◌, refl, ap, sym, ◌∙◌, arith, ℤ, inl, inr}
 use Rattle.std.specs.List.{list_all}
 use Rattle.std.specs.Option.{option_map_or}
 use Rattle.std.proofs.lemmas.Bool.{cases_Bool, false≢true}
@@ -13,17 +13,16 @@ use Rattle.docket_rows.specs.declared.part.PartId.TheVariants.{Court, Judge, Roo
 use Rattle.docket_rows.specs.declared.part.PartValue.TheVariants as value
 use Rattle.docket_rows.specs.declared.refusal.Refusal.{Refusal}
 use Rattle.court_days.specs.Words.{DaysView}
-use Rattle.docket_rows.specs.Words.{Bench, Parts, CaseRecordView, refusal, NumberedDeadline, open_case_refusal, open_case_checks, extend_refusal, book_refusal, move_refusal, hearing_checks, days_written, judge_written, room_written, is_before_judge, is_in_room, booking_of, first_judge, sits, hearing_in, is_case_number}
+use Rattle.docket_rows.specs.Words.{Bench, Parts, CaseRecordView, changed, part_value, refusal, NumberedDeadline, open_case_refusal, open_case_checks, extend_refusal, book_refusal, move_refusal, hearing_checks, days_written, is_before_judge, is_in_room, booking_of, first_judge, sits, is_case_number}
 use Rattle.rule_periods.specs.declared.grant.Request.{Request}
 use Rattle.rule_periods.specs.Words.{first_of, is_grant_length, grant_fits, is_in_hours}
-use Rattle.docket_laws.specs.Words.{CanSet}
-use Rattle.docket_laws.proofs.CallerLemmas.{none_of, when-not-None, can_extend_in, can_book, can_move}
-use Rattle.docket_core.specs.declared.holdings.calendars.Rebooking.{Rebooking}
+use Rattle.hearing_slots.specs.declared.booking.Booking.{Booking}
+use Rattle.docket_laws.proofs.CallerLemmas.{none_of, when-not-None, can_extend_in}
+use Rattle.docket_core.specs.declared.rebooking.Rebooking.{Rebooking}
 use Rattle.docket_core.specs.Docket.{DocketView, parts_held}
-use Rattle.docket_core.specs.Changes.{IsAfter, with_case, cases_after, placed_of, rebooking_of, docket_after}
-use Rattle.docket_core.specs.Rebooking.{judge_change, room_change, CanChangeAll}
-use Rattle.docket_core.proofs.SettingLemmas.{booking_within, room_free}
-use Rattle.docket_core.proofs.RebookingLemmas.{calendar_of, can_change_all, can_change, can_take_out, change_is_rebooked, change_takes_out, nothing_out, none_out}
+use Rattle.docket_core.specs.Changes.{IsAfter, with_case, cases_after, docket_after}
+use Rattle.docket_core.specs.Rebooking.{placement_of, rebooking_of, changed_by, calendar_after, judge_change, room_change}
+use Rattle.docket_core.proofs.RebookingLemmas.{judge_rebooked, room_rebooked, calendar_of, nothing_to_take, nothing_taken, same_rebooking}
 
 -- Days
 
@@ -84,45 +83,17 @@ extends_in bench parts case deadline request None h found = tt
 extends_in bench parts case deadline request (Some c) h found = can_extend_in bench parts case deadline request c h found
 
 -- a command that changes no days and no calendar changes its case
-no_judges : (parts : Parts) (command : Command) (judge : ℕ) → rebooking_of parts command ≡ None → judge_written parts command judge ≡ None
-no_judges parts (Book s) judge h = absurd cc
-no_judges parts (MoveHearing s) judge h = absurd cc
-no_judges parts (Cancel case motion) judge h = absurd cc
-no_judges parts (OpenCase case filed) judge h = refl
-no_judges parts (Start case period event second service) judge h = refl
-no_judges parts (FileAct case deadline filing) judge h = refl
-no_judges parts (Extend case deadline request) judge h = refl
-no_judges parts (Motion case served need) judge h = refl
-no_judges parts (Holiday day list) judge h = refl
-no_judges parts (Inaccessible day from to) judge h = refl
-
-no_rooms : (parts : Parts) (command : Command) (room : ℕ) → rebooking_of parts command ≡ None → room_written parts command room ≡ None
-no_rooms parts (Book s) room h = absurd cc
-no_rooms parts (MoveHearing s) room h = absurd cc
-no_rooms parts (Cancel case motion) room h = absurd cc
-no_rooms parts (OpenCase case filed) room h = refl
-no_rooms parts (Start case period event second service) room h = refl
-no_rooms parts (FileAct case deadline filing) room h = refl
-no_rooms parts (Extend case deadline request) room h = refl
-no_rooms parts (Motion case served need) room h = refl
-no_rooms parts (Holiday day list) room h = refl
-no_rooms parts (Inaccessible day from to) room h = refl
-
 pub cases_changed : (bench : Bench) (d : DocketView) (command : Command) → refusal bench (parts_held d) command ≡ None → length d.cases ≡ 4097 → days_written d.days command ≡ None → rebooking_of (parts_held d) command ≡ None → IsAfter d command (record d { cases = cases_after command d.cases })
 cases_changed bench d command made places days calendars Court = rw days refl
-cases_changed bench d command made places days calendars (Judge j) = rw (no_judges (parts_held d) command j calendars) refl
-cases_changed bench d command made places days calendars (Room r) = rw (no_rooms (parts_held d) command r calendars) refl
+cases_changed bench d command made places days calendars (Judge j) = rw (judge_rebooked (parts_held d) command j, calendars) refl
+cases_changed bench d command made places days calendars (Room r) = rw (room_rebooked (parts_held d) command r, calendars) refl
 cases_changed bench d (OpenCase case filed) made places days calendars (Case i) =
     case_opened d.cases case i _ (opens_place (parts_held d) case filed (length d.cases) made places)
 cases_changed bench d (Start case period event second service) made places days calendars (Case i) = case_changed d.cases case i _
 cases_changed bench d (FileAct case deadline filing) made places days calendars (Case i) = case_changed d.cases case i _
 cases_changed bench d (Extend case deadline request) made places days calendars (Case i) = case_changed d.cases case i _
 cases_changed bench d (Motion case served need) made places days calendars (Case i) = case_changed d.cases case i _
-cases_changed bench d (Book s) made places days calendars (Case i) = absurd cc
-cases_changed bench d (MoveHearing s) made places days calendars (Case i) = absurd cc
-cases_changed bench d (Cancel case motion) made places days calendars (Case i) = absurd cc
-cases_changed bench d (Holiday day list) made places days calendars (Case i) = absurd cc
-cases_changed bench d (Inaccessible day from to) made places days calendars (Case i) = absurd cc
+cases_changed bench d _ made places days calendars (Case i) = absurd cc
 
 -- Calendars
 
@@ -148,63 +119,54 @@ in_court d s set except judges rooms h =
       room = λ r beyond. grind (arith, nat_tests);
     }
 
--- a booking
-book_changed : (d : DocketView) (s : Setting) → IsInCourt d s → IsAfter d (Book s) (docket_after (record { case = s.case; motion = s.motion; before = None; after = Some (placed_of (parts_held d) s) }) d)
-book_changed d s court Court = refl
-book_changed d s court (Judge j) =
-    let b = booking_of (parts_held d) s.room s in
-    ap value.Calendar (calendar_of _ d.judges j (λ beyond. nothing_out s.case s.motion false (sits j s.judges) b (court.judges j beyond)))
-    ∙ change_is_rebooked (sits j s.judges) false b (get_or d.judges j [])
-book_changed d s court (Room r) =
-    let b = booking_of (parts_held d) (first_judge s.judges) s in
-    ap value.Calendar (calendar_of _ d.rooms r (λ beyond. nothing_out s.case s.motion false (s.room == r) b (court.room r beyond)))
-    ∙ change_is_rebooked (s.room == r) false b (get_or d.rooms r [])
-book_changed d s court (Case i) = case_changed d.cases s.case i _
+-- a rebooking changes no calendar that the court hasn't
+pub record StaysInCourt (d : DocketView) (r : Rebooking) : Type 0 where
+  pub judges : (j : ℕ) → length d.judges ≤ j → calendar_after (judge_change r j) [] ≡ []
+  pub rooms : (k : ℕ) → length d.rooms ≤ k → calendar_after (room_change r k) [] ≡ []
 
--- a move
-move_changed : (d : DocketView) (s : Setting) → IsInCourt d s → IsAfter d (MoveHearing s) (docket_after (record { case = s.case; motion = s.motion; before = hearing_in (parts_held d) s.case s.motion; after = Some (placed_of (parts_held d) s) }) d)
-move_changed d s court Court = refl
-move_changed d s court (Judge j) =
-    let b = booking_of (parts_held d) s.room s in
-    let stands = is_before_judge (parts_held d) s.case s.motion j in
-    ap value.Calendar (calendar_of _ d.judges j (λ beyond. nothing_out s.case s.motion stands (sits j s.judges) b (court.judges j beyond)))
-    ∙ change_is_rebooked (sits j s.judges) stands b (get_or d.judges j [])
-move_changed d s court (Room r) =
-    let b = booking_of (parts_held d) (first_judge s.judges) s in
-    let stands = is_in_room (parts_held d) s.case s.motion r in
-    ap value.Calendar (calendar_of _ d.rooms r (λ beyond. nothing_out s.case s.motion stands (s.room == r) b (court.room r beyond)))
-    ∙ change_is_rebooked (s.room == r) stands b (get_or d.rooms r [])
-move_changed d s court (Case i) = case_changed d.cases s.case i _
+stays_in_court : (d : DocketView) (s : Setting) (before : Option Hearing) → IsInCourt d s → StaysInCourt d (record { case = s.case; motion = s.motion; before = before; after = Some (placement_of (parts_held d) s) })
+stays_in_court d s before court = record {
+  judges = λ j beyond. nothing_to_take s.case s.motion _ (sits j s.judges) (booking_of (parts_held d) s.room s) (court.judges j beyond);
+  rooms = λ k beyond. nothing_to_take s.case s.motion _ (s.room == k) (booking_of (parts_held d) (first_judge s.judges) s) (court.room k beyond);
+}
 
--- a cancellation
-cancel_changed : (d : DocketView) (case motion : ℕ) → IsAfter d (Cancel case motion) (docket_after (record { case = case; motion = motion; before = hearing_in (parts_held d) case motion; after = None }) d)
-cancel_changed d case motion Court = refl
-cancel_changed d case motion (Judge j) =
-    let stands = is_before_judge (parts_held d) case motion j in
-    ap value.Calendar (calendar_of _ d.judges j (λ beyond. none_out case motion stands))
-    ∙ change_takes_out stands case motion (get_or d.judges j [])
-cancel_changed d case motion (Room r) =
-    let stands = is_in_room (parts_held d) case motion r in
-    ap value.Calendar (calendar_of _ d.rooms r (λ beyond. none_out case motion stands))
-    ∙ change_takes_out stands case motion (get_or d.rooms r [])
-cancel_changed d case motion (Case i) = case_changed d.cases case i _
-
-pub hearing_changed : (d : DocketView) (command : Command) (r : Rebooking) → refusal d.bench (parts_held d) command ≡ None → length d.judges ≡ d.bench.judges → length d.rooms ≡ d.bench.rooms → Some r ≡ rebooking_of (parts_held d) command → IsAfter d command (docket_after r d)
+-- nor does a cancellation
+pub stays_when_made : (d : DocketView) (command : Command) (r : Rebooking) → refusal d.bench (parts_held d) command ≡ None → length d.judges ≡ d.bench.judges → length d.rooms ≡ d.bench.rooms → Some r ≡ rebooking_of (parts_held d) command → StaysInCourt d r
 unfolding book_refusal move_refusal
-hearing_changed d (Book s) r made judges rooms is = subst (λ (r : Rebooking). IsAfter d (Book s) (docket_after r d)) (sym (ap (λ o. unwrap_or o r) is)) (book_changed d s (in_court d s _ _ judges rooms made))
-hearing_changed d (MoveHearing s) r made judges rooms is = subst (λ (r : Rebooking). IsAfter d (MoveHearing s) (docket_after r d)) (sym (ap (λ o. unwrap_or o r) is)) (move_changed d s (in_court d s _ _ judges rooms made))
-hearing_changed d (Cancel case motion) r made judges rooms is = subst (λ (r : Rebooking). IsAfter d (Cancel case motion) (docket_after r d)) (sym (ap (λ o. unwrap_or o r) is)) (cancel_changed d case motion)
-hearing_changed d _ r made judges rooms is = absurd cc
+stays_when_made d (Book s) r made judges rooms is = same_rebooking (StaysInCourt d) r _ is (stays_in_court d s _ (in_court d s _ _ judges rooms made))
+stays_when_made d (MoveHearing s) r made judges rooms is = same_rebooking (StaysInCourt d) r _ is (stays_in_court d s _ (in_court d s _ _ judges rooms made))
+stays_when_made d (Cancel case motion) r made judges rooms is = same_rebooking (StaysInCourt d) r _ is (record {
+  judges = λ j beyond. nothing_taken case motion (is_before_judge (parts_held d) case motion j);
+  rooms = λ k beyond. nothing_taken case motion (is_in_room (parts_held d) case motion k);
+})
+stays_when_made d _ r made judges rooms is = absurd cc
 
--- each calendar can be changed so
-can_rebook : (d : DocketView) (s : Setting) (before : Option Hearing) → CanSet (parts_held d) s → CanChangeAll 0 (judge_change (record { case = s.case; motion = s.motion; before = before; after = Some (placed_of (parts_held d) s) })) d.judges × CanChangeAll 0 (room_change (record { case = s.case; motion = s.motion; before = before; after = Some (placed_of (parts_held d) s) })) d.rooms
-can_rebook d s before can = (
-  can_change_all _ d.judges (λ j. can_change s.case s.motion _ (sits j s.judges) (booking_of (parts_held d) s.room s) (get_or d.judges j []) (booking_within _ s.room s _ can refl) (can.judges j)),
-  can_change_all _ d.rooms (λ r. can_change s.case s.motion _ (s.room == r) (booking_of (parts_held d) (first_judge s.judges) s) (get_or d.rooms r []) (booking_within _ (first_judge s.judges) s _ can refl) (room_free _ (first_judge s.judges) s r _ _ can refl refl)),
-)
+-- the value of a calendar after its change
+value_changed : (o : Option (List Booking)) (bookings : List Booking) → value.Calendar (unwrap_or o bookings) ≡ unwrap_or (option_map value.Calendar o) (value.Calendar bookings)
+value_changed None bookings = refl
+value_changed (Some changed) bookings = refl
 
-pub can_change_calendars : (d : DocketView) (command : Command) (r : Rebooking) → refusal d.bench (parts_held d) command ≡ None → Some r ≡ rebooking_of (parts_held d) command → CanChangeAll 0 (judge_change r) d.judges × CanChangeAll 0 (room_change r) d.rooms
-can_change_calendars d (Book s) r made is = subst (λ (r : Rebooking). CanChangeAll 0 (judge_change r) d.judges × CanChangeAll 0 (room_change r) d.rooms) (sym (ap (λ o. unwrap_or o r) is)) (can_rebook d s None (can_book d.bench (parts_held d) s made))
-can_change_calendars d (MoveHearing s) r made is = subst (λ (r : Rebooking). CanChangeAll 0 (judge_change r) d.judges × CanChangeAll 0 (room_change r) d.rooms) (sym (ap (λ o. unwrap_or o r) is)) (can_rebook d s (hearing_in (parts_held d) s.case s.motion) (can_move d.bench (parts_held d) s made))
-can_change_calendars d (Cancel case motion) r made is = subst (λ (r : Rebooking). CanChangeAll 0 (judge_change r) d.judges × CanChangeAll 0 (room_change r) d.rooms) (sym (ap (λ o. unwrap_or o r) is)) (can_change_all _ d.judges (λ j. can_take_out case motion _ (get_or d.judges j [])), can_change_all _ d.rooms (λ j. can_take_out case motion _ (get_or d.rooms j [])))
-can_change_calendars d _ r made is = absurd cc
+abbrev pub CaseIsAfter : DocketView → Command → (case : ℕ) → Rebooking → Type 0
+CaseIsAfter d command case r =
+    value.Case (get_or (docket_after r d).cases case None) ≡ unwrap_or (changed (parts_held d) command (Case case)) (part_value (parts_held d) (Case case))
+
+-- a booking, a move and a cancellation change their calendars, and the case
+pub hearing_changed : (d : DocketView) (command : Command) (r : Rebooking) → refusal d.bench (parts_held d) command ≡ None → length d.judges ≡ d.bench.judges → length d.rooms ≡ d.bench.rooms → Some r ≡ rebooking_of (parts_held d) command → IsAfter d command (docket_after r d)
+hearing_changed d command r made judges rooms is (Judge j) =
+    rw (judge_rebooked (parts_held d) command j, sym is)
+    (ap value.Calendar (calendar_of (judge_change r) d.judges j ((stays_when_made d command r made judges rooms is).judges j))
+    ∙ value_changed (changed_by (judge_change r j) (get_or d.judges j [])) (get_or d.judges j []))
+hearing_changed d command r made judges rooms is (Room k) =
+    rw (room_rebooked (parts_held d) command k, sym is)
+    (ap value.Calendar (calendar_of (room_change r) d.rooms k ((stays_when_made d command r made judges rooms is).rooms k))
+    ∙ value_changed (changed_by (room_change r k) (get_or d.rooms k [])) (get_or d.rooms k []))
+hearing_changed d (Book s) r made judges rooms is Court = refl
+hearing_changed d (MoveHearing s) r made judges rooms is Court = refl
+hearing_changed d (Cancel case motion) r made judges rooms is Court = refl
+hearing_changed d (Book s) r made judges rooms is (Case i) =
+    same_rebooking (CaseIsAfter d (Book s) i) r _ is (case_changed d.cases s.case i _)
+hearing_changed d (MoveHearing s) r made judges rooms is (Case i) =
+    same_rebooking (CaseIsAfter d (MoveHearing s) i) r _ is (case_changed d.cases s.case i _)
+hearing_changed d (Cancel case motion) r made judges rooms is (Case i) =
+    same_rebooking (CaseIsAfter d (Cancel case motion) i) r _ is (case_changed d.cases case i _)
+hearing_changed d _ r made judges rooms is part = absurd cc

@@ -2,12 +2,11 @@
 use Rattle.std.specs.Prelude.{◌≡◌, ℕ, ◌+◌, List, [], length, Option, Some, None, option_map, unwrap_or, get_or, set}
 use Rattle.rule_periods.specs.Words.{with_grant, with_filing}
 use Rattle.docket_rows.specs.declared.command.Command.{Command}
-use Rattle.docket_rows.specs.declared.command.Command.TheVariants.{OpenCase, Start, FileAct, Extend, Motion, Book, MoveHearing, Cancel}
-use Rattle.docket_rows.specs.declared.hearing.Setting.{Setting}
+use Rattle.docket_rows.specs.declared.command.Command.TheVariants.{OpenCase, Start, FileAct, Extend, Motion}
 use Rattle.docket_rows.specs.declared.part.PartId.{PartId}
-use Rattle.docket_rows.specs.Words.{CaseRecordView, Parts, part_value, changed, started, add_deadline, change_deadline, add_motion, set_hearing, hearing_in, hearing_asked, booking_of, first_judge}
-use Rattle.docket_core.specs.declared.holdings.calendars.Placed.{Placed}
-use Rattle.docket_core.specs.declared.holdings.calendars.Rebooking.{Rebooking}
+use Rattle.docket_rows.specs.Words.{CaseRecordView, part_value, changed, started, add_deadline, change_deadline, add_motion, set_hearing}
+use Rattle.docket_core.specs.declared.rebooking.Placement.{Placement}
+use Rattle.docket_core.specs.declared.rebooking.Rebooking.{Rebooking}
 use Rattle.docket_core.specs.Docket.{DocketView, parts_held}
 use Rattle.docket_core.specs.Rebooking.{judge_change, room_change, calendars_after}
 
@@ -30,26 +29,10 @@ cases_after (Motion case served need) cases =
     with_case case (λ (c : CaseRecordView). add_motion (record { number = length c.motions + 1; served = served; need = need; hearing = None }) c) cases
 cases_after _ cases = cases
 
--- a hearing that is asked for, with its bookings
-abbrev pub placed_of : Parts → Setting → Placed
-placed_of parts s = record {
-  hearing = hearing_asked s;
-  with_room = booking_of parts s.room s;
-  with_judge = booking_of parts (first_judge s.judges) s;
-}
-
--- what a booking, a move and a cancellation do to calendars
-abbrev pub rebooking_of : Parts → Command → Option Rebooking
-rebooking_of parts (Book s) = Some (record { case = s.case; motion = s.motion; before = None; after = Some (placed_of parts s) })
-rebooking_of parts (MoveHearing s) =
-    Some (record { case = s.case; motion = s.motion; before = hearing_in parts s.case s.motion; after = Some (placed_of parts s) })
-rebooking_of parts (Cancel case motion) = Some (record { case = case; motion = motion; before = hearing_in parts case motion; after = None })
-rebooking_of parts _ = None
-
--- the docket after it
+-- the docket after a booking, a move or a cancellation
 abbrev pub docket_after : Rebooking → DocketView → DocketView
 docket_after r d = record d {
-  cases = with_case r.case (set_hearing r.motion (option_map (λ (p : Placed). p.hearing) r.after)) d.cases;
+  cases = with_case r.case (set_hearing r.motion (option_map (λ (p : Placement). p.hearing) r.after)) d.cases;
   judges = calendars_after 0 (judge_change r) d.judges;
   rooms = calendars_after 0 (room_change r) d.rooms;
 }

@@ -14,6 +14,7 @@ mod motions;
 mod next;
 mod outages;
 mod reads;
+mod rebooking;
 mod rules;
 mod seen;
 mod sight;

@@ -8,10 +8,8 @@ ghost use Rattle.court_days.specs.Words.{add_outage};
 
 use crate::rules::DocketRules;
 use crate::sight::Sight;
-pub(crate) use calendars::booking_of;
 use calendars::{judge_written, room_written};
 use cases::case_written;
-pub(crate) use cases::hearing_asked;
 use court_days::{Day, Days, Outage};
 use docket_rows::{Command, PartId, PartValue, SharedCase};
 use std::alloc::{AllocError, Global};
@@ -70,11 +68,11 @@ pub(crate) fn changed<S: Sight>(
             Some(days) => Ok(Some(PartValue::Days(days))),
             None => Ok(None),
         },
-        PartId::Judge(judge) => match judge_written(alloc, rules, sight, command, judge)? {
+        PartId::Judge(judge) => match judge_written(alloc, sight, command, judge)? {
             Some(calendar) => Ok(Some(PartValue::Calendar(calendar))),
             None => Ok(None),
         },
-        PartId::Room(room) => match room_written(alloc, rules, sight, command, room)? {
+        PartId::Room(room) => match room_written(alloc, sight, command, room)? {
             Some(calendar) => Ok(Some(PartValue::Calendar(calendar))),
             None => Ok(None),
         },

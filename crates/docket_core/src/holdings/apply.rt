@@ -1,23 +1,23 @@
 //! A command, applied to a docket in place.
 
-ghost use Rattle.std.specs.Prelude.{◌≡◌, ◌≤◌, None, IfOk, IfErr, OnOk, OnErr};
+ghost use Rattle.std.specs.Prelude.{◌≡◌, None, IfOk, IfErr, OnOk, OnErr};
 ghost use Rattle.docket_rows.specs.Words.{refusal, answered, part_value};
 ghost use Rattle.docket_rows.specs.declared.part.PartId.{PartId};
 
 use super::Holdings;
-use super::calendars::{Placed, Rebooking, rebook};
+use super::calendars::rebook;
 use super::cases::{enter, extend, open, record_act, set_hearing, start};
 use crate::answers::answer_if_made;
 use crate::judgement::refusal;
-use crate::seen::hearing_in;
-use crate::writes::{booking_of, days_written, hearing_asked};
-use docket_rows::{Answer, Command, Setting};
+use crate::rebooking::{Rebooking, rebooking_of};
+use crate::writes::days_written;
+use docket_rows::{Answer, Command};
 use std::alloc::{AllocError, Global};
 
 impl Holdings {
     ghost use Rattle.docket_core.specs.Docket.{parts_held};
     ghost use Rattle.docket_rows.specs.Words.{part_after};
-    ghost use Rattle.docket_core.specs.Changes.{IsAfter, cases_after, placed_of, rebooking_of, docket_after};
+    ghost use Rattle.docket_core.specs.Changes.{IsAfter, cases_after, docket_after};
     ghost use Rattle.docket_core.specs.Rebooking.{CanChangeAll, judge_change, room_change};
 
     /// Decides the command on the docket as it is, and changes the docket in place where the command isn't refused. A
@@ -49,52 +49,10 @@ impl Holdings {
             self.days = days;
             return Ok(());
         }
-        if let Some(rebooking) = self.rebooking_of(command) {
+        if let Some(rebooking) = rebooking_of(self, command) {
             return self.rebook(alloc, &rebooking);
         }
         self.change_case(alloc, command)
-    }
-
-    /// What a booking, a move or a cancellation does to calendars; none where the command is another.
-    fn rebooking_of(&self, command: &Command) -> Option<Rebooking>
-        requires { refusal self.now.bench (parts_held self.now) command.now ≡ None }
-        ensures { result ≡ rebooking_of (parts_held self.now) command.now }
-    {
-        match command {
-            Command::Book(s) => Some(Rebooking {
-                case: s.case,
-                motion: s.motion,
-                before: None,
-                after: Some(self.placed(s)),
-            }),
-            Command::MoveHearing(s) => Some(Rebooking {
-                case: s.case,
-                motion: s.motion,
-                before: hearing_in(self, s.case, s.motion),
-                after: Some(self.placed(s)),
-            }),
-            Command::Cancel { case, motion } => Some(Rebooking {
-                case: *case,
-                motion: *motion,
-                before: hearing_in(self, *case, *motion),
-                after: None,
-            }),
-            _ => None,
-        }
-    }
-
-    /// The hearing that is asked for, with its bookings.
-    fn placed(&self, s: &Setting) -> Placed
-        requires { s.now.count ≤ 96 }
-        ensures { result ≡ placed_of (parts_held self.now) s.now }
-    {
-        let judges = s.judges;
-        let panel = judges.judges();
-        Placed {
-            hearing: hearing_asked(s),
-            with_room: booking_of(self, s.room, s),
-            with_judge: booking_of(self, panel[0], s),
-        }
     }
 
     /// Changes the calendars, and then the case. An error leaves the docket as it was.

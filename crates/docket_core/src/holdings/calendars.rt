@@ -3,90 +3,10 @@
 ghost use Rattle.std.specs.Prelude.{◌≡◌, ◌≤◌, ◌+◌, length, IfOk, IfErr, OnOk, OnErr, if◌then◌else◌};
 ghost use Rattle.docket_core.specs.Rebooking.{CanChange, CanChangeAll, calendar_after, calendars_after, judge_change, room_change};
 
-use crate::hearings::sits;
-use docket_rows::Hearing;
-use hearing_slots::{Booking, Calendar, OpenCalendar};
+use crate::rebooking::{Change, Rebooking};
+use hearing_slots::{Calendar, OpenCalendar};
 use std::alloc::{AllocError, Global};
 use std::mem;
-
-/// What becomes of a calendar.
-#[derive(Clone, Copy)]
-pub enum Change {
-    /// It stays as it is.
-    Stays,
-    /// The booking is put in, in place of an older one of its case and motion.
-    Put(Booking),
-    /// The booking of that case and motion is taken out.
-    TakeOut(u32, u32),
-}
-
-/// A hearing that is to be on the calendar.
-#[derive(Clone, Copy)]
-pub struct Placed {
-    /// The hearing.
-    pub hearing: Hearing,
-    /// Its booking for the calendars of its judges, beside the number of its room.
-    pub with_room: Booking,
-    /// Its booking for the calendar of its room, beside the number of its first judge.
-    pub with_judge: Booking,
-}
-
-/// What a booking, a move or a cancellation does to calendars.
-#[derive(Clone, Copy)]
-pub struct Rebooking {
-    /// The number of the case.
-    pub case: u32,
-    /// The number of the motion in its case.
-    pub motion: u32,
-    /// The motion's hearing that is to be taken off the calendar.
-    pub before: Option<Hearing>,
-    /// The one that is to be put on it.
-    pub after: Option<Placed>,
-}
-
-impl Rebooking {
-    /// What becomes of the calendar of the judge.
-    fn of_judge(&self, judge: u8) -> Change
-        ensures { result ≡ judge_change self.now judge }
-    {
-        if let Some(placed) = self.after {
-            if sits(judge, placed.hearing.judges.judges()) {
-                return Change::Put(placed.with_room);
-            }
-        }
-        match self.before {
-            Some(hearing) => {
-                if sits(judge, hearing.judges.judges()) {
-                    Change::TakeOut(self.case, self.motion)
-                } else {
-                    Change::Stays
-                }
-            }
-            None => Change::Stays,
-        }
-    }
-
-    /// What becomes of the calendar of the room.
-    fn of_room(&self, room: u8) -> Change
-        ensures { result ≡ room_change self.now room }
-    {
-        if let Some(placed) = self.after {
-            if placed.hearing.room == room {
-                return Change::Put(placed.with_judge);
-            }
-        }
-        match self.before {
-            Some(hearing) => {
-                if hearing.room == room {
-                    Change::TakeOut(self.case, self.motion)
-                } else {
-                    Change::Stays
-                }
-            }
-            None => Change::Stays,
-        }
-    }
-}
 
 /// Takes the calendar out of its place, to be changed. `Err` says that memory ran out, and leaves it there.
 fn take_open(alloc: Global, place: &mut Calendar) -> Result<OpenCalendar, AllocError>

@@ -2,14 +2,20 @@ use Rattle.std.proofs.Common.{sym, subst, ◌∙◌}
 use Rattle.std.proofs.lemmas.Result.{on_ok_weaker}
 use Rattle.docket_core.specs.Changes.{IsAfter}
 use Rattle.docket_core.specs.Docket.{DocketView, HasPlaces}
-use Rattle.docket_core.proofs.ApplyLemmas.{can_change_calendars, hearing_changed, cases_changed}
+use Rattle.docket_core.proofs.ApplyLemmas.{hearing_changed, cases_changed}
+use Rattle.docket_core.proofs.RebookingLemmas.{can_rebook, can_change_all, judge_can_change, room_can_change}
 use Rattle.docket_core.proofs.holdings.Holdings.change.Goals as goal
 
+pub rebooking_of-requires : goal.rebooking_of-requires
+rebooking_of-requires c = can_rebook _ _ _ c.requires
+
 pub rebook-requires-clause-judges : goal.rebook-requires-clause-judges
-rebook-requires-clause-judges c = (can_change_calendars _ _ _ c.requires c.in-Some-rebooking_of.ensures).0
+rebook-requires-clause-judges c =
+    can_change_all _ _ (λ j. judge_can_change _ _ _ j (can_rebook _ _ _ c.requires) c.in-Some-rebooking_of.ensures)
 
 pub rebook-requires-clause-rooms : goal.rebook-requires-clause-rooms
-rebook-requires-clause-rooms c = (can_change_calendars _ _ _ c.requires c.in-Some-rebooking_of.ensures).1
+rebook-requires-clause-rooms c =
+    can_change_all _ _ (λ k. room_can_change _ _ _ k (can_rebook _ _ _ c.requires) c.in-Some-rebooking_of.ensures)
 
 pub returns-in-Some-rebooking_of-clause-ok : goal.returns-in-Some-rebooking_of-clause-ok
 returns-in-Some-rebooking_of-clause-ok c =
