@@ -1,0 +1,49 @@
+-- The text that a run of one clerk's office writes: a reply to each row, then the sheets and the calendars.
+use Rattle.std.specs.Prelude.{ℕ, ◌+◌, List, [], ◌∷◌, ◌++◌, length, codes}
+use Rattle.std.specs.Fmt.{decimal}
+use Rattle.std.specs.List.{flat_map, range_with_len}
+use Rattle.court_days.specs.Words.{CourtView}
+use Rattle.docket_rows.specs.declared.query.Query.TheVariants as query
+use Rattle.docket_rows.specs.declared.view.View.{View}
+use Rattle.docket_rows.specs.declared.view.View.TheVariants as view
+use Rattle.docket_rows.specs.Words.{Rows, bench_of, judge_calendar, opening_rows, view_of}
+use Rattle.office_rows.specs.declared.row.Row.{Row}
+use Rattle.office_texts.specs.Words.{answer_text, calendar_lines, sheet_lines, view_lines}
+use Rattle.office_run.specs.declared.reply.Reply.{Reply}
+use Rattle.office_run.specs.declared.reply.Reply.TheVariants.{Made, Viewed}
+use Rattle.office_run.specs.Replies.{reply_to, docketed_then, docketed_after}
+
+-- the text of a reply, with the ends of its lines
+abbrev pub reply_text : CourtView → Reply → List ℕ
+reply_text court (Made answer) = answer_text court.clock answer ++ 10 ∷ []
+reply_text court (Viewed view) = view_lines court view
+
+-- the reply to the row of that number, counted from 1: the number, the clerk's, and the text
+unfoldable pub line_of : CourtView → (number clerk : ℕ) → Reply → List ℕ
+line_of court number clerk reply = decimal number ++ codes " " ++ decimal clerk ++ codes " " ++ reply_text court reply
+
+-- the replies to rows, the first of which has that number
+unfoldable pub lines_from : CourtView → (docketed : Rows) → (number : ℕ) → List Row → List ℕ
+lines_from court docketed number [] = []
+lines_from court docketed number (row ∷ rows) =
+    line_of court number row.clerk (reply_to (bench_of court) docketed row.work)
+    ++ lines_from court (docketed_then (bench_of court) docketed row.work) (number + 1) rows
+
+-- the lines of a sheet; a case that isn't open shows none
+abbrev pub sheet_shown : CourtView → View → List ℕ
+sheet_shown court (view.Sheet sheet) = sheet_lines court sheet
+sheet_shown court _ = []
+
+-- the sheets of all open cases, by number
+abbrev pub closing_sheets : CourtView → (docketed : Rows) → List ℕ
+closing_sheets court docketed = flat_map (λ case. sheet_shown court (view_of (bench_of court) docketed (query.Sheet case))) (range_with_len 1 4096)
+
+-- the calendars of all judges, in the order of the court's file
+abbrev pub closing_calendars : CourtView → (docketed : Rows) → List ℕ
+closing_calendars court docketed = flat_map (λ judge. calendar_lines court judge (judge_calendar docketed judge)) (range_with_len 0 (length court.judges))
+
+-- the text of a run
+unfoldable pub run_text : CourtView → List Row → List ℕ
+run_text court rows =
+    let docketed = docketed_after (bench_of court) (opening_rows (bench_of court)) rows in
+    lines_from court (opening_rows (bench_of court)) 1 rows ++ closing_sheets court docketed ++ closing_calendars court docketed

@@ -1,0 +1,8 @@
+//! A run of one clerk's office: rows in, and the text of all replies, sheets and calendars out.
+#![tactic(auto)]
+
+mod reply;
+mod text;
+
+pub use reply::Reply;
+pub use text::run_text;

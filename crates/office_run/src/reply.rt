@@ -1,0 +1,33 @@
+//! What a row is answered.
+
+ghost use Rattle.std.specs.Prelude.{◌≡◌, IfOk};
+ghost use Rattle.docket_rows.specs.Words.{Bench, Rows};
+ghost use Rattle.office_run.specs.Replies.{Holds, docketed_then, reply_to};
+
+use docket_core::Docket;
+use docket_rows::{Answer, View};
+use office_rows::Work;
+use std::alloc::{AllocError, Global};
+
+/// What a row is answered.
+#[derive(Debug, Drop)]
+pub enum Reply {
+    /// The answer to a command.
+    Made(Answer),
+    /// What a query shows.
+    Viewed(View),
+}
+
+/// Carries out what a row asks for, and answers it. `Err` says that memory ran out, and leaves the docket as it was.
+pub(crate) fn reply_to(
+    alloc: Global,
+    docket: &mut Docket,
+    work: &Work,
+) -> Result<Reply, AllocError>
+    ensures { (bench : Bench) (docketed : Rows) → Holds bench docket.old docketed → IfOk result (λ r. (r ≡ reply_to bench docketed work.now) × Holds bench docket.new (docketed_then bench docketed work.now)) }
+{
+    match work {
+        Work::Command(command) => Ok(Reply::Made(docket.apply(alloc, command)?)),
+        Work::Query(query) => Ok(Reply::Viewed(docket.show(alloc, query)?)),
+    }
+}

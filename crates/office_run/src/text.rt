@@ -1,0 +1,135 @@
+//! The text of a run.
+
+ghost use Rattle.std.specs.Prelude.{◌≡◌, ◌++◌, ◌<◌, length, IfOk, OnOk, string_bytes};
+ghost use Rattle.docket_rows.specs.Words.{Rows, bench_of, opening_rows};
+ghost use Rattle.docket_core.specs.Words.{parts_held};
+ghost use Rattle.office_texts.specs.Words.{calendar_lines};
+ghost use Rattle.office_run.specs.Replies.{Holds, docketed_after};
+ghost use Rattle.office_run.specs.Text.{closing_calendars, closing_sheets, line_of, lines_from, reply_text, run_text, sheet_shown};
+
+use crate::reply::{Reply, reply_to};
+use court_days::Court;
+use docket_core::Docket;
+use docket_rows::{Query, View};
+use office_rows::Row;
+use office_texts::{push_answer, push_calendar, push_number, push_sheet, push_view};
+use std::alloc::{AllocError, Global};
+
+/// The reply to each row in turn, then the sheets of all open cases and the calendars of all judges. `Err` says that
+/// memory ran out.
+#[tactic(auto, unfolding(crate::specs::Text::run_text))]
+pub fn run_text(alloc: Global, court: &Court, rows: &[Row]) -> Result<String, AllocError>
+    ensures { IfOk result (λ text. string_bytes text ≡ run_text court.now rows.now) }
+{
+    let mut docket = Docket::new(alloc, court)?;
+    let mut text = String::new(alloc);
+    push_replies(alloc, &mut text, court, &mut docket, rows)?;
+    push_sheets(alloc, &mut text, court, &docket)?;
+    push_calendars(&mut text, court, &docket)?;
+    Ok(text)
+}
+
+/// Adds the reply to each row.
+fn push_replies(
+    alloc: Global,
+    text: &mut String,
+    court: &Court,
+    docket: &mut Docket,
+    rows: &[Row],
+) -> Result<(), AllocError>
+    requires { Holds (bench_of court.now) docket.old (opening_rows (bench_of court.now)) }
+    ensures text { OnOk result (string_bytes text.new ≡ string_bytes text.old ++ lines_from court.now (opening_rows (bench_of court.now)) 1 rows.now) }
+    ensures docket { OnOk result (Holds (bench_of court.now) docket.new (docketed_after (bench_of court.now) (opening_rows (bench_of court.now)) rows.now)) }
+{
+    let mut number = 1u64;
+    for row in rows {
+        let reply = reply_to(alloc, docket, &row.work)?;
+        push_line(text, court, number, row.clerk, &reply)?;
+        number += 1;
+    }
+    Ok(())
+}
+
+/// Adds the reply to the row of that number, counted from 1.
+#[tactic(auto, unfolding(crate::specs::Text::line_of))]
+fn push_line(
+    text: &mut String,
+    court: &Court,
+    number: u64,
+    clerk: u8,
+    reply: &Reply,
+) -> Result<(), AllocError>
+    ensures { OnOk result (string_bytes text.new ≡ string_bytes text.old ++ line_of court.now number clerk reply.now) }
+{
+    push_number(text, number)?;
+    text.push_str(" ")?;
+    push_number(text, u64::from(clerk))?;
+    text.push_str(" ")?;
+    push_reply(text, court, reply)
+}
+
+/// Adds the text of a reply, with the ends of its lines.
+fn push_reply(text: &mut String, court: &Court, reply: &Reply) -> Result<(), AllocError>
+    ensures { OnOk result (string_bytes text.new ≡ string_bytes text.old ++ reply_text court.now reply.now) }
+{
+    match reply {
+        Reply::Made(answer) => {
+            push_answer(text, court.clock(), answer)?;
+            text.push_str("\n")
+        }
+        Reply::Viewed(view) => push_view(text, court, view),
+    }
+}
+
+/// Adds the sheets of all open cases, by number.
+fn push_sheets(
+    alloc: Global,
+    text: &mut String,
+    court: &Court,
+    docket: &Docket,
+) -> Result<(), AllocError>
+    ensures { (docketed : Rows) → Holds (bench_of court.now) docket.now docketed → OnOk result (string_bytes text.new ≡ string_bytes text.old ++ closing_sheets court.now docketed) }
+{
+    for case in 1..=4_096u32 {
+        let view = docket.show(alloc, &Query::Sheet(case))?;
+        push_sheet_shown(text, court, &view)?;
+    }
+    Ok(())
+}
+
+/// Adds the lines of a sheet, where the view is one.
+fn push_sheet_shown(text: &mut String, court: &Court, view: &View) -> Result<(), AllocError>
+    ensures { OnOk result (string_bytes text.new ≡ string_bytes text.old ++ sheet_shown court.now view.now) }
+{
+    match view {
+        View::Sheet(sheet) => push_sheet(text, court, sheet),
+        _ => Ok(()),
+    }
+}
+
+/// Adds the calendars of all judges, in the order of the court's file.
+fn push_calendars(text: &mut String, court: &Court, docket: &Docket) -> Result<(), AllocError>
+    ensures { (docketed : Rows) → Holds (bench_of court.now) docket.now docketed → OnOk result (string_bytes text.new ≡ string_bytes text.old ++ closing_calendars court.now docketed) }
+{
+    for judge in 0..court.judges() {
+        push_judge(text, court, docket, judge)?;
+    }
+    Ok(())
+}
+
+/// Adds the calendar of the judge.
+fn push_judge(
+    text: &mut String,
+    court: &Court,
+    docket: &Docket,
+    judge: u8,
+) -> Result<(), AllocError>
+    requires court { docket.now.bench ≡ bench_of court.now }
+    requires judge { judge < length court.now.judges }
+    ensures { OnOk result (string_bytes text.new ≡ string_bytes text.old ++ calendar_lines court.now judge ((parts_held docket.now).judge judge)) }
+{
+    match docket.calendar(judge) {
+        Some(calendar) => push_calendar(text, court, judge, calendar.all()),
+        None => unreachable!(),
+    }
+}
