@@ -6,7 +6,7 @@ use Rattle.court_days.specs.Words.{CourtView}
 use Rattle.docket_rows.specs.declared.query.Query.TheVariants as query
 use Rattle.docket_rows.specs.declared.view.View.{View}
 use Rattle.docket_rows.specs.declared.view.View.TheVariants as view
-use Rattle.docket_rows.specs.Words.{Rows, bench_of, judge_calendar, opening_rows, view_of}
+use Rattle.docket_rows.specs.Words.{Parts, Rows, bench_of, opening_rows, parts_of, seen_by}
 use Rattle.office_rows.specs.declared.row.Row.{Row}
 use Rattle.office_texts.specs.Words.{answer_text, calendar_lines, sheet_lines, view_lines}
 use Rattle.office_run.specs.declared.reply.Reply.{Reply}
@@ -34,16 +34,20 @@ abbrev pub sheet_shown : CourtView → View → List ℕ
 sheet_shown court (view.Sheet sheet) = sheet_lines court sheet
 sheet_shown court _ = []
 
--- the sheets of all open cases, by number
-abbrev pub closing_sheets : CourtView → (docketed : Rows) → List ℕ
-closing_sheets court docketed = flat_map (λ case. sheet_shown court (view_of (bench_of court) docketed (query.Sheet case))) (range_with_len 1 4096)
+-- the sheets of so many cases from a first number on, where the parts are these
+unfoldable pub sheets_from : CourtView → Parts → (first count : ℕ) → List ℕ
+sheets_from court parts first count = flat_map (λ case. sheet_shown court (seen_by (bench_of court) parts (query.Sheet case))) (range_with_len first count)
 
--- the calendars of all judges, in the order of the court's file
-abbrev pub closing_calendars : CourtView → (docketed : Rows) → List ℕ
-closing_calendars court docketed = flat_map (λ judge. calendar_lines court judge (judge_calendar docketed judge)) (range_with_len 0 (length court.judges))
+-- the calendars of so many judges from a first number on
+unfoldable pub calendars_from : CourtView → Parts → (first count : ℕ) → List ℕ
+calendars_from court parts first count = flat_map (λ judge. calendar_lines court judge (parts.judge judge)) (range_with_len first count)
+
+-- the sheets of all open cases, by number, and the calendars of all judges, in the order of the court's file
+abbrev pub closing_text : CourtView → Parts → List ℕ
+closing_text court parts = sheets_from court parts 1 4096 ++ calendars_from court parts 0 (length court.judges)
 
 -- the text of a run
 unfoldable pub run_text : CourtView → List Row → List ℕ
 run_text court rows =
     let docketed = docketed_after (bench_of court) (opening_rows (bench_of court)) rows in
-    lines_from court (opening_rows (bench_of court)) 1 rows ++ closing_sheets court docketed ++ closing_calendars court docketed
+    lines_from court (opening_rows (bench_of court)) 1 rows ++ closing_text court (parts_of docketed)

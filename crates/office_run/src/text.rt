@@ -1,11 +1,11 @@
 //! The text of a run.
 
-ghost use Rattle.std.specs.Prelude.{◌≡◌, ◌++◌, ◌<◌, length, IfOk, OnOk, string_bytes};
-ghost use Rattle.docket_rows.specs.Words.{Rows, bench_of, opening_rows};
+ghost use Rattle.std.specs.Prelude.{◌≡◌, ◌+◌, ◌++◌, ◌<◌, ◌≤◌, length, IfOk, OnOk, string_bytes};
+ghost use Rattle.docket_rows.specs.Words.{bench_of, opening_rows};
 ghost use Rattle.docket_core.specs.Words.{parts_held};
 ghost use Rattle.office_texts.specs.Words.{calendar_lines};
 ghost use Rattle.office_run.specs.Replies.{Holds, docketed_after};
-ghost use Rattle.office_run.specs.Text.{closing_calendars, closing_sheets, line_of, lines_from, reply_text, run_text, sheet_shown};
+ghost use Rattle.office_run.specs.Text.{calendars_from, line_of, lines_from, reply_text, run_text, sheet_shown, sheets_from};
 
 use crate::reply::{Reply, reply_to};
 use court_days::Court;
@@ -24,8 +24,8 @@ pub fn run_text(alloc: Global, court: &Court, rows: &[Row]) -> Result<String, Al
     let mut docket = Docket::new(alloc, court)?;
     let mut text = String::new(alloc);
     push_replies(alloc, &mut text, court, &mut docket, rows)?;
-    push_sheets(alloc, &mut text, court, &docket)?;
-    push_calendars(&mut text, court, &docket)?;
+    push_sheets(alloc, &mut text, court, &docket, 1, 4_096)?;
+    push_calendars(&mut text, court, &docket, 0, court.judges())?;
     Ok(text)
 }
 
@@ -81,16 +81,20 @@ fn push_reply(text: &mut String, court: &Court, reply: &Reply) -> Result<(), All
     }
 }
 
-/// Adds the sheets of all open cases, by number.
+/// Adds the sheets of the open ones of so many cases, from the first number on.
 fn push_sheets(
     alloc: Global,
     text: &mut String,
     court: &Court,
     docket: &Docket,
+    first: u32,
+    count: u32,
 ) -> Result<(), AllocError>
-    ensures { (docketed : Rows) → Holds (bench_of court.now) docket.now docketed → OnOk result (string_bytes text.new ≡ string_bytes text.old ++ closing_sheets court.now docketed) }
+    requires court { docket.now.bench ≡ bench_of court.now }
+    requires numbers { first + count ≤ 5_000 }
+    ensures { OnOk result (string_bytes text.new ≡ string_bytes text.old ++ sheets_from court.now (parts_held docket.now) first count) }
 {
-    for case in 1..=4_096u32 {
+    for case in first..first + count {
         let view = docket.show(alloc, &Query::Sheet(case))?;
         push_sheet_shown(text, court, &view)?;
     }
@@ -107,11 +111,19 @@ fn push_sheet_shown(text: &mut String, court: &Court, view: &View) -> Result<(),
     }
 }
 
-/// Adds the calendars of all judges, in the order of the court's file.
-fn push_calendars(text: &mut String, court: &Court, docket: &Docket) -> Result<(), AllocError>
-    ensures { (docketed : Rows) → Holds (bench_of court.now) docket.now docketed → OnOk result (string_bytes text.new ≡ string_bytes text.old ++ closing_calendars court.now docketed) }
+/// Adds the calendars of so many judges, from the first number on.
+fn push_calendars(
+    text: &mut String,
+    court: &Court,
+    docket: &Docket,
+    first: u8,
+    count: u8,
+) -> Result<(), AllocError>
+    requires court { docket.now.bench ≡ bench_of court.now }
+    requires numbers { first + count ≤ length court.now.judges }
+    ensures { OnOk result (string_bytes text.new ≡ string_bytes text.old ++ calendars_from court.now (parts_held docket.now) first count) }
 {
-    for judge in 0..court.judges() {
+    for judge in first..first + count {
         push_judge(text, court, docket, judge)?;
     }
     Ok(())

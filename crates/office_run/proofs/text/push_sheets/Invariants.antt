@@ -1,0 +1,11 @@
+use Rattle.std.proofs.Common.{◌≡◌, ◌+◌, ◌-◌, ◌≤◌, ◌++◌, string_bytes}
+use Rattle.docket_core.specs.Words.{parts_held}
+use Rattle.office_run.specs.Text.{sheets_from}
+use Rattle.office_run.proofs.text.push_sheets.Given as goal
+
+-- what was added, and what is left, are all of it
+abbrev pub invariant-loop-case : goal.invariant-loop-case
+invariant-loop-case l = record {
+  within : l.case ≤ l.fn.first + l.fn.count;
+  so_far : string_bytes l.text ++ sheets_from l.court (parts_held l.docket) l.case (l.fn.first + l.fn.count - l.case) ≡ string_bytes l.fn.text ++ sheets_from l.court (parts_held l.docket) l.fn.first l.fn.count;
+}
