@@ -3,4 +3,5 @@ pub mod Docket
 pub mod Holidays
 pub mod Next
 pub mod Rebooking
+pub mod Words
 pub mod Written

@@ -1,0 +1,2 @@
+-- The words of clauses and definitions, for the crates above, from one place.
+pub use Rattle.docket_core.specs.Docket.{DocketView, parts_held, StandsFor, IsDocket}
