@@ -9,3 +9,9 @@ pub mod PartsLists
 pub mod PartsMotions
 pub mod PartsSame
 pub mod PartsSeen
+pub mod ReadsChanged
+pub mod ReadsEnd
+pub mod ReadsNumbered
+pub mod ReadsParts
+pub mod ReadsSame
+pub mod ReadsWritten

@@ -1,2 +1,3 @@
 pub mod CanSet
+pub mod Reads
 pub mod Words

@@ -3,6 +3,8 @@
 
 mod opening;
 mod parts;
+mod reads;
 
 pub use opening::nothing_is_docketed;
 pub use parts::{commands_rest_on_parts, parts_stand_for_rows_after, queries_rest_on_parts};
+pub use reads::{parts_are_read_and_written_once, reading_ends};
