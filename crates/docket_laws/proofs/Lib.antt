@@ -10,8 +10,10 @@ pub mod PartsMotions
 pub mod PartsSame
 pub mod PartsSeen
 pub mod ReadsChanged
+pub mod ReadsDecided
 pub mod ReadsEnd
 pub mod ReadsNumbered
 pub mod ReadsParts
 pub mod ReadsSame
+pub mod ReadsUnread
 pub mod ReadsWritten

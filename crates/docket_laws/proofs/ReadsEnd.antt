@@ -1,11 +1,11 @@
 -- Reading ends: what is wanted stays so as more is read, no part is read twice, and few parts are wanted.
-use Rattle.std.proofs.Common.{◌≡◌, ℕ, zero, suc, ◌+◌, ◌<◌, ◌≤◌, nat_lt, nat_le, min, max, ◌⊎◌, Bool, true, false, not, ◌||◌, ◌==◌, List, [], ◌∷◌, ◌++◌, length, map, filter, find, take, Contains, All, Option, Some, None, option_and_then, if◌then◌else◌, refl, ap, sym, ◌∙◌, subst, arith, inl, inr}
-use Rattle.std.specs.List.{AllByRecursion, IsDistinct, list_any, range_with_len}
+use Rattle.std.proofs.Common.{◌≡◌, ℕ, ◌+◌, ◌<◌, ◌≤◌, nat_lt, ◌⊎◌, Bool, true, false, not, ◌||◌, ◌==◌, List, [], ◌∷◌, ◌++◌, length, map, filter, find, take, All, Option, Some, None, option_and_then, refl, ap, sym, ◌∙◌, subst, arith, inl, inr}
+use Rattle.std.specs.List.{AllByRecursion, IsDistinct, list_any}
 use Rattle.std.specs.Map.{lookup}
 use Rattle.std.specs.Option.{option_or, option_map_or}
-use Rattle.std.proofs.lemmas.Bool.{cases_Bool, false≢true, or_left, or_right, or_parts}
+use Rattle.std.proofs.lemmas.Bool.{cases_Bool, false≢true, or_left, or_right, or_parts, not-true}
 use Rattle.std.proofs.lemmas.List.{append-nil, append_assoc, length-append, length-map, length-take}
-use Rattle.std.proofs.lemmas.List.Elements.{All-from_recursion, recursion_from_All, All-weaker, All-contains}
+use Rattle.std.proofs.lemmas.List.Elements.{All-from_recursion, All-contains}
 use Rattle.std.proofs.lemmas.List.Folds.{list_any-append, list_any_at}
 use Rattle.std.proofs.lemmas.List.FromFn.{length-map-range_with_len}
 use Rattle.std.proofs.lemmas.List.Sums.{length-filter, count_by-le-length}
@@ -20,7 +20,7 @@ use Rattle.docket_rows.specs.declared.part.PartId.TheVariants.{Court, Judge, Roo
 use Rattle.docket_rows.specs.declared.part.PartValue.{PartValue}
 use Rattle.docket_rows.specs.Words.{Bench, Parts, CaseRecordView, NumberedMotion, same_part, case_in, read_of, parts_read, is_case_number, hearing_in, calendars_of, calendars_now, about_case, wanted, is_read, next_part}
 use Rattle.docket_laws.specs.Reads.{most_reads, parts_in, WereReadAfter, WereRead, is_wanted}
-use Rattle.docket_laws.proofs.ReadsParts.{parts_equal, part_itself, part_flip, part_equivalence, not-true}
+use Rattle.docket_laws.proofs.ReadsParts.{parts_equal, part_itself, part_flip, part_equivalence}
 
 -- in a list that is put together, what is found stays found where the front, or the back, finds more
 or_front : (a b c : Bool) → (a ≡ true → b ≡ true) → (a || c) ≡ true → (b || c) ≡ true

@@ -1,5 +1,5 @@
 -- A command that isn't refused is about a case that there can be.
-use Rattle.std.proofs.Common.{◌≡◌, ℕ, true, not, None, is_some}
+use Rattle.std.proofs.Common.{◌≡◌, true, None}
 use Rattle.std.proofs.lemmas.Bool.{and_parts}
 use Rattle.docket_rows.specs.declared.command.Command.{Command}
 use Rattle.docket_rows.specs.declared.command.Command.TheVariants.{OpenCase, Start, FileAct, Extend, Motion, Book, MoveHearing, Cancel, Holiday, Inaccessible}

@@ -1,18 +1,15 @@
 -- The names of parts, and which of them were read.
-use Rattle.std.proofs.Common.{◌≡◌, ℕ, ◌<◌, ◌==◌, Bool, true, false, not, ◌||◌, List, [], ◌∷◌, ◌++◌, length, get_or, All, Option, Some, None, option_and_then, refl, ap, sym, ◌∙◌, subst, arith, inl, inr}
+use Rattle.std.proofs.Common.{◌≡◌, true, false, not, List, [], ◌∷◌, All, Some, None, refl, ap, sym, ◌∙◌, inl, inr}
 use Rattle.std.specs.Cmp.{IsEquivalence}
 use Rattle.std.specs.List.{list_any}
-use Rattle.std.specs.Map.{lookup}
-use Rattle.std.specs.Option.{unwrap_or}
-use Rattle.std.proofs.lemmas.Bool.{cases_Bool, true≢false, false≢true, eqb-true, or_left}
+use Rattle.std.proofs.lemmas.Bool.{cases_Bool, false≢true, eqb-true, not-false}
 use Rattle.std.proofs.lemmas.List.Elements.{All-head, All-tail}
 use Rattle.std.proofs.lemmas.Cmp.{nat_eq_equiv}
-use Rattle.hearing_slots.proofs.CallerLemmas.{find-None, find-Some}
+use Rattle.hearing_slots.proofs.CallerLemmas.{find-None}
 use Rattle.docket_rows.specs.declared.command.Command.{Command}
 use Rattle.docket_rows.specs.declared.part.PartId.{PartId}
 use Rattle.docket_rows.specs.declared.part.PartId.TheVariants.{Court, Judge, Room, Case}
 use Rattle.docket_rows.specs.declared.part.PartValue.{PartValue}
-use Rattle.docket_rows.specs.declared.part.PartValue.TheVariants as value
 use Rattle.docket_rows.specs.Words.{Bench, Parts, same_part, part_value, read_of, parts_read, wanted, is_read, next_part}
 use Rattle.docket_laws.specs.Reads.{AreValuesOf, is_wanted}
 
@@ -56,15 +53,6 @@ part_equivalence = record {
   symm = part_flip;
   congr = λ x y z same. ap (λ w. same_part w z) (parts_equal x y same);
 }
-
--- what a list contains
-pub not-true : (b : Bool) → not b ≡ true → b ≡ false
-not-true true h = absurd (false≢true h)
-not-true false h = refl
-
-pub not-false : (b : Bool) → not b ≡ false → b ≡ true
-not-false true h = refl
-not-false false h = absurd (true≢false h)
 
 -- where nothing is left to read, each part that is wanted was read
 pub wanted_read : (bench : Bench) (command : Command) (reads : List (PartId × PartValue)) → next_part bench command reads ≡ None → (part : PartId) → is_wanted bench (parts_read bench reads) command part ≡ true → is_read reads part ≡ true

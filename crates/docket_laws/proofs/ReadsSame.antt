@@ -1,9 +1,9 @@
 -- How a command is refused, what it is answered and what it writes rest on the parts that it reads, and on the span of
 -- the days.
-use Rattle.std.proofs.Common.{◌≡◌, ℕ, ◌<◌, ◌≤◌, nat_lt, nat_le, ℤ, Bool, true, false, ◌&&◌, ◌||◌, not, is_some, is_none, List, [], ◌∷◌, ◌++◌, length, map, filter, take, All, Option, Some, None, option_map, if◌then◌else◌, refl, ap, sym, ◌∙◌, arith, inl, inr}
-use Rattle.std.specs.List.{flat_map, list_any, list_all, range_with_len}
-use Rattle.std.specs.Option.{unwrap_or, option_map_or}
-use Rattle.std.proofs.lemmas.Bool.{cases_Bool, false≢true, and_parts, or_left, or_right, leb-true}
+use Rattle.std.proofs.Common.{◌≡◌, ℕ, ◌≤◌, nat_lt, ℤ, true, List, [], ◌∷◌, ◌++◌, length, map, filter, take, All, Option, Some, None, refl, ap, ◌∙◌, inl, inr}
+use Rattle.std.specs.List.{flat_map, list_any, range_with_len}
+use Rattle.std.specs.Option.{unwrap_or}
+use Rattle.std.proofs.lemmas.Bool.{cases_Bool, and_parts, or_left, or_right, leb-true}
 use Rattle.std.proofs.lemmas.List.{take_all}
 use Rattle.std.proofs.lemmas.List.Elements.{All-nil, All-cons, All-head, All-tail}
 use Rattle.std.proofs.lemmas.List.Folds.{list_any-append}
@@ -11,26 +11,21 @@ use Rattle.std.proofs.lemmas.List.Sums.{AllPass-from_list_all}
 use Rattle.hearing_slots.proofs.CallerLemmas.{filter_all}
 use Rattle.court_days.specs.declared.holiday_list.HolidayList.{HolidayList}
 use Rattle.court_days.specs.declared.holiday_list.HolidayList.TheVariants.{Federal, State}
-use Rattle.court_days.specs.Words.{DaysView, is_covered}
 use Rattle.rule6.specs.declared.service.ServiceKind.{ServiceKind}
 use Rattle.rule6.specs.declared.timeliness.Filing.{Filing}
 use Rattle.rule_periods.specs.declared.period.Period.{Period}
 use Rattle.rule_periods.specs.declared.grant.Request.{Request}
 use Rattle.rule_periods.specs.Words.{EventView, first_of}
-use Rattle.hearing_slots.specs.declared.booking.Booking.{Booking}
 use Rattle.hearing_slots.specs.declared.need.Need.{Need}
 use Rattle.hearing_slots.specs.Words.{first_conflict}
-use Rattle.docket_rows.specs.declared.answer.Answer.TheVariants as answer
 use Rattle.docket_rows.specs.declared.command.Command.{Command}
 use Rattle.docket_rows.specs.declared.command.Command.TheVariants.{OpenCase, Start, FileAct, Extend, Motion, Book, MoveHearing, Cancel, Holiday, Inaccessible}
 use Rattle.docket_rows.specs.declared.hearing.Hearing.{Hearing}
 use Rattle.docket_rows.specs.declared.hearing.Setting.{Setting}
 use Rattle.docket_rows.specs.declared.part.PartId.{PartId}
 use Rattle.docket_rows.specs.declared.part.PartId.TheVariants.{Court, Judge, Room, Case}
-use Rattle.docket_rows.specs.declared.part.PartValue.TheVariants as value
 use Rattle.docket_rows.specs.declared.refusal.Refusal.{Refusal}
-use Rattle.docket_rows.specs.Words.{Bench, Parts, part_value, days_in, calendar_in, case_in, same_part, is_case_number, has_judges, is_panel, hearing_asked, calendars_of, calendars_now, about_case, wanted, judge_clash, all_booked, hearing_checks, open_case_refusal, start_deadline_refusal, file_act_refusal, extend_refusal, motion_refusal, book_refusal, move_refusal, cancel_refusal, holiday_refusal, outage_refusal, notice_lost, refusal, answer_if_made, answered, days_written, case_written, judge_written, room_written, changed}
-use Rattle.docket_laws.specs.Reads.{is_wanted}
+use Rattle.docket_rows.specs.Words.{Bench, Parts, part_value, days_in, calendar_in, case_in, same_part, is_case_number, has_judges, is_panel, hearing_asked, calendars_of, calendars_now, about_case, wanted, judge_clash, all_booked, hearing_checks, open_case_refusal, start_deadline_refusal, file_act_refusal, extend_refusal, motion_refusal, book_refusal, move_refusal, cancel_refusal, holiday_refusal, outage_refusal, notice_lost, refusal}
 use Rattle.docket_laws.proofs.PartsLists.{map_agree}
 use Rattle.docket_laws.proofs.ReadsParts.{part_itself}
 

@@ -1,7 +1,6 @@
 -- What is written on the parts that were read.
-use Rattle.std.proofs.Common.{◌≡◌, Bool, true, false, ◌||◌, is_none, List, [], ◌∷◌, Contains, All, Option, Some, None, option_map, if◌then◌else◌, refl, ap, sym, ◌∙◌, inl, inr}
+use Rattle.std.proofs.Common.{◌≡◌, true, false, is_none, List, [], ◌∷◌, Contains, All, Option, Some, None, option_map, refl, ap, sym, ◌∙◌, inl, inr}
 use Rattle.std.specs.List.{AllByRecursion, IsDistinct, filter_map, cons_option}
-use Rattle.std.specs.Map.{lookup}
 use Rattle.std.proofs.lemmas.Bool.{cases_Bool, false≢true, or_parts}
 use Rattle.std.proofs.lemmas.List.Elements.{All-from_recursion, recursion_from_All, All-contains_itself, All-nil}
 use Rattle.docket_rows.specs.declared.command.Command.{Command}
