@@ -1,5 +1,5 @@
 -- What a command that isn't refused writes into calendars and cases.
-use Rattle.std.proofs.Common.{◌≡◌, ℕ, Bool, true, ◌==◌, List, Option, Some, Result, IfOk, option_map, refl, ap, sym, subst, ◌∙◌, arith, eq-eqb}
+use Rattle.std.proofs.Common.{◌≡◌, ℕ, true, ◌==◌, List, Option, Some, Result, IfOk, option_map, refl, subst, arith, eq-eqb}
 use Rattle.std.proofs.lemmas.Bool.Decides.{nat_tests}
 use Rattle.rule6.specs.declared.timeliness.Filing.{Filing}
 use Rattle.rule_periods.specs.declared.grant.Request.{Request}
@@ -9,7 +9,7 @@ use Rattle.hearing_slots.specs.Words.{IsFree, IsWithinDay}
 use Rattle.docket_rows.specs.declared.command.Command.{Command}
 use Rattle.docket_rows.specs.declared.command.Command.TheVariants.{FileAct, Extend}
 use Rattle.docket_rows.specs.declared.hearing.Setting.{Setting}
-use Rattle.docket_rows.specs.Words.{Parts, CaseRecordView, booking_of, change_deadline, case_written, sits}
+use Rattle.docket_rows.specs.Words.{Parts, CaseRecordView, booking_of, change_deadline, case_written}
 use Rattle.docket_laws.specs.Words.{CanSet}
 use Rattle.docket_laws.proofs.CallerLemmas.{slots_of}
 
@@ -19,11 +19,7 @@ booking_within parts other s b can is =
     let slots = slots_of s.first s.count can.fits in
     rw is (record { some_slot = slots.0; ends = slots.1 })
 
--- and its slots are free in the calendar of a judge who sits, and of its room
-pub judge_free : (parts : Parts) (other : ℕ) (s : Setting) (judge : ℕ) (b : Booking) (bookings : List Booking) (panel : List ℕ) (belongs : Bool) → CanSet parts s → b ≡ booking_of parts other s → bookings ≡ parts.judge judge → panel ≡ s.judges → belongs ≡ sits judge panel → belongs ≡ true → IsFree bookings b.day b.first b.count (Some (b.case, b.motion))
-judge_free parts other s judge b bookings panel belongs can is in_calendar named sitting h =
-    rw (is, in_calendar) (can.judges judge (ap (sits judge) (sym named) ∙ sym sitting ∙ h))
-
+-- and its slots are free in the calendar of its room
 pub room_free : (parts : Parts) (other : ℕ) (s : Setting) (room : ℕ) (b : Booking) (bookings : List Booking) → CanSet parts s → b ≡ booking_of parts other s → bookings ≡ parts.room room → (s.room == room) ≡ true → IsFree bookings b.day b.first b.count (Some (b.case, b.motion))
 room_free parts other s room b bookings can is in_calendar h =
     let same : s.room ≡ room = grind (arith, nat_tests) in

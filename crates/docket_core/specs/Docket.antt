@@ -1,8 +1,9 @@
 -- A docket, as contracts see it.
-use Rattle.std.specs.Prelude.{List, [], Option, None, get_or}
+use Rattle.std.specs.Prelude.{◌≡◌, ◌≤◌, length, List, [], Option, None, get_or}
 use Rattle.court_days.specs.Words.{DaysView}
 use Rattle.hearing_slots.specs.declared.booking.Booking.{Booking}
-use Rattle.docket_rows.specs.Words.{Bench, CaseRecordView, Parts}
+use Rattle.docket_rows.specs.declared.part.PartId.{PartId}
+use Rattle.docket_rows.specs.Words.{Bench, CaseRecordView, Parts, Rows, AreSound, AreLawful, part_value, parts_of}
 
 -- what no command changes; the days; the cases by their numbers, of which there is no number 0; and the calendars of
 -- the judges and of the rooms, by their numbers
@@ -13,6 +14,14 @@ pub record DocketView : Type 0 where
   pub judges : List (List Booking)
   pub rooms : List (List Booking)
 
+-- there is a place for each case that can be, and a calendar for each judge and each room of the court
+pub record HasPlaces (bench : Bench) (cases : List (Option CaseRecordView)) (judges rooms : List (List Booking)) : Type 0 where
+  pub of_cases : length cases ≡ 4097
+  pub of_judges : length judges ≡ bench.judges
+  pub of_rooms : length rooms ≡ bench.rooms
+  pub few_judges : bench.judges ≤ 32
+  pub few_rooms : bench.rooms ≤ 32
+
 -- the parts of the docket
 abbrev pub parts_held : DocketView → Parts
 parts_held d = record {
@@ -21,3 +30,11 @@ parts_held d = record {
   judge = λ judge. get_or d.judges judge [];
   room = λ room. get_or d.rooms room [];
 }
+
+-- the docket holds just what the rows say: each part of it is that of the rows
+abbrev pub StandsFor : DocketView → Rows → Type 0
+StandsFor d rows = (part : PartId) → part_value (parts_held d) part ≡ part_value (parts_of rows) part
+
+-- it stands for rows that fit together and are lawful
+abbrev pub IsDocket : DocketView → Type 0
+IsDocket d = ∥ ((rows : Rows) × AreSound d.bench rows × AreLawful d.bench rows × StandsFor d rows) ∥₁

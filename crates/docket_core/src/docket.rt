@@ -1,140 +1,78 @@
 //! The docket of one thread.
 
-ghost use Rattle.std.specs.Prelude.{◌≡◌, [], None, Some, All, option_copied, unwrap_or, get_or, length, nat_lt, IfOk, if◌then◌else◌};
-ghost use Rattle.docket_rows.specs.Words.{bench_of, has_case, opening_rows, parts_of, part_value};
+ghost use Rattle.std.specs.Prelude.{◌≡◌, Some, None, option_copied, nat_lt, IfOk, IfErr, if◌then◌else◌};
 ghost use Rattle.docket_rows.specs.declared.part.PartId.{PartId};
+ghost use Rattle.docket_rows.specs.Words.{AreSound, Rows, answered, bench_of, has_case, opening_rows, part_after, part_value, seen_by, step, view_of};
 
-use crate::rules::DocketRules;
-use crate::seen::has_case;
-use crate::sight::Sight;
-use court_days::{Court, Days};
-use docket_rows::CaseRecord;
+use crate::holdings::Holdings;
+use court_days::Court;
+use docket_rows::{Answer, Command, Query, View};
 use hearing_slots::Calendar;
 use std::alloc::{AllocError, Global};
 use std::marker::Model;
 
-/// The docket of a court: its days, its cases, and the calendars of its judges and rooms.
+/// The docket of a court. It stands for rows that are lawful: no two hearings clash, each lies on a day on which the
+/// court hears motions, within office hours, and has its notice.
 #[derive(Drop)]
 pub struct Docket {
-    rules: DocketRules,
-    days: Days,
-    // By number; there is no case 0.
-    cases: Vec<Option<CaseRecord>>,
-    judges: Vec<Calendar>,
-    rooms: Vec<Calendar>,
+    holdings: Holdings,
 }
 
 impl Model for Docket {
-    ghost use Rattle.std.specs.Prelude.{◌≡◌, length};
-    ghost use Rattle.docket_core.specs.Docket.{DocketView};
+    ghost use Rattle.docket_core.specs.Docket.{DocketView, IsDocket};
 
     ghost Value = { DocketView };
 
-    ghost view = { λ d. record { bench = d.rules; days = d.days; cases = d.cases.items; judges = d.judges.items; rooms = d.rooms.items } };
+    ghost view = { λ d. d.holdings };
 
-    ghost invariant = { λ d. (length d.cases.items ≡ 4097) × (length d.judges.items ≡ d.rules.judges) × (length d.rooms.items ≡ d.rules.rooms) };
+    ghost invariant = { λ d. IsDocket d.holdings };
 }
 
 impl Docket {
-    ghost use Rattle.docket_core.specs.Docket.{parts_held};
+    ghost use Rattle.docket_core.specs.Docket.{IsDocket, StandsFor, parts_held};
 
     /// The docket of the court before any command. `Err` says that memory ran out.
     pub fn new(alloc: Global, court: &Court) -> Result<Docket, AllocError>
         ensures bench { IfOk result (λ d. d.bench ≡ bench_of court.now) }
-        ensures parts { IfOk result (λ d. (part : PartId) → part_value (parts_held d) part ≡ part_value (parts_of (opening_rows (bench_of court.now))) part) }
+        ensures rows { IfOk result (λ d. StandsFor d (opening_rows (bench_of court.now))) }
     {
-        let rules = DocketRules::new(court)?;
-        let days = court.days().copy()?;
-        let cases = no_cases(alloc)?;
-        let judges = no_bookings(alloc, court.judges())?;
-        let rooms = no_bookings(alloc, court.rooms())?;
-        Ok(Docket {
-            rules,
-            days,
-            cases,
-            judges,
-            rooms,
-        })
+        let holdings = Holdings::new(alloc, court)?;
+        Ok(Docket { holdings })
     }
 
-    /// Whether the case is open.
+    /// Decides the command on the docket as it is, and changes the docket in place where the command isn't refused. A
+    /// command about a case copies neither the case nor its deadlines, and a hearing that is booked behind all others
+    /// of a judge moves no booking. `Err` says that memory ran out, and leaves the docket as it was.
+    pub fn apply(&mut self, alloc: Global, command: &Command) -> Result<Answer, AllocError>
+        ensures bench { self.new.bench ≡ self.old.bench }
+        ensures answer { IfOk result (λ a. a ≡ answered self.old.bench (parts_held self.old) command.now) }
+        ensures parts { IfOk result (λ a. (part : PartId) → part_value (parts_held self.new) part ≡ part_after self.old.bench (parts_held self.old) command.now part) }
+        ensures rows { (rows : Rows) → AreSound self.old.bench rows → StandsFor self.old rows → IfOk result (λ a. (a ≡ (step self.old.bench rows command.now).1) × StandsFor self.new (step self.old.bench rows command.now).0) }
+        ensures err { IfErr result (λ e. self.new ≡ self.old) }
+        ensures lawful { IsDocket self.new }
+    {
+        self.holdings.apply(alloc, command)
+    }
+
+    /// What the query shows of the docket, or why it is refused. `Err` says that memory ran out.
+    pub fn show(&self, alloc: Global, query: &Query) -> Result<View, AllocError>
+        ensures view { IfOk result (λ v. v ≡ seen_by self.now.bench (parts_held self.now) query.now) }
+        ensures rows { (rows : Rows) → StandsFor self.now rows → IfOk result (λ v. v ≡ view_of self.now.bench rows query.now) }
+    {
+        self.holdings.show(alloc, query)
+    }
+
+    /// Whether the case is open. It takes no memory.
     pub fn is_open(&self, case: u32) -> bool
         ensures { result ≡ has_case (parts_held self.now) case }
     {
-        has_case(self, case)
+        self.holdings.is_open(case)
     }
 
-    /// The calendar of the judge of that number. None where the court has no such judge.
+    /// The calendar of the judge of that number. None where the court has no such judge. It takes no memory.
     pub fn calendar(&self, judge: u8) -> Option<&Calendar>
         ensures { option_copied result ≡ (if nat_lt judge self.now.bench.judges then Some ((parts_held self.now).judge judge) else None) }
     {
-        let judges = &self.judges;
-        judges.get(usize::from(judge))
+        self.holdings.calendar(judge)
     }
-}
-
-impl Sight for Docket {
-    ghost use Rattle.docket_core.specs.Docket.{parts_held};
-
-    ghost parts = { parts_held };
-
-    fn days(&self) -> &Days {
-        &self.days
-    }
-
-    fn case(&self, case: u32) -> Option<&CaseRecord> {
-        case_at(&self.cases, case as usize)
-    }
-
-    fn judge(&self, judge: u8) -> Option<&Calendar> {
-        calendar_at(&self.judges, usize::from(judge))
-    }
-
-    fn room(&self, room: u8) -> Option<&Calendar> {
-        calendar_at(&self.rooms, usize::from(room))
-    }
-}
-
-/// The case at that place, if it is open.
-fn case_at(cases: &[Option<CaseRecord>], place: usize) -> Option<&CaseRecord>
-    ensures { option_copied result ≡ get_or cases.now place None }
-{
-    if place >= cases.len() {
-        return None;
-    }
-    match &cases[place] {
-        Some(case) => Some(case),
-        None => None,
-    }
-}
-
-/// The calendar at that place, if there is one.
-fn calendar_at(calendars: &[Calendar], place: usize) -> Option<&Calendar>
-    ensures { unwrap_or (option_copied result) [] ≡ get_or calendars.now place [] }
-{
-    calendars.get(place)
-}
-
-/// Places for as many cases as there can be, none of which is open.
-fn no_cases(alloc: Global) -> Result<Vec<Option<CaseRecord>>, AllocError>
-    ensures count { IfOk result (λ cases. length cases.items ≡ 4097) }
-    ensures none { IfOk result (λ cases. All (λ c. c ≡ None) cases.items) }
-{
-    let mut cases = Vec::new(alloc);
-    for _case in 0..4_097u32 {
-        cases.push(None)?;
-    }
-    Ok(cases)
-}
-
-/// So many calendars with no bookings.
-fn no_bookings(alloc: Global, count: u8) -> Result<Vec<Calendar>, AllocError>
-    ensures count { IfOk result (λ calendars. length calendars.items ≡ count) }
-    ensures none { IfOk result (λ calendars. All (λ c. c ≡ []) calendars.items) }
-{
-    let mut calendars = Vec::new(alloc);
-    for _number in 0..count {
-        calendars.push(Calendar::empty())?;
-    }
-    Ok(calendars)
 }

@@ -7,15 +7,18 @@ mod deadlines;
 mod decide;
 mod docket;
 mod hearings;
+mod holdings;
 mod holidays;
 mod judgement;
 mod motions;
 mod next;
 mod outages;
 mod reads;
+mod rebooking;
 mod rules;
 mod seen;
 mod sight;
+mod views;
 mod writes;
 
 pub use docket::Docket;

@@ -32,7 +32,7 @@ fn with_outage<S: Sight>(
 }
 
 /// The days, where the command changes them.
-fn days_written<S: Sight>(
+pub(crate) fn days_written<S: Sight>(
     alloc: Global,
     rules: &DocketRules,
     sight: &S,
@@ -68,11 +68,11 @@ pub(crate) fn changed<S: Sight>(
             Some(days) => Ok(Some(PartValue::Days(days))),
             None => Ok(None),
         },
-        PartId::Judge(judge) => match judge_written(alloc, rules, sight, command, judge)? {
+        PartId::Judge(judge) => match judge_written(alloc, sight, command, judge)? {
             Some(calendar) => Ok(Some(PartValue::Calendar(calendar))),
             None => Ok(None),
         },
-        PartId::Room(room) => match room_written(alloc, rules, sight, command, room)? {
+        PartId::Room(room) => match room_written(alloc, sight, command, room)? {
             Some(calendar) => Ok(Some(PartValue::Calendar(calendar))),
             None => Ok(None),
         },

@@ -1,4 +1,5 @@
 pub mod CallerLemmas
+pub mod LawfulLemmas
 pub mod MadeLemmas
 pub mod PartsAfter
 pub mod PartsCalendars
@@ -9,6 +10,7 @@ pub mod PartsLists
 pub mod PartsMotions
 pub mod PartsSame
 pub mod PartsSeen
+pub mod PartsStep
 pub mod ReadsChanged
 pub mod ReadsDecided
 pub mod ReadsEnd

@@ -99,13 +99,13 @@ rows_span bench rows sound = record { from = sound.first_day; to = sound.last_da
 module _ (bench : Bench) (rows : Rows) (sound : AreSound bench rows) (command : Command) (reads : List (PartId × PartValue)) (ended : next_part bench command reads ≡ None) (values : AreValuesOf (parts_of rows) reads) where
   -- On all that is read of the parts of rows the answer is that of the step, and the parts of the rows after it are what is
   -- written, and where nothing is written what they were.
-  pub step_answer : answered bench (parts_read bench reads) command ≡ (step bench rows command).1
+  pub decided_answer : answered bench (parts_read bench reads) command ≡ (step bench rows command).1
   unfolding step
-  step_answer = answered_read bench (parts_of rows) command reads ended values (rows_span bench rows sound)
+  decided_answer = answered_read bench (parts_of rows) command reads ended values (rows_span bench rows sound)
 
-  pub step_parts : (part : PartId) → part_value (parts_of (step bench rows command).0) part ≡ unwrap_or (value_written (written_on bench command reads) part) (part_value (parts_of rows) part)
+  pub decided_parts : (part : PartId) → part_value (parts_of (step bench rows command).0) part ≡ unwrap_or (value_written (written_on bench command reads) part) (part_value (parts_of rows) part)
   unfolding step
-  step_parts part = by (refusal bench (parts_of rows) command) refl where
+  decided_parts part = by (refusal bench (parts_of rows) command) refl where
     by : (found : Option Refusal) → refusal bench (parts_of rows) command ≡ found → part_value (parts_of (option_map_or (λ r. rows) (refusal bench (parts_of rows) command) (rows_after rows command))) part ≡ unwrap_or (value_written (written_on bench command reads) part) (part_value (parts_of rows) part)
     by None made =
         let here = written_made bench (parts_of rows) command reads ended values (hearings_shown bench rows sound) (rows_span bench rows sound) made part in

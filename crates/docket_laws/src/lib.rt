@@ -1,13 +1,23 @@
 //! What the definitions of a docket come to, in the words of those who use it.
 #![tactic(auto)]
 
+mod lawful;
 mod opening;
 mod parts;
 mod reads;
+mod sheets;
 
-pub use opening::nothing_is_docketed;
-pub use parts::{commands_rest_on_parts, parts_stand_for_rows_after, queries_rest_on_parts};
+pub use lawful::{
+    every_hearing_has_its_notice, every_hearing_lies_on_a_court_day_within_office_hours,
+    no_judge_or_room_is_booked_twice, rows_stay_lawful, rows_stay_sound,
+};
+pub use opening::the_opening_docket_is_lawful;
+pub use parts::{
+    commands_rest_on_parts, parts_follow_the_steps_of_rows, parts_stand_for_rows_after,
+    queries_rest_on_parts,
+};
 pub use reads::{
     commands_rest_on_parts_wanted, decisions_are_steps, decisions_rest_on_reads,
     parts_are_read_and_written_once, reading_ends,
 };
+pub use sheets::deadlines_are_shown_by_the_days_as_docketed;

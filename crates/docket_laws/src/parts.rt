@@ -4,7 +4,7 @@ ghost use Rattle.std.specs.Prelude.{◌≡◌, None, unwrap_or};
 ghost use Rattle.docket_rows.specs.declared.command.Command.{Command};
 ghost use Rattle.docket_rows.specs.declared.part.PartId.{PartId};
 ghost use Rattle.docket_rows.specs.declared.query.Query.{Query};
-ghost use Rattle.docket_rows.specs.Words.{AreSound, Bench, Parts, Rows, answered, changed, part_value, parts_of, refusal, rows_after, seen_by};
+ghost use Rattle.docket_rows.specs.Words.{AreSound, Bench, Parts, Rows, answered, changed, part_after, part_value, parts_of, refusal, rows_after, seen_by, step};
 
 /// After a command that isn't refused each part is that of the rows after it: a part that the command writes holds what
 /// it writes there, and every other part holds what it held.
@@ -17,6 +17,14 @@ pub fn parts_stand_for_rows_after()
         → refusal bench (parts_of rows) command ≡ None
         → (part : PartId)
         → part_value (parts_of (rows_after rows command)) part ≡ unwrap_or (changed (parts_of rows) command part) (part_value (parts_of rows) part) }
+{}
+
+/// Where parts hold what the rows say, a command is answered on them as the step of the rows is, and after it, refused or
+/// not, they hold what the rows say after that step.
+#[tactic(auto, using(crate::proofs::PartsStep::step_answer, crate::proofs::PartsStep::step_parts))]
+pub fn parts_follow_the_steps_of_rows()
+    ensures answers { (bench : Bench) (p : Parts) (rows : Rows) (command : Command) → ((part : PartId) → part_value p part ≡ part_value (parts_of rows) part) → answered bench p command ≡ (step bench rows command).1 }
+    ensures parts { (bench : Bench) (p : Parts) (rows : Rows) (command : Command) → AreSound bench rows → ((part : PartId) → part_value p part ≡ part_value (parts_of rows) part) → (part : PartId) → part_after bench p command part ≡ part_value (parts_of (step bench rows command).0) part }
 {}
 
 /// What a command is refused by, what it is answered and what it writes rest on what the parts hold, and on nothing else.

@@ -58,7 +58,7 @@ pub fn decisions_rest_on_reads()
 
 /// On all that a command reads of the parts of rows the answer is that of the step, and each part of the rows after it
 /// holds what is written for it, or else what it held.
-#[tactic(auto, using(crate::proofs::ReadsDecided::step_answer, crate::proofs::ReadsDecided::step_parts))]
+#[tactic(auto, using(crate::proofs::ReadsDecided::decided_answer, crate::proofs::ReadsDecided::decided_parts))]
 pub fn decisions_are_steps()
     ensures answer { (bench : Bench)
         (rows : Rows)

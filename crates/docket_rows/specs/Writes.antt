@@ -1,5 +1,5 @@
 -- Which parts a command writes, and what it writes into them.
-use Rattle.std.specs.Prelude.{ℕ, ◌+◌, ◌==◌, Bool, true, false, ◌&&◌, is_some, is_none, List, [], ◌∷◌, ◌++◌, length, map, Option, Some, None, option_map, if◌then◌else◌}
+use Rattle.std.specs.Prelude.{ℕ, ◌+◌, ◌==◌, Bool, true, false, ◌&&◌, is_some, is_none, List, [], ◌∷◌, ◌++◌, length, map, Option, Some, None, option_map, unwrap_or, if◌then◌else◌}
 use Rattle.std.specs.List.{filter_map}
 use Rattle.std.specs.Option.{option_map_or}
 use Rattle.court_days.specs.Words.{DaysView, add_holiday, add_outage, later_day}
@@ -18,7 +18,7 @@ use Rattle.docket_rows.specs.declared.part.PartValue.TheVariants as value
 use Rattle.docket_rows.specs.Bench.{Bench}
 use Rattle.docket_rows.specs.Cases.{CaseRecordView, NumberedDeadline, NumberedMotion}
 use Rattle.docket_rows.specs.Hearings.{hearing_asked}
-use Rattle.docket_rows.specs.Parts.{Parts, parts_read, sits, first_judge}
+use Rattle.docket_rows.specs.Parts.{Parts, parts_read, part_value, sits, first_judge}
 use Rattle.docket_rows.specs.Refusals.{refusal}
 use Rattle.docket_rows.specs.Seen.{has_one, motion_in, hearing_in, started}
 
@@ -118,6 +118,14 @@ changed parts command (Case case) = option_map (λ c. value.Case (Some c)) (case
 -- a command touches the parts that it writes; a refused one touches none
 unfoldable pub touches_part : Bench → Parts → Command → PartId → Bool
 touches_part bench parts command part = is_none (refusal bench parts command) && is_some (changed parts command part)
+
+-- what a part holds after a command: what the command writes into it, where it isn't refused and touches the part, and
+-- else what it held
+abbrev pub part_after : Bench → Parts → Command → PartId → PartValue
+part_after bench parts command part =
+    if is_none (refusal bench parts command)
+    then unwrap_or (changed parts command part) (part_value parts part)
+    else part_value parts part
 
 -- what is written on these reads: each part read that the command changes, in read order; nothing where it is refused
 unfoldable pub written_on : Bench → Command → List (PartId × PartValue) → List (PartId × PartValue)

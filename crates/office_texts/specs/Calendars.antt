@@ -1,5 +1,5 @@
 -- The lines of a judge's calendar.
-use Rattle.std.specs.Prelude.{ℕ, ◌*◌, ◌/◌, ◌%◌, ◌==◌, List, [], ◌∷◌, ◌++◌, slice_get, unwrap_or, codes, if◌then◌else◌}
+use Rattle.std.specs.Prelude.{ℕ, ℤ, ◌*◌, ◌/◌, ◌%◌, ◌==◌, List, [], ◌∷◌, ◌++◌, slice_get, unwrap_or, codes, if◌then◌else◌}
 use Rattle.std.specs.Fmt.{decimal}
 use Rattle.std.specs.List.{flat_map}
 use Rattle.court_days.specs.Words.{CourtView, day_text, minute_text}
@@ -17,10 +17,14 @@ slot_text first = minute_text (15 * first)
 abbrev pub slots_text : (count : ℕ) → List ℕ
 slots_text count = if count % 2 == 0 then decimal (count / 2) else decimal count ++ codes "q"
 
+-- the day of a hearing, when it begins, and how long it takes
+abbrev pub span_text : (day : ℤ) → (first count : ℕ) → List ℕ
+span_text day first count = day_text day ++ codes " " ++ slot_text first ++ codes " " ++ slots_text count
+
 -- `2025-09-15 10:30 2 case 1 motion 1 room R1`
 unfoldable pub booking_line : CourtView → Booking → List ℕ
 booking_line court b =
-    day_text b.day ++ codes " " ++ slot_text b.first ++ codes " " ++ slots_text b.count ++ codes " case " ++ decimal b.case ++ codes " motion " ++ decimal b.motion ++ codes " room " ++ name_of court.rooms b.other ++ 10 ∷ []
+    span_text b.day b.first b.count ++ codes " case " ++ decimal b.case ++ codes " motion " ++ decimal b.motion ++ codes " room " ++ name_of court.rooms b.other ++ 10 ∷ []
 
 abbrev pub booking_lines : CourtView → List Booking → List ℕ
 booking_lines court bookings = flat_map (booking_line court) bookings

@@ -14,7 +14,7 @@ use Rattle.docket_rows.specs.declared.sheet.SheetHearing.{SheetHearing}
 use Rattle.docket_rows.specs.declared.sheet.SheetMotion.{SheetMotion}
 use Rattle.docket_rows.specs.declared.sheet.State.{State}
 use Rattle.docket_rows.specs.declared.sheet.State.TheVariants.{Pending, Timely, Late, Undecided}
-use Rattle.office_texts.specs.Calendars.{name_of, slot_text, slots_text}
+use Rattle.office_texts.specs.Calendars.{name_of, span_text}
 use Rattle.office_texts.specs.Periods.{period_text}
 use Rattle.office_texts.specs.Shown.{shown_text}
 
@@ -28,15 +28,19 @@ abbrev pub means_text : Means → List ℕ
 means_text Electronic = codes "electronic"
 means_text Paper = codes "paper"
 
--- when and how the act was done, if one is recorded
+-- when and how the act was done, where one is recorded
 abbrev pub act_done_text : Option Filing → List ℕ
 act_done_text None = []
 act_done_text (Some f) = codes " " ++ day_text f.day ++ codes " " ++ minute_text f.minute ++ codes " " ++ means_text f.means
 
+-- whether the deadline was met, and by which act
+abbrev pub state_text : State → Option Filing → List ℕ
+state_text state filed = state_word state ++ act_done_text filed
+
 -- `deadline 1 12a1Ai last 2025-03-24 timely 2025-03-24 23:59 electronic`
 unfoldable pub deadline_line : ClockView → SheetDeadline → List ℕ
 deadline_line clock d =
-    codes "deadline " ++ decimal d.number ++ codes " " ++ period_text d.row.period ++ codes " " ++ shown_text clock d.shown ++ codes " " ++ state_word d.state ++ act_done_text d.row.filed ++ 10 ∷ []
+    codes "deadline " ++ decimal d.number ++ codes " " ++ period_text d.row.period ++ codes " " ++ shown_text clock d.shown ++ codes " " ++ state_text d.state d.row.filed ++ 10 ∷ []
 
 abbrev pub need_text : Need → List ℕ
 need_text need.ExParte = codes "exparte"
@@ -50,13 +54,17 @@ panel_text names (j ∷ k ∷ panel) = name_of names j ++ codes "+" ++ panel_tex
 
 -- the last day to serve an opposing affidavit, if there is one
 abbrev pub affidavits_text : Option ℤ → List ℕ
-affidavits_text None = codes "none"
-affidavits_text (Some day) = day_text day
+affidavits_text None = codes " affidavits none"
+affidavits_text (Some day) = codes " affidavits " ++ day_text day
+
+-- when the notice of a hearing was served, and by when affidavits can be
+abbrev pub service_text : (notice : ℤ) → (affidavits : Option ℤ) → List ℕ
+service_text notice affidavits = codes " notice " ++ day_text notice ++ affidavits_text affidavits
 
 -- `hearing 2025-09-15 10:30 2 Ames R1 notice 2025-08-29 affidavits 2025-09-08`
 unfoldable pub hearing_line : CourtView → SheetHearing → List ℕ
 hearing_line court h =
-    codes "hearing " ++ day_text h.hearing.day ++ codes " " ++ slot_text h.hearing.first ++ codes " " ++ slots_text h.hearing.count ++ codes " " ++ panel_text court.judges h.hearing.judges ++ codes " " ++ name_of court.rooms h.hearing.room ++ codes " notice " ++ day_text h.hearing.notice ++ codes " affidavits " ++ affidavits_text h.affidavits ++ 10 ∷ []
+    codes "hearing " ++ span_text h.hearing.day h.hearing.first h.hearing.count ++ codes " " ++ panel_text court.judges h.hearing.judges ++ codes " " ++ name_of court.rooms h.hearing.room ++ service_text h.hearing.notice h.affidavits ++ 10 ∷ []
 
 abbrev pub hearing_line_if_set : CourtView → Option SheetHearing → List ℕ
 hearing_line_if_set court None = []

@@ -5,8 +5,8 @@ unfoldable pub use Rattle.office_texts.specs.Refusals.{refusal_text}
 unfoldable pub use Rattle.office_texts.specs.Answers.{answer_text}
 pub use Rattle.office_texts.specs.Periods.{length_text, direction_text, act_text, start_text, mark_text, entered_text}
 unfoldable pub use Rattle.office_texts.specs.Periods.{period_text}
-pub use Rattle.office_texts.specs.Calendars.{name_of, slot_text, slots_text, booking_lines}
+pub use Rattle.office_texts.specs.Calendars.{name_of, slot_text, slots_text, span_text, booking_lines}
 unfoldable pub use Rattle.office_texts.specs.Calendars.{booking_line, calendar_lines}
-pub use Rattle.office_texts.specs.Sheets.{state_word, means_text, act_done_text, need_text, panel_text, affidavits_text, hearing_line_if_set}
+pub use Rattle.office_texts.specs.Sheets.{state_word, means_text, act_done_text, state_text, need_text, panel_text, affidavits_text, service_text, hearing_line_if_set}
 unfoldable pub use Rattle.office_texts.specs.Sheets.{deadline_line, hearing_line, motion_lines, sheet_lines}
 unfoldable pub use Rattle.office_texts.specs.Views.{view_lines}

@@ -1,10 +1,10 @@
 //! The lines of a judge's calendar.
 
 ghost use Rattle.std.specs.Prelude.{◌≡◌, ◌++◌, OnOk, string_bytes};
-ghost use Rattle.office_texts.specs.Calendars.{booking_line, booking_lines, calendar_lines, name_of, slot_text, slots_text};
+ghost use Rattle.office_texts.specs.Calendars.{booking_line, booking_lines, calendar_lines, name_of, slot_text, slots_text, span_text};
 
 use crate::numbers::{push_minute, push_number};
-use court_days::Court;
+use court_days::{Court, Day};
 use hearing_slots::Booking;
 use std::alloc::AllocError;
 use std::fmt::Write;
@@ -44,29 +44,33 @@ pub(crate) fn push_bookings(
 fn push_booking(text: &mut String, court: &Court, booking: &Booking) -> Result<(), AllocError>
     ensures { OnOk result (string_bytes text.new ≡ string_bytes text.old ++ booking_line court.now booking.now) }
 {
-    let day = booking.day;
-    write!(text, "{day} ")?;
-    push_slot(text, booking.first)?;
-    text.push_str(" ")?;
-    push_slots(text, booking.count)?;
-    text.push_str(" case ")?;
-    push_number(text, u64::from(booking.case))?;
-    text.push_str(" motion ")?;
-    push_number(text, u64::from(booking.motion))?;
-    text.push_str(" room ")?;
+    let case = booking.case;
+    let motion = booking.motion;
+    push_span(text, booking.day, booking.first, booking.count)?;
+    write!(text, " case {case} motion {motion} room ")?;
     text.push_str(room_name(court, booking.other))?;
     text.push_str("\n")
 }
 
+/// Adds the day of a hearing, when it begins, and how long it takes.
+pub(crate) fn push_span(text: &mut String, day: Day, first: u8, count: u8) -> Result<(), AllocError>
+    ensures { OnOk result (string_bytes text.new ≡ string_bytes text.old ++ span_text day first count) }
+{
+    write!(text, "{day} ")?;
+    push_slot(text, first)?;
+    text.push_str(" ")?;
+    push_slots(text, count)
+}
+
 /// Adds when the slot begins: slot s begins at minute 15·s of the day.
-pub(crate) fn push_slot(text: &mut String, first: u8) -> Result<(), AllocError>
+fn push_slot(text: &mut String, first: u8) -> Result<(), AllocError>
     ensures { OnOk result (string_bytes text.new ≡ string_bytes text.old ++ slot_text first) }
 {
     push_minute(text, 15 * u16::from(first))
 }
 
 /// Adds how many slots a hearing takes: in half hours, or, where that isn't a whole number, in quarter hours.
-pub(crate) fn push_slots(text: &mut String, count: u8) -> Result<(), AllocError>
+fn push_slots(text: &mut String, count: u8) -> Result<(), AllocError>
     ensures { OnOk result (string_bytes text.new ≡ string_bytes text.old ++ slots_text count) }
 {
     if count % 2 == 0 {

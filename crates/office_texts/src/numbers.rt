@@ -26,7 +26,6 @@ pub(crate) fn push_minute(text: &mut String, minute: u16) -> Result<(), AllocErr
 }
 
 /// Adds a number below 100 as two digits.
-#[tactic(auto, using(std::proofs::lemmas::Fmt::decimal_digit))]
 fn push_two_digits(text: &mut String, number: u16) -> Result<(), AllocError>
     requires { number < 100 }
     ensures { OnOk result (string_bytes text.new ≡ string_bytes text.old ++ pad2 number) }

@@ -6,7 +6,6 @@ ghost use Rattle.std.specs.Prelude.{◌≡◌, ◌++◌, OnOk, string_bytes};
 ghost use Rattle.std.specs.List.{flat_map};
 ghost use Rattle.office_texts.specs.Sheets.{deadline_line, motion_lines, sheet_lines};
 
-use crate::numbers::push_number;
 use court_days::{Clock, Court};
 use deadlines::push_deadline;
 use docket_rows::{Sheet, SheetDeadline, SheetMotion};
@@ -19,10 +18,9 @@ use std::fmt::Write;
 pub fn push_sheet(text: &mut String, court: &Court, sheet: &Sheet) -> Result<(), AllocError>
     ensures { OnOk result (string_bytes text.new ≡ string_bytes text.old ++ sheet_lines court.now sheet.now) }
 {
+    let case = sheet.case;
     let filed = sheet.filed;
-    text.push_str("case ")?;
-    push_number(text, u64::from(sheet.case))?;
-    write!(text, " filed {filed}\n")?;
+    write!(text, "case {case} filed {filed}\n")?;
     push_deadlines(text, court.clock(), sheet.deadlines.as_slice())?;
     push_motions(text, court, sheet.motions.as_slice())
 }
@@ -42,11 +40,7 @@ fn push_deadlines(
 }
 
 /// Adds the lines of each motion.
-fn push_motions(
-    text: &mut String,
-    court: &Court,
-    motions: &[SheetMotion],
-) -> Result<(), AllocError>
+fn push_motions(text: &mut String, court: &Court, motions: &[SheetMotion]) -> Result<(), AllocError>
     ensures { OnOk result (string_bytes text.new ≡ string_bytes text.old ++ flat_map (motion_lines court.now) motions.now) }
 {
     for motion in motions {

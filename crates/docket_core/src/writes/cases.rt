@@ -4,6 +4,7 @@ ghost use Rattle.std.specs.Prelude.{◌≡◌, ◌+◌, ◌<◌, ◌≤◌, true
 ghost use Rattle.rule_periods.specs.Words.{suits, has_length, is_grant_length, grant_fits, is_in_hours, with_grant, with_filing};
 ghost use Rattle.docket_rows.specs.Words.{CaseRecordView, NumberedDeadline, started, refusal, start_deadline_refusal, extend_refusal, motion_refusal, book_refusal, move_refusal, add_deadline, change_deadline, add_motion, set_hearing, hearing_asked, case_written};
 
+use crate::rebooking::hearing_asked;
 use crate::rules::DocketRules;
 use crate::sight::Sight;
 use court_days::Day;
@@ -176,21 +177,6 @@ fn set_in<S: Sight>(
     match sight.case(number) {
         Some(case) => Ok(Some(with_hearing(alloc, case, motion, hearing)?)),
         None => Ok(None),
-    }
-}
-
-/// The hearing that is asked for.
-fn hearing_asked(s: &Setting) -> Hearing
-    requires { s.now.count ≤ 96 }
-    ensures { result ≡ hearing_asked s.now }
-{
-    Hearing {
-        judges: s.judges,
-        room: s.room,
-        day: s.day,
-        first: s.first,
-        count: s.count as u8,
-        notice: s.notice,
     }
 }
 

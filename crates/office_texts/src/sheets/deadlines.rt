@@ -1,9 +1,9 @@
 //! A deadline of a sheet.
 
 ghost use Rattle.std.specs.Prelude.{◌≡◌, ◌++◌, ◌<◌, OnOk, IfSome, string_bytes};
-ghost use Rattle.office_texts.specs.Sheets.{act_done_text, deadline_line, means_text, state_word};
+ghost use Rattle.office_texts.specs.Sheets.{act_done_text, deadline_line, means_text, state_text, state_word};
 
-use crate::numbers::{push_minute, push_number};
+use crate::numbers::push_minute;
 use crate::periods::push_period;
 use crate::shown::push_shown;
 use court_days::Clock;
@@ -21,17 +21,24 @@ pub(super) fn push_deadline(
 ) -> Result<(), AllocError>
     ensures { OnOk result (string_bytes text.new ≡ string_bytes text.old ++ deadline_line clock.now deadline.now) }
 {
-    text.push_str("deadline ")?;
-    push_number(text, u64::from(deadline.number))?;
-    text.push_str(" ")?;
+    let number = deadline.number;
     let period = deadline.row.period();
+    write!(text, "deadline {number} ")?;
     push_period(text, &period)?;
     text.push_str(" ")?;
     push_shown(text, clock, &deadline.shown)?;
     text.push_str(" ")?;
-    text.push_str(state_word(deadline.state))?;
-    push_act_done(text, deadline.row.filed())?;
+    push_state(text, deadline.state, deadline.row.filed())?;
     text.push_str("\n")
+}
+
+/// Adds whether the deadline was met, and by which act.
+fn push_state(text: &mut String, state: State, filed: Option<Filing>) -> Result<(), AllocError>
+    requires { IfSome filed (λ f. f.minute < 1440) }
+    ensures { OnOk result (string_bytes text.new ≡ string_bytes text.old ++ state_text state filed) }
+{
+    text.push_str(state_word(state))?;
+    push_act_done(text, filed)
 }
 
 /// Whether the deadline was met.

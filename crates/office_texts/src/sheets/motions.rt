@@ -1,9 +1,9 @@
 //! A motion of a sheet, and its hearing.
 
 ghost use Rattle.std.specs.Prelude.{◌≡◌, ◌++◌, OnOk, string_bytes};
-ghost use Rattle.office_texts.specs.Sheets.{affidavits_text, hearing_line, hearing_line_if_set, motion_lines, need_text, panel_text};
+ghost use Rattle.office_texts.specs.Sheets.{affidavits_text, hearing_line, hearing_line_if_set, motion_lines, need_text, panel_text, service_text};
 
-use crate::calendars::{judge_name, push_slot, push_slots, room_name};
+use crate::calendars::{judge_name, push_span, room_name};
 use crate::numbers::push_number;
 use court_days::{Court, Day};
 use docket_rows::{SheetHearing, SheetMotion};
@@ -21,9 +21,8 @@ pub(super) fn push_motion(
     ensures { OnOk result (string_bytes text.new ≡ string_bytes text.old ++ motion_lines court.now motion.now) }
 {
     let served = motion.served;
-    text.push_str("motion ")?;
-    push_number(text, u64::from(motion.number))?;
-    write!(text, " served {served} need ")?;
+    let number = motion.number;
+    write!(text, "motion {number} served {served} need ")?;
     push_need(text, motion.need)?;
     text.push_str("\n")?;
     push_hearing_if_set(text, court, motion.hearing)
@@ -58,18 +57,14 @@ fn push_hearing(text: &mut String, court: &Court, sheet: &SheetHearing) -> Resul
     ensures { OnOk result (string_bytes text.new ≡ string_bytes text.old ++ hearing_line court.now sheet.now) }
 {
     let hearing = sheet.hearing;
-    let day = hearing.day;
-    let notice = hearing.notice;
-    write!(text, "hearing {day} ")?;
-    push_slot(text, hearing.first)?;
+    let judges = hearing.judges;
+    text.push_str("hearing ")?;
+    push_span(text, hearing.day, hearing.first, hearing.count)?;
     text.push_str(" ")?;
-    push_slots(text, hearing.count)?;
-    text.push_str(" ")?;
-    push_panel(text, court, hearing.judges.judges())?;
+    push_panel(text, court, judges.judges())?;
     text.push_str(" ")?;
     text.push_str(room_name(court, hearing.room))?;
-    write!(text, " notice {notice} affidavits ")?;
-    push_affidavits(text, sheet.affidavits)?;
+    push_service(text, hearing.notice, sheet.affidavits)?;
     text.push_str("\n")
 }
 
@@ -88,12 +83,20 @@ fn push_panel(text: &mut String, court: &Court, panel: &[u8]) -> Result<(), Allo
     }
 }
 
-/// Adds the last day to serve an opposing affidavit (Fed. R. Civ. P. 6(c)(2)), or `none`.
+/// Adds when the notice of a hearing was served, and by when affidavits can be.
+fn push_service(text: &mut String, notice: Day, affidavits: Option<Day>) -> Result<(), AllocError>
+    ensures { OnOk result (string_bytes text.new ≡ string_bytes text.old ++ service_text notice affidavits) }
+{
+    write!(text, " notice {notice}")?;
+    push_affidavits(text, affidavits)
+}
+
+/// Adds the last day to serve an opposing affidavit (Fed. R. Civ. P. 6(c)(2)), or that there is none.
 fn push_affidavits(text: &mut String, day: Option<Day>) -> Result<(), AllocError>
     ensures { OnOk result (string_bytes text.new ≡ string_bytes text.old ++ affidavits_text day) }
 {
     match day {
-        None => text.push_str("none"),
-        Some(day) => write!(text, "{day}"),
+        None => text.push_str(" affidavits none"),
+        Some(day) => write!(text, " affidavits {day}"),
     }
 }

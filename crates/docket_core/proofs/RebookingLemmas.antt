@@ -1,0 +1,115 @@
+-- What a booking, a move or a cancellation does to calendars.
+use Rattle.std.proofs.Common.{◌≡◌, ℕ, zero, suc, ◌+◌, ◌≤◌, Bool, true, false, ◌==◌, List, [], ◌∷◌, length, get_or, Some, None, option_and_then, unwrap_or, if◌then◌else◌, refl, ap, sym, ◌∙◌, subst, arith}
+use Rattle.hearing_slots.specs.declared.booking.Booking.{Booking}
+use Rattle.hearing_slots.specs.Words.{IsWithinDay, IsFree, without_motion}
+use Rattle.docket_rows.specs.declared.command.Command.{Command}
+use Rattle.docket_rows.specs.declared.command.Command.TheVariants.{Book, MoveHearing, Cancel}
+use Rattle.docket_rows.specs.Words.{Bench, Parts, refusal, rebooked, judge_written, room_written, is_before_judge, is_in_room, booking_of, first_judge, sits}
+use Rattle.docket_laws.proofs.CallerLemmas.{can_book, can_move}
+use Rattle.docket_core.specs.declared.rebooking.Change.{Change}
+use Rattle.docket_core.specs.declared.rebooking.Rebooking.{Rebooking}
+use Rattle.docket_core.specs.Rebooking.{CanRebook, changed_by, calendar_after, calendars_after, change_to, judge_change, room_change, rebooking_of, CanChange, CanChangeAll}
+use Rattle.docket_core.proofs.SettingLemmas.{booking_within, room_free}
+
+-- a booking is put in where it belongs, and else taken out where it stands
+is_rebooked : (belongs stands : Bool) (b : Booking) (bookings : List Booking) → rebooked belongs stands b bookings ≡ changed_by (change_to b.case b.motion stands (if belongs then Some b else None)) bookings
+is_rebooked true stands b bookings = refl
+is_rebooked false true b bookings = refl
+is_rebooked false false b bookings = refl
+
+is_taken_out : (stands : Bool) (case motion : ℕ) (bookings : List Booking) → (if stands then Some (without_motion case motion bookings) else None) ≡ changed_by (change_to case motion stands None) bookings
+is_taken_out true case motion bookings = refl
+is_taken_out false case motion bookings = refl
+
+-- what a command writes into a calendar is the change of that calendar
+pub judge_rebooked : (parts : Parts) (command : Command) (judge : ℕ) → judge_written parts command judge ≡ option_and_then (λ (r : Rebooking). changed_by (judge_change r judge) (parts.judge judge)) (rebooking_of parts command)
+judge_rebooked parts (Book s) judge = is_rebooked (sits judge s.judges) false (booking_of parts s.room s) (parts.judge judge)
+judge_rebooked parts (MoveHearing s) judge = is_rebooked (sits judge s.judges) (is_before_judge parts s.case s.motion judge) (booking_of parts s.room s) (parts.judge judge)
+judge_rebooked parts (Cancel case motion) judge = is_taken_out (is_before_judge parts case motion judge) case motion (parts.judge judge)
+judge_rebooked parts _ judge = refl
+
+pub room_rebooked : (parts : Parts) (command : Command) (room : ℕ) → room_written parts command room ≡ option_and_then (λ (r : Rebooking). changed_by (room_change r room) (parts.room room)) (rebooking_of parts command)
+room_rebooked parts (Book s) room = is_rebooked (s.room == room) false (booking_of parts (first_judge s.judges) s) (parts.room room)
+room_rebooked parts (MoveHearing s) room = is_rebooked (s.room == room) (is_in_room parts s.case s.motion room) (booking_of parts (first_judge s.judges) s) (parts.room room)
+room_rebooked parts (Cancel case motion) room = is_taken_out (is_in_room parts case motion room) case motion (parts.room room)
+room_rebooked parts _ room = refl
+
+-- the hearing of a command that isn't refused can be set
+pub can_rebook : (bench : Bench) (parts : Parts) (command : Command) → refusal bench parts command ≡ None → CanRebook parts command
+can_rebook bench parts (Book s) made = can_book bench parts s made
+can_rebook bench parts (MoveHearing s) made = can_move bench parts s made
+can_rebook bench parts _ made = tt
+
+-- so each calendar can be changed
+can_put : (case motion : ℕ) (stands belongs : Bool) (b : Booking) (bookings : List Booking) → IsWithinDay b → (belongs ≡ true → IsFree bookings b.day b.first b.count (Some (b.case, b.motion))) → CanChange (change_to case motion stands (if belongs then Some b else None)) bookings
+can_put case motion stands true b bookings within free = (within, free refl)
+can_put case motion true false b bookings within free = tt
+can_put case motion false false b bookings within free = tt
+
+can_take_out : (case motion : ℕ) (stands : Bool) (bookings : List Booking) → CanChange (change_to case motion stands None) bookings
+can_take_out case motion true bookings = tt
+can_take_out case motion false bookings = tt
+
+-- what holds of the command's rebooking holds of an equal one
+pub same_rebooking : (P : Rebooking → Type 0) (r s : Rebooking) → Some r ≡ Some s → P s → P r
+same_rebooking P r s is h = subst P (sym (ap (λ o. unwrap_or o r) is)) h
+
+pub judge_can_change : (parts : Parts) (command : Command) (r : Rebooking) (judge : ℕ) → CanRebook parts command → Some r ≡ rebooking_of parts command → CanChange (judge_change r judge) (parts.judge judge)
+judge_can_change parts (Book s) r judge can is =
+    same_rebooking (λ (r : Rebooking). CanChange (judge_change r judge) (parts.judge judge)) r _ is
+    (can_put s.case s.motion false (sits judge s.judges) (booking_of parts s.room s) (parts.judge judge) (booking_within parts s.room s _ can refl) (can.judges judge))
+judge_can_change parts (MoveHearing s) r judge can is =
+    same_rebooking (λ (r : Rebooking). CanChange (judge_change r judge) (parts.judge judge)) r _ is
+    (can_put s.case s.motion (is_before_judge parts s.case s.motion judge) (sits judge s.judges) (booking_of parts s.room s) (parts.judge judge) (booking_within parts s.room s _ can refl) (can.judges judge))
+judge_can_change parts (Cancel case motion) r judge can is =
+    same_rebooking (λ (r : Rebooking). CanChange (judge_change r judge) (parts.judge judge)) r _ is
+    (can_take_out case motion (is_before_judge parts case motion judge) (parts.judge judge))
+judge_can_change parts _ r judge can is = absurd cc
+
+pub room_can_change : (parts : Parts) (command : Command) (r : Rebooking) (room : ℕ) → CanRebook parts command → Some r ≡ rebooking_of parts command → CanChange (room_change r room) (parts.room room)
+room_can_change parts (Book s) r room can is =
+    same_rebooking (λ (r : Rebooking). CanChange (room_change r room) (parts.room room)) r _ is
+    (can_put s.case s.motion false (s.room == room) (booking_of parts (first_judge s.judges) s) (parts.room room) (booking_within parts (first_judge s.judges) s _ can refl) (room_free parts (first_judge s.judges) s room _ (parts.room room) can refl refl))
+room_can_change parts (MoveHearing s) r room can is =
+    same_rebooking (λ (r : Rebooking). CanChange (room_change r room) (parts.room room)) r _ is
+    (can_put s.case s.motion (is_in_room parts s.case s.motion room) (s.room == room) (booking_of parts (first_judge s.judges) s) (parts.room room) (booking_within parts (first_judge s.judges) s _ can refl) (room_free parts (first_judge s.judges) s room _ (parts.room room) can refl refl))
+room_can_change parts (Cancel case motion) r room can is =
+    same_rebooking (λ (r : Rebooking). CanChange (room_change r room) (parts.room room)) r _ is
+    (can_take_out case motion (is_in_room parts case motion room) (parts.room room))
+room_can_change parts _ r room can is = absurd cc
+
+-- Some calendars in a row
+
+-- the calendar of a number; where there is none, its change makes none
+calendar_at : (number : ℕ) (change : ℕ → Change) (cs : List (List Booking)) (i : ℕ) → (length cs ≤ i → calendar_after (change (number + i)) [] ≡ []) → get_or (calendars_after number change cs) i [] ≡ calendar_after (change (number + i)) (get_or cs i [])
+calendar_at number change [] i past = sym (past (omega arith))
+calendar_at number change (c ∷ cs) zero past = ap (λ (n : ℕ). calendar_after (change n) c) (omega arith)
+calendar_at number change (c ∷ cs) (suc i) past =
+    let next : (number + 1) + i ≡ number + suc i = omega arith in
+    calendar_at (number + 1) change cs i (λ beyond. ap (λ (n : ℕ). calendar_after (change n) []) next ∙ past (omega arith))
+    ∙ ap (λ (n : ℕ). calendar_after (change n) (get_or cs i [])) next
+
+pub calendar_of : (change : ℕ → Change) (cs : List (List Booking)) (i : ℕ) → (length cs ≤ i → calendar_after (change i) [] ≡ []) → get_or (calendars_after 0 change cs) i [] ≡ calendar_after (change i) (get_or cs i [])
+calendar_of change cs i past =
+    let first : 0 + i ≡ i = omega arith in
+    calendar_at 0 change cs i (λ beyond. ap (λ (n : ℕ). calendar_after (change n) []) first ∙ past beyond)
+    ∙ ap (λ (n : ℕ). calendar_after (change n) (get_or cs i [])) first
+
+-- where each can be changed, all can
+can_change_from : (number : ℕ) (change : ℕ → Change) (cs : List (List Booking)) → ((i : ℕ) → CanChange (change (number + i)) (get_or cs i [])) → CanChangeAll number change cs
+can_change_from number change [] can = tt
+can_change_from number change (c ∷ cs) can =
+    (subst (λ (n : ℕ). CanChange (change n) c) (omega arith) (can 0), can_change_from (number + 1) change cs (λ i. subst (λ (n : ℕ). CanChange (change n) (get_or cs i [])) (omega arith) (can (suc i))))
+
+pub can_change_all : (change : ℕ → Change) (cs : List (List Booking)) → ((i : ℕ) → CanChange (change i) (get_or cs i [])) → CanChangeAll 0 change cs
+can_change_all change cs can = can_change_from 0 change cs (λ i. subst (λ (n : ℕ). CanChange (change n) (get_or cs i [])) (omega arith) (can i))
+
+-- nothing is taken out of no bookings
+pub nothing_to_take : (case motion : ℕ) (stands belongs : Bool) (b : Booking) → belongs ≡ false → calendar_after (change_to case motion stands (if belongs then Some b else None)) [] ≡ []
+nothing_to_take case motion stands true b h = absurd cc
+nothing_to_take case motion true false b h = refl
+nothing_to_take case motion false false b h = refl
+
+pub nothing_taken : (case motion : ℕ) (stands : Bool) → calendar_after (change_to case motion stands None) [] ≡ []
+nothing_taken case motion true = refl
+nothing_taken case motion false = refl

@@ -1,0 +1,32 @@
+use Rattle.std.proofs.Common.{sym, subst, ◌∙◌}
+use Rattle.std.proofs.lemmas.Result.{on_ok_weaker}
+use Rattle.docket_core.specs.Changes.{IsAfter}
+use Rattle.docket_core.specs.Docket.{DocketView, HasPlaces}
+use Rattle.docket_core.proofs.ApplyLemmas.{hearing_changed, cases_changed}
+use Rattle.docket_core.proofs.RebookingLemmas.{can_rebook, can_change_all, judge_can_change, room_can_change}
+use Rattle.docket_core.proofs.holdings.Holdings.change.Goals as goal
+
+pub rebooking_of-requires : goal.rebooking_of-requires
+rebooking_of-requires c = can_rebook _ _ _ c.requires
+
+pub rebook-requires-clause-judges : goal.rebook-requires-clause-judges
+rebook-requires-clause-judges c =
+    can_change_all _ _ (λ j. judge_can_change _ _ _ j (can_rebook _ _ _ c.requires) c.in-Some-rebooking_of.ensures)
+
+pub rebook-requires-clause-rooms : goal.rebook-requires-clause-rooms
+rebook-requires-clause-rooms c =
+    can_change_all _ _ (λ k. room_can_change _ _ _ k (can_rebook _ _ _ c.requires) c.in-Some-rebooking_of.ensures)
+
+pub returns-in-Some-rebooking_of-clause-ok : goal.returns-in-Some-rebooking_of-clause-ok
+returns-in-Some-rebooking_of-clause-ok c =
+    let d = c.args.self.now in
+    let places = subst (λ (d : DocketView). HasPlaces d.bench d.cases d.judges d.rooms) c.self.view_is c.self.invariant in
+    let after = hearing_changed d c.args.command.now c.in-Some-rebooking_of.rebooking c.requires places.of_judges places.of_rooms c.in-Some-rebooking_of.ensures in
+    on_ok_weaker c.rebook.result (λ e. subst (λ (n : DocketView). IsAfter d c.args.command.now n) (sym e) after) c.rebook.ensures.ok
+
+pub returns-clause-ok : goal.returns-clause-ok
+returns-clause-ok c =
+    let d = c.args.self.now in
+    let places = subst (λ (d : DocketView). HasPlaces d.bench d.cases d.judges d.rooms) c.self.view_is c.self.invariant in
+    let after = cases_changed d.bench d c.args.command.now c.requires places.of_cases (sym c.in_ok-days.ensures ∙ c.in_default.is) (sym c.in_default-rebooking_of.ensures) in
+    on_ok_weaker c.change_case.result (λ e. subst (λ (n : DocketView). IsAfter d c.args.command.now n) (sym e) after) c.change_case.ensures.ok

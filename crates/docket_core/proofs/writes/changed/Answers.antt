@@ -1,0 +1,8 @@
+use Rattle.docket_core.proofs.RebookingLemmas.{can_rebook}
+use Rattle.docket_core.proofs.writes.changed.Goals as goal
+
+pub judge_written-requires : goal.judge_written-requires
+judge_written-requires g c = can_rebook _ _ _ c.requires
+
+pub room_written-requires : goal.room_written-requires
+room_written-requires g c = can_rebook _ _ _ c.requires

@@ -1,0 +1,93 @@
+//! The calendars of a docket, changed in place when a hearing is booked, moved or cancelled.
+
+ghost use Rattle.std.specs.Prelude.{◌≡◌, ◌≤◌, ◌+◌, length, IfOk, IfErr, OnOk, OnErr, if◌then◌else◌};
+ghost use Rattle.docket_core.specs.Rebooking.{CanChange, CanChangeAll, calendar_after, calendars_after, judge_change, room_change};
+
+use crate::rebooking::{Change, Rebooking};
+use hearing_slots::{Calendar, OpenCalendar};
+use std::alloc::{AllocError, Global};
+use std::mem;
+
+/// Takes the calendar out of its place, to be changed. `Err` says that memory ran out, and leaves it there.
+fn take_open(alloc: Global, place: &mut Calendar) -> Result<OpenCalendar, AllocError>
+    ensures ok { IfOk result (λ opened. opened ≡ place.old) }
+    ensures err { IfErr result (λ e. place.new ≡ place.old) }
+{
+    match mem::replace(place, Calendar::empty()).open(alloc) {
+        Ok(opened) => Ok(opened),
+        Err(calendar) => {
+            *place = calendar;
+            Err(AllocError)
+        }
+    }
+}
+
+/// The calendar with the change, or as it was, where the change isn't to be made.
+fn closed(opened: OpenCalendar, change: &Change, is_made: bool) -> Calendar
+    requires { CanChange change.now opened }
+    ensures { result ≡ (if is_made then calendar_after change.now opened else opened) }
+{
+    if !is_made {
+        return opened.close();
+    }
+    match *change {
+        Change::Stays => opened.close(),
+        Change::Put(booking) => opened.put(booking),
+        Change::TakeOut(case, motion) => opened.take_out(case, motion),
+    }
+}
+
+/// Changes the calendars of rooms, numbered from `number` on: all of them are opened before any is changed. `Err` says
+/// that memory ran out, and leaves them as they were.
+fn rebook_rooms(
+    alloc: Global,
+    rebooking: &Rebooking,
+    number: u8,
+    rooms: &mut [Calendar],
+) -> Result<(), AllocError>
+    requires numbers { number + length rooms.old ≤ 32 }
+    requires can { CanChangeAll number (room_change rebooking.now) rooms.old }
+    ensures ok { OnOk result (rooms.new ≡ calendars_after number (room_change rebooking.now) rooms.old) }
+    ensures err { OnErr result (rooms.new ≡ rooms.old) }
+{
+    let Some((room, rest)) = rooms.split_first_mut() else {
+        return Ok(());
+    };
+    let change = rebooking.of_room(number);
+    if let Change::Stays = change {
+        return rebook_rooms(alloc, rebooking, number + 1, rest);
+    }
+    let opened = take_open(alloc, room)?;
+    let result = rebook_rooms(alloc, rebooking, number + 1, rest);
+    *room = closed(opened, &change, result.is_ok());
+    result
+}
+
+/// Changes the calendars of judges, numbered from `number` on, and of the rooms: all of them are opened before any is
+/// changed. `Err` says that memory ran out, and leaves them as they were.
+pub(crate) fn rebook(
+    alloc: Global,
+    rebooking: &Rebooking,
+    number: u8,
+    judges: &mut [Calendar],
+    rooms: &mut [Calendar],
+) -> Result<(), AllocError>
+    requires numbers { number + length judges.old ≤ 32 }
+    requires rooms { length rooms.old ≤ 32 }
+    requires can { CanChangeAll number (judge_change rebooking.now) judges.old }
+    requires can_rooms { CanChangeAll 0 (room_change rebooking.now) rooms.old }
+    ensures ok { OnOk result ((judges.new ≡ calendars_after number (judge_change rebooking.now) judges.old) × (rooms.new ≡ calendars_after 0 (room_change rebooking.now) rooms.old)) }
+    ensures err { OnErr result ((judges.new ≡ judges.old) × (rooms.new ≡ rooms.old)) }
+{
+    let Some((judge, rest)) = judges.split_first_mut() else {
+        return rebook_rooms(alloc, rebooking, 0, rooms);
+    };
+    let change = rebooking.of_judge(number);
+    if let Change::Stays = change {
+        return rebook(alloc, rebooking, number + 1, rest, rooms);
+    }
+    let opened = take_open(alloc, judge)?;
+    let result = rebook(alloc, rebooking, number + 1, rest, rooms);
+    *judge = closed(opened, &change, result.is_ok());
+    result
+}

@@ -1,0 +1,168 @@
+//! What a booking, a move or a cancellation does to the calendars of judges and rooms.
+
+ghost use Rattle.std.specs.Prelude.{◌≡◌, ◌≤◌};
+ghost use Rattle.docket_rows.specs.Words.{hearing_asked, booking_of};
+ghost use Rattle.docket_core.specs.Rebooking.{CanRebook, placement_of, rebooking_of, judge_change, room_change};
+
+use crate::hearings::{later, sits};
+use crate::seen::{hearing_in, motion_in};
+use crate::sight::Sight;
+use docket_rows::{Command, Hearing, Setting};
+use hearing_slots::{Booking, Need};
+
+/// What becomes of a calendar.
+#[derive(Clone, Copy)]
+pub enum Change {
+    /// It stays as it is.
+    Stays,
+    /// The booking is put in, in place of an older one of its case and motion.
+    Put(Booking),
+    /// The booking of that case and motion is taken out.
+    TakeOut(u32, u32),
+}
+
+/// A hearing that is to be on the calendar.
+#[derive(Clone, Copy)]
+pub struct Placement {
+    /// The hearing.
+    pub hearing: Hearing,
+    /// Its booking for the calendars of its judges, beside the number of its room.
+    pub with_room: Booking,
+    /// Its booking for the calendar of its room, beside the number of its first judge.
+    pub with_judge: Booking,
+}
+
+/// What a booking, a move or a cancellation does to calendars.
+#[derive(Clone, Copy)]
+pub struct Rebooking {
+    /// The number of the case.
+    pub case: u32,
+    /// The number of the motion in its case.
+    pub motion: u32,
+    /// The motion's hearing that is to be taken off the calendar.
+    pub before: Option<Hearing>,
+    /// The one that is to be put on it.
+    pub after: Option<Placement>,
+}
+
+impl Rebooking {
+    /// What becomes of the calendar of the judge.
+    pub(crate) fn of_judge(&self, judge: u8) -> Change
+        ensures { result ≡ judge_change self.now judge }
+    {
+        if let Some(placed) = self.after {
+            if sits(judge, placed.hearing.judges.judges()) {
+                return Change::Put(placed.with_room);
+            }
+        }
+        match self.before {
+            Some(hearing) => {
+                if sits(judge, hearing.judges.judges()) {
+                    Change::TakeOut(self.case, self.motion)
+                } else {
+                    Change::Stays
+                }
+            }
+            None => Change::Stays,
+        }
+    }
+
+    /// What becomes of the calendar of the room.
+    pub(crate) fn of_room(&self, room: u8) -> Change
+        ensures { result ≡ room_change self.now room }
+    {
+        if let Some(placed) = self.after {
+            if placed.hearing.room == room {
+                return Change::Put(placed.with_judge);
+            }
+        }
+        match self.before {
+            Some(hearing) => {
+                if hearing.room == room {
+                    Change::TakeOut(self.case, self.motion)
+                } else {
+                    Change::Stays
+                }
+            }
+            None => Change::Stays,
+        }
+    }
+}
+
+/// The hearing that is asked for.
+pub(crate) fn hearing_asked(s: &Setting) -> Hearing
+    requires { s.now.count ≤ 96 }
+    ensures { result ≡ hearing_asked s.now }
+{
+    Hearing {
+        judges: s.judges,
+        room: s.room,
+        day: s.day,
+        first: s.first,
+        count: s.count as u8,
+        notice: s.notice,
+    }
+}
+
+/// The hearing that is asked for, as it stands in a calendar beside the number of its room, or of its first judge.
+fn booking_of<S: Sight>(sight: &S, other: u8, s: &Setting) -> Booking
+    requires { s.now.count ≤ 96 }
+    ensures { result ≡ booking_of (S.parts sight.now) other s.now }
+{
+    let (need, served) = match motion_in(sight, s.case, s.motion) {
+        Some(motion) => (motion.need, later(motion.served, s.notice)),
+        None => (Need::ExParte, s.notice),
+    };
+    Booking {
+        case: s.case,
+        motion: s.motion,
+        other,
+        day: s.day,
+        first: s.first,
+        count: s.count as u8,
+        need,
+        served,
+    }
+}
+
+/// The hearing that is asked for, with its bookings.
+fn placed<S: Sight>(sight: &S, s: &Setting) -> Placement
+    requires { s.now.count ≤ 96 }
+    ensures { result ≡ placement_of (S.parts sight.now) s.now }
+{
+    let judges = s.judges;
+    let panel = judges.judges();
+    Placement {
+        hearing: hearing_asked(s),
+        with_room: booking_of(sight, s.room, s),
+        with_judge: booking_of(sight, panel[0], s),
+    }
+}
+
+/// What the command does to calendars; none where it isn't a booking, a move or a cancellation.
+pub(crate) fn rebooking_of<S: Sight>(sight: &S, command: &Command) -> Option<Rebooking>
+    requires { CanRebook (S.parts sight.now) command.now }
+    ensures { result ≡ rebooking_of (S.parts sight.now) command.now }
+{
+    match command {
+        Command::Book(s) => Some(Rebooking {
+            case: s.case,
+            motion: s.motion,
+            before: None,
+            after: Some(placed(sight, s)),
+        }),
+        Command::MoveHearing(s) => Some(Rebooking {
+            case: s.case,
+            motion: s.motion,
+            before: hearing_in(sight, s.case, s.motion),
+            after: Some(placed(sight, s)),
+        }),
+        Command::Cancel { case, motion } => Some(Rebooking {
+            case: *case,
+            motion: *motion,
+            before: hearing_in(sight, *case, *motion),
+            after: None,
+        }),
+        _ => None,
+    }
+}

@@ -1,0 +1,107 @@
+//! What a query shows of a docket.
+mod sheet;
+
+ghost use Rattle.std.specs.Prelude.{◌≡◌, [], unwrap_or, option_copied, IfOk};
+ghost use Rattle.hearing_slots.specs.Words.{on_day};
+ghost use Rattle.docket_rows.specs.Words.{seen_by};
+ghost use Rattle.docket_rows.specs.declared.query.Query.TheVariants as query;
+
+use crate::deadlines::{shown_at_start, start_refusal};
+use crate::rules::DocketRules;
+use crate::seen::has_case;
+use crate::sight::Sight;
+use court_days::Day;
+use docket_rows::{Query, Refusal, View};
+use hearing_slots::{Bookings, Calendar};
+use rule_periods::{Event, Period};
+use rule6::ServiceKind;
+use sheet::sheet_of;
+use std::alloc::{AllocError, Global};
+
+/// The sheet of the case.
+#[tactic(auto, unfolding(docket_rows::specs::Words::seen_by, docket_rows::specs::Words::query_refusal))]
+fn case_view<S: Sight>(
+    alloc: Global,
+    rules: &DocketRules,
+    sight: &S,
+    case: u32,
+) -> Result<View, AllocError>
+    ensures { IfOk result (λ v. v ≡ seen_by rules.now (S.parts sight.now) (query.Sheet case)) }
+{
+    if !has_case(sight, case) {
+        return Ok(View::Refused(Refusal::NoSuchCase));
+    }
+    match sight.case(case) {
+        Some(record) => Ok(View::Sheet(sheet_of(alloc, rules, sight, case, record)?)),
+        None => Ok(View::Refused(Refusal::NoSuchCase)),
+    }
+}
+
+/// The bookings of a calendar on the day; no calendar has none.
+fn bookings_on(alloc: Global, calendar: Option<&Calendar>, day: Day) -> Result<Bookings, AllocError>
+    ensures { IfOk result (λ b. b ≡ on_day day (unwrap_or (option_copied calendar.entry) [])) }
+{
+    match calendar {
+        Some(calendar) => calendar.on_day(alloc, day),
+        None => Ok(Bookings::from_vec(Vec::new(alloc))),
+    }
+}
+
+/// The bookings of the judge on the day.
+#[tactic(auto, unfolding(docket_rows::specs::Words::seen_by, docket_rows::specs::Words::query_refusal))]
+fn day_view<S: Sight>(
+    alloc: Global,
+    rules: &DocketRules,
+    sight: &S,
+    judge: u8,
+    day: Day,
+) -> Result<View, AllocError>
+    ensures { IfOk result (λ v. v ≡ seen_by rules.now (S.parts sight.now) (query.JudgeDay judge day)) }
+{
+    if judge >= rules.judges() {
+        return Ok(View::Refused(Refusal::NoSuchJudge));
+    }
+    if !sight.days().covered(day) {
+        return Ok(View::Refused(Refusal::BadDay));
+    }
+    Ok(View::Bookings(bookings_on(alloc, sight.judge(judge), day)?))
+}
+
+/// The end of the period.
+#[tactic(auto, unfolding(docket_rows::specs::Words::seen_by, docket_rows::specs::Words::query_refusal))]
+fn end_view<S: Sight>(
+    alloc: Global,
+    rules: &DocketRules,
+    sight: &S,
+    period: &Period,
+    event: &Event,
+    second: &Option<Day>,
+    service: &Option<ServiceKind>,
+) -> View
+    ensures { result ≡ seen_by rules.now (S.parts sight.now) (query.Compute period.now event.now second.now service.now) }
+{
+    match start_refusal(sight.days(), period, event, *second, *service) {
+        Some(refusal) => View::Refused(refusal),
+        None => View::Computed(shown_at_start(
+            alloc, rules, sight, period, event, *second, *service,
+        )),
+    }
+}
+
+/// What the query shows, or why it is refused. `Err` says that memory ran out.
+pub(crate) fn view_of<S: Sight>(
+    alloc: Global,
+    rules: &DocketRules,
+    sight: &S,
+    query: &Query,
+) -> Result<View, AllocError>
+    ensures { IfOk result (λ v. v ≡ seen_by rules.now (S.parts sight.now) query.now) }
+{
+    match query {
+        Query::Sheet(case) => case_view(alloc, rules, sight, *case),
+        Query::JudgeDay(judge, day) => day_view(alloc, rules, sight, *judge, *day),
+        Query::Compute(period, event, second, service) => Ok(end_view(
+            alloc, rules, sight, period, event, second, service,
+        )),
+    }
+}

@@ -1,0 +1,130 @@
+//! The sheet of a case.
+
+ghost use Rattle.std.specs.Prelude.{◌≡◌, ◌<◌, ◌≤◌, length, map, option_map, IfOk, IfSome};
+ghost use Rattle.docket_rows.specs.Words.{numbered_deadlines, numbered_motions, state_of, sheet_of, sheet_deadline, sheet_hearing, sheet_motion};
+
+use crate::rules::DocketRules;
+use crate::seen::{is_beyond, shown_now};
+use crate::sight::Sight;
+use court_days::{Clock, Days};
+use docket_rows::{
+    CaseRecord, Hearing, MotionRecord, Sheet, SheetDeadline, SheetDeadlines, SheetHearing,
+    SheetMotion, SheetMotions, State,
+};
+use rule_periods::{DocketRow, affidavit_day};
+use rule6::{Filing, Shown, is_timely};
+use std::alloc::{AllocError, Global};
+
+/// Whether a deadline was met whose time ends so.
+fn state_of(clock: &Clock, shown: &Shown, filed: Option<Filing>) -> State
+    requires { IfSome filed (λ f. f.minute < 1440) }
+    ensures { result ≡ state_of clock.now shown.now filed }
+{
+    let Some(filing) = filed else {
+        return State::Pending;
+    };
+    if is_beyond(*shown) {
+        return State::Undecided;
+    }
+    if is_timely(clock, shown, filing) {
+        State::Timely
+    } else {
+        State::Late
+    }
+}
+
+/// The deadline of that number, as its sheet shows it.
+fn sheet_deadline<S: Sight>(
+    alloc: Global,
+    rules: &DocketRules,
+    sight: &S,
+    number: u32,
+    row: &DocketRow,
+) -> Result<SheetDeadline, AllocError>
+    ensures { IfOk result (λ d. d ≡ sheet_deadline rules.now (S.parts sight.now) (record { number = number; row = row.now })) }
+{
+    let row = row.row();
+    let shown = shown_now(rules, sight, row);
+    let state = state_of(rules.clock(), &shown, row.filed());
+    Ok(SheetDeadline {
+        number,
+        row: row.copy(alloc)?,
+        shown,
+        state,
+    })
+}
+
+/// The deadlines of a case, numbered from 1.
+fn sheet_deadlines<S: Sight>(
+    alloc: Global,
+    rules: &DocketRules,
+    sight: &S,
+    rows: &[DocketRow],
+) -> Result<Vec<SheetDeadline>, AllocError>
+    requires { length rows.now ≤ 64 }
+    ensures { IfOk result (λ list. list.items ≡ map (sheet_deadline rules.now (S.parts sight.now)) (numbered_deadlines 1 rows.now)) }
+{
+    let mut list = Vec::new(alloc);
+    for row in rows {
+        let number = list.len() as u32 + 1;
+        let deadline = sheet_deadline(alloc, rules, sight, number, row)?;
+        list.push(deadline)?;
+    }
+    Ok(list)
+}
+
+/// The hearing of a motion, with the last day for an opposing affidavit.
+fn sheet_hearing(days: &Days, hearing: Option<Hearing>) -> Option<SheetHearing>
+    ensures { result ≡ option_map (sheet_hearing days.now) hearing }
+{
+    match hearing {
+        Some(hearing) => Some(SheetHearing {
+            hearing,
+            affidavits: affidavit_day(days, hearing.day),
+        }),
+        None => None,
+    }
+}
+
+/// The motions of a case, numbered from 1.
+fn sheet_motions(
+    alloc: Global,
+    days: &Days,
+    motions: &[MotionRecord],
+) -> Result<Vec<SheetMotion>, AllocError>
+    requires { length motions.now ≤ 64 }
+    ensures { IfOk result (λ list. list.items ≡ map (sheet_motion days.now) (numbered_motions 1 motions.now)) }
+{
+    let mut list = Vec::new(alloc);
+    for motion in motions {
+        let number = list.len() as u32 + 1;
+        let hearing = sheet_hearing(days, motion.hearing);
+        list.push(SheetMotion {
+            number,
+            served: motion.served,
+            need: motion.need,
+            hearing,
+        })?;
+    }
+    Ok(list)
+}
+
+/// The sheet of a case with that number. `Err` says that memory ran out.
+pub(crate) fn sheet_of<S: Sight>(
+    alloc: Global,
+    rules: &DocketRules,
+    sight: &S,
+    number: u32,
+    case: &CaseRecord,
+) -> Result<Sheet, AllocError>
+    ensures { IfOk result (λ sheet. sheet ≡ sheet_of rules.now (S.parts sight.now) number case.now) }
+{
+    let deadlines = sheet_deadlines(alloc, rules, sight, case.deadlines())?;
+    let motions = sheet_motions(alloc, sight.days(), case.motions())?;
+    Ok(Sheet {
+        case: number,
+        filed: case.filed(),
+        deadlines: SheetDeadlines::from_vec(deadlines),
+        motions: SheetMotions::from_vec(motions),
+    })
+}

@@ -1,0 +1,42 @@
+-- What the laws of dockets say.
+use Rattle.std.specs.Prelude.{◌≡◌, ℕ, true, List, All, AllPairs, IsSomeAnd, filter, find, map}
+use Rattle.court_days.specs.declared.direction.Direction.TheVariants.{After}
+use Rattle.court_days.specs.Words.{is_permitted}
+use Rattle.rule_periods.specs.Words.{shown_of}
+use Rattle.docket_rows.specs.declared.command.Command.{Command}
+use Rattle.docket_rows.specs.declared.query.Query.TheVariants as query
+use Rattle.docket_rows.specs.declared.sheet.Sheet.{Sheet}
+use Rattle.docket_rows.specs.declared.sheet.SheetDeadline.{SheetDeadline}
+use Rattle.docket_rows.specs.declared.view.View.TheVariants as view
+use Rattle.docket_rows.specs.Words.{Bench, Rows, DocketedDeadline, DocketedHearing, Clash, IsNoticed, opening_rows, is_deadline_in, is_motion, is_within_hours, state_of, rows_from, view_of}
+
+-- the rows of a docket after some commands, from the days of the court's file on
+abbrev pub docket_after : Bench → List Command → Rows
+docket_after bench commands = rows_from bench (opening_rows bench) commands
+
+-- no two hearings that share a judge or a room share a slot of a day
+abbrev pub NoneIsBookedTwice : Rows → Type 0
+NoneIsBookedTwice rows = AllPairs (λ (a b : DocketedHearing). Clash a.hearing b.hearing → ⊥) rows.hearings
+
+-- each hearing lies on a day that is no Saturday, Sunday or legal holiday by the days as they are docketed now, and
+-- while the clerk's office is open
+abbrev pub AllAreOnCourtDays : Bench → Rows → Type 0
+AllAreOnCourtDays bench rows = All (λ (h : DocketedHearing). (is_permitted rows.days After h.hearing.day ≡ true) × (is_within_hours bench.clock h.hearing.first h.hearing.count ≡ true)) rows.hearings
+
+-- each hearing is that of a docketed motion, which is heard ex parte or was served in time, and so was the notice of the
+-- hearing, by the days as they are docketed now (Fed. R. Civ. P. 6(c)(1))
+abbrev pub AllHaveNotice : Rows → Type 0
+AllHaveNotice rows = All (λ (h : DocketedHearing). IsSomeAnd (find (is_motion h.case h.motion) rows.motions) (λ m. IsNoticed rows.days h.hearing.day m.need m.served h.hearing.notice)) rows.hearings
+
+-- a docketed deadline with the end of its time, and whether it was met, by the days as they are docketed now
+abbrev pub deadline_on_sheet : Bench → Rows → DocketedDeadline → SheetDeadline
+deadline_on_sheet bench rows d = record {
+  number = d.number;
+  row = d.row;
+  shown = shown_of rows.days bench.clock d.row;
+  state = state_of bench.clock (shown_of rows.days bench.clock d.row) d.row.filed;
+}
+
+-- a sheet has just the deadlines of its case, in their order
+abbrev pub SheetShowsDeadlines : Bench → Rows → ℕ → Type 0
+SheetShowsDeadlines bench rows case = (sheet : Sheet) → view_of bench rows (query.Sheet case) ≡ view.Sheet sheet → sheet.deadlines ≡ map (deadline_on_sheet bench rows) (filter (is_deadline_in case) rows.deadlines)

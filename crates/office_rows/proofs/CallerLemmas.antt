@@ -1,0 +1,3 @@
+-- The lemmas for the crates above.
+pub use Rattle.office_rows.proofs.FaultLemmas.{first_fault_is_told_lem}
+pub use Rattle.office_rows.proofs.FormLemmas.{command_words_name_forms_lem}

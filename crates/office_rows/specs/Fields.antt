@@ -1,0 +1,8 @@
+-- What fields say, by how they are written.
+pub mod Numbers
+pub mod Cut
+pub mod Period
+pub mod Times
+pub mod Choices
+pub mod Grants
+pub mod Hearings

@@ -1,0 +1,37 @@
+-- Fields that say one of a few words.
+use Rattle.std.specs.Prelude.{ℕ, Bool, true, false, List, [], ◌∷◌, codes, Option, Some, None, option_map, if◌then◌else◌}
+use Rattle.std.specs.Str.{bytes_eq}
+use Rattle.court_days.specs.declared.holiday_list.HolidayList.{HolidayList}
+use Rattle.court_days.specs.declared.holiday_list.HolidayList.TheVariants.{Federal, State}
+use Rattle.rule6.specs.declared.service.ServiceKind.{ServiceKind}
+use Rattle.rule6.specs.declared.service.ServiceKind.TheVariants.{HandA, LeftB, MailC, ClerkD, ElectronicE, OtherF}
+use Rattle.rule6.specs.declared.timeliness.Means.{Means}
+use Rattle.rule6.specs.declared.timeliness.Means.TheVariants.{Electronic, Paper}
+
+-- the kind of service, by its letter in Rule 5(b)(2)
+unfoldable pub kind_of : List ℕ → Option ServiceKind
+kind_of letter =
+    if bytes_eq letter (codes "A") then Some HandA
+    else if bytes_eq letter (codes "B") then Some LeftB
+    else if bytes_eq letter (codes "C") then Some MailC
+    else if bytes_eq letter (codes "D") then Some ClerkD
+    else if bytes_eq letter (codes "E") then Some ElectronicE
+    else if bytes_eq letter (codes "F") then Some OtherF
+    else None
+
+-- the kind of service that a field says, which may be empty: then there is none
+unfoldable pub kind_if_given : List ℕ → Option (Option ServiceKind)
+kind_if_given [] = Some None
+kind_if_given (b ∷ field) = option_map Some (kind_of (b ∷ field))
+
+-- how a paper reached the clerk
+unfoldable pub means_of : List ℕ → Option Means
+means_of text = if bytes_eq text (codes "electronic") then Some Electronic else if bytes_eq text (codes "paper") then Some Paper else None
+
+-- the list of holidays
+unfoldable pub list_of : List ℕ → Option HolidayList
+list_of text = if bytes_eq text (codes "federal") then Some Federal else if bytes_eq text (codes "state") then Some State else None
+
+-- whether something is so
+unfoldable pub is_so : List ℕ → Option Bool
+is_so text = if bytes_eq text (codes "yes") then Some true else if bytes_eq text (codes "no") then Some false else None

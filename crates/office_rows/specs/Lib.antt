@@ -1,0 +1,10 @@
+pub mod Names
+pub mod Fields
+pub mod Fault
+pub mod Form
+pub mod Columns
+pub mod Forms
+pub mod Rows
+pub mod Records
+pub mod FirstFault
+pub mod Words

@@ -1,0 +1,16 @@
+//! Rows, read from the records of a text: which clerk asks, and for what, or the first fault.
+#![tactic(auto)]
+
+mod columns;
+mod fault;
+mod fields;
+mod form;
+mod forms;
+mod laws;
+mod records;
+mod row;
+
+pub use fault::{RowCause, RowError};
+pub use laws::{codes_are_read_back, command_words_name_forms, first_fault_is_told};
+pub use records::{MAX_ROWS, read_rows};
+pub use row::{Row, Work};

@@ -1,0 +1,152 @@
+//! All rows of a text.
+
+ghost use Rattle.std.specs.Prelude.{◌≡◌, [], true, Ok};
+ghost use Rattle.std.specs.List.{list_all};
+ghost use Rattle.std.specs.Str.{is_utf8};
+ghost use Rattle.csv.specs.Reading.{error_kind};
+ghost use Rattle.csv.specs.Records.{fields_of};
+ghost use Rattle.office_rows.specs.Rows.{AnswersRow, AnswersRows, clerk_of, row_of, rows_from, rows_of};
+ghost use Rattle.office_rows.specs.Names.{names_of};
+ghost use Rattle.office_rows.specs.Records.{TakesAnyRow, TakesText, MeetsNoText, records_left, tells_no_text};
+
+use crate::columns::column;
+use crate::fault::{RowCause, RowError};
+use crate::fields::numbers::number_of;
+use crate::forms::work_of;
+use crate::row::{Row, RowTypes};
+use court_days::Court;
+use csv::{ErrorKind, Reader, ReaderBuilder, StringRecord};
+use std::alloc::{AllocError, Global};
+
+/// How many rows the office takes.
+pub const MAX_ROWS: u32 = 100_000;
+
+/// The rows of a text in CSV, for a run with so many clerks. The text has no header; its records may differ in
+/// their number of fields; blank lines are skipped and not counted. Judges
+/// and rooms are numbered as the court's file has them. The first row that can't be read is the fault.
+pub fn read_rows(
+    alloc: Global,
+    bytes: &[u8],
+    clerks: u8,
+    court: &Court,
+) -> Result<Vec<Row>, RowError>
+    ensures { AnswersRows (λ rows. rows.items) result (rows_of clerks (names_of court.now) bytes.now) }
+{
+    let mut reader = ReaderBuilder::new()
+        .has_headers(false)
+        .flexible(true)
+        .from_reader(alloc, bytes);
+    take_rows(alloc, &mut reader, clerks, court)
+}
+
+// The rows of the records that the reader has left.
+fn take_rows(
+    alloc: Global,
+    reader: &mut Reader<&[u8]>,
+    clerks: u8,
+    court: &Court,
+) -> Result<Vec<Row>, RowError>
+    requires { TakesAnyRow reader.old }
+    ensures { AnswersRows (λ rows. rows.items) result (rows_from clerks (names_of court.now) 1 (records_left reader.old)) }
+{
+    let _types: RowTypes = None;
+    let mut fields = StringRecord::new(alloc);
+    let mut rows = Vec::new(alloc);
+    for number in 1..=MAX_ROWS {
+        match read_next(reader, &mut fields)? {
+            Next::End => return Ok(rows),
+            Next::NotText => return Err(RowError::Fault(number, RowCause::NotText)),
+            Next::Text => {
+                let row = numbered_row(clerks, court, number, &fields)?;
+                rows.push(row)?;
+            }
+        }
+    }
+    match read_next(reader, &mut fields)? {
+        Next::End => Ok(rows),
+        _ => Err(RowError::Fault(MAX_ROWS + 1, RowCause::TooManyRows)),
+    }
+}
+
+// The row that the record of this number spells.
+fn numbered_row(
+    clerks: u8,
+    court: &Court,
+    number: u32,
+    fields: &StringRecord,
+) -> Result<Row, RowError>
+    requires { list_all is_utf8 (fields_of fields.now) ≡ true }
+    ensures { AnswersRow number result (row_of clerks (names_of court.now) (fields_of fields.now)) }
+{
+    match row_of(clerks, court, fields) {
+        Ok(row) => Ok(row),
+        Err(cause) => Err(RowError::Fault(number, cause)),
+    }
+}
+
+// The row that a record spells, for a run with so many clerks.
+#[tactic(auto, unfolding(crate::specs::Rows::row_of))]
+fn row_of(clerks: u8, court: &Court, fields: &StringRecord) -> Result<Row, RowCause>
+    requires { list_all is_utf8 (fields_of fields.now) ≡ true }
+    ensures { result ≡ row_of clerks (names_of court.now) (fields_of fields.now) }
+{
+    if fields.len() < 2 {
+        return Err(RowCause::WrongCount);
+    }
+    let clerk = clerk_of(clerks, column(fields, 1)).ok_or(RowCause::BadClerk)?;
+    let work = work_of(court, fields)?;
+    Ok(Row { clerk, work })
+}
+
+// A clerk's number, from 1 to the number of clerks.
+#[tactic(auto, unfolding(crate::specs::Rows::clerk_of))]
+fn clerk_of(clerks: u8, field: &str) -> Option<u8>
+    ensures { result ≡ clerk_of clerks field.now }
+{
+    let number = number_of(field)?;
+    if number >= 1 && number <= u32::from(clerks) {
+        Some(number as u8)
+    } else {
+        None
+    }
+}
+
+// What comes next of the rows.
+#[derive(Clone, Copy)]
+enum Next {
+    // A record, each field of which is text.
+    Text,
+    // A record with a field that is no text.
+    NotText,
+    // No record.
+    End,
+}
+
+// Reads the next record into `fields`.
+fn read_next(reader: &mut Reader<&[u8]>, fields: &mut StringRecord) -> Result<Next, AllocError>
+    requires { TakesAnyRow reader.old }
+    ensures text { result ≡ Ok Next.Text → TakesText reader.old reader.new (fields_of fields.new) }
+    ensures no_text { result ≡ Ok Next.NotText → MeetsNoText reader.old }
+    ensures end { result ≡ Ok Next.End → records_left reader.old ≡ [] }
+{
+    match reader.read_record(fields) {
+        Ok(found) => { if found { Ok(Next::Text) } else { Ok(Next::End) } }
+        Err(error) => {
+            if tells_no_text(&error) {
+                Ok(Next::NotText)
+            } else {
+                Err(AllocError)
+            }
+        }
+    }
+}
+
+// Whether a field was found that is no text.
+fn tells_no_text(error: &csv::Error) -> bool
+    ensures { result ≡ tells_no_text (error_kind error.now) }
+{
+    match error.kind() {
+        ErrorKind::Utf8 { .. } => true,
+        _ => false,
+    }
+}

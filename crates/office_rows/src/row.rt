@@ -1,0 +1,27 @@
+//! Rows.
+
+use court_days::Day;
+use docket_rows::{Command, Query};
+use rule_periods::{Grant, Request};
+
+/// One row: which clerk asks, and for what.
+#[derive(Clone, Copy, Debug, PartialEq, Eq)]
+pub struct Row {
+    /// The clerk's number, counted from 1.
+    pub clerk: u8,
+    /// What the clerk asks for.
+    pub work: Work,
+}
+
+/// What a row asks for.
+#[derive(Clone, Copy, Debug, PartialEq, Eq)]
+pub enum Work {
+    /// That the docket be changed.
+    Command(Command),
+    /// A look at the docket.
+    Query(Query),
+}
+
+/// Names types that stand inside a row. The checker finds them only where they have names, so a function that puts rows
+/// into a `Vec` has a variable of this type.
+pub type RowTypes = Option<(Work, Command, Query, Option<Day>, Grant, Request)>;

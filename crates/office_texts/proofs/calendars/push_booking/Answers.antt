@@ -1,4 +1,0 @@
-use Rattle.office_texts.proofs.calendars.push_booking.Goals as goal
-
-pub returns : goal.returns
-returns c = ?
