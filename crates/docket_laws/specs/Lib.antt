@@ -1,3 +1,4 @@
 pub mod CanSet
 pub mod Lawful
+pub mod Reads
 pub mod Words

@@ -4,6 +4,7 @@
 mod lawful;
 mod opening;
 mod parts;
+mod reads;
 mod sheets;
 
 pub use lawful::{
@@ -14,5 +15,9 @@ pub use opening::the_opening_docket_is_lawful;
 pub use parts::{
     commands_rest_on_parts, parts_follow_the_steps_of_rows, parts_stand_for_rows_after,
     queries_rest_on_parts,
+};
+pub use reads::{
+    commands_rest_on_parts_wanted, decisions_are_steps, decisions_rest_on_reads,
+    parts_are_read_and_written_once, reading_ends,
 };
 pub use sheets::deadlines_are_shown_by_the_days_as_docketed;

@@ -1,0 +1,4 @@
+pub mod AnswersLawful
+pub mod DocketLawful
+pub mod DocketRules
+pub mod SameAnswer
