@@ -1,4 +1,5 @@
 pub mod ApplyLemmas
+pub mod CaseLemmas
 pub mod DocketLemmas
 pub mod HolidayLemmas
 pub mod RebookingLemmas

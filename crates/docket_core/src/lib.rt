@@ -2,6 +2,7 @@
 #![tactic(auto)]
 
 mod answers;
+mod case_changes;
 mod cases;
 mod deadlines;
 mod decide;
