@@ -56,7 +56,7 @@ impl Docket {
         }
     }
 
-    /// Changes the calendars, and then the case. An error leaves the docket as it was.
+    /// Changes the calendars, and then the case, which takes no memory. An error leaves the docket as it was.
     fn rebook(&mut self, alloc: Global, rebooking: &Rebooking) -> Result<(), AllocError>
         requires judges { CanChangeAll 0 (judge_change rebooking.now) self.old.judges }
         requires rooms { CanChangeAll 0 (room_change rebooking.now) self.old.rooms }
