@@ -17,9 +17,9 @@ use Rattle.docket_laws.proofs.CallerLemmas.{none_of, when-not-None}
 use Rattle.docket_core.specs.declared.rebooking.Rebooking.{Rebooking}
 use Rattle.docket_core.specs.Docket.{DocketView, parts_held}
 use Rattle.docket_core.specs.Changes.{IsAfter, case_of, case_after, docket_after}
-use Rattle.docket_core.specs.Rebooking.{placement_of, rebooking_of, changed_by, calendar_after, judge_change, room_change}
+use Rattle.docket_core.specs.Rebooking.{rebooking_of, changed_by, calendar_after, judge_change, room_change}
 use Rattle.docket_core.proofs.CaseLemmas.{case_is_written, case_changed}
-use Rattle.docket_core.proofs.RebookingLemmas.{judge_rebooked, room_rebooked, calendar_of, nothing_to_take, nothing_taken, same_rebooking}
+use Rattle.docket_core.proofs.RebookingLemmas.{judge_rebooked, room_rebooked, calendar_of, nothing_to_take, nothing_taken, same_rebooking, to_set}
 
 -- a case that is opened has a place; other commands open none
 opens_in_place : (bench : Bench) (parts : Parts) (command : Command) (n count : ℕ) → refusal bench parts command ≡ None → Some n ≡ case_of command → count ≡ 4097 → count ≤ n → case_after command None ≡ None
@@ -68,7 +68,7 @@ pub record StaysInCourt (d : DocketView) (r : Rebooking) : Type 0 where
   pub judges : (j : ℕ) → length d.judges ≤ j → calendar_after (judge_change r j) [] ≡ []
   pub rooms : (k : ℕ) → length d.rooms ≤ k → calendar_after (room_change r k) [] ≡ []
 
-stays_in_court : (d : DocketView) (s : Setting) (before : Option Hearing) → IsInCourt d s → StaysInCourt d (record { case = s.case; motion = s.motion; before = before; after = Some (placement_of (parts_held d) s) })
+stays_in_court : (d : DocketView) (s : Setting) (before : Option Hearing) → IsInCourt d s → StaysInCourt d (to_set (parts_held d) s before)
 stays_in_court d s before court = record {
   judges = λ j beyond. nothing_to_take s.case s.motion _ (sits j s.judges) (booking_of (parts_held d) s.room s) (court.judges j beyond);
   rooms = λ k beyond. nothing_to_take s.case s.motion _ (s.room == k) (booking_of (parts_held d) (first_judge s.judges) s) (court.room k beyond);

@@ -3,6 +3,5 @@ pub mod CaseLemmas
 pub mod DocketLemmas
 pub mod HolidayLemmas
 pub mod RebookingLemmas
-pub mod SettingLemmas
 pub mod NextLemmas
 pub mod WrittenLemmas
