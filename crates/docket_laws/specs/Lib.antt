@@ -1,3 +1,4 @@
 pub mod CanSet
+pub mod Clocks
 pub mod Lawful
 pub mod Words
