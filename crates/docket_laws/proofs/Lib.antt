@@ -1,3 +1,4 @@
+pub mod AlikeLemmas
 pub mod CallerLemmas
 pub mod LawfulLemmas
 pub mod MadeLemmas

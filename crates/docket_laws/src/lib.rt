@@ -1,12 +1,14 @@
 //! What the definitions of a docket come to, in the words of those who use it.
 #![tactic(auto)]
 
+mod clocks;
 mod lawful;
 mod opening;
 mod parts;
 mod reads;
 mod sheets;
 
+pub use clocks::dockets_do_not_rest_on_how_a_zone_is_kept;
 pub use lawful::{
     every_hearing_has_its_notice, every_hearing_lies_on_a_court_day_within_office_hours,
     no_judge_or_room_is_booked_twice, rows_stay_lawful, rows_stay_sound,
