@@ -9,6 +9,8 @@ mod forms;
 mod laws;
 mod records;
 mod row;
+#[cfg(test)]
+mod tests;
 
 pub use fault::{RowCause, RowError};
 pub use laws::{
