@@ -129,12 +129,15 @@ module _ (a b : Bench) (same : IsSameBench a b) where
   deadline_alike : (parts : Parts) (d : NumberedDeadline) → sheet_deadline a parts d ≡ sheet_deadline b parts d
   deadline_alike parts d = rw (end_alike parts d.row, state_alike (shown_now b parts d.row) d.row.filed) refl
 
-  sheet_alike : (parts : Parts) (case : ℕ) (c : Option CaseRecordView) → option_map_or (λ c. view.Sheet (sheet_of a parts case c)) c (view.Refused NoSuchCase) ≡ option_map_or (λ c. view.Sheet (sheet_of b parts case c)) c (view.Refused NoSuchCase)
-  sheet_alike parts case None = refl
-  sheet_alike parts case (Some c) = rw (map_agree (sheet_deadline a parts) (sheet_deadline b parts) c.deadlines (λ k d within. deadline_alike parts _)) refl
+  pub sheet_alike : (parts : Parts) (case : ℕ) (c : CaseRecordView) → sheet_of a parts case c ≡ sheet_of b parts case c
+  sheet_alike parts case c = rw (map_agree (sheet_deadline a parts) (sheet_deadline b parts) c.deadlines (λ k d within. deadline_alike parts _)) refl
+
+  sheet_if_open_alike : (parts : Parts) (case : ℕ) (c : Option CaseRecordView) → option_map_or (λ c. view.Sheet (sheet_of a parts case c)) c (view.Refused NoSuchCase) ≡ option_map_or (λ c. view.Sheet (sheet_of b parts case c)) c (view.Refused NoSuchCase)
+  sheet_if_open_alike parts case None = refl
+  sheet_if_open_alike parts case (Some c) = ap view.Sheet (sheet_alike parts case c)
 
   asked_alike : (parts : Parts) (query : Query) → shown_if_asked a parts query ≡ shown_if_asked b parts query
-  asked_alike parts (Sheet case) = sheet_alike parts case (parts.case case)
+  asked_alike parts (Sheet case) = sheet_if_open_alike parts case (parts.case case)
   asked_alike parts (JudgeDay judge day) = refl
   asked_alike parts (Compute period event second service) = ap view.Computed (end_alike parts (started period event second service))
 
