@@ -109,7 +109,8 @@ def main(program, seed=1, count=600):
     missing = never(seen)
     for name in missing:
         print(name + " never came up")
-    print("{} inputs of seed {}, {} differ; the reference can't tell of {} more".format(asked, seed, len(differing), skipped))
+    counts = (asked, seed, len(differing), skipped)
+    print("{} inputs of seed {}, {} differ; the reference can't tell of {} more".format(*counts))
     sys.exit(1 if differing or missing else 0)
 
 
