@@ -11,7 +11,6 @@ each refusal and each fault came up; the status is 0 where nothing differs and e
 fewer than 600 inputs may not be enough. With `-` for PROGRAM the reference answers alone, so that it shows what comes
 up. It needs Python 3.8 or later.
 """
-import pathlib
 import random
 import re
 import sys
