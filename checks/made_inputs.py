@@ -13,14 +13,15 @@ INPUTS = ["mixed", "hearings", "deadlines", "mixed", "hearings", "deadlines", "p
           "full_motions", "full_grants", "full_outages", "full_dates"] + ["row_faults"] * 4 + ["court_faults"] * 8
 ZONES = ["EST5EDT,M3.2.0/2,M11.1.0/2", "EST5EDT,M3.2.1/2,M11.1.1/2", "-05:00", "+05:45", "MST7", "<+10>-10",
          "AEST-10AEDT,M10.1.0,M4.1.0/3", "LHST-10:30LHDT-11,M10.1.0,M4.1.0", "IST-1GMT0,M10.5.0,M3.5.0/1"]
-HOLIDAYS = ["2016-12-26", "2025-03-28", "2025-03-31", "2025-05-26", "2025-07-04", "2025-08-29", "2025-09-01", "2025-09-05",
-            "2025-10-13", "2027-01-01"]
+HOLIDAYS = ["2016-12-26", "2025-03-28", "2025-03-31", "2025-05-26", "2025-07-04", "2025-08-29", "2025-09-01",
+            "2025-09-05", "2025-10-13", "2027-01-01"]
 CODES = ["4m", "12a1Ai", "12a1Aii-us", "12a1Aii-abroad", "12a1B", "12a1C", "12a2", "12a3", "59b", "59e"]
 MARKS = ["plain"] * 14 + ["50b", "50d", "52b", "59b", "59d", "59e", "60b"]
 FAR = ["1999-12-31", "2007-01-02", "2026-12-31", "2027-01-02"]
 CLERK_JUNK = ["0", "2", "", "01", "x", "1 "]
 JUNK = ["", "x", "-1", "01", "1000000000", "24:00", "9:00", "2025-02-29", "2025-9-1", "+d", "+01d", "Nobody", "A+B+C+D",
-        "1.5", "28d", "28d/after/filing/event", "4M", "G", "c", "Yes", "Paper", "both", "exparte ", "3h", "q", " 1", "12:60"]
+        "1.5", "28d", "28d/after/filing/event", "4M", "G", "c", "Yes", "Paper", "both", "exparte ", "3h", "q", " 1",
+        "12:60"]
 
 
 def made_input(chance, name):
@@ -45,7 +46,8 @@ def made_court(chance, name):
     rooms = ["R1", "R2", "R3"][:chance.choice([0, 1, 2, 2, 3] if name == "mixed" else [1, 2])]
     if name == "periods":
         judges = []
-    first, last = chance.choice([("2007-01-01", "2026-12-31"), ("2016-01-01", "2025-10-03"), ("2025-08-25", "2026-12-31")])
+    first, last = chance.choice([("2007-01-01", "2026-12-31"), ("2016-01-01", "2025-10-03"),
+                                 ("2025-08-25", "2026-12-31")])
     if name == "edge":
         first, last = "2025-08-28", "2025-09-19"
     federal = chance.sample(HOLIDAYS, chance.randrange(6))
@@ -85,7 +87,8 @@ def made_days(chance, name):
     near = [(datetime.date(2025, 8, 25) + datetime.timedelta(days)).isoformat() for days in range(26)]
     days = chance.sample(near, 10) + ["2025-08-29", "2025-09-01", "2025-09-15"]
     if name in ("periods", "deadlines"):
-        days += ["2025-03-07", "2025-03-10", "2025-03-28", "2016-11-09", "2016-12-01", "2025-10-31", "2025-11-03", "2025-10-05"]
+        days += ["2025-03-07", "2025-03-10", "2025-03-28", "2016-11-09", "2016-12-01", "2025-10-31", "2025-11-03",
+                 "2025-10-05"]
     return days, chance.sample(near[:7], 3) + ["2025-08-29"], chance.sample(near[14:], 2) + ["2025-09-15"]
 
 
@@ -157,7 +160,8 @@ def a_day(chance, world):
 
 
 def a_time(chance):
-    return "{:02}:{:02}".format(chance.choice([0, 1, 2, 8, 9, 10, 11, 14, 16, 17, 23]), chance.choice([0, 0, 5, 30, 59]))
+    hour = chance.choice([0, 1, 2, 8, 9, 10, 11, 14, 16, 17, 23])
+    return "{:02}:{:02}".format(hour, chance.choice([0, 0, 5, 30, 59]))
 
 
 def a_need(chance):
@@ -204,11 +208,12 @@ def a_hearing(chance, world):
     room = rarely(chance, chance.choice(world.rooms or ["R9"]), ["R9", ""])
     time = "{:02}:{:02}".format(rarely(chance, chance.choice([10, 10, 11, 11]), [0, 8, 9, 14, 16, 17, 23], 0.1),
                                 chance.choice([0, 15, 30, 45]))
-    slots = rarely(chance, chance.choice(["1", "1q", "2", "3q"]), ["0", "0q", "4", "12", "48", "97q", "999999999"], 0.06)
+    slots = rarely(chance, chance.choice(["1", "1q", "2", "3q"]), ["0", "0q", "4", "12", "48", "97q", "999999999"],
+                   0.06)
     day = rarely(chance, chance.choice(world.hearings), world.days, 0.15)
     notice = rarely(chance, chance.choice(world.served), world.days, 0.15)
-    return ",".join(map(str, [a_case(chance, world), a_place(chance), panel, room, rarely(chance, day, FAR), time, slots,
-                              rarely(chance, notice, FAR)]))
+    day, notice = rarely(chance, day, FAR), rarely(chance, notice, FAR)
+    return ",".join(map(str, [a_case(chance, world), a_place(chance), panel, room, day, time, slots, notice]))
 
 
 def a_finding(chance):
@@ -224,7 +229,8 @@ ROWS = {
     "start": lambda chance, world: "{},{}".format(a_case(chance, world), a_period_of(chance, world)),
     "compute": a_period_of,
     "file": lambda chance, world: "{},{},{},{},{}".format(
-        a_case(chance, world), a_place(chance), a_day(chance, world), a_time(chance), chance.choice(["electronic", "paper"])),
+        a_case(chance, world), a_place(chance), a_day(chance, world), a_time(chance),
+        chance.choice(["electronic", "paper"])),
     "extend": lambda chance, world: "{},{},{},{},{},{},{},{}".format(
         a_case(chance, world), a_place(chance), a_grant(chance, world), a_day(chance, world), a_time(chance),
         a_finding(chance), a_finding(chance), a_finding(chance)),
@@ -296,8 +302,9 @@ def with_court_fault(chance, court):
 BAD_TIMES = ['"24:00"', '"8:30"', '"12:60"', '""', '"23:59"', '"00:00"', '"08:30:00"']
 BAD_DATES = ['"2025-02-29"', '"2025-9-1"', '""', '"1899-12-31"', '"2200-01-01"', '"1950-01-01"', '"2050-01-01"',
              '"2049-12-31"', '"2199-12-31"', '"1900-01-01"']
-BAD_NAMES = ['["A B"]', '[""]', '["A", "A"]', '["A", "B", "A"]', '["' + "J" * 33 + '"]', '["\u00c4mes"]', '["Ames+Cole"]',
-             listed("J{:02}".format(number) for number in range(33)), listed("J{:02}".format(number) for number in range(32))]
+BAD_NAMES = ['["A B"]', '[""]', '["A", "A"]', '["A", "B", "A"]', '["' + "J" * 33 + '"]', '["\u00c4mes"]',
+             '["Ames+Cole"]', listed("J{:02}".format(number) for number in range(33)),
+             listed("J{:02}".format(number) for number in range(32))]
 BAD_LISTS = ["[" + date + "]" for date in BAD_DATES] + ['["2025-01-01", 1]', '["2025-01-01", "2025-13-01", 1]']
 BAD_VALUES = {
     "zone": ['"+15:00"', '"-5:00"', '"+05:60"', '"America/New_York"', '""', '"EST"', '"UTC"', '"+14:59"', '"-00:00"'],

@@ -11,7 +11,6 @@ each refusal and each fault came up; the status is 0 where nothing differs and e
 fewer than 600 inputs may not be enough. With `-` for PROGRAM the reference answers alone, so that it shows what comes
 up. It needs Python 3.8 or later.
 """
-import pathlib
 import random
 import re
 import sys
@@ -109,7 +108,8 @@ def main(program, seed=1, count=600):
     missing = never(seen)
     for name in missing:
         print(name + " never came up")
-    print("{} inputs of seed {}, {} differ; the reference can't tell of {} more".format(asked, seed, len(differing), skipped))
+    counts = (asked, seed, len(differing), skipped)
+    print("{} inputs of seed {}, {} differ; the reference can't tell of {} more".format(*counts))
     sys.exit(1 if differing or missing else 0)
 
 

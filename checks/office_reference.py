@@ -5,8 +5,8 @@
 
 It reads what the program reads and writes what the program has to write: the text to standard output, the line of a
 fault to standard error, and it ends with the program's status. The files of `reference/` are its parts. It needs Python
-3.8 or later. What it doesn't read, though the program may, ends it with CannotTell and status 9: quotes in the middle of a
-field, zones whose rules name days of the year and, before Python 3.11, other TOML than plain lines.
+3.8 or later. What it doesn't read, though the program may, ends it with CannotTell and status 9: quotes in the middle
+of a field, zones whose rules name days of the year and, before Python 3.11, other TOML than plain lines.
 """
 import sys
 

@@ -6,9 +6,9 @@
 
 For each runs/FOLDER/NAME.in the program must end with status 0, write NAME.out to standard output and nothing to
 standard error; where there is a NAME.fault instead, it must write nothing, and end with the status that stands in its
-first line and with the rest of it on standard error. Two runs are too large to be kept and are made here. Each run must
-stand in runs/README.md. With --reference the reference of this folder is asked in place of a program. It needs Python
-3.8 or later; the status is 0 where each run ends as it must.
+first line and with the rest of it on standard error. Three runs are too large to be kept and are made here. Each run
+must stand in runs/README.md. With --reference the reference of this folder is asked in place of a program. It needs
+Python 3.8 or later; the status is 0 where each run ends as it must.
 """
 import pathlib
 import subprocess

@@ -136,7 +136,7 @@ def table_of(data):
 
 def small_table_of(text):
     """The table of lines `KEY = VALUE`, where VALUE is a plain text, a number, or a list of them, also over lines."""
-    token = re.compile(r'[ \t]*(?:("[^"\\\x00-\x1f\x7f]*")|([0-9]+)|([A-Za-z]+)|([=\[\],])|((?:#[^\r\n]*)?(?:\r?\n|\Z)))')
+    token = re.compile(r'[ \t]*("[^"\\\x00-\x1f\x7f]*"|[0-9]+|[A-Za-z]+|[=\[\],]|(?:#[^\r\n]*)?(?:\r?\n|\Z))')
     tokens, at = deque(), 0
     while at < len(text):
         found = token.match(text, at)

@@ -5,7 +5,7 @@ A command is a tuple of its word and its fields, an answer a tuple of its word a
 """
 from collections import namedtuple
 
-from .periods import (Deadline, granted, refused_extension, refused_start, shown)
+from .periods import Deadline, granted, refused_extension, refused_start, shown
 from .rule6 import AFTER, BEYOND, Outage, covered, has_outage, is_timely, notice_day, permitted
 
 Rows = namedtuple("Rows", "days cases deadlines motions hearings")

@@ -2,9 +2,9 @@
 import re
 from collections import namedtuple
 
-from .rule6 import (AFTER, BEFORE, BEYOND, ELECTRONIC, FILING, SERVICE, Filing, Shown, adds_three, covered, end_of_hours,
-                    is_timely, last_day, rolled, with_access, with_access_hours)
 from .civil import instant_at
+from .rule6 import (AFTER, BEFORE, BEYOND, ELECTRONIC, FILING, SERVICE, Filing, Shown, adds_three, covered,
+                    end_of_hours, is_timely, last_day, rolled, with_access, with_access_hours)
 
 # `kind` and `second` say whether a kind of service and a second day are "required", "none" or "noted" (may be);
 # `unit` is "d" or "h"; `added` says that the period runs from service under Rule 5(b)(2); `extended` is under which
