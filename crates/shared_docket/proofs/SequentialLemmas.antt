@@ -1,14 +1,12 @@
 -- A legal history of the docket's parts is one of the docket of one clerk.
-use Rattle.std.proofs.Common.{◌≡◌, ℕ, zero, suc, true, Option, Some, None, List, [], ◌∷◌, map, take, unwrap_or, IfOk, refl, ap, sym, ◌∙◌}
-use Rattle.std.specs.declared.result.Result.{Result}
-use Rattle.std.specs.declared.result.Result.TheVariants.{Ok, Err}
+use Rattle.std.proofs.Common.{◌≡◌, ℕ, zero, suc, true, List, [], ◌∷◌, take, unwrap_or, refl, ap, sym, ◌∙◌}
 use Rattle.docket_rows.specs.declared.answer.Answer.{Answer}
 use Rattle.docket_rows.specs.declared.command.Command.{Command}
 use Rattle.docket_rows.specs.declared.part.PartId.{PartId}
 use Rattle.docket_rows.specs.declared.part.PartValue.{PartValue}
 use Rattle.docket_rows.specs.Words.{Bench, Rows, AreSound, AreLawful, opening_rows, part_value, parts_of, step, rows_from}
 use Rattle.docket_laws.proofs.CallerLemmas.{sound_opening, sound_step, lawful_docket, decided_answer, decided_parts}
-use Rattle.versioned_steps.specs.Words.{Rules, World, IsRun, opening_world, reads_on, answer_on, writes_on, write_to, written, value_of, is_legal, served, IsSerial, IsLawful}
+use Rattle.versioned_steps.specs.Words.{World, IsRun, opening_world, reads_on, answer_on, writes_on, write_to, written, value_of, is_legal, served}
 use Rattle.versioned_steps.specs.declared.entry.Entry.{Entry}
 use Rattle.versioned_steps.specs.declared.step.Step.{Step}
 use Rattle.versioned_steps.specs.declared.step.Outcome.{Outcome}
@@ -84,8 +82,3 @@ module _ (bench : Bench) where
       let cut = run_cut (opening_world clerks) steps outcomes after run made in
       let legal = run_legal (docket_rules bench) (docket_lawful bench) (opening_world clerks) (take made steps) (take made outcomes) cut.0 (legal_empty (docket_rules bench)) cut.1 in
       record { world = cut.0; run = cut.1; answers = legal_sequential cut.0.history legal; lawful = history_lawful cut.0.history }
-
--- what holds of every value holds of the one that comes
-pub of_each : {A E : Type 0} (P : A → Type 0) (result : Result A E) → ((x : A) → P x) → IfOk result P
-of_each P (Ok x) each = each x
-of_each P (Err e) each = tt

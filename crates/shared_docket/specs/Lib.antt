@@ -3,3 +3,4 @@ pub mod DocketLawful
 pub mod DocketRules
 pub mod SameAnswer
 pub mod Sequential
+pub mod Words

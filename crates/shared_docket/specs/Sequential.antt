@@ -4,7 +4,7 @@ use Rattle.docket_rows.specs.declared.answer.Answer.{Answer}
 use Rattle.docket_rows.specs.declared.command.Command.{Command}
 use Rattle.docket_rows.specs.declared.part.PartId.{PartId}
 use Rattle.docket_rows.specs.declared.part.PartValue.{PartValue}
-use Rattle.docket_rows.specs.Words.{Bench, Rows, AreLawful, opening_rows, part_value, parts_of, step}
+use Rattle.docket_rows.specs.Words.{Bench, Rows, AreLawful, opening_rows, step}
 use Rattle.docket_laws.specs.Words.{docket_after}
 use Rattle.versioned_steps.specs.Words.{World, IsRun, opening_world}
 use Rattle.versioned_steps.specs.declared.entry.Entry.{Entry}
