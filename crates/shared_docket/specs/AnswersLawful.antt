@@ -1,12 +1,10 @@
 -- The test of answers says whether they are the same.
-use Rattle.std.proofs.Common.{◌≡◌, ℕ, ◌==◌, int_eq, ◌&&◌, Bool, true, false, refl, arith}
+use Rattle.std.proofs.Common.{◌≡◌, true, arith}
 use Rattle.std.proofs.lemmas.Grind.{common_steps}
-use Rattle.std.proofs.lemmas.Bool.Decides.{nat_tests}
-use Rattle.rule6.specs.declared.timeliness.Act.{Act}
 use Rattle.rule6.specs.declared.timeliness.Shown.{Shown}
 use Rattle.docket_rows.specs.declared.answer.Answer.{Answer}
 use Rattle.docket_rows.specs.declared.refusal.Refusal.{Refusal}
-use Rattle.shared_docket.specs.SameAnswer.{same_act, same_shown, same_truth, same_refusal, same_answer}
+use Rattle.shared_docket.specs.SameAnswer.{same_shown, same_refusal, same_answer}
 
 refusals_equal : (x y : Refusal) → same_refusal x y ≡ true → x ≡ y
 refusals_equal x y h = grind (arith, common_steps)

@@ -1,5 +1,5 @@
 -- The rules of a docket are lawful.
-use Rattle.std.proofs.Common.{◌≡◌, ◌<◌, Option, Some, None, IsSome, List, [], ◌∷◌, ◌++◌, length, true, refl}
+use Rattle.std.proofs.Common.{◌≡◌, ◌<◌, Option, Some, None, IsSome, List, [], ◌∷◌, ◌++◌, length, refl}
 use Rattle.std.proofs.lemmas.Bool.{false≢true}
 use Rattle.docket_rows.specs.declared.command.Command.{Command}
 use Rattle.docket_rows.specs.contracts.part.PartIdPartialEq.TheImpl as part_test

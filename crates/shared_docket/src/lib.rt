@@ -2,5 +2,7 @@
 #![tactic(auto)]
 
 mod parts;
+mod steps;
 
 pub use parts::DocketParts;
+pub use steps::docket_steps;
