@@ -16,7 +16,7 @@ use versioned_steps::{Step, World, run_steps};
 /// Makes these steps of that many clerks, who share the docket of this court, from the empty history on. An Err comes only
 /// where the parts, the list of clerks or the list of outcomes found no memory; a step that finds none has the outcome
 /// NoMemory, and the next one is made.
-// A body that always found no memory would meet this contract; the tests call it with ample memory.
+// A body that always found no memory would meet this contract, and no test of this crate refuses it yet.
 #[tactic(auto, using(crate::proofs::SequentialLemmas::legal_sequential, crate::proofs::SequentialLemmas::legal_values, crate::proofs::SequentialLemmas::lawful_after_each))]
 pub fn docket_steps(
     alloc: Global,
