@@ -6,5 +6,4 @@ pub mod ReadingLemmas
 pub mod RowsLemmas
 pub mod DividerLemmas
 pub mod FaultLemmas
-pub mod ClockLemmas
 pub mod UniqueTextLemmas

@@ -1,4 +1,5 @@
 -- The court's clock.
+pub mod AlikeLemmas
 pub mod CivilLemmas
 pub mod SteadyLemmas
 pub mod YearLemmas

@@ -12,7 +12,7 @@ use Rattle.court_days.specs.declared.fault.CourtFault.TheVariants.{NotToml, BadZ
 use Rattle.court_days.specs.Days.{DaysView}
 use Rattle.court_days.specs.Days.Search.{days_through}
 use Rattle.court_days.specs.Clock.{ClockView}
-use Rattle.court_days.specs.Clock.Zone.{Zone, zone_of_text, zone_view}
+use Rattle.court_days.specs.Clock.Zone.{IsSameCourtClock, Zone, zone_of_text, zone_view}
 use Rattle.court_days.specs.Court.Reading.{◌>>=◌, must, text_at, minute_at, date_at, dates_at, names_at}
 
 -- what a court's file says
@@ -41,6 +41,13 @@ file_of court = record {
   judges = court.judges;
   rooms = court.rooms;
 }
+
+-- two values of one court: they can differ only in how the zone of its clock is kept
+pub record IsSameCourt (a b : CourtView) : Type 0 where
+  pub clock : IsSameCourtClock a.clock b.clock
+  pub days : a.days ≡ b.days
+  pub judges : a.judges ≡ b.judges
+  pub rooms : a.rooms ≡ b.rooms
 
 -- the zone
 unfoldable pub zone_at : Members → Result Zone CourtFault

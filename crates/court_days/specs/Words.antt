@@ -11,9 +11,9 @@ unfoldable pub use Rattle.court_days.specs.Day.Date.{months_within, date_of, day
 pub use Rattle.court_days.specs.Clock.Minute.{two_digits, minute_at, minute_of_text, minute_text}
 pub use Rattle.court_days.specs.Key.{key_name}
 pub use Rattle.court_days.specs.Fault.{court_fault_text}
-pub use Rattle.court_days.specs.Clock.Zone.{Zone, offset_minutes, zone_of_rule, zone_of_text, zone_view, IsSameClock, TextsNameClocks}
+pub use Rattle.court_days.specs.Clock.Zone.{Zone, offset_minutes, zone_of_rule, zone_of_text, zone_view, IsSameClock, IsSameCourtClock, TextsNameClocks}
 pub use Rattle.court_days.specs.Clock.{IsInstantSecond, ClockView, CivilTime, offset_seconds, shown_second, second_of, is_day_number, is_ruled, standard_offset, daylight_offset, larger_offset, smaller_offset, Shows, IsInstantOf, InstantsAreEarliest}
 unfoldable pub use Rattle.court_days.specs.Clock.{civil_time, civil_of, instant_of}
-pub use Rattle.court_days.specs.Court.{CourtFile, CourtView, file_of, FilesNameNoOutages}
+pub use Rattle.court_days.specs.Court.{CourtFile, CourtView, IsSameCourt, file_of, FilesNameNoOutages}
 unfoldable pub use Rattle.court_days.specs.Court.{court_of, court_in}
 pub use Rattle.court_days.specs.Court.Names.{name_index}

@@ -1,15 +1,18 @@
 -- What a booking, a move or a cancellation does to calendars.
-use Rattle.std.proofs.Common.{◌≡◌, ℕ, zero, suc, ◌+◌, ◌≤◌, Bool, true, false, ◌==◌, List, [], ◌∷◌, length, get_or, Some, None, option_and_then, unwrap_or, if◌then◌else◌, refl, ap, sym, ◌∙◌, subst, arith}
+use Rattle.std.proofs.Common.{◌≡◌, ℕ, zero, suc, ◌+◌, ◌≤◌, Bool, true, false, ◌==◌, List, [], ◌∷◌, length, get_or, Option, Some, None, option_and_then, unwrap_or, if◌then◌else◌, refl, ap, sym, ◌∙◌, subst, arith}
+use Rattle.std.proofs.lemmas.Bool.Decides.{nat_tests}
 use Rattle.hearing_slots.specs.declared.booking.Booking.{Booking}
 use Rattle.hearing_slots.specs.Words.{IsWithinDay, IsFree, without_motion}
 use Rattle.docket_rows.specs.declared.command.Command.{Command}
 use Rattle.docket_rows.specs.declared.command.Command.TheVariants.{Book, MoveHearing, Cancel}
+use Rattle.docket_rows.specs.declared.hearing.Hearing.{Hearing}
+use Rattle.docket_rows.specs.declared.hearing.Setting.{Setting}
 use Rattle.docket_rows.specs.Words.{Bench, Parts, refusal, rebooked, judge_written, room_written, is_before_judge, is_in_room, booking_of, first_judge, sits}
-use Rattle.docket_laws.proofs.CallerLemmas.{can_book, can_move}
+use Rattle.docket_laws.specs.Words.{CanSet}
+use Rattle.docket_laws.proofs.CallerLemmas.{can_book, can_move, slots_of}
 use Rattle.docket_core.specs.declared.rebooking.Change.{Change}
 use Rattle.docket_core.specs.declared.rebooking.Rebooking.{Rebooking}
-use Rattle.docket_core.specs.Rebooking.{CanRebook, changed_by, calendar_after, calendars_after, change_to, judge_change, room_change, rebooking_of, CanChange, CanChangeAll}
-use Rattle.docket_core.proofs.SettingLemmas.{booking_within, room_free}
+use Rattle.docket_core.specs.Rebooking.{CanRebook, changed_by, calendar_after, calendars_after, change_to, judge_change, room_change, rebooking_of, placement_of, CanChange, CanChangeAll}
 
 -- a booking is put in where it belongs, and else taken out where it stands
 is_rebooked : (belongs stands : Bool) (b : Booking) (bookings : List Booking) → rebooked belongs stands b bookings ≡ changed_by (change_to b.case b.motion stands (if belongs then Some b else None)) bookings
@@ -40,11 +43,34 @@ can_rebook bench parts (Book s) made = can_book bench parts s made
 can_rebook bench parts (MoveHearing s) made = can_move bench parts s made
 can_rebook bench parts _ made = tt
 
--- so each calendar can be changed
+-- its booking lies within its day, and its slots are free in the calendar of its room
+booking_within : (parts : Parts) (other : ℕ) (s : Setting) → CanSet parts s → IsWithinDay (booking_of parts other s)
+booking_within parts other s can =
+    let slots = slots_of s.first s.count can.fits in
+    record { some_slot = slots.0; ends = slots.1 }
+
+room_free : (parts : Parts) (s : Setting) (room : ℕ) → CanSet parts s → (s.room == room) ≡ true → IsFree (parts.room room) s.day s.first s.count (Some (s.case, s.motion))
+room_free parts s room can h =
+    let same : s.room ≡ room = grind (arith, nat_tests) in
+    subst (λ (r : ℕ). IsFree (parts.room r) s.day s.first s.count (Some (s.case, s.motion))) same can.room
+
+-- so it can be put into the calendars into which it belongs
 can_put : (case motion : ℕ) (stands belongs : Bool) (b : Booking) (bookings : List Booking) → IsWithinDay b → (belongs ≡ true → IsFree bookings b.day b.first b.count (Some (b.case, b.motion))) → CanChange (change_to case motion stands (if belongs then Some b else None)) bookings
 can_put case motion stands true b bookings within free = (within, free refl)
 can_put case motion true false b bookings within free = tt
 can_put case motion false false b bookings within free = tt
+
+-- the rebooking of a hearing that is asked for
+abbrev pub to_set : Parts → Setting → (before : Option Hearing) → Rebooking
+to_set parts s before = record { case = s.case; motion = s.motion; before = before; after = Some (placement_of parts s) }
+
+judge_can_put : (parts : Parts) (s : Setting) (before : Option Hearing) (judge : ℕ) → CanSet parts s → CanChange (judge_change (to_set parts s before) judge) (parts.judge judge)
+judge_can_put parts s before judge can =
+    can_put s.case s.motion _ (sits judge s.judges) (booking_of parts s.room s) (parts.judge judge) (booking_within parts s.room s can) (can.judges judge)
+
+room_can_put : (parts : Parts) (s : Setting) (before : Option Hearing) (room : ℕ) → CanSet parts s → CanChange (room_change (to_set parts s before) room) (parts.room room)
+room_can_put parts s before room can =
+    can_put s.case s.motion _ (s.room == room) (booking_of parts (first_judge s.judges) s) (parts.room room) (booking_within parts (first_judge s.judges) s can) (room_free parts s room can)
 
 can_take_out : (case motion : ℕ) (stands : Bool) (bookings : List Booking) → CanChange (change_to case motion stands None) bookings
 can_take_out case motion true bookings = tt
@@ -54,28 +80,25 @@ can_take_out case motion false bookings = tt
 pub same_rebooking : (P : Rebooking → Type 0) (r s : Rebooking) → Some r ≡ Some s → P s → P r
 same_rebooking P r s is h = subst P (sym (ap (λ o. unwrap_or o r) is)) h
 
-pub judge_can_change : (parts : Parts) (command : Command) (r : Rebooking) (judge : ℕ) → CanRebook parts command → Some r ≡ rebooking_of parts command → CanChange (judge_change r judge) (parts.judge judge)
-judge_can_change parts (Book s) r judge can is =
-    same_rebooking (λ (r : Rebooking). CanChange (judge_change r judge) (parts.judge judge)) r _ is
-    (can_put s.case s.motion false (sits judge s.judges) (booking_of parts s.room s) (parts.judge judge) (booking_within parts s.room s _ can refl) (can.judges judge))
-judge_can_change parts (MoveHearing s) r judge can is =
-    same_rebooking (λ (r : Rebooking). CanChange (judge_change r judge) (parts.judge judge)) r _ is
-    (can_put s.case s.motion (is_before_judge parts s.case s.motion judge) (sits judge s.judges) (booking_of parts s.room s) (parts.judge judge) (booking_within parts s.room s _ can refl) (can.judges judge))
+-- so each calendar can be changed
+abbrev pub JudgeCanChange : Parts → (judge : ℕ) → Rebooking → Type 0
+JudgeCanChange parts judge r = CanChange (judge_change r judge) (parts.judge judge)
+
+pub judge_can_change : (parts : Parts) (command : Command) (r : Rebooking) (judge : ℕ) → CanRebook parts command → Some r ≡ rebooking_of parts command → JudgeCanChange parts judge r
+judge_can_change parts (Book s) r judge can is = same_rebooking (JudgeCanChange parts judge) r _ is (judge_can_put parts s None judge can)
+judge_can_change parts (MoveHearing s) r judge can is = same_rebooking (JudgeCanChange parts judge) r _ is (judge_can_put parts s _ judge can)
 judge_can_change parts (Cancel case motion) r judge can is =
-    same_rebooking (λ (r : Rebooking). CanChange (judge_change r judge) (parts.judge judge)) r _ is
-    (can_take_out case motion (is_before_judge parts case motion judge) (parts.judge judge))
+    same_rebooking (JudgeCanChange parts judge) r _ is (can_take_out case motion (is_before_judge parts case motion judge) (parts.judge judge))
 judge_can_change parts _ r judge can is = absurd cc
 
-pub room_can_change : (parts : Parts) (command : Command) (r : Rebooking) (room : ℕ) → CanRebook parts command → Some r ≡ rebooking_of parts command → CanChange (room_change r room) (parts.room room)
-room_can_change parts (Book s) r room can is =
-    same_rebooking (λ (r : Rebooking). CanChange (room_change r room) (parts.room room)) r _ is
-    (can_put s.case s.motion false (s.room == room) (booking_of parts (first_judge s.judges) s) (parts.room room) (booking_within parts (first_judge s.judges) s _ can refl) (room_free parts (first_judge s.judges) s room _ (parts.room room) can refl refl))
-room_can_change parts (MoveHearing s) r room can is =
-    same_rebooking (λ (r : Rebooking). CanChange (room_change r room) (parts.room room)) r _ is
-    (can_put s.case s.motion (is_in_room parts s.case s.motion room) (s.room == room) (booking_of parts (first_judge s.judges) s) (parts.room room) (booking_within parts (first_judge s.judges) s _ can refl) (room_free parts (first_judge s.judges) s room _ (parts.room room) can refl refl))
+abbrev pub RoomCanChange : Parts → (room : ℕ) → Rebooking → Type 0
+RoomCanChange parts room r = CanChange (room_change r room) (parts.room room)
+
+pub room_can_change : (parts : Parts) (command : Command) (r : Rebooking) (room : ℕ) → CanRebook parts command → Some r ≡ rebooking_of parts command → RoomCanChange parts room r
+room_can_change parts (Book s) r room can is = same_rebooking (RoomCanChange parts room) r _ is (room_can_put parts s None room can)
+room_can_change parts (MoveHearing s) r room can is = same_rebooking (RoomCanChange parts room) r _ is (room_can_put parts s _ room can)
 room_can_change parts (Cancel case motion) r room can is =
-    same_rebooking (λ (r : Rebooking). CanChange (room_change r room) (parts.room room)) r _ is
-    (can_take_out case motion (is_in_room parts case motion room) (parts.room room))
+    same_rebooking (RoomCanChange parts room) r _ is (can_take_out case motion (is_in_room parts case motion room) (parts.room room))
 room_can_change parts _ r room can is = absurd cc
 
 -- Some calendars in a row

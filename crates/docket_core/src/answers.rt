@@ -15,20 +15,9 @@ use crate::sight::Sight;
 use court_days::Day;
 use docket_rows::{Answer, Command};
 use hearing_slots::Need;
-use rule_periods::{Event, Period, Request, shown_with};
+use rule_periods::{Event, Period, Request, kept_filing, shown_with};
 use rule6::{Filing, ServiceKind, Shown, is_timely};
 use std::alloc::Global;
-
-/// The act as it is kept.
-fn kept(filing: Filing) -> Filing
-    ensures value { result ≡ kept_filing filing }
-    ensures in_the_day { result.minute < 1440 }
-{
-    Filing {
-        minute: filing.minute.min(1_439),
-        ..filing
-    }
-}
 
 /// What the start of a deadline is answered.
 fn answer_to_start<S: Sight>(
@@ -70,7 +59,7 @@ fn is_act_timely<S: Sight>(
         Some(row) => is_timely(
             rules.clock(),
             &shown_now(rules, sight, row.row()),
-            kept(filing),
+            kept_filing(filing),
         ),
         None => false,
     }

@@ -9,7 +9,7 @@ use court_days::Day;
 use docket_rows::Refusal;
 
 /// Why the case can't be opened, if it can't.
-#[tactic(auto, unfolding(docket_rows::specs::Refusals::open_case_refusal))]
+#[tactic(auto, unfolding(docket_rows::specs::Words::open_case_refusal))]
 pub(crate) fn open_case_refusal<S: Sight>(sight: &S, case: u32, filed: Day) -> Option<Refusal>
     ensures { result ≡ open_case_refusal (S.parts sight.now) case filed }
 {

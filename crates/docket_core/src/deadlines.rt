@@ -52,7 +52,7 @@ pub(crate) fn shown_at_start<S: Sight>(
 }
 
 /// Why the deadline can't start, if it can't.
-#[tactic(auto, unfolding(docket_rows::specs::Refusals::start_deadline_refusal))]
+#[tactic(auto, unfolding(docket_rows::specs::Words::start_deadline_refusal))]
 pub(crate) fn start_deadline_refusal<S: Sight>(
     alloc: Global,
     rules: &DocketRules,
@@ -83,7 +83,7 @@ pub(crate) fn start_deadline_refusal<S: Sight>(
 }
 
 /// Why the act can't be recorded, if it can't.
-#[tactic(auto, unfolding(docket_rows::specs::Refusals::file_act_refusal))]
+#[tactic(auto, unfolding(docket_rows::specs::Words::file_act_refusal))]
 pub(crate) fn file_act_refusal<S: Sight>(
     rules: &DocketRules,
     sight: &S,
@@ -129,7 +129,7 @@ fn extension_refusal(
 }
 
 /// Why the time of the deadline can't be extended, if it can't.
-#[tactic(auto, unfolding(docket_rows::specs::Refusals::extend_refusal))]
+#[tactic(auto, unfolding(docket_rows::specs::Words::extend_refusal))]
 pub(crate) fn extend_refusal<S: Sight>(
     rules: &DocketRules,
     sight: &S,

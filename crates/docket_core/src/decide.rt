@@ -23,7 +23,7 @@ impl DocketRules {
 
     /// What the command is answered, and what it writes, where these are the parts that it read. They need never have
     /// been true together. `Err` says that memory ran out.
-    #[tactic(auto, unfolding(docket_rows::specs::Step::answered, docket_rows::specs::Writes::written_on))]
+    #[tactic(auto, unfolding(docket_rows::specs::Words::answered, docket_rows::specs::Words::written_on))]
     pub fn decide(
         &self,
         alloc: Global,

@@ -84,7 +84,7 @@ fn hearing_refusal<S: Sight>(
 }
 
 /// Why the hearing can't be booked, if it can't.
-#[tactic(auto, unfolding(docket_rows::specs::Refusals::book_refusal))]
+#[tactic(auto, unfolding(docket_rows::specs::Words::book_refusal))]
 pub(crate) fn book_refusal<S: Sight>(rules: &DocketRules, sight: &S, s: &Setting) -> Option<Refusal>
     ensures { result ≡ book_refusal rules.now (S.parts sight.now) s.now }
 {
@@ -96,7 +96,7 @@ pub(crate) fn book_refusal<S: Sight>(rules: &DocketRules, sight: &S, s: &Setting
 }
 
 /// Why the hearing can't be moved, if it can't.
-#[tactic(auto, unfolding(docket_rows::specs::Refusals::move_refusal))]
+#[tactic(auto, unfolding(docket_rows::specs::Words::move_refusal))]
 pub(crate) fn move_refusal<S: Sight>(rules: &DocketRules, sight: &S, s: &Setting) -> Option<Refusal>
     ensures { result ≡ move_refusal rules.now (S.parts sight.now) s.now }
 {
@@ -108,7 +108,7 @@ pub(crate) fn move_refusal<S: Sight>(rules: &DocketRules, sight: &S, s: &Setting
 }
 
 /// Why the hearing can't be taken off the calendar, if it can't.
-#[tactic(auto, unfolding(docket_rows::specs::Refusals::cancel_refusal))]
+#[tactic(auto, unfolding(docket_rows::specs::Words::cancel_refusal))]
 pub(crate) fn cancel_refusal<S: Sight>(sight: &S, case: u32, motion: u32) -> Option<Refusal>
     ensures { result ≡ cancel_refusal (S.parts sight.now) case motion }
 {

@@ -132,7 +132,7 @@ fn notice_lost<S: Sight>(
 }
 
 /// Why the holiday can't be entered, if it can't. `Err` says that memory ran out.
-#[tactic(auto, unfolding(docket_rows::specs::Refusals::holiday_refusal))]
+#[tactic(auto, unfolding(docket_rows::specs::Words::holiday_refusal))]
 pub(crate) fn holiday_refusal<S: Sight>(
     alloc: Global,
     rules: &DocketRules,

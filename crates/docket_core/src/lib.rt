@@ -1,7 +1,8 @@
-//! What a command is answered, which parts it reads, and how it changes the docket.
+//! What a command is answered, which parts it reads, how it changes the docket, and what a query shows.
 #![tactic(auto)]
 
 mod answers;
+mod case_changes;
 mod cases;
 mod deadlines;
 mod decide;

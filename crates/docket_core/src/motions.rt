@@ -27,7 +27,7 @@ fn is_need(need: Need) -> bool
 }
 
 /// Why the motion can't be entered, if it can't.
-#[tactic(auto, unfolding(docket_rows::specs::Refusals::motion_refusal))]
+#[tactic(auto, unfolding(docket_rows::specs::Words::motion_refusal))]
 pub(crate) fn motion_refusal<S: Sight>(
     sight: &S,
     case: u32,

@@ -195,7 +195,7 @@ fn next_of_holiday(rules: &DocketRules, reads: &[(PartId, PartValue)]) -> Option
 }
 
 /// The part that the command reads next, after these; none where it has read all.
-#[tactic(auto, unfolding(docket_rows::specs::Reads::next_part))]
+#[tactic(auto, unfolding(docket_rows::specs::Words::next_part))]
 pub(crate) fn next_part(
     rules: &DocketRules,
     command: &Command,

@@ -8,7 +8,7 @@ use court_days::Day;
 use docket_rows::Refusal;
 
 /// Why the outage can't be entered, if it can't.
-#[tactic(auto, unfolding(docket_rows::specs::Refusals::outage_refusal))]
+#[tactic(auto, unfolding(docket_rows::specs::Words::outage_refusal))]
 pub(crate) fn outage_refusal<S: Sight>(sight: &S, day: Day, from: u16, to: u16) -> Option<Refusal>
     ensures { result ≡ outage_refusal (S.parts sight.now) day from to }
 {

@@ -33,7 +33,7 @@ impl<'a> Sight for Seen<'a> {
 
     ghost parts = { λ s. parts_read s.rules.now s.reads.now };
 
-    #[tactic(auto, unfolding(docket_rows::specs::Parts::parts_read))]
+    #[tactic(auto, unfolding(docket_rows::specs::Words::parts_read))]
     fn days(&self) -> &Days {
         match days_read(self.reads) {
             Some(days) => days,
@@ -41,7 +41,7 @@ impl<'a> Sight for Seen<'a> {
         }
     }
 
-    #[tactic(auto, unfolding(docket_rows::specs::Parts::parts_read))]
+    #[tactic(auto, unfolding(docket_rows::specs::Words::parts_read))]
     fn case(&self, case: u32) -> Option<&CaseRecord> {
         match value_read(self.reads, PartId::Case(case)) {
             Some(value) => case_of(value),
@@ -49,12 +49,12 @@ impl<'a> Sight for Seen<'a> {
         }
     }
 
-    #[tactic(auto, unfolding(docket_rows::specs::Parts::parts_read))]
+    #[tactic(auto, unfolding(docket_rows::specs::Words::parts_read))]
     fn judge(&self, judge: u8) -> Option<&Calendar> {
         calendar_read(self.reads, PartId::Judge(judge))
     }
 
-    #[tactic(auto, unfolding(docket_rows::specs::Parts::parts_read))]
+    #[tactic(auto, unfolding(docket_rows::specs::Words::parts_read))]
     fn room(&self, room: u8) -> Option<&Calendar> {
         calendar_read(self.reads, PartId::Room(room))
     }

@@ -76,7 +76,7 @@ pub(crate) fn changed<S: Sight>(
             Some(calendar) => Ok(Some(PartValue::Calendar(calendar))),
             None => Ok(None),
         },
-        PartId::Case(case) => match case_written(alloc, rules, sight, command, case)? {
+        PartId::Case(case) => match case_written(alloc, sight, command, case)? {
             Some(record) => Ok(Some(PartValue::Case(Some(SharedCase::new(alloc, record)?)))),
             None => Ok(None),
         },

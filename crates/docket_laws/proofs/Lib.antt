@@ -1,3 +1,4 @@
+pub mod AlikeLemmas
 pub mod CallerLemmas
 pub mod LawfulLemmas
 pub mod MadeLemmas
@@ -11,3 +12,11 @@ pub mod PartsMotions
 pub mod PartsSame
 pub mod PartsSeen
 pub mod PartsStep
+pub mod ReadsChanged
+pub mod ReadsDecided
+pub mod ReadsEnd
+pub mod ReadsNumbered
+pub mod ReadsParts
+pub mod ReadsSame
+pub mod ReadsUnread
+pub mod ReadsWritten

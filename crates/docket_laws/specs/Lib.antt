@@ -1,3 +1,5 @@
 pub mod CanSet
+pub mod Clocks
 pub mod Lawful
+pub mod Reads
 pub mod Words

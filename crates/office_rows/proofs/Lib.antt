@@ -8,4 +8,6 @@ pub mod RecordsLemmas
 pub mod ReadingLemmas
 pub mod RowsLemmas
 pub mod FaultLemmas
+pub mod AskedLemmas
+pub mod BoundLemmas
 pub mod CallerLemmas

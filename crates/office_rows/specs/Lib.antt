@@ -7,4 +7,6 @@ pub mod Forms
 pub mod Rows
 pub mod Records
 pub mod FirstFault
+pub mod Asked
+pub mod Bounds
 pub mod Words

@@ -19,3 +19,5 @@ pub use Rattle.office_rows.specs.Rows.{AnswersRows, in_row, most_rows, numbered_
 unfoldable pub use Rattle.office_rows.specs.Rows.{clerk_of, row_of, rows_from, rows_of}
 pub use Rattle.office_rows.specs.FirstFault.{AreSpelled, FirstFaultIsTold, IsFirstFault}
 pub use Rattle.office_rows.specs.Fault.{cause_text}
+pub use Rattle.office_rows.specs.Asked.{RowsAskByTheirWords, form_asking}
+pub use Rattle.office_rows.specs.Bounds.{IsOfClerk, RowsAreBounded}

@@ -9,8 +9,13 @@ mod forms;
 mod laws;
 mod records;
 mod row;
+#[cfg(test)]
+mod tests;
 
 pub use fault::{RowCause, RowError};
-pub use laws::{codes_are_read_back, command_words_name_forms, first_fault_is_told};
+pub use laws::{
+    codes_are_read_back, command_words_name_forms, first_fault_is_told, rows_are_bounded,
+    rows_ask_by_their_words,
+};
 pub use records::{MAX_ROWS, read_rows};
 pub use row::{Row, Work};

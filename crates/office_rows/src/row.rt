@@ -24,4 +24,4 @@ pub enum Work {
 
 /// Names types that stand inside a row. The checker finds them only where they have names, so a function that puts rows
 /// into a `Vec` has a variable of this type.
-pub type RowTypes = Option<(Work, Command, Query, Option<Day>, Grant, Request)>;
+pub(crate) type RowTypes = Option<(Work, Command, Query, Option<Day>, Grant, Request)>;

@@ -1,3 +1,5 @@
+pub mod CallerLemmas
+pub mod AlikeLemmas
 pub mod HourLemmas
 pub mod AccessLemmas
 pub mod ServiceLemmas

@@ -1,2 +1,4 @@
+pub mod AlikeLemmas
+pub mod CallerLemmas
 pub mod DeadlineLemmas
 pub mod NoticeLemmas

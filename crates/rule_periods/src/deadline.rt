@@ -57,7 +57,7 @@ impl DeadlineRow {
             service,
             grants,
             filed: match filed {
-                Some(filing) => Some(kept(filing)),
+                Some(filing) => Some(kept_filing(filing)),
                 None => None,
             },
         }
@@ -123,7 +123,7 @@ impl DeadlineRow {
     pub(crate) fn set_filed(&mut self, filing: Filing)
         ensures { self.new ≡ with_filing self.old filing }
     {
-        self.filed = Some(kept(filing));
+        self.filed = Some(kept_filing(filing));
     }
 
     /// A copy.
@@ -148,8 +148,8 @@ impl DeadlineRow {
     }
 }
 
-/// The act as it is kept.
-fn kept(filing: Filing) -> Filing
+/// The act as it is kept: a minute of 1,440 or more is kept as 1,439, the last of the day.
+pub fn kept_filing(filing: Filing) -> Filing
     ensures value { result ≡ kept_filing filing }
     ensures in_the_day { result.minute < 1440 }
 {

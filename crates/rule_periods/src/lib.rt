@@ -19,7 +19,7 @@ mod start;
 #[cfg(test)]
 mod tests;
 
-pub use deadline::DeadlineRow;
+pub use deadline::{DeadlineRow, kept_filing};
 pub use docket_row::DocketRow;
 pub use event::Event;
 pub use extension::{may_extend, shown_with};

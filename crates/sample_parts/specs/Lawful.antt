@@ -4,7 +4,7 @@ use Rattle.std.specs.List.{IsDistinct}
 use Rattle.std.proofs.lemmas.List.Elements.{All-nil, All-cons}
 use Rattle.std.proofs.lemmas.Option.{none-some, same_Some}
 use borrow.Author.Tests.{eqb-true, eq-eqb}
-use Rattle.versioned_steps.specs.Words.{IsLawful, AreAllReadsOf, parts_of}
+use Rattle.versioned_steps.specs.Words.{IsLawful, AreAllReadsOf, parts_named}
 use Rattle.sample_parts.specs.Counters.{counters, total, next_counter, same_count, pointers, next_pointer, pointed}
 
 pub same_counts : (x y : Option ℕ) → same_count x y ≡ true → x ≡ y
@@ -23,7 +23,7 @@ counter_ends command (x ∷ []) some = omega arith
 counter_ends (None, second) (x ∷ y ∷ zs) some = absurd (cc)
 counter_ends (Some first, second) (x ∷ y ∷ zs) some = absurd (cc)
 
-second_read : (command : Option ℕ × ℕ) (reads : List (ℕ × ℕ)) → AreAllReadsOf counters command reads → Contains (parts_of reads) command.1
+second_read : (command : Option ℕ × ℕ) (reads : List (ℕ × ℕ)) → AreAllReadsOf counters command reads → Contains (parts_named reads) command.1
 second_read (None, second) [] all = absurd (none-some second (sym all.ended))
 second_read (None, second) (x ∷ xs) all = (0, omega arith, sym (same_Some _ _ all.in_order.0))
 second_read (Some first, second) [] all = absurd (none-some first (sym all.ended))
@@ -39,12 +39,12 @@ counters_lawful = record {
   answer_itself = count_itself;
   reading_ends = λ command reads in_order some. counter_ends command reads some;
   writes_are_read = λ command reads all.
-      elim (nat_lt (total command reads) 100) as (λ b. All (Contains (parts_of reads)) (parts_of (if b then (command.1, total command reads) ∷ [] else []))) [
-        | true ↦ All-cons (Contains (parts_of reads)) command.1 [] (second_read command reads all) (All-nil _)
+      elim (nat_lt (total command reads) 100) as (λ b. All (Contains (parts_named reads)) (parts_named (if b then (command.1, total command reads) ∷ [] else []))) [
+        | true ↦ All-cons (Contains (parts_named reads)) command.1 [] (second_read command reads all) (All-nil _)
         | false ↦ All-nil _
       ];
   written_once = λ command reads all.
-      elim (nat_lt (total command reads) 100) as (λ b. IsDistinct nat_eq (parts_of (if b then (command.1, total command reads) ∷ [] else []))) [
+      elim (nat_lt (total command reads) 100) as (λ b. IsDistinct nat_eq (parts_named (if b then (command.1, total command reads) ∷ [] else []))) [
         | true ↦ (tt, tt)
         | false ↦ tt
       ];
@@ -55,12 +55,12 @@ pointer_ends command [] some = omega arith
 pointer_ends command (x ∷ []) some = omega arith
 pointer_ends command (x ∷ y ∷ zs) some = absurd (cc)
 
-pointed_read : (cell : ℕ) (reads : List (ℕ × ℕ)) → All (Contains (parts_of reads)) (parts_of (pointed cell reads))
+pointed_read : (cell : ℕ) (reads : List (ℕ × ℕ)) → All (Contains (parts_named reads)) (parts_named (pointed cell reads))
 pointed_read cell [] = All-nil _
 pointed_read cell (x ∷ []) = All-nil _
-pointed_read cell (x ∷ y ∷ zs) = All-cons (Contains (parts_of (x ∷ y ∷ zs))) y.0 [] (1, omega arith, refl) (All-nil _)
+pointed_read cell (x ∷ y ∷ zs) = All-cons (Contains (parts_named (x ∷ y ∷ zs))) y.0 [] (1, omega arith, refl) (All-nil _)
 
-pointed_once : (cell : ℕ) (reads : List (ℕ × ℕ)) → IsDistinct nat_eq (parts_of (pointed cell reads))
+pointed_once : (cell : ℕ) (reads : List (ℕ × ℕ)) → IsDistinct nat_eq (parts_named (pointed cell reads))
 unfolding IsDistinct
 pointed_once cell [] = tt
 pointed_once cell (x ∷ []) = tt

@@ -2,7 +2,7 @@
 use Rattle.std.specs.Prelude.{ℕ, ◌==◌, nat_lt, Bool, true, false, not, ◌&&◌, if◌then◌else◌, Option, Some, None, List, [], ◌∷◌, length, map, take, slice_get}
 use Rattle.std.specs.declared.result.Result.{Result}
 use Rattle.std.specs.declared.result.Result.TheVariants.{Ok, Err}
-use Rattle.versioned_steps.specs.Words.{Rules, parts_of}
+use Rattle.versioned_steps.specs.Words.{Rules, parts_named}
 use Rattle.sample_parts.specs.Counters.{same_count}
 
 -- A command names cells, any number of them, and reads the first 33 in order: reading ends for every list that a contract can

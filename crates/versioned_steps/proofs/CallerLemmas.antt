@@ -8,3 +8,5 @@ pub use Rattle.versioned_steps.proofs.ReadLemmas.{read_now_is, read_longer, fres
 pub use Rattle.versioned_steps.proofs.PreparedLemmas.{draft_longer, prepared_longer, reading_start, reading_more, reading_room, reading_done, now_fresh, now_not_stale, read_all_commits}
 -- Stores: what a call says by the rules of its owner, said of an owner that is the same.
 pub use Rattle.versioned_steps.proofs.StoreLemmas.{kept_by, put_by}
+-- Reads of given values: all that a command reads.
+pub use Rattle.versioned_steps.proofs.WholeLemmas.{AreOf, reads_whole}

@@ -3,6 +3,7 @@ pub mod HistoryLemmas
 pub mod ReadLemmas
 pub mod PreparedLemmas
 pub mod StoreLemmas
+pub mod WholeLemmas
 pub mod WorldLemmas
 pub mod RunLemmas
 pub mod TouchLemmas

@@ -12,8 +12,8 @@ pub record Rules (Part Value Command Answer : Type 0) : Type 0 where
   pub most_reads : ℕ  -- no command reads more parts
 
 -- the parts, without their values
-abbrev pub parts_of : {Part Value : Type 0} → List (Part × Value) → List Part
-parts_of pairs = map (λ pair. pair.0) pairs
+abbrev pub parts_named : {Part Value : Type 0} → List (Part × Value) → List Part
+parts_named pairs = map (λ pair. pair.0) pairs
 
 module _ {Part Value Command Answer : Type 0} (r : Rules Part Value Command Answer) where
   -- these were read one after another, after those in `before`, and each was the part to read next
@@ -40,5 +40,5 @@ module _ {Part Value Command Answer : Type 0} (r : Rules Part Value Command Answ
     -- reading ends: where there is a next part, fewer than the most were read
     pub reading_ends : (command : Command) (reads : List (Part × Value)) → AreReadsOf command reads → IsSome (r.next_part command reads) → length reads < r.most_reads
     -- the parts written are among those read, each once
-    pub writes_are_read : (command : Command) (reads : List (Part × Value)) → AreAllReadsOf command reads → All (Contains (parts_of reads)) (parts_of (r.writes command reads))
-    pub written_once : (command : Command) (reads : List (Part × Value)) → AreAllReadsOf command reads → IsDistinct r.same_part (parts_of (r.writes command reads))
+    pub writes_are_read : (command : Command) (reads : List (Part × Value)) → AreAllReadsOf command reads → All (Contains (parts_named reads)) (parts_named (r.writes command reads))
+    pub written_once : (command : Command) (reads : List (Part × Value)) → AreAllReadsOf command reads → IsDistinct r.same_part (parts_named (r.writes command reads))

@@ -1,11 +1,11 @@
 -- The zone of a court's file is one that a text names.
-use Rattle.std.proofs.Common.{◌≡◌, ℕ, List, Option, Some, None, Result, Ok, Err, ok_or, ap}
+use Rattle.std.proofs.Common.{◌≡◌, ℕ, List, Option, Some, None, Result, Ok, Err, ok_or, ap, sym, ◌∙◌}
 use Rattle.court_days.specs.declared.fault.CourtFault.{CourtFault}
 use Rattle.court_days.specs.declared.fault.CourtFault.TheVariants.{BadZone, NotToml}
 use Rattle.court_days.specs.declared.key.Key.TheVariants as key
-use Rattle.court_days.specs.Court.{CourtFile, court_in, court_of, days_at, hours_at, toml_of, zone_at}
+use Rattle.court_days.specs.Court.{CourtFile, CourtView, IsSameCourt, court_in, court_of, days_at, file_of, hours_at, toml_of, zone_at}
 use Rattle.court_days.specs.Court.Reading.{◌>>=◌, names_at, text_at}
-use Rattle.court_days.specs.Clock.Zone.{Zone, zone_of_text}
+use Rattle.court_days.specs.Clock.Zone.{TextsNameClocks, Zone, zone_of_text, zone_view}
 use Rattle.court_days.specs.Days.{DaysView}
 
 pub record IsNamed (zone : Zone) : Type 0 where
@@ -49,3 +49,20 @@ zone_is_named bytes file e = by (toml_of bytes) e
     by : (o : _) → (ok_or o NotToml >>= court_of) ≡ Ok file → IsNamed file.zone
     by None e = absurd (cc e)
     by (Some members) e = read_court members file e
+
+-- two courts of one file are one
+pub same_court : TextsNameClocks → (bytes : List ℕ) (file : CourtFile) → court_in bytes ≡ Ok file → (a b : CourtView) → file_of a ≡ file → file_of b ≡ file → IsSameCourt a b
+same_court clocks bytes file said a b one other =
+    let zone = zone_is_named bytes file said in
+    let named : (court : CourtView) → file_of court ≡ file → zone_of_text zone.text ≡ Some (zone_view court.clock.zone) = λ court is. zone.names ∙ ap (λ f. Some f.zone) (sym is) in
+    let same : file_of a ≡ file_of b = one ∙ sym other in
+    record {
+      clock = record {
+        zone = clocks zone.text a.clock.zone b.clock.zone (named a one) (named b other);
+        opens = ap (λ f. f.opens) same;
+        closes = ap (λ f. f.closes) same;
+      };
+      days = ap (λ f. f.days) same;
+      judges = ap (λ f. f.judges) same;
+      rooms = ap (λ f. f.rooms) same;
+    }

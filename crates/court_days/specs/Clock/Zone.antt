@@ -4,7 +4,7 @@ use Rattle.jiff_tz.specs.declared.timezone.TimeZone.{TimeZone}
 use Rattle.jiff_tz.specs.declared.timezone.TimeZone.TheVariants.{UTC, Unknown, Fixed, Posix, Tzif}
 use Rattle.jiff_tz.specs.PosixText.{TzText, tz_view}
 use Rattle.jiff_tz.specs.PosixReader.{read_whole}
-use Rattle.court_days.specs.Clock.{daylight_offset, offset_seconds, standard_offset}
+use Rattle.court_days.specs.Clock.{ClockView, daylight_offset, offset_seconds, standard_offset}
 use Rattle.court_days.specs.Clock.Minute.{minute_of_text}
 
 -- one offset in seconds, east of Greenwich positive, or a POSIX rule
@@ -42,6 +42,12 @@ pub record IsSameClock (a b : TimeZone) : Type 0 where
   pub offsets : (t : ℤ) → offset_seconds a t ≡ offset_seconds b t
   pub standard : standard_offset a ≡ standard_offset b
   pub daylight : daylight_offset a ≡ daylight_offset b
+
+-- two values of one court's clock: it shows the same, and the clerk's office opens and closes at the same minutes
+pub record IsSameCourtClock (a b : ClockView) : Type 0 where
+  pub zone : IsSameClock a.zone b.zone
+  pub opens : a.opens ≡ b.opens
+  pub closes : a.closes ≡ b.closes
 
 -- what it means that a text names a zone: all values that stand for it are one clock
 abbrev pub TextsNameClocks : Type 0

@@ -17,7 +17,7 @@ pub(crate) struct Span {
 }
 
 /// The first booking of a calendar that clashes; no calendar has none.
-#[tactic(auto, unfolding(hearing_slots::specs::Calendar::first_conflict))]
+#[tactic(auto, unfolding(hearing_slots::specs::Words::first_conflict))]
 fn conflict_in(
     calendar: Option<&Calendar>,
     span: &Span,

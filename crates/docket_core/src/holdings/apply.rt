@@ -1,13 +1,12 @@
 //! A command, applied to a docket in place.
 
-ghost use Rattle.std.specs.Prelude.{◌≡◌, None, IfOk, IfErr, OnOk, OnErr};
+ghost use Rattle.std.specs.Prelude.{◌≡◌, None, set, get_or, IfOk, IfErr, IfSome, OnOk, OnErr};
 ghost use Rattle.docket_rows.specs.Words.{refusal, answered, part_value};
 ghost use Rattle.docket_rows.specs.declared.part.PartId.{PartId};
 
-use super::Holdings;
-use super::calendars::rebook;
-use super::cases::{enter, extend, open, record_act, set_hearing, start};
+use super::{Holdings, calendars, cases};
 use crate::answers::answer_if_made;
+use crate::case_changes::case_of;
 use crate::judgement::refusal;
 use crate::rebooking::{Rebooking, rebooking_of};
 use crate::writes::days_written;
@@ -17,7 +16,7 @@ use std::alloc::{AllocError, Global};
 impl Holdings {
     ghost use Rattle.docket_core.specs.Docket.{parts_held};
     ghost use Rattle.docket_rows.specs.Words.{part_after};
-    ghost use Rattle.docket_core.specs.Changes.{IsAfter, cases_after, docket_after};
+    ghost use Rattle.docket_core.specs.Changes.{IsAfter, CanChangeRecord, case_after, docket_after};
     ghost use Rattle.docket_core.specs.Rebooking.{CanChangeAll, judge_change, room_change};
 
     /// Decides the command on the docket as it is, and changes the docket in place where the command isn't refused. A
@@ -52,69 +51,39 @@ impl Holdings {
         if let Some(rebooking) = rebooking_of(self, command) {
             return self.rebook(alloc, &rebooking);
         }
-        self.change_case(alloc, command)
+        match case_of(command) {
+            Some(number) => self.change_case(alloc, number, command),
+            None => Ok(()),
+        }
     }
 
-    /// Changes the calendars, and then the case. An error leaves the docket as it was.
+    /// Changes the calendars, and then the case, which takes no memory. An error leaves the docket as it was.
     fn rebook(&mut self, alloc: Global, rebooking: &Rebooking) -> Result<(), AllocError>
         requires judges { CanChangeAll 0 (judge_change rebooking.now) self.old.judges }
         requires rooms { CanChangeAll 0 (room_change rebooking.now) self.old.rooms }
         ensures ok { OnOk result (self.new ≡ docket_after rebooking.now self.old) }
         ensures err { OnErr result (self.new ≡ self.old) }
     {
-        rebook(alloc, rebooking, 0, &mut self.judges, &mut self.rooms)?;
+        calendars::rebook(alloc, rebooking, 0, &mut self.judges, &mut self.rooms)?;
         let hearing = match rebooking.after {
             Some(placed) => Some(placed.hearing),
             None => None,
         };
-        set_hearing(&mut self.cases, rebooking.case, rebooking.motion, hearing);
+        cases::set_hearing(&mut self.cases, rebooking.case, rebooking.motion, hearing);
         Ok(())
     }
 
-    /// Changes a case as a command says that isn't refused; a command about calendars or days changes none here. An
-    /// error leaves the docket as it was.
-    fn change_case(&mut self, alloc: Global, command: &Command) -> Result<(), AllocError>
-        requires { refusal self.old.bench (parts_held self.old) command.now ≡ None }
-        ensures ok { OnOk result (self.new ≡ record self.old { cases = cases_after command.now self.old.cases }) }
+    /// Opens or changes the case of that number. An error leaves the docket as it was.
+    fn change_case(
+        &mut self,
+        alloc: Global,
+        number: u32,
+        command: &Command,
+    ) -> Result<(), AllocError>
+        requires { IfSome ((parts_held self.old).case number) (CanChangeRecord command.now) }
+        ensures ok { OnOk result (self.new ≡ record self.old { cases = set self.old.cases number (case_after command.now (get_or self.old.cases number None)) }) }
         ensures err { OnErr result (self.new ≡ self.old) }
     {
-        match command {
-            Command::OpenCase { case, filed } => {
-                open(alloc, &mut self.cases, *case, *filed);
-                Ok(())
-            }
-            Command::Start {
-                case,
-                period,
-                event,
-                second,
-                service,
-            } => start(
-                alloc,
-                &mut self.cases,
-                *case,
-                period,
-                *event,
-                *second,
-                *service,
-            ),
-            Command::FileAct {
-                case,
-                deadline,
-                filing,
-            } => {
-                record_act(&mut self.cases, *case, *deadline, *filing);
-                Ok(())
-            }
-            Command::Extend {
-                case,
-                deadline,
-                request,
-            } => extend(&mut self.cases, *case, *deadline, request.grant),
-            Command::Motion { case, served, need } => {
-                enter(&mut self.cases, *case, *served, *need)
-            }
-            _ => Ok(()),
-        }
+        cases::change(alloc, &mut self.cases, number, command)
     }
 }

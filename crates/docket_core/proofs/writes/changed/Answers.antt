@@ -1,3 +1,4 @@
+use Rattle.docket_core.proofs.CaseLemmas.{can_change_case}
 use Rattle.docket_core.proofs.RebookingLemmas.{can_rebook}
 use Rattle.docket_core.proofs.writes.changed.Goals as goal
 
@@ -6,3 +7,6 @@ judge_written-requires g c = can_rebook _ _ _ c.requires
 
 pub room_written-requires : goal.room_written-requires
 room_written-requires g c = can_rebook _ _ _ c.requires
+
+pub case_written-requires : goal.case_written-requires
+case_written-requires g c = can_change_case _ _ _ c.requires

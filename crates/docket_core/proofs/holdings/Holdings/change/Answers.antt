@@ -1,8 +1,9 @@
-use Rattle.std.proofs.Common.{sym, subst, ◌∙◌}
+use Rattle.std.proofs.Common.{option_and_then, ap, sym, subst, ◌∙◌}
 use Rattle.std.proofs.lemmas.Result.{on_ok_weaker}
 use Rattle.docket_core.specs.Changes.{IsAfter}
-use Rattle.docket_core.specs.Docket.{DocketView, HasPlaces}
-use Rattle.docket_core.proofs.ApplyLemmas.{hearing_changed, cases_changed}
+use Rattle.docket_core.specs.Docket.{DocketView, HasPlaces, parts_held}
+use Rattle.docket_core.proofs.ApplyLemmas.{hearing_changed, only_case_changed}
+use Rattle.docket_core.proofs.CaseLemmas.{can_change_record}
 use Rattle.docket_core.proofs.RebookingLemmas.{can_rebook, can_change_all, judge_can_change, room_can_change}
 use Rattle.docket_core.proofs.holdings.Holdings.change.Goals as goal
 
@@ -24,9 +25,14 @@ returns-in-Some-rebooking_of-clause-ok c =
     let after = hearing_changed d c.args.command.now c.in-Some-rebooking_of.rebooking c.requires places.of_judges places.of_rooms c.in-Some-rebooking_of.ensures in
     on_ok_weaker c.rebook.result (λ e. subst (λ (n : DocketView). IsAfter d c.args.command.now n) (sym e) after) c.rebook.ensures.ok
 
-pub returns-clause-ok : goal.returns-clause-ok
-returns-clause-ok c =
+pub change_case-requires : goal.change_case-requires
+change_case-requires c =
+    can_change_record c.args.self.now.bench (parts_held c.args.self.now) c.args.command.now _ c.requires
+    (ap (option_and_then (parts_held c.args.self.now).case) (sym c.in-Some-case_of.ensures))
+
+pub returns-in-Some-case_of-clause-ok : goal.returns-in-Some-case_of-clause-ok
+returns-in-Some-case_of-clause-ok c =
     let d = c.args.self.now in
     let places = subst (λ (d : DocketView). HasPlaces d.bench d.cases d.judges d.rooms) c.self.view_is c.self.invariant in
-    let after = cases_changed d.bench d c.args.command.now c.requires places.of_cases (sym c.in_ok-days.ensures ∙ c.in_default.is) (sym c.in_default-rebooking_of.ensures) in
+    let after = only_case_changed d.bench d c.args.command.now c.in-Some-case_of.number c.requires places.of_cases (sym c.in_ok-days.ensures ∙ c.in_default.is) (sym c.in_default-rebooking_of.ensures) c.in-Some-case_of.ensures in
     on_ok_weaker c.change_case.result (λ e. subst (λ (n : DocketView). IsAfter d c.args.command.now n) (sym e) after) c.change_case.ensures.ok

@@ -1,0 +1,119 @@
+#!/usr/bin/env python3
+"""Compares the program with the reference of this folder on inputs that are made at random.
+
+    office_compare.py PROGRAM [SEED] [COUNT]
+
+COUNT inputs (by default 600) are made from SEED (by default 1): courts of few judges and rooms, and rows of all
+commands over few cases, days and slots, so that they meet and are refused in every way; some of them have a fault. One
+input, a whole run, is also cut after each of its bytes. Status, standard output and standard error must be the same of
+both. An input that differs is made smaller while it does, and the smallest is printed. The last lines say how often
+each refusal and each fault came up; the status is 0 where nothing differs and each came up at least once, for which
+fewer than 600 inputs may not be enough. With `-` for PROGRAM the reference answers alone, so that it shows what comes
+up. It needs Python 3.8 or later.
+"""
+import random
+import re
+import sys
+from collections import Counter
+
+from made_inputs import INPUTS, made_input
+from office_reference import ended
+from reference.civil import CannotTell
+from reference.court_file import NUMBERS as COURT_FAULTS, tomllib
+from reference.rows_in import NUMBERS as ROW_FAULTS
+from reference.text_out import NAMES
+from runs_check import RUNS, ended_program
+
+# The first needs 100,001 rows, which are a run of their own; the second is seldom told without tomllib.
+NOT_MADE = {"TooManyRows"} | (set() if tomllib else {"NotToml"})
+MOST_DIFFERING = 5
+
+
+def differs(program, data):
+    try:
+        return ended_program(program, data) != ended(data)
+    except CannotTell:
+        return False
+
+
+def smaller(program, data):
+    """An input that differs too, and from which no row and no stretch of rows can be left out."""
+    court, rows = data.split(b"%%\n", 1)
+    rows = rows.splitlines(True)
+    length = len(rows)
+    while length > 0:
+        at = 0
+        while at < len(rows):
+            left = rows[:at] + rows[at + length:]
+            if differs(program, court + b"%%\n" + b"".join(left)):
+                rows = left
+            else:
+                at += length
+        length //= 2
+    return court + b"%%\n" + b"".join(rows)
+
+
+def inputs(seed, count):
+    """The whole run cut after each byte, and the inputs that are made."""
+    whole = (RUNS / "docket" / "from_filing_to_hearing.in").read_bytes()
+    for length in range(len(whole)):
+        yield whole[:length]
+    chance = random.Random(seed)
+    for number in range(count):
+        yield made_input(chance, INPUTS[number % len(INPUTS)])
+
+
+def told(program, data):
+    """What is printed of an input on which the two differ."""
+    print(data.decode("utf-8", "backslashreplace"))
+    for name, result in (("program", ended_program(program, data)), ("reference", ended(data))):
+        status, text, fault = result
+        print("-- {}: status {}".format(name, status))
+        print((text + fault).decode("utf-8", "backslashreplace"), end="")
+
+
+def counted(result, seen):
+    """Counts the refusals and the fault of a result."""
+    status, text, fault = result
+    seen.update(re.findall(r"^\d+ \d+ refused \d+ (\w+)", text.decode(), re.MULTILINE))
+    seen.update(re.findall(r"^(?:court|row \d+) fault \d+ (\w+)", fault.decode("utf-8", "replace")))
+
+
+def never(seen):
+    """Says how often each refusal and fault came up, and gives those that never did."""
+    missing = []
+    for title, names in (("refusals", NAMES.values()), ("court's faults", COURT_FAULTS), ("rows' faults", ROW_FAULTS)):
+        wanted = [name for name in names if name not in NOT_MADE]
+        print(title + ": " + ", ".join("{} {}".format(seen[name], name) for name in wanted))
+        missing += [name for name in wanted if not seen[name]]
+    return missing
+
+
+def main(program, seed=1, count=600):
+    seen, differing, asked, skipped = Counter(), [], 0, 0
+    for data in inputs(seed, count):
+        try:
+            wanted = ended(data)
+        except CannotTell:
+            skipped += 1
+            continue
+        asked += 1
+        counted(wanted, seen)
+        if program != "-" and ended_program(program, data) != wanted:
+            differing.append(data)
+            if len(differing) == MOST_DIFFERING:
+                break
+    if differing:
+        told(program, min((smaller(program, data) if b"%%\n" in data else data for data in differing), key=len))
+    missing = never(seen)
+    for name in missing:
+        print(name + " never came up")
+    counts = (asked, seed, len(differing), skipped)
+    print("{} inputs of seed {}, {} differ; the reference can't tell of {} more".format(*counts))
+    sys.exit(1 if differing or missing else 0)
+
+
+if __name__ == "__main__":
+    if not 2 <= len(sys.argv) <= 4:
+        sys.exit("usage: office_compare.py PROGRAM [SEED] [COUNT]")
+    main(sys.argv[1], *map(int, sys.argv[2:]))

@@ -1,0 +1,265 @@
+"""The docket of one thread: five lists of rows, and what each command and query makes of them.
+
+A command is a tuple of its word and its fields, an answer a tuple of its word and what belongs to it. A refusal is
+("refused", number, ..). No list is ever changed in place.
+"""
+from collections import namedtuple
+
+from .periods import Deadline, granted, refused_extension, refused_start, shown
+from .rule6 import AFTER, BEYOND, Outage, covered, has_outage, is_timely, notice_day, permitted
+
+Rows = namedtuple("Rows", "days cases deadlines motions hearings")
+Case = namedtuple("Case", "number filed")
+DeadlineOf = namedtuple("DeadlineOf", "case number row")
+# `need` is a number of days, or None where the motion may be heard ex parte
+Motion = namedtuple("Motion", "case number served need")
+# `judges` is a tuple of numbers, `first` and `count` are slots of 15 minutes, `notice` is the day it was served
+Hearing = namedtuple("Hearing", "case motion judges room day first count notice")
+
+CASES = 4096
+DEADLINES = MOTIONS = 64
+GRANTS = 32
+DATES = 4096
+OUTAGES = 512
+SLOTS = 96
+SLOT = 15
+
+
+class Refused(Exception):
+    """The number of a refusal, and what is printed behind its name."""
+
+
+def opening(court):
+    return Rows(court.days, [], [], [], [])
+
+
+def step(court, rows, command):
+    """The rows after a command, and its answer."""
+    try:
+        return STEPS[command[0]](court, rows, *command[1:])
+    except Refused as refusal:
+        return rows, ("refused",) + refusal.args
+
+
+def view(court, rows, query):
+    """What a query shows."""
+    try:
+        return VIEWS[query[0]](court, rows, *query[1:])
+    except Refused as refusal:
+        return ("refused",) + refusal.args
+
+
+def refuse(applies, *refusal):
+    if applies:
+        raise Refused(*refusal)
+
+
+# What the lists have
+
+
+def case_of(rows, number):
+    return next((case for case in rows.cases if case.number == number), None)
+
+
+def deadlines_of(rows, case):
+    return [deadline for deadline in rows.deadlines if deadline.case == case]
+
+
+def motions_of(rows, case):
+    return [motion for motion in rows.motions if motion.case == case]
+
+
+def deadline_of(rows, case, number):
+    return next((deadline for deadline in deadlines_of(rows, case) if deadline.number == number), None)
+
+
+def motion_of(rows, case, number):
+    return next((motion for motion in motions_of(rows, case) if motion.number == number), None)
+
+
+def hearing_of(rows, case, motion):
+    return next((hearing for hearing in rows.hearings if (hearing.case, hearing.motion) == (case, motion)), None)
+
+
+def replaced(items, old, new):
+    return [new if item is old else item for item in items]
+
+
+def refuse_no_case(rows, case):
+    refuse(not 1 <= case <= CASES or case_of(rows, case) is None, 1)
+
+
+# Commands: cases and deadlines
+
+
+def open_case(court, rows, case, filed):
+    refuse(not 1 <= case <= CASES, 1)
+    refuse(not covered(rows.days, filed), 5)
+    refuse(case_of(rows, case) is not None, 2)
+    return rows._replace(cases=rows.cases + [Case(case, filed)]), ("opened",)
+
+
+def start(court, rows, case, period, event, second, kind):
+    refuse_no_case(rows, case)
+    number = refused_start(rows.days, period, event, second, kind)
+    refuse(number is not None, number)
+    place = len(deadlines_of(rows, case)) + 1
+    refuse(place > DEADLINES, 25)
+    row = Deadline(period, event, second, kind, [], None)
+    now = shown(rows.days, court.clock, row)
+    refuse(now == BEYOND, 8)
+    return rows._replace(deadlines=rows.deadlines + [DeadlineOf(case, place, row)]), ("started", place, now)
+
+
+def file_act(court, rows, case, number, filing):
+    refuse_no_case(rows, case)
+    old = deadline_of(rows, case, number)
+    refuse(old is None, 3)
+    refuse(not covered(rows.days, filing.day), 5)
+    refuse(old.row.filed is not None, 9)
+    now = shown(rows.days, court.clock, old.row)
+    refuse(now == BEYOND, 8)
+    new = old._replace(row=old.row._replace(filed=filing))
+    timely = is_timely(court.clock, now, old.row.period.act, filing)
+    return rows._replace(deadlines=replaced(rows.deadlines, old, new)), ("filed", timely)
+
+
+def extend(court, rows, case, number, request):
+    refuse_no_case(rows, case)
+    old = deadline_of(rows, case, number)
+    refuse(old is None, 3)
+    refuse(old.row.filed is not None, 9)
+    refusal = refused_extension(rows.days, court.clock, old.row, request)
+    refuse(refusal is not None, refusal)
+    refuse(len(old.row.grants) >= GRANTS, 25)
+    new = old._replace(row=granted(old.row, request.grant))
+    return (rows._replace(deadlines=replaced(rows.deadlines, old, new)),
+            ("extended", shown(rows.days, court.clock, new.row)))
+
+
+# Commands: motions and hearings
+
+
+def motion(court, rows, case, served, need):
+    refuse_no_case(rows, case)
+    refuse(not covered(rows.days, served), 5)
+    refuse(need is not None and not 1 <= need <= 365, 6)
+    place = len(motions_of(rows, case)) + 1
+    refuse(place > MOTIONS, 25)
+    return rows._replace(motions=rows.motions + [Motion(case, place, served, need)]), ("motion", place)
+
+
+def book(court, rows, *fields):
+    hearing, old = hearing_asked(court, rows, Hearing(*fields), False)
+    return rows._replace(hearings=rows.hearings + [hearing]), ("booked",)
+
+
+def move(court, rows, *fields):
+    hearing, old = hearing_asked(court, rows, Hearing(*fields), True)
+    return rows._replace(hearings=replaced(rows.hearings, old, hearing)), ("moved",)
+
+
+def hearing_asked(court, rows, asked, moved):
+    """The hearing and the motion's old one, where none of the refusals applies."""
+    days = rows.days
+    refuse_no_case(rows, asked.case)
+    of_motion = motion_of(rows, asked.case, asked.motion)
+    refuse(of_motion is None, 4)
+    refuse(any(judge >= len(court.judges) for judge in asked.judges), 26)
+    refuse(asked.room >= len(court.rooms), 27)
+    refuse(len(set(asked.judges)) < len(asked.judges), 29)
+    refuse(not covered(days, asked.day) or not covered(days, asked.notice), 5)
+    refuse(asked.count == 0 or asked.first + asked.count > SLOTS, 6)
+    old = hearing_of(rows, asked.case, asked.motion)
+    refuse(old is not None and not moved, 15)
+    refuse(old is None and moved, 16)
+    refuse(not permitted(days, asked.day, AFTER) or has_outage(days, asked.day), 17)
+    refuse(SLOT * asked.first < court.clock.opens or SLOT * (asked.first + asked.count) > court.clock.closes, 18)
+    if of_motion.need is not None:
+        latest = notice_day(days, asked.day, of_motion.need)
+        refuse(latest is None, 8)
+        refuse(max(of_motion.served, asked.notice) > latest, 19, latest)
+    others = [hearing for hearing in rows.hearings if hearing is not old and shares_slots(hearing, asked)]
+    for judge in asked.judges:
+        refuse_clash([hearing for hearing in others if judge in hearing.judges], 20)
+    refuse_clash([hearing for hearing in others if hearing.room == asked.room], 21)
+    return asked, old
+
+
+def shares_slots(one, other):
+    return one.day == other.day and one.first < other.first + other.count and other.first < one.first + one.count
+
+
+def refuse_clash(clashes, number):
+    """The first of the hearings that clash is the one with the least first slot."""
+    if clashes:
+        first = min(clashes, key=lambda hearing: hearing.first)
+        raise Refused(number, first.case, first.motion)
+
+
+def cancel(court, rows, case, number):
+    refuse_no_case(rows, case)
+    refuse(motion_of(rows, case, number) is None, 4)
+    old = hearing_of(rows, case, number)
+    refuse(old is None, 16)
+    return rows._replace(hearings=[hearing for hearing in rows.hearings if hearing is not old]), ("cancelled",)
+
+
+# Commands: the court's days
+
+
+def holiday(court, rows, day, name):
+    refuse(not covered(rows.days, day), 5)
+    dates = getattr(rows.days, name)
+    refuse(day in dates, 22)
+    refuse(len(dates) >= DATES, 25)
+    in_order = sorted(rows.hearings, key=lambda hearing: (hearing.case, hearing.motion))
+    for hearing in in_order:
+        refuse(hearing.day == day, 23, hearing.case, hearing.motion)
+    after = rows.days._replace(**{name: dates + [day]})
+    for hearing in in_order if name == "federal" else []:
+        of_motion = motion_of(rows, hearing.case, hearing.motion)
+        if of_motion.need is not None:
+            latest = notice_day(after, hearing.day, of_motion.need)
+            served = max(of_motion.served, hearing.notice)
+            refuse(latest is None or latest < served, 24, hearing.case, hearing.motion)
+    return rows._replace(days=after), ("holiday entered",)
+
+
+def inaccessible(court, rows, day, begin, end):
+    refuse(not covered(rows.days, day), 5)
+    refuse(not begin < end <= 1440, 6)
+    refuse(len(rows.days.outages) >= OUTAGES, 25)
+    outages = rows.days.outages + [Outage(day, begin, end)]
+    return rows._replace(days=rows.days._replace(outages=outages)), ("outage entered",)
+
+
+# Queries
+
+
+def sheet(court, rows, case):
+    refuse_no_case(rows, case)
+    return ("sheet", case)
+
+
+def calendar(court, rows, judge, day):
+    refuse(judge >= len(court.judges), 26)
+    refuse(not covered(rows.days, day), 5)
+    return ("calendar", [hearing for hearing in calendar_of(rows, judge) if hearing.day == day])
+
+
+def compute(court, rows, period, event, second, kind):
+    number = refused_start(rows.days, period, event, second, kind)
+    refuse(number is not None, number)
+    return ("computed", shown(rows.days, court.clock, Deadline(period, event, second, kind, [], None)))
+
+
+def calendar_of(rows, judge):
+    """The hearings before a judge by day and first slot."""
+    of_judge = [hearing for hearing in rows.hearings if judge in hearing.judges]
+    return sorted(of_judge, key=lambda hearing: (hearing.day, hearing.first))
+
+
+STEPS = {"open": open_case, "start": start, "file": file_act, "extend": extend, "motion": motion, "book": book,
+         "move": move, "cancel": cancel, "holiday": holiday, "inaccessible": inaccessible}
+VIEWS = {"sheet": sheet, "calendar": calendar, "compute": compute}

@@ -1,0 +1,141 @@
+"""Periods: the table of those that the Rules set, entered ones, and extensions under Rule 6(b)."""
+import re
+from collections import namedtuple
+
+from .civil import instant_at
+from .rule6 import (AFTER, BEFORE, BEYOND, ELECTRONIC, FILING, SERVICE, Filing, Shown, adds_three, covered,
+                    end_of_hours, is_timely, last_day, rolled, with_access, with_access_hours)
+
+# `kind` and `second` say whether a kind of service and a second day are "required", "none" or "noted" (may be);
+# `unit` is "d" or "h"; `added` says that the period runs from service under Rule 5(b)(2); `extended` is under which
+# rule it may be extended: "4m", "6b" or "never".
+Period = namedtuple("Period", "text count unit direction act kind second added extended")
+
+RULES = {period.text: period for period in (
+    Period("4m", 90, "d", AFTER, SERVICE, "none", "none", False, "4m"),
+    Period("12a1Ai", 21, "d", AFTER, SERVICE, "none", "none", False, "6b"),
+    Period("12a1Aii-us", 60, "d", AFTER, SERVICE, "none", "none", False, "6b"),
+    Period("12a1Aii-abroad", 90, "d", AFTER, SERVICE, "none", "none", False, "6b"),
+    Period("12a1B", 21, "d", AFTER, SERVICE, "required", "none", True, "6b"),
+    Period("12a1C", 21, "d", AFTER, SERVICE, "required", "none", True, "6b"),
+    Period("12a2", 60, "d", AFTER, SERVICE, "none", "none", False, "6b"),
+    Period("12a3", 60, "d", AFTER, SERVICE, "none", "required", False, "6b"),
+    Period("59b", 28, "d", AFTER, FILING, "noted", "none", False, "never"),
+    Period("59e", 28, "d", AFTER, FILING, "noted", "none", False, "never"),
+)}
+ENTERED = re.compile("(0|[1-9][0-9]{0,8})([dh])/(after|before)/(filing|service)/(event|served)/"
+                     "(plain|50b|50d|52b|59b|59d|59e|60b)")
+
+# The day of an event and the minute of it.
+Event = namedtuple("Event", "day minute")
+
+# What a deadline is computed from; `filed` is the act, or None.
+Deadline = namedtuple("Deadline", "period event second kind grants filed")
+
+# An extension: "d" or "h" with a number, or "until" with a day.
+Grant = namedtuple("Grant", "unit value")
+Request = namedtuple("Request", "grant asked motion cause neglect")
+
+
+def period_of_text(text):
+    if text in RULES:
+        return RULES[text]
+    found = ENTERED.fullmatch(text)
+    if not found:
+        return None
+    count, unit, direction, act, start, mark = found.groups()
+    served = start == "served"
+    return Period(text, int(count), unit, direction, act, "required" if served else "none", "none", served,
+                  "6b" if mark == "plain" else "never")
+
+
+def is_in_range(unit, count):
+    return 1 <= count <= (3650 if unit == "d" else 8760)
+
+
+def refused_start(days, period, event, second, kind):
+    """The refusal of a period from that event, its number, or None."""
+    if not covered(days, event.day) or (second is not None and not covered(days, second)):
+        return 5
+    if not suits(period.kind, kind) or not suits(period.second, second):
+        return 7
+    if period.added and (period.direction == BEFORE or period.unit == "h"):
+        return 7
+    return None if is_in_range(period.unit, period.count) else 6
+
+
+def suits(wanted, given):
+    return given is None if wanted == "none" else given is not None or wanted == "noted"
+
+
+def fits(period, grant):
+    """An extension by hours is for a period in hours, one by days or to a date for a period in days."""
+    return (grant.unit == "h") == (period.unit == "h")
+
+
+def extended(days, clock, deadline):
+    """The last day or the instant at which the deadline ends, before access to the office is looked at, or None."""
+    period, event = deadline.period, deadline.event
+    if period.unit == "d":
+        day = event.day if deadline.second is None else max(event.day, deadline.second)
+        added = period.added and adds_three(deadline.kind, event.day)
+        end = last_day(days, day, period.count, period.direction, added)
+    else:
+        start = instant_at(clock.zone, event.day, 60 * event.minute)
+        end = end_of_hours(days, clock, start, period.count, period.direction)
+    for grant in deadline.grants:
+        if not fits(period, grant):
+            end = None
+        elif grant.unit == "until":
+            end = grant.value
+        elif end is not None and grant.unit == "d":
+            end = rolled(days, end + grant.value, AFTER)
+        elif end is not None:
+            end = end_of_hours(days, clock, end, grant.value, AFTER)
+    return end
+
+
+def shown(days, clock, deadline):
+    """6(a), (b), (d): what is shown of the deadline."""
+    end = extended(days, clock, deadline)
+    to_date = bool(deadline.grants) and deadline.grants[-1].unit == "until"
+    if end is not None and deadline.period.act == FILING and not to_date:
+        direction = AFTER if deadline.grants else deadline.period.direction
+        if deadline.period.unit == "d":
+            end = with_access(days, end, direction)
+        else:
+            end = with_access_hours(days, clock, end, direction)
+    if end is None:
+        return BEYOND
+    return Shown("last" if deadline.period.unit == "d" else "until", end)
+
+
+def granted(deadline, grant):
+    return deadline._replace(grants=deadline.grants + [grant])
+
+
+def refused_extension(days, clock, deadline, request):
+    """6(b): the refusal of the extension, its number, or None."""
+    grant, asked, period = request.grant, request.asked, deadline.period
+    if not covered(days, asked.day) or (grant.unit == "until" and not covered(days, grant.value)):
+        return 5
+    now = shown(days, clock, deadline)
+    if now == BEYOND:
+        return 8
+    if period.extended == "never":
+        return 10
+    if not fits(period, grant):
+        return 28
+    if grant.unit != "until" and not is_in_range(grant.unit, grant.value):
+        return 6
+    in_time = is_timely(clock, now, period.act, Filing(asked.day, asked.minute, ELECTRONIC))
+    if period.extended == "6b" and not request.cause:
+        return 11
+    if period.extended == "6b" and not in_time and not request.motion:
+        return 12
+    if period.extended == "6b" and not in_time and not request.neglect:
+        return 13
+    then = shown(days, clock, granted(deadline, grant))
+    if then == BEYOND:
+        return 8
+    return None if then.end > now.end else 14

@@ -1,0 +1,94 @@
+#!/usr/bin/env python3
+"""Runs the program on the whole runs of `runs/`, and compares its status and all that it writes.
+
+    runs_check.py PROGRAM
+    runs_check.py --reference
+
+For each runs/FOLDER/NAME.in the program must end with status 0, write NAME.out to standard output and nothing to
+standard error; where there is a NAME.fault instead, it must write nothing, and end with the status that stands in its
+first line and with the rest of it on standard error. Three runs are too large to be kept and are made here. Each run
+must stand in runs/README.md. With --reference the reference of this folder is asked in place of a program. It needs
+Python 3.8 or later; the status is 0 where each run ends as it must.
+"""
+import pathlib
+import subprocess
+import sys
+
+from office_reference import ended
+from reference.civil import CannotTell
+
+RUNS = pathlib.Path(__file__).resolve().parent.parent / "runs"
+MOST_ROWS = 100000
+
+
+def ended_program(program, data):
+    """The status of the program, and what it wrote to standard output and to standard error."""
+    ran = subprocess.run([program], input=data, stdout=subprocess.PIPE, stderr=subprocess.PIPE, check=False)
+    return ran.returncode, ran.stdout, ran.stderr
+
+
+def kept_runs():
+    """Each run by its name, what it reads, and how it must end."""
+    for path in sorted(RUNS.glob("*/*.in")):
+        name = str(path.relative_to(RUNS).with_suffix(""))
+        faults = path.with_suffix(".fault")
+        if faults.exists():
+            status, fault = faults.read_bytes().split(b"\n", 1)
+            yield name, path.read_bytes(), (int(status), b"", fault)
+        else:
+            yield name, path.read_bytes(), (0, path.with_suffix(".out").read_bytes(), b"")
+
+
+def made_runs():
+    court = (RUNS / "input" / "no_rows.in").read_bytes()
+    lines = "".join("{} 1 refused 1 NoSuchCase\n".format(row) for row in range(1, MOST_ROWS + 1))
+    closing = (RUNS / "input" / "no_rows.out").read_bytes()
+    yield "limits/as_many_rows_as_are_taken", court + b"1,sheet,1\n" * MOST_ROWS, (0, lines.encode() + closing, b"")
+    for name, row in (("a_row_too_many", b"1,sheet,1\n"), ("a_row_too_many_that_is_none", b"0\n")):
+        rows = b"1,sheet,1\n" * MOST_ROWS + row
+        yield "limits/" + name, court + rows, (3, b"", b"row 100001 fault 6 TooManyRows\n")
+
+
+def unnamed(names):
+    """What stands in the README and is no run, and the runs that don't stand there."""
+    told = {line.split("`")[1] for line in (RUNS / "README.md").read_text().splitlines() if line.startswith("| `")}
+    return sorted(told.symmetric_difference(names))
+
+
+def first_difference(got, wanted):
+    """The first line that differs, by its number."""
+    of_got, of_wanted = got.split(b"\n"), wanted.split(b"\n")
+    for number, pair in enumerate(zip(of_got, of_wanted), 1):
+        if pair[0] != pair[1]:
+            return "line {}: {} and not {}".format(number, *pair)
+    return "{} lines and not {}".format(len(of_got), len(of_wanted))
+
+
+def main(words):
+    if len(words) != 1:
+        sys.exit("usage: runs_check.py PROGRAM | --reference")
+    passed = failed = 0
+    names = set()
+    for name, data, wanted in list(kept_runs()) + list(made_runs()):
+        names.add(name)
+        try:
+            got = ended(data) if words[0] == "--reference" else ended_program(words[0], data)
+        except CannotTell as why:
+            print("{}: the reference can't tell: {}".format(name, why))
+            continue
+        if got == wanted:
+            passed += 1
+            continue
+        failed += 1
+        print("{}: status {} and not {}, {}".format(name, got[0], wanted[0], got[2] or "nothing on standard error"))
+        if got[1] != wanted[1]:
+            print("    " + first_difference(got[1], wanted[1]))
+    for name in unnamed(names):
+        failed += 1
+        print("{}: a run must stand in README.md, and what stands there must be a run".format(name))
+    print("{} passed, {} failed".format(passed, failed))
+    sys.exit(0 if passed and failed == 0 else 1)
+
+
+if __name__ == "__main__":
+    main(sys.argv[1:])

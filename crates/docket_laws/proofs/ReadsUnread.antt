@@ -1,0 +1,162 @@
+-- A command that isn't refused writes no part that it doesn't read.
+use Rattle.std.proofs.Common.{◌≡◌, ℕ, nat_lt, ◌==◌, Bool, true, false, ◌||◌, List, [], ◌∷◌, ◌++◌, map, filter, take, Option, Some, None, IfSome, option_map, refl, ap, sym, ◌∙◌}
+use Rattle.std.specs.List.{list_any}
+use Rattle.std.specs.Option.{option_map_or}
+use Rattle.std.proofs.lemmas.Bool.{true≢false, or_parts, lt-ltb}
+use Rattle.std.proofs.lemmas.Cmp.{nat_eq_equiv}
+use Rattle.std.proofs.lemmas.List.Folds.{list_any-append}
+use Rattle.rule_periods.specs.Words.{first_of}
+use Rattle.docket_rows.specs.declared.command.Command.{Command}
+use Rattle.docket_rows.specs.declared.command.Command.TheVariants.{OpenCase, Start, FileAct, Extend, Motion, Book, MoveHearing, Cancel, Holiday, Inaccessible}
+use Rattle.docket_rows.specs.declared.hearing.Hearing.{Hearing}
+use Rattle.docket_rows.specs.declared.hearing.Setting.{Setting}
+use Rattle.docket_rows.specs.declared.part.PartId.{PartId}
+use Rattle.docket_rows.specs.declared.part.PartId.TheVariants.{Court, Judge, Room, Case}
+use Rattle.docket_rows.specs.declared.part.PartValue.TheVariants as value
+use Rattle.docket_rows.specs.declared.refusal.Refusal.{Refusal}
+use Rattle.docket_rows.specs.Words.{Bench, Parts, IsSettable, same_part, sits, has_one, is_case_number, has_judges, is_panel, hearing_in, calendars_of, calendars_now, about_case, hearing_checks, book_refusal, move_refusal, refusal, days_written, case_written, judge_written, room_written, is_before_judge, is_in_room, changed}
+use Rattle.docket_laws.specs.Reads.{is_wanted}
+use Rattle.docket_laws.proofs.MadeLemmas.{none_of, when-not-None}
+use Rattle.docket_laws.proofs.ReadsNumbered.{IsNumbered, numbered}
+use Rattle.docket_laws.proofs.ReadsSame.{panel_read, panel_few}
+
+-- the judges of a panel, as parts
+panel_parts : (judge : ℕ) (panel : List ℕ) → list_any (same_part (Judge judge)) (map Judge panel) ≡ sits judge panel
+panel_parts judge [] = refl
+panel_parts judge (j ∷ js) = ap (λ b. (judge == j) || b) (panel_parts judge js)
+
+-- what is found in none of a list that is put together is in none of its parts
+front_none : (test : PartId → Bool) (xs ys : List PartId) → list_any test (xs ++ ys) ≡ false → list_any test xs ≡ false
+front_none test xs ys none = (or_parts _ _ (sym (list_any-append test xs ys) ∙ none)).0
+
+back_none : (test : PartId → Bool) (xs ys : List PartId) → list_any test (xs ++ ys) ≡ false → list_any test ys ≡ false
+back_none test xs ys none = (or_parts _ _ (sym (list_any-append test xs ys) ∙ none)).1
+
+others_none : (test : PartId → Bool) (case : ℕ) (others : List PartId) → is_case_number case ≡ true → list_any test (about_case case others) ≡ false → list_any test others ≡ false
+others_none test case others numbered none = (or_parts _ _ (rw numbered at none)).1
+
+other_case : (n case : ℕ) (others : List PartId) → is_case_number case ≡ true → list_any (same_part (Case n)) (about_case case others) ≡ false → (n == case) ≡ false
+other_case n case others numbered none = (or_parts _ _ (rw numbered at none)).0
+
+module _ (bench : Bench) where
+  -- the part isn't among the calendars of a panel and a room that the court has
+  not_sitting : (judge : ℕ) (judges : List ℕ) (room : ℕ) → is_panel judges ≡ true → has_judges bench judges ≡ true → list_any (same_part (Judge judge)) (calendars_of bench judges room) ≡ false → sits judge judges ≡ false
+  not_sitting judge judges room is has none =
+      sym (ap (λ (js : List ℕ). list_any (same_part (Judge judge)) (map Judge js)) (panel_read bench judges (panel_few judges is) has) ∙ panel_parts judge judges)
+      ∙ front_none (same_part (Judge judge)) (map Judge (filter (λ j. nat_lt j bench.judges) (take 3 judges))) _ none
+
+  not_there : (r : ℕ) (judges : List ℕ) (room : ℕ) → nat_lt room bench.rooms ≡ true → list_any (same_part (Room r)) (calendars_of bench judges room) ≡ false → (room == r) ≡ false
+  not_there r judges room has none =
+      nat_eq_equiv.symm room r
+      ∙ (or_parts _ _ (rw has at (back_none (same_part (Room r)) (map Judge (filter (λ j. nat_lt j bench.judges) (take 3 judges))) _ none))).0
+
+  not_before : (judge : ℕ) (found : Option Hearing) → IfSome found (IsSettable bench) → list_any (same_part (Judge judge)) (option_map_or (λ (h : Hearing). calendars_of bench h.judges h.room) found []) ≡ false → has_one (λ (h : Hearing). sits judge h.judges) found ≡ false
+  not_before judge None settable none = refl
+  not_before judge (Some h) settable none = not_sitting judge h.judges h.room settable.panel settable.judges none
+
+  not_in : (r : ℕ) (found : Option Hearing) → IfSome found (IsSettable bench) → list_any (same_part (Room r)) (option_map_or (λ (h : Hearing). calendars_of bench h.judges h.room) found []) ≡ false → has_one (λ (h : Hearing). h.room == r) found ≡ false
+  not_in r None settable none = refl
+  not_in r (Some h) settable none = not_there r h.judges h.room (lt-ltb h.room bench.rooms settable.room) none
+
+  -- a hearing that isn't refused has judges and a room of the court
+  record HasPlaces (s : Setting) : Type 0 where
+    panel : is_panel s.judges ≡ true
+    judges : has_judges bench s.judges ≡ true
+    room : nat_lt s.room bench.rooms ≡ true
+
+  has_places : (p : Parts) (s : Setting) (set : Option Refusal) (except : Option (ℕ × ℕ)) → first_of (hearing_checks bench p s set except) ≡ None → HasPlaces s
+  has_places p s set except h =
+      let n = none_of (hearing_checks bench p s set except) h in
+      record { panel = when-not-None _ _ n.1.1.1.1.0; judges = when-not-None _ _ n.1.1.0; room = when-not-None _ _ n.1.1.1.0 }
+
+  book_places : (p : Parts) (s : Setting) → book_refusal bench p s ≡ None → HasPlaces s
+  unfolding book_refusal
+  book_places p s h = has_places p s _ None h
+
+  move_places : (p : Parts) (s : Setting) → move_refusal bench p s ≡ None → HasPlaces s
+  unfolding move_refusal
+  move_places p s h = has_places p s _ (Some (s.case, s.motion)) h
+
+module _ (bench : Bench) (p : Parts) (settable : (case motion : ℕ) → IfSome (hearing_in p case motion) (IsSettable bench)) where
+  days_unread : (command : Command) → is_wanted bench p command Court ≡ false → days_written p.days command ≡ None
+  days_unread (OpenCase case filed) none = refl
+  days_unread (Start case period event second service) none = refl
+  days_unread (FileAct case deadline filing) none = refl
+  days_unread (Extend case deadline request) none = refl
+  days_unread (Motion case served need) none = refl
+  days_unread (Book s) none = refl
+  days_unread (MoveHearing s) none = refl
+  days_unread (Cancel case motion) none = refl
+  days_unread (Holiday day list) none = absurd (true≢false none)
+  days_unread (Inaccessible day from to) none = absurd (true≢false none)
+
+  case_unread : (command : Command) → IsNumbered command → (n : ℕ) → is_wanted bench p command (Case n) ≡ false → case_written p command n ≡ None
+  case_unread (OpenCase case filed) is n none = rw (other_case n case [] is none) refl
+  case_unread (Start case period event second service) is n none = rw (other_case n case (Court ∷ []) is none) refl
+  case_unread (FileAct case deadline filing) is n none = rw (other_case n case (Court ∷ []) is none) refl
+  case_unread (Extend case deadline request) is n none = rw (other_case n case (Court ∷ []) is none) refl
+  case_unread (Motion case served need) is n none = rw (other_case n case [] is none) refl
+  case_unread (Book s) is n none = rw (other_case n s.case _ is none) refl
+  case_unread (MoveHearing s) is n none = rw (other_case n s.case _ is none) refl
+  case_unread (Cancel case motion) is n none = rw (other_case n case _ is none) refl
+  case_unread (Holiday day list) is n none = refl
+  case_unread (Inaccessible day from to) is n none = refl
+
+  judge_unread : (command : Command) → refusal bench p command ≡ None → (judge : ℕ) → is_wanted bench p command (Judge judge) ≡ false → judge_written p command judge ≡ None
+  judge_unread (OpenCase case filed) made judge none = refl
+  judge_unread (Start case period event second service) made judge none = refl
+  judge_unread (FileAct case deadline filing) made judge none = refl
+  judge_unread (Extend case deadline request) made judge none = refl
+  judge_unread (Motion case served need) made judge none = refl
+  judge_unread (Book s) made judge none =
+      let test = same_part (Judge judge) in
+      let places = book_places bench p s made in
+      let others = others_none test s.case (Court ∷ calendars_of bench s.judges s.room) (numbered bench p (Book s) made) none in
+      let away = not_sitting bench judge s.judges s.room places.panel places.judges others in
+      rw away refl
+  judge_unread (MoveHearing s) made judge none =
+      let test = same_part (Judge judge) in
+      let places = move_places bench p s made in
+      let now = calendars_now bench p s.case s.motion in
+      let others = others_none test s.case (Court ∷ now ++ calendars_of bench s.judges s.room) (numbered bench p (MoveHearing s) made) none in
+      let away = not_sitting bench judge s.judges s.room places.panel places.judges (back_none test now (calendars_of bench s.judges s.room) others) in
+      let before : is_before_judge p s.case s.motion judge ≡ false = not_before bench judge (hearing_in p s.case s.motion) (settable s.case s.motion) (front_none test now (calendars_of bench s.judges s.room) others) in
+      rw (away, before) refl
+  judge_unread (Cancel case motion) made judge none =
+      let others = others_none (same_part (Judge judge)) case (calendars_now bench p case motion) (numbered bench p (Cancel case motion) made) none in
+      let before : is_before_judge p case motion judge ≡ false = not_before bench judge (hearing_in p case motion) (settable case motion) others in
+      rw before refl
+  judge_unread (Holiday day list) made judge none = refl
+  judge_unread (Inaccessible day from to) made judge none = refl
+
+  room_unread : (command : Command) → refusal bench p command ≡ None → (room : ℕ) → is_wanted bench p command (Room room) ≡ false → room_written p command room ≡ None
+  room_unread (OpenCase case filed) made room none = refl
+  room_unread (Start case period event second service) made room none = refl
+  room_unread (FileAct case deadline filing) made room none = refl
+  room_unread (Extend case deadline request) made room none = refl
+  room_unread (Motion case served need) made room none = refl
+  room_unread (Book s) made room none =
+      let test = same_part (Room room) in
+      let others = others_none test s.case (Court ∷ calendars_of bench s.judges s.room) (numbered bench p (Book s) made) none in
+      let away = not_there bench room s.judges s.room (book_places bench p s made).room others in
+      rw away refl
+  room_unread (MoveHearing s) made room none =
+      let test = same_part (Room room) in
+      let now = calendars_now bench p s.case s.motion in
+      let others = others_none test s.case (Court ∷ now ++ calendars_of bench s.judges s.room) (numbered bench p (MoveHearing s) made) none in
+      let away = not_there bench room s.judges s.room (move_places bench p s made).room (back_none test now (calendars_of bench s.judges s.room) others) in
+      let before : is_in_room p s.case s.motion room ≡ false = not_in bench room (hearing_in p s.case s.motion) (settable s.case s.motion) (front_none test now (calendars_of bench s.judges s.room) others) in
+      rw (away, before) refl
+  room_unread (Cancel case motion) made room none =
+      let others = others_none (same_part (Room room)) case (calendars_now bench p case motion) (numbered bench p (Cancel case motion) made) none in
+      let before : is_in_room p case motion room ≡ false = not_in bench room (hearing_in p case motion) (settable case motion) others in
+      rw before refl
+  room_unread (Holiday day list) made room none = refl
+  room_unread (Inaccessible day from to) made room none = refl
+
+  pub unread_unchanged : (command : Command) → refusal bench p command ≡ None → (part : PartId) → is_wanted bench p command part ≡ false → changed p command part ≡ None
+  unread_unchanged command made Court none = ap (option_map value.Days) (days_unread command none)
+  unread_unchanged command made (Judge judge) none = ap (option_map value.Calendar) (judge_unread command made judge none)
+  unread_unchanged command made (Room room) none = ap (option_map value.Calendar) (room_unread command made room none)
+  unread_unchanged command made (Case n) none =
+      ap (option_map (λ c. value.Case (Some c))) (case_unread command (numbered bench p command made) n none)

@@ -1,0 +1,5 @@
+use Rattle.office_rows.proofs.AskedLemmas.{rows_ask_by_their_words_lem}
+use Rattle.office_rows.proofs.laws.rows_ask_by_their_words.Goals as goal
+
+pub returns : goal.returns
+returns c = rows_ask_by_their_words_lem

@@ -1,0 +1,14 @@
+-- What rows that were read come to: how many there may be, and whose.
+use Rattle.std.specs.Prelude.{◌≡◌, ◌≤◌, ℕ, List, length, Ok}
+use Rattle.std.specs.List.{All}
+use Rattle.office_rows.specs.declared.row.Row.{Row}
+use Rattle.office_rows.specs.Names.{Names}
+use Rattle.office_rows.specs.Rows.{rows_of}
+
+-- the row is that of one of so many clerks
+abbrev pub IsOfClerk : ℕ → Row → Type 0
+IsOfClerk clerks row = (1 ≤ row.clerk) × (row.clerk ≤ clerks)
+
+-- No more rows are read than the office takes, and each is that of one of the clerks.
+abbrev pub RowsAreBounded : Type 0
+RowsAreBounded = (clerks : ℕ) (names : Names) (bytes : List ℕ) (rows : List Row) → rows_of clerks names bytes ≡ Ok rows → (length rows ≤ 100_000) × All (IsOfClerk clerks) rows

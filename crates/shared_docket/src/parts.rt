@@ -1,0 +1,103 @@
+//! The docket of a court, as commands over parts.
+
+ghost use Rattle.std.specs.Prelude.{◌≡◌, IfOk};
+ghost use Rattle.docket_rows.specs.Words.{bench_of};
+
+use court_days::{Court, Days};
+use docket_core::DocketRules;
+use docket_rows::{Answer, Command, Decision as Decided, PartId, PartValue};
+use hearing_slots::Calendar;
+use std::alloc::{AllocError, Global};
+use std::marker::Model;
+use versioned_steps::{Decision, Parted};
+
+/// The rules of a court's docket, and the days of the court's file, which it opens with.
+#[derive(Drop)]
+pub struct DocketParts {
+    rules: DocketRules,
+    days: Days,
+}
+
+impl Model for DocketParts {
+    ghost use Rattle.std.specs.Prelude.{◌≡◌};
+    ghost use Rattle.docket_rows.specs.Words.{Bench};
+
+    ghost Value = { Bench };
+
+    ghost view = { λ p. p.rules };
+
+    ghost invariant = { λ p. p.days ≡ p.rules.days };
+}
+
+impl DocketParts {
+    /// The parts of this court's docket. `Err` says that memory ran out.
+    // A body that always found no memory would meet this contract, and no test of this crate refuses it yet.
+    pub fn new(court: &Court) -> Result<DocketParts, AllocError>
+        ensures { IfOk result (λ parts. parts ≡ bench_of court.now) }
+    {
+        Ok(DocketParts {
+            rules: DocketRules::new(court)?,
+            days: court.days().copy()?,
+        })
+    }
+}
+
+impl Parted for DocketParts {
+    ghost use Rattle.shared_docket.specs.DocketRules.{docket_rules};
+    ghost use Rattle.shared_docket.specs.DocketLawful.{docket_lawful, docket_part_eq};
+
+    type Part = PartId;
+
+    type Value = PartValue;
+
+    type Command = Command;
+
+    type Answer = Answer;
+
+    ghost rules = { docket_rules };
+
+    #[tactic(auto, unfolding(crate::specs::DocketRules::docket_rules, docket_rows::specs::Parts::parts_of))]
+    fn opening(&self, _alloc: Global, part: &PartId) -> Result<PartValue, AllocError> {
+        match part {
+            PartId::Court => Ok(PartValue::Days(self.days.copy()?)),
+            PartId::Judge(_) => Ok(PartValue::Calendar(Calendar::empty())),
+            PartId::Room(_) => Ok(PartValue::Calendar(Calendar::empty())),
+            PartId::Case(_) => Ok(PartValue::Case(None)),
+        }
+    }
+
+    #[tactic(auto, unfolding(crate::specs::DocketRules::docket_rules))]
+    fn next_part(&self, command: &Command, reads: &[(PartId, PartValue)]) -> Option<PartId> {
+        self.rules.next_part(command, reads)
+    }
+
+    #[tactic(auto, unfolding(crate::specs::DocketRules::docket_rules))]
+    fn decide(
+        &self,
+        alloc: Global,
+        command: &Command,
+        reads: &[(PartId, PartValue)],
+    ) -> Result<Decision<PartId, PartValue, Answer>, AllocError> {
+        let Decided { answer, writes } = self.rules.decide(alloc, command, reads)?;
+        Ok(Decision {
+            answer,
+            writes: writes.into_vec(),
+        })
+    }
+
+    fn copy_value(&self, alloc: Global, value: &PartValue) -> Result<PartValue, AllocError> {
+        value.copy(alloc)
+    }
+
+    fn copy_command(&self, _alloc: Global, command: &Command) -> Result<Command, AllocError> {
+        command.copy()
+    }
+
+    fn copy_answer(&self, _alloc: Global, answer: &Answer) -> Result<Answer, AllocError> {
+        answer.copy()
+    }
+
+    ghost lawful = { docket_lawful };
+
+    ghost part_eq = { docket_part_eq };
+}
