@@ -6,7 +6,7 @@ use Rattle.court_days.specs.Words.{day_of_text}
 use Rattle.rule_periods.specs.declared.grant.Grant.{Grant}
 use Rattle.rule_periods.specs.declared.grant.Grant.TheVariants.{ByDays, ByHours, Until}
 use Rattle.rule_periods.specs.declared.period.Length.{Length}
-use Rattle.rule_periods.specs.declared.period.Length.TheVariants as length
+use Rattle.rule_periods.specs.declared.period.Length.TheVariants as unit
 use Rattle.hearing_slots.specs.declared.need.Need.{Need}
 use Rattle.hearing_slots.specs.declared.need.Need.TheVariants.{ExParte, Days}
 use Rattle.office_rows.specs.Fields.Numbers.{number_of}
@@ -14,8 +14,8 @@ use Rattle.office_rows.specs.Fields.Period.{length_of}
 
 -- so much more time
 abbrev pub more_time : Length → Grant
-more_time (length.Days n) = ByDays n
-more_time (length.Hours n) = ByHours n
+more_time (unit.Days n) = ByDays n
+more_time (unit.Hours n) = ByHours n
 
 -- an extension: `+` and a length, or a date until which there is time
 unfoldable pub grant_of : List ℕ → Option Grant
