@@ -1,20 +1,21 @@
 -- What rows are answered one after another, and what stands behind the replies.
-use Rattle.std.proofs.Common.{◌≡◌, ◌+◌, ◌-◌, ◌<◌, ◌++◌, ℕ, suc, List, [], ◌∷◌, length, take, get_or, Result, Ok, Err, IfOk, IfErr, refl, ap, sym, ◌∙◌, arith}
+use Rattle.std.proofs.Common.{◌≡◌, ◌+◌, ◌-◌, ◌<◌, ◌++◌, ℕ, zero, suc, List, [], ◌∷◌, length, take, get_or, append_assoc, refl, ap, ◌∙◌, arith}
 use Rattle.std.specs.List.{flat_map, range_with_len}
 use Rattle.std.proofs.lemmas.Grind.{take_at_read}
 use Rattle.docket_rows.specs.declared.answer.Answer.{Answer}
 use Rattle.docket_rows.specs.declared.command.Command.{Command as CommandOf}
-use Rattle.docket_rows.specs.declared.query.Query.{Query as QueryOf}
-use Rattle.docket_rows.specs.declared.view.View.{View}
-use Rattle.docket_rows.specs.Words.{Bench, Rows, AreSound, step, view_of}
-use Rattle.docket_laws.proofs.CallerLemmas.{sound_step}
-use Rattle.docket_core.specs.Words.{DocketView, StandsFor}
+use Rattle.court_days.specs.Words.{CourtView}
+use Rattle.docket_rows.specs.declared.part.PartId.{PartId}
+use Rattle.docket_rows.specs.declared.query.Query.TheVariants as query
+use Rattle.docket_rows.specs.Words.{Bench, Parts, Rows, AreSound, bench_of, opening_rows, part_value, parts_of, seen_by, step}
+use Rattle.docket_laws.proofs.CallerLemmas.{hold_same, same_view, sound_step}
+use Rattle.docket_core.specs.Words.{DocketView, StandsFor, parts_held}
+use Rattle.office_texts.specs.Words.{calendar_lines}
 use Rattle.office_rows.specs.declared.row.Row.{Row}
-use Rattle.office_rows.specs.declared.row.Work.{Work}
-use Rattle.office_rows.specs.declared.row.Work.TheVariants.{Command, Query}
-use Rattle.office_run.specs.declared.reply.Reply.{Reply}
-use Rattle.office_run.specs.declared.reply.Reply.TheVariants.{Made, Viewed}
+use Rattle.office_rows.specs.declared.row.Work.TheVariants.{Command}
+use Rattle.office_run.specs.declared.reply.Reply.TheVariants.{Made}
 use Rattle.office_run.specs.Replies.{Holds, docketed_after, docketed_then, reply_to}
+use Rattle.office_run.specs.Text.{calendars_from, lines_from, run_text, sheet_shown, sheets_from}
 
 -- a command that was carried out is answered as the step is, and the docket holds what is docketed after it
 pub made : (bench : Bench) (docketed : Rows) (before after : DocketView) (command : CommandOf) (answer : Answer) → Holds bench before docketed → after.bench ≡ before.bench → ((rows : Rows) → AreSound before.bench rows → StandsFor before rows → (answer ≡ (step before.bench rows command).1) × StandsFor after (step before.bench rows command).0) → (Made answer ≡ reply_to bench docketed (Command command)) × Holds bench after (docketed_then bench docketed (Command command))
@@ -38,3 +39,40 @@ pub range_more : (first last n : ℕ) → first < last → n ≡ last - first �
 range_more first last n before is =
     let left : n ≡ suc (last - (first + 1)) = omega arith in
     rw left refl
+
+-- the sheets of some cases are that of the first and those that follow, and the calendars of some judges likewise
+pub sheets_more : (court : CourtView) (parts : Parts) (first last : ℕ) → first < last → sheets_from court parts first (last - first) ≡ sheet_shown court (seen_by (bench_of court) parts (query.Sheet first)) ++ sheets_from court parts (first + 1) (last - (first + 1))
+unfolding sheets_from
+sheets_more court parts first last before =
+    ap (flat_map (λ case. sheet_shown court (seen_by (bench_of court) parts (query.Sheet case)))) (range_more first last (last - first) before refl)
+
+pub calendars_more : (court : CourtView) (parts : Parts) (first last : ℕ) → first < last → calendars_from court parts first (last - first) ≡ calendar_lines court first (parts.judge first) ++ calendars_from court parts (first + 1) (last - (first + 1))
+unfolding calendars_from
+calendars_more court parts first last before =
+    ap (flat_map (λ judge. calendar_lines court judge (parts.judge judge))) (range_more first last (last - first) before refl)
+
+-- parts that hold the same show the same
+sheets_same : (court : CourtView) (p q : Parts) → ((part : PartId) → part_value p part ≡ part_value q part) → (first count : ℕ) → sheets_from court p first count ≡ sheets_from court q first count
+unfolding sheets_from
+sheets_same court p q same first zero = refl
+sheets_same court p q same first (suc n) =
+    rw (same_view (bench_of court) p q (query.Sheet first) same) (ap (λ s. sheet_shown court (seen_by (bench_of court) q (query.Sheet first)) ++ s) (sheets_same court p q same (first + 1) n))
+
+calendars_same : (court : CourtView) (p q : Parts) → ((part : PartId) → part_value p part ≡ part_value q part) → (first count : ℕ) → calendars_from court p first count ≡ calendars_from court q first count
+unfolding calendars_from
+calendars_same court p q same first zero = refl
+calendars_same court p q same first (suc n) =
+    rw ((hold_same p q same).judge first) (ap (λ s. calendar_lines court first (q.judge first) ++ s) (calendars_same court p q same (first + 1) n))
+
+-- the text that was made piece by piece
+pub run_text_made : (court : CourtView) (rows : List Row) (d : DocketView) (empty replies sheets whole : List ℕ) (judges : ℕ) → empty ≡ [] → replies ≡ empty ++ lines_from court (opening_rows (bench_of court)) 1 rows → sheets ≡ replies ++ sheets_from court (parts_held d) 1 4096 → whole ≡ sheets ++ calendars_from court (parts_held d) 0 judges → judges ≡ length court.judges → Holds (bench_of court) d (docketed_after (bench_of court) (opening_rows (bench_of court)) rows) → whole ≡ run_text court rows
+unfolding run_text
+run_text_made court rows d empty replies sheets whole judges is_empty replied with_sheets with_calendars all holds =
+    let docketed = parts_of (docketed_after (bench_of court) (opening_rows (bench_of court)) rows) in
+    let lines = lines_from court (opening_rows (bench_of court)) 1 rows in
+    let first : replies ≡ lines = replied ∙ ap (λ t. t ++ lines) is_empty in
+    with_calendars
+    ∙ ap (λ t. t ++ calendars_from court (parts_held d) 0 judges) (with_sheets ∙ ap (λ t. t ++ sheets_from court (parts_held d) 1 4096) first)
+    ∙ append_assoc lines (sheets_from court (parts_held d) 1 4096) (calendars_from court (parts_held d) 0 judges)
+    ∙ ap (λ s. lines ++ (s ++ calendars_from court (parts_held d) 0 judges)) (sheets_same court (parts_held d) docketed holds.stands 1 4096)
+    ∙ ap (λ s. lines ++ (sheets_from court docketed 1 4096 ++ s)) (calendars_same court (parts_held d) docketed holds.stands 0 judges ∙ ap (calendars_from court docketed 0) all)

@@ -121,6 +121,7 @@ fn push_calendars(
 ) -> Result<(), AllocError>
     requires court { docket.now.bench ≡ bench_of court.now }
     requires numbers { first + count ≤ length court.now.judges }
+    requires few { first + count ≤ 32 }
     ensures { OnOk result (string_bytes text.new ≡ string_bytes text.old ++ calendars_from court.now (parts_held docket.now) first count) }
 {
     for judge in first..first + count {
