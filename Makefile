@@ -6,7 +6,7 @@ PROGRAM  := $(CRATE)/out/clerk_office
 BOOKINGS := crates/measure_bookings
 EXAMPLE  := examples/smallest.txt
 
-.PHONY: build run test bench refuse check-program runs compare courts help
+.PHONY: build run test bench refuse check-program runs compare commands courts help
 
 # `rt run` proves the program and the libraries below it, builds it at $(PROGRAM), and runs it, here on the smallest
 # example. Where nothing has changed since the last time it proves nothing anew.
@@ -42,6 +42,10 @@ COUNT := 600
 compare: build
 	@python3 checks/office_compare.py $(PROGRAM) $(SEED) $(COUNT)
 
+# Beside the gate: the commands that the documents show, and what they print.
+commands: build
+	@python3 checks/docs_check.py
+
 # Beside the gate: the courts' files of examples/courts, as they are written and as the program answers them.
 courts: build
 	@python3 checks/courts_make.py --check examples/courts
@@ -55,5 +59,6 @@ help:
 	@echo "make check-program  runs the program for every status, 0 to 5, and looks at all that it writes"
 	@echo "make runs    runs the program on the whole runs of runs/, and compares all that it writes"
 	@echo "make compare compares the program with its reference on inputs made at random (SEED=1 COUNT=600)"
+	@echo "make commands runs the commands that the documents show, and compares what they print"
 	@echo "make courts  checks the courts' files of examples/courts, and runs the program on each"
 	@echo "make bench   builds the program, and prints its rows per second and peak memory"

@@ -1,0 +1,70 @@
+#!/usr/bin/env python3
+"""Runs the commands that the documents show, and compares what they print with what stands below them.
+
+    docs_check.py
+
+In README.md, docs/, examples/ and runs/ a line of an indented block that begins with `$ ` is a command, run in a shell
+at the top of the repository; the lines below it, up to the next command or the end of the block, are what it must
+print. The rows and answers in docs/A_DAY.md must be those of examples/a_day.txt and examples/a_day.out, each once and
+in their order. The program must be built (`make`). It needs Python 3.8 or later; the status is 0 where all is as is
+written.
+"""
+import pathlib
+import re
+import subprocess
+import sys
+
+TOP = pathlib.Path(__file__).resolve().parent.parent
+DIVIDER = "%%\n"
+
+
+def documents():
+    yield TOP / "README.md"
+    for folder in ("docs", "examples", "runs"):
+        yield from sorted((TOP / folder).rglob("*.md"))
+
+
+def commands_in(text):
+    """Each command with the lines that stand below it."""
+    command, printed = None, []
+    for line in text.splitlines() + [""]:
+        inside = line.startswith("    ")
+        if command is not None and (not inside or line.startswith("    $ ")):
+            yield command, "".join(p + "\n" for p in printed)
+            command, printed = None, []
+        if line.startswith("    $ "):
+            command = line[6:]
+        elif inside and command is not None:
+            printed.append(line[4:])
+
+
+def prints(command, wanted):
+    ran = subprocess.run(["sh", "-c", command], cwd=TOP, stdout=subprocess.PIPE, stderr=subprocess.STDOUT, check=False)
+    return ran.stdout.decode() == wanted
+
+
+def is_told(page, example):
+    """Whether the page has each row of the example with its answer, and all lines that stand behind the answers."""
+    pairs = re.findall(r"^\| `([^`]*)` \| `([^`]*)` \|", page, re.MULTILINE)
+    rows = example.with_suffix(".txt").read_text().split(DIVIDER, 1)[1].splitlines()
+    lines = example.with_suffix(".out").read_text().splitlines()
+    answers = [line for line in lines if re.match(r"[0-9]+ [0-9]+ ", line)]
+    blocks = "".join(line[4:] + "\n" for line in page.splitlines() if line.startswith("    "))
+    closing = lines[max(at for at, line in enumerate(lines) if line.startswith("case 1 filed ")):]
+    return pairs == list(zip(rows, answers)) and "".join(line + "\n" for line in closing) in blocks
+
+
+def main():
+    shown = [(path, c, w) for path in documents() for c, w in commands_in(path.read_text())]
+    wrong = [(path, c) for path, c, w in shown if not prints(c, w)]
+    for path, command in wrong:
+        print("{}: prints something else: {}".format(path.relative_to(TOP), command))
+    told = is_told((TOP / "docs" / "A_DAY.md").read_text(), TOP / "examples" / "a_day")
+    if not told:
+        print("docs/A_DAY.md: not the rows and answers of examples/a_day")
+    failed = len(wrong) + (0 if told else 1)
+    print("{} passed, {} failed".format(len(shown) + 1 - failed, failed))
+    sys.exit(0 if shown and failed == 0 else 1)
+
+
+main()
