@@ -14,6 +14,7 @@ standard error is shown and no rows per second. Nothing is asserted and no time 
 """
 import ctypes
 import datetime
+import itertools
 import os
 import pathlib
 import random
@@ -31,9 +32,11 @@ KINDS = {
 }
 # A mixed input takes a kind anew for each row.
 MIXED = "mixed"
+# Rows of a docket, each of which rests on those before it: see the functions of these names.
+DOCKET = ("docket", "hearings", "sheets")
 # What is run with which court.
 RUNS = (
-    ("example", ("days", "rule periods", "hours", MIXED)),
+    ("example", ("days", "rule periods", "hours", MIXED) + DOCKET),
     ("full", ("hours", MIXED)),
 )
 SIZES = (1000, 10000, 100000)
@@ -53,6 +56,12 @@ FIRST_CLOSED = datetime.date(2003, 1, 1)
 # Days of events, more than a year inside both courts' spans at both ends, so that no answer is 'beyond'.
 FIRST_DAY = datetime.date(2008, 1, 31)
 LAST_DAY = datetime.date(2025, 12, 1)
+
+# The names in the example's file, the half hours at which a hearing of one begins there, and its cases.
+JUDGES = ("Ames", "Brandt", "Calloway", "Dunmore", "Ellery", "Forsyth")
+ROOMS = ("11A", "11B", "14C", "15D", "20B", "23A")
+HALF_HOURS = ["{:02}:{:02}".format(at // 2, at % 2 * 30) for at in range(17, 33)]
+CASES = 4096
 
 # What each period asks for beside the day of its event.
 WITHOUT_KIND = ("4m", "12a1Ai", "12a1Aii-us", "12a1Aii-abroad", "12a2")
@@ -95,6 +104,58 @@ class Draw:
         return "{},{},,{},{}".format(period, self.day(), second, kind)
 
 
+def case_rows(draw, case):
+    """A case that is opened, and what is docketed in it: 24 rows, so that 4,096 cases take some 98,000."""
+    yield "1,open,{},{}".format(case, draw.day())
+    for deadline in range(1, 7):
+        yield "1,start,{},{}".format(case, draw.rule_period_with_its_days_and_kind())
+        yield "1,extend,{},{},+{}d,{},10:00,yes,yes,yes".format(case, deadline, draw.days(), draw.day())
+        yield "1,file,{},{},{},{},paper".format(case, deadline, draw.day(), draw.time())
+    for _ in range(5):
+        yield "1,motion,{},{},14".format(case, draw.day())
+
+
+def docket(draw, count):
+    """Deadlines, extensions, acts and motions of case after case."""
+    rows = (row for case in range(1, CASES + 1) for row in case_rows(draw, case))
+    written = list(itertools.islice(rows, count))
+    return written + ["1,compute,{}".format(draw.rule_period_with_its_days_and_kind()) for _ in range(count - len(written))]
+
+
+def hearing(draw, case, motion):
+    """A hearing ex parte on some day: many are refused, since the day is closed or the judge is busy."""
+    source = draw.source
+    judges = "+".join(source.sample(JUDGES, source.choice((1, 1, 1, 2))))
+    place = source.choice(ROOMS), draw.day(), source.choice(HALF_HOURS), source.choice(("1", "2", "3q"))
+    return "{},{},{},{},{},{},{},{}".format(case, motion, judges, *place, FIRST_DAY)
+
+
+def hearings(draw, count):
+    """Motions, and hearings that are booked, moved and cancelled, over all judges and eighteen years."""
+    written = []
+    for motion in range(1, 65):
+        for case in range(1, 513):
+            if motion == 1:
+                written.append("1,open,{},{}".format(case, FIRST_DAY))
+            written.append("1,motion,{},{},exparte".format(case, FIRST_DAY))
+            written.append("1,book," + hearing(draw, case, motion))
+            written.append("1,{}".format(draw.source.choice((
+                "move," + hearing(draw, case, motion), "book," + hearing(draw, case, motion),
+                "cancel,{},{}".format(case, motion)))))
+            if len(written) >= count:
+                return written[:count]
+    return written
+
+
+def sheets(draw, count):
+    """Cases with two deadlines and a motion, and then their sheets again and again."""
+    opened = []
+    for case in range(1, 33):
+        opened += itertools.islice(case_rows(draw, case), 4)
+        opened.append("1,motion,{},{},14".format(case, draw.day()))
+    return opened + ["1,sheet,{}".format(1 + number % 32) for number in range(count - len(opened))]
+
+
 def full_court():
     """The file of the full court."""
     def dates(first):
@@ -118,13 +179,22 @@ def full_court():
 def write_input(path, court, kind, count):
     source = random.Random(SEED)
     draw = Draw(source)
-    rows = list(KINDS.values())
     with open(path, "w") as file:
         file.write(court)
         file.write("%%\n")
-        for _ in range(count):
-            row = source.choice(rows) if kind == MIXED else KINDS[kind]
-            file.write(row.format_map(draw) + "\n")
+        for row in rows_of(kind, draw, count):
+            file.write(row + "\n")
+
+
+def rows_of(kind, draw, count):
+    """So many rows of a kind."""
+    if kind in DOCKET:
+        yield from {"docket": docket, "hearings": hearings, "sheets": sheets}[kind](draw, count)
+        return
+    templates = list(KINDS.values())
+    for _ in range(count):
+        row = draw.source.choice(templates) if kind == MIXED else KINDS[kind]
+        yield row.format_map(draw)
 
 
 def adopt_orphans():
