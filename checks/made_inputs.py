@@ -6,11 +6,15 @@ rows speak of the same cases, judges, rooms, days and slots.
 import datetime
 from collections import namedtuple
 
+from made_calendars import clock_changes, long_span
+
 # What rows speak of: any days, those on which papers were served, those of hearings; judges, rooms, and open cases.
 World = namedtuple("World", "days served hearings judges rooms cases")
 
 INPUTS = ["mixed", "hearings", "deadlines", "mixed", "hearings", "deadlines", "periods", "edge", "full_deadlines",
-          "full_motions", "full_grants", "full_outages", "full_dates"] + ["row_faults"] * 4 + ["court_faults"] * 8
+          "full_motions", "full_grants", "full_outages", "full_dates", "long_span", "clock_changes"]
+INPUTS += ["row_faults"] * 4 + ["court_faults"] * 8
+CALENDARS = {"long_span": long_span, "clock_changes": clock_changes}
 ZONES = ["EST5EDT,M3.2.0/2,M11.1.0/2", "EST5EDT,M3.2.1/2,M11.1.1/2", "-05:00", "+05:45", "MST7", "<+10>-10",
          "AEST-10AEDT,M10.1.0,M4.1.0/3", "LHST-10:30LHDT-11,M10.1.0,M4.1.0", "IST-1GMT0,M10.5.0,M3.5.0/1"]
 HOLIDAYS = ["2016-12-26", "2025-03-28", "2025-03-31", "2025-05-26", "2025-07-04", "2025-08-29", "2025-09-01",
@@ -26,8 +30,12 @@ JUNK = ["", "x", "-1", "01", "1000000000", "24:00", "9:00", "2025-02-29", "2025-
 
 def made_input(chance, name):
     """The bytes of an input of that kind."""
-    court, world = made_court(chance, name)
-    rows = ["1," + row for row in made_rows(chance, name, world)]
+    if name in CALENDARS:
+        court, rows = CALENDARS[name](chance)
+    else:
+        court, world = made_court(chance, name)
+        rows = made_rows(chance, name, world)
+    rows = ["1," + row for row in rows]
     if name == "row_faults":
         rows = with_fault(chance, rows)
     if name == "court_faults":
