@@ -2,6 +2,7 @@
 
 ghost use Rattle.std.specs.Prelude.{◌≡◌, ◌≢◌, ◌≤◌, ◌⊎◌, true, false, map, string_bytes, IfErr, IfOk, IfSome};
 ghost use Rattle.std.specs.IoError.{error_kind};
+ghost use Rattle.std.specs.Io.KnownBytes.{Appends};
 ghost use Rattle.clap.specs.Words.{takes};
 ghost use Rattle.office_options.specs.Words.{command_line};
 ghost use Rattle.office_streams.specs.Words.{WasCutShort, has_ended, has_failed, status_number, watched};
@@ -46,6 +47,7 @@ pub fn run_program<R: Read, W: Write, E: Write>(
     // What the statuses 0, 2 and 3 say of the words, and of what was read and written.
     ensures ending { IfOk words (λ all. IfSome (R.remaining (watched reader.old)) (λ input.
         IsEnding (words_behind (map string_bytes all.items)) (W.contents (watched writer.old)) (W.contents (watched writer.new)) result input)) }
+    ensures worked { result ≡ 0 → has_failed writer.new ≡ false }
     ensures failed { result ≡ 4 → WasCutShort reader.old reader.new ⊎ (has_failed writer.new ≡ true) }
     ensures known { result ≤ 5 }
 {
@@ -55,7 +57,7 @@ pub fn run_program<R: Read, W: Write, E: Write>(
     };
     let options = match options_behind(alloc, all.as_slice()) {
         Ok(options) => options,
-        Err(OptionsFault::Help(text)) => return helped(alloc, writer, errors, &text),
+        Err(OptionsFault::Help(text)) => return helped(alloc, writer, errors, text.as_str()),
         Err(OptionsFault::BadWords(text)) => {
             let _ = errors.write_all(text.as_bytes());
             return BAD_WORDS;
@@ -78,7 +80,10 @@ fn helped<W: Write, E: Write>(
     text: &str,
 ) -> u8
     requires { has_failed writer.old ≡ false }
-    ensures { (result ≡ 0) ⊎ ((result ≡ 4) × (has_failed writer.new ≡ true)) }
+    ensures text { result ≡ 0 → Appends (W.contents (watched writer.old)) (W.contents (watched writer.new)) text.now }
+    ensures worked { result ≡ 0 → has_failed writer.new ≡ false }
+    ensures failed { result ≡ 4 → has_failed writer.new ≡ true }
+    ensures known { (result ≡ 0) ⊎ (result ≡ 4) }
 {
     match write_all(writer, text.as_bytes()) {
         Ok(()) => 0,
