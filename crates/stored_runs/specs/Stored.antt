@@ -3,6 +3,10 @@ use Rattle.std.specs.Prelude.{◌≡◌, ℕ, List, [], ◌∷◌, ◌++◌, Som
 use Rattle.office_streams.specs.declared.fault.OfficeFault.{OfficeFault}
 use Rattle.office_streams.specs.Words.{IsRun, fault_text, input_of}
 
+-- the line with a run's name
+abbrev pub name_line : (name : List ℕ) → List ℕ
+name_line name = codes "%%%% " ++ name ++ 10 ∷ []
+
 -- what a run wrote, and the line of its fault where it ended with one
 abbrev pub told : (written : List ℕ) → Result (Unit {0}) OfficeFault → List ℕ
 told written (Ok done) = written
@@ -13,4 +17,4 @@ pub record AppendsRun (old new name input : List ℕ) : Type 0 where
   pub answer : Result (Unit {0}) OfficeFault
   pub written : List ℕ
   pub is_run : IsRun (Some []) (Some written) answer (input_of 1 input)
-  pub appended : new ≡ old ++ codes "%%%% " ++ name ++ 10 ∷ [] ++ told written answer
+  pub appended : new ≡ old ++ name_line name ++ told written answer

@@ -2,7 +2,7 @@
 
 ghost use Rattle.std.specs.Prelude.{◌≡◌, ◌++◌, [], ◌∷◌, OnOk};
 ghost use Rattle.office_streams.specs.Words.{fault_text};
-ghost use Rattle.stored_runs.specs.Stored.{AppendsRun};
+ghost use Rattle.stored_runs.specs.Stored.{AppendsRun, name_line};
 
 use office_options::Options;
 use office_streams::{OfficeFault, Watched, fault_line, run_office};
@@ -18,19 +18,26 @@ pub fn push_run(
 ) -> Result<(), AllocError>
     ensures { OnOk result (AppendsRun output.old.items output.new.items name.now input.now) }
 {
-    output.extend_from_slice(b"%%%% ")?;
-    output.extend_from_slice(name.as_bytes())?;
-    output.extend_from_slice(b"\n")?;
+    push_name(output, name)?;
     let mut reader = Watched::new(input);
     let mut writer = Watched::new(Vec::new(alloc));
     let options = Options::new(1, 100_000).unwrap();
-    let result = run_office(alloc, &mut reader, &mut writer, options);
+    let answer = run_office(alloc, &mut reader, &mut writer, options);
     output.extend_from_slice(writer.inner().as_slice())?;
-    match result {
+    match answer {
         Ok(()) => Ok(()),
         Err(OfficeFault::OutOfMemory) => Err(AllocError),
         Err(fault) => push_fault(alloc, output, &fault),
     }
+}
+
+/// Adds the line with the run's name.
+fn push_name(output: &mut Vec<u8>, name: &str) -> Result<(), AllocError>
+    ensures { OnOk result (output.new.items ≡ output.old.items ++ name_line name.now) }
+{
+    output.extend_from_slice(b"%%%% ")?;
+    output.extend_from_slice(name.as_bytes())?;
+    output.extend_from_slice(b"\n")
 }
 
 /// Adds the fault's line.
@@ -39,5 +46,5 @@ fn push_fault(alloc: Global, output: &mut Vec<u8>, fault: &OfficeFault) -> Resul
 {
     let line = fault_line(alloc, fault)?;
     output.extend_from_slice(line.as_bytes())?;
-    Ok(output.push(b'\n')?)
+    output.extend_from_slice(b"\n")
 }
