@@ -32,8 +32,9 @@ refuse: build
 check-program: build
 	@python3 checks/check_program.py $(PROGRAM)
 
-# Beside the gate: the whole runs of runs/, as the program does them.
+# Beside the gate: the whole runs of runs/, as the program does them, and that stored_runs has them for the gate.
 runs: build
+	@python3 checks/runs_join.py --check
 	@python3 checks/runs_check.py $(PROGRAM)
 
 # Beside the gate: the program and its reference, a second body in plain Python, on inputs that are made at random.

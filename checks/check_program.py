@@ -5,8 +5,9 @@
 
 The gate sees one run of the program, which ends with 0. Here each status from 0 to 5 is met: with what stands on
 standard input, on the command line and behind the two outputs, the status, standard output and standard error must
-be what is written below. It needs Python 3.8 and Linux (/dev/full, a limit of memory), and nothing else. The last
-line counts the runs as 'N passed, M failed'; the status is 0 where none failed.
+be what is written below; of the long texts that tell of the command line a part must be. It needs Python 3.8 and Linux
+(/dev/full, a limit of memory), and nothing else. The last line counts the runs as 'N passed, M failed'; the status is 0
+where none failed.
 """
 import os
 import resource
@@ -27,33 +28,59 @@ rooms = ["R1"]
 
 ROW = b"1,compute,28d/after/filing/event/plain,2025-08-04,,,\n"
 LINE = b"1 1 last 2025-09-02\n"
+JUDGE = b"judge Ames\n"
 ROWS = COURT + b"%%\n" + ROW
 
-USAGE = b"clerk_office takes no arguments: it reads standard input\n"
+NO_TEXT = b"error: a word of the command line is no text\n"
 MOST_BYTES = 16777216
 MEGABYTE = 1000000
+
+
+
+class Has:
+    """Stands for each text that has this part: of a long one, as the help, a part is looked for."""
+
+    def __init__(self, part):
+        self.part = part
+
+    def __eq__(self, text):
+        return self.part in text
+
+    def __repr__(self):
+        return "a text with {!r}".format(self.part)
+
+
+def usage(wrong):
+    return Has(b"error: " + wrong)
+
 
 # Each run: what it is, the words of the command line, standard input, and then the status, standard output and standard
 # error that are wanted.
 RUNS = [
-    ("a row", [], ROWS, 0, LINE, b""),
-    ("a refused row", [], ROWS.replace(b"28d", b"0d"), 0, b"1 1 refused 6 BadLength\n", b""),
-    ("no row behind the divider", [], COURT + b"%%\n", 0, b"", b""),
-    ("no divider", [], COURT, 0, b"", b""),
-    ("two rows", [], ROWS + ROW, 0, LINE + b"2" + LINE[1:], b""),
-    ("as many bytes as are taken", [], ROWS + b"\n" * (MOST_BYTES - len(ROWS)), 0, LINE, b""),
-    ("an argument", ["x"], ROWS, 1, b"", USAGE),
-    ("an empty argument", [""], ROWS, 1, b"", USAGE),
-    ("an option", ["--clerks", "2"], ROWS, 1, b"", USAGE),
-    ("a request for help", ["--help"], b"", 1, b"", USAGE),
-    ("an argument that is no text", [b"\xff"], ROWS, 1, b"", USAGE),
+    ("a row", [], ROWS, 0, LINE + JUDGE, b""),
+    ("a refused row", [], ROWS.replace(b"28d", b"0d"), 0, b"1 1 refused 6 BadLength\n" + JUDGE, b""),
+    ("no row behind the divider", [], COURT + b"%%\n", 0, JUDGE, b""),
+    ("no divider", [], COURT, 0, JUDGE, b""),
+    ("two rows", [], ROWS + ROW, 0, LINE + b"2" + LINE[1:] + JUDGE, b""),
+    ("as many bytes as are taken", [], ROWS + b"\n" * (MOST_BYTES - len(ROWS)), 0, LINE + JUDGE, b""),
+    ("one clerk and a journal", ["--clerks", "1", "--journal=0"], ROWS, 0, LINE + JUDGE, b""),
+    ("a request for help", ["--help"], b"", 0, Has(b"Usage: clerk_office [OPTIONS]\n"), b""),
+    ("a short request for help", ["-h"], ROWS, 0, Has(b"--journal <N>"), b""),
+    ("a request for the version", ["--version"], ROWS, 0, b"clerk_office 0.1.0\n", b""),
+    ("an argument", ["x"], ROWS, 1, b"", usage(b"unexpected argument 'x' found\n")),
+    ("an empty argument", [""], ROWS, 1, b"", usage(b"unexpected argument ''")),
+    ("a clerk too many to count", ["--clerks", "2"], ROWS, 1, b"", usage(b"invalid value '2' for '--clerks <N>'")),
+    ("another option", ["--rooms", "2"], ROWS, 1, b"", usage(b"unexpected argument '--rooms' found\n")),
+    ("an option twice", ["--clerks=1", "--clerks=1"], ROWS, 1, b"", Has(b"cannot be used multiple times")),
+    ("an argument that is no text", [b"\xff"], ROWS, 1, b"", NO_TEXT),
+    ("a number that is no text", ["--journal", b"\xff"], ROWS, 1, b"", NO_TEXT),
     ("nothing", [], b"", 2, b"", b"court fault 2 Missing zone\n"),
     ("a divider alone", [], b"%%\n", 2, b"", b"court fault 2 Missing zone\n"),
     ("no TOML", [], b"zone = \n%%\n" + ROW, 2, b"", b"court fault 1 NotToml\n"),
     ("a name twice", [], ROWS.replace(b'"R1"', b'"R1", "R1"'), 2, b"", b"court fault 9 TwiceNamed R1\n"),
     ("a clerk too many", [], ROWS + b"2" + ROW[1:], 3, b"", b"row 2 fault 1 BadClerk\n"),
     ("the clerk 64", [], COURT + b"%%\n64" + ROW[1:], 3, b"", b"row 1 fault 1 BadClerk\n"),
-    ("another command", [], COURT + b"%%\n1,file,1,\"1\"\n", 3, b"", b"row 1 fault 2 UnknownCommand\n"),
+    ("another command", [], COURT + b"%%\n1,fly,1,\"1\"\n", 3, b"", b"row 1 fault 2 UnknownCommand\n"),
     ("a field that is no text", [], COURT + b"%%\n1,\xff\n", 3, b"", b"row 1 fault 5 NotText\n"),
     ("a byte too many", [], ROWS + b"\n" * (MOST_BYTES + 1 - len(ROWS)), 4, b"", b"read fault\n"),
 ]
@@ -82,7 +109,8 @@ def runs(program):
     os.close(folder)
     with open("/dev/full", "wb") as full:
         yield "a full disk", ended([program], ROWS, stdout=full), (4, None, b"write fault\n")
-        yield "a full disk and no line", ended([program], COURT, stdout=full), (0, None, b"")
+        yield "a full disk and no judge", ended([program], COURT.replace(b'"Ames"', b""), stdout=full), (0, None, b"")
+        yield "a full disk and a request for help", ended([program, "--help"], b"", stdout=full), (4, None, b"write fault\n")
         yield "no room for a fault", ended([program], b"", stderr=full), (2, b"", None)
     little = ended([program], ROWS + b"\n" * (MOST_BYTES - len(ROWS)), preexec_fn=with_little_memory)
     yield "little memory", little, (5, b"", b"out of memory\n")

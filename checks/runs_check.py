@@ -6,7 +6,7 @@
 
 For each runs/FOLDER/NAME.in the program must end with status 0, write NAME.out to standard output and nothing to
 standard error; where there is a NAME.fault instead, it must write nothing, and end with the status that stands in its
-first line and with the rest of it on standard error. Three runs are too large to be kept and are made here. Each run
+first line and with the rest of it on standard error. Four runs are too large to be kept and are made here. Each run
 must stand in runs/README.md. With --reference the reference of this folder is asked in place of a program. It needs
 Python 3.8 or later; the status is 0 where each run ends as it must.
 """
@@ -47,6 +47,9 @@ def made_runs():
     for name, row in (("a_row_too_many", b"1,sheet,1\n"), ("a_row_too_many_that_is_none", b"0\n")):
         rows = b"1,sheet,1\n" * MOST_ROWS + row
         yield "limits/" + name, court + rows, (3, b"", b"row 100001 fault 6 TooManyRows\n")
+    name = b"x" * 1000000
+    named = court.replace(b'rooms = ["', b'rooms = ["' + name + b'", "')
+    yield "court_faults/name_of_a_million_bytes", named, (2, b"", b"court fault 8 BadName " + name + b"\n")
 
 
 def unnamed(names):

@@ -1,9 +1,1 @@
-pub mod DivisionLemmas
-pub mod Numerals
-pub mod Slashes
-pub mod RecordsLemmas
-pub mod ReadingLemmas
-pub mod RowsLemmas
-pub mod DividerLemmas
-pub mod FaultLemmas
-pub mod UniqueTextLemmas
+pub mod StatusLemmas

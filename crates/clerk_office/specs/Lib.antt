@@ -1,16 +1,1 @@
-pub mod Watched
-pub mod Limits
-pub mod Division
-pub mod Divider
-pub mod Numbers
-pub mod Period
-pub mod Rows
-pub mod Records
-pub mod FirstFault
-pub mod Answer
-pub mod Text
-pub mod RowFault
-pub mod Fault
-pub mod Office
 pub mod Program
-pub mod UniqueText

@@ -1,67 +1,30 @@
-//! The program, over the streams that it is given.
+//! The program, over the words and the streams that it is given.
 
-ghost use Rattle.std.specs.Prelude.{◌≡◌, ◌≢◌, ◌≤◌, ◌<◌, ◌⊎◌, true, false, IfErr, IfOk, IfSome};
+ghost use Rattle.std.specs.Prelude.{◌≡◌, ◌≢◌, ◌≤◌, ◌⊎◌, true, false, map, string_bytes, IfErr, IfOk, IfSome};
 ghost use Rattle.std.specs.IoError.{error_kind};
-ghost use Rattle.clerk_office.specs.Fault.{status_number};
-ghost use Rattle.clerk_office.specs.Limits.{WasCutShort};
-ghost use Rattle.clerk_office.specs.Office.{input_of};
-ghost use Rattle.clerk_office.specs.Program.{IsEnding};
-ghost use Rattle.clerk_office.specs.Watched.{has_ended, has_failed, watched};
+ghost use Rattle.std.specs.Io.KnownBytes.{Appends};
+ghost use Rattle.clap.specs.Words.{takes};
+ghost use Rattle.office_options.specs.Words.{command_line};
+ghost use Rattle.office_streams.specs.Words.{WasCutShort, has_ended, has_failed, status_number, watched};
+ghost use Rattle.clerk_office.specs.Program.{AsksForHelp, HasMistake, IsEnding, IsRefused, faults_in, words_behind};
 
-use crate::fault::OfficeFault;
-use crate::fault_line::{fault_line, status_of};
-use crate::office::run_office;
-use crate::options::Options;
-use crate::watched::Watched;
+use crate::words::options_behind;
+use office_options::OptionsFault;
+use office_streams::{OfficeFault, Watched, fault_line, run_office, status_of, write_all};
 use std::alloc::Global;
 use std::io;
 use std::io::{ErrorKind, Read, Write};
 
-// How many clerks the program serves.
-const CLERKS: u8 = 1;
+// The status of a run whose words the program doesn't take.
+const BAD_WORDS: u8 = 1;
 
-// How many entries the journal takes.
-const JOURNAL: u32 = 100_000;
-
-// The status of a run that was given arguments.
-const BAD_ARGUMENTS: u8 = 1;
-
-/// What stands on the command line behind the program's name.
-#[derive(Clone, Copy, Debug, PartialEq, Eq)]
-pub enum Arguments {
-    /// Nothing.
-    Nothing,
-    /// Something, and the program takes nothing.
-    Something,
-    /// There was no memory to read it.
-    Unread,
-}
-
-impl Arguments {
-    /// What the system told of its words, of which the first is the program's name: how many they are, or why
-    /// they can't be read. It is want of memory, or else one of them is no text.
-    pub fn of(words: io::Result<usize>) -> Arguments
-        ensures name { IfOk words (λ n. n ≤ 1 → result ≡ Arguments.Nothing) }
-        ensures more { IfOk words (λ n. 1 < n → result ≡ Arguments.Something) }
-        ensures memory { IfErr words (λ e. error_kind e ≡ ErrorKind.OutOfMemory → result ≡ Arguments.Unread) }
-        ensures no_text { IfErr words (λ e. error_kind e ≢ ErrorKind.OutOfMemory → result ≡ Arguments.Something) }
-    {
-        match words {
-            Ok(count) if count > 1 => Arguments::Something,
-            Ok(_) => Arguments::Nothing,
-            Err(error) => match error.kind() {
-                ErrorKind::OutOfMemory => Arguments::Unread,
-                _ => Arguments::Something,
-            },
-        }
-    }
-}
-
-/// Runs the office for one clerk. The status is 0 where every row was answered, 1 where there are arguments, and
-/// else that of the fault, of which one line goes to `errors`. A line that can't be written is lost.
+/// Runs the office with the options that the words give, of which the first is the program's name. The status is 0 where
+/// every row was answered, and where help or the version was asked for and is written instead; 1 where a word is no text
+/// or the words are not of the command line; and else that of the fault, of which one line goes to `errors`, as does
+/// what is wrong with the words. A line that can't be written there is lost.
 pub fn run_program<R: Read, W: Write, E: Write>(
     alloc: Global,
-    arguments: Arguments,
+    words: io::Result<Vec<String>>,
     reader: &mut Watched<R>,
     writer: &mut Watched<W>,
     errors: &mut E,
@@ -70,26 +33,75 @@ pub fn run_program<R: Read, W: Write, E: Write>(
     requires not_ended { has_ended reader.old ≡ false }
     requires writer_works { has_failed writer.old ≡ false }
 
-    ensures refused { arguments ≡ Arguments.Something → (result ≡ 1) × (writer.new ≡ writer.old) }
-    ensures taken { result ≡ 1 → arguments ≡ Arguments.Something }
-    // What the statuses 0, 2 and 3 say of what was read and written, with one clerk.
-    ensures ending { IfSome (R.remaining (watched reader.old)) (λ input.
-        IsEnding (W.contents (watched writer.old)) (W.contents (watched writer.new)) result (input_of 1 input)) }
+    // Words that can't be read.
+    ensures memory { IfErr words (λ e. error_kind e ≡ ErrorKind.OutOfMemory → result ≡ 5) }
+    ensures no_text { IfErr words (λ e. error_kind e ≢ ErrorKind.OutOfMemory → result ≡ 1) }
+
+    // Words that are refused: only those that have a mistake, and where they ask for no help nothing else can happen to
+    // them but that memory runs out.
+    ensures mistaken { IfOk words (λ all. result ≡ 1 → HasMistake (faults_in (words_behind (map string_bytes all.items)))) }
+    ensures refused { IfOk words (λ all. IsRefused (faults_in (words_behind (map string_bytes all.items))) → (result ≡ 1) ⊎ (result ≡ 5)) }
+    ensures taken { IfOk words (λ all. takes command_line (words_behind (map string_bytes all.items)) ≡ true → result ≢ 1) }
+    ensures nothing_written { result ≢ 0 → result ≢ 4 → writer.new ≡ writer.old }
+
+    // What the statuses 0, 2 and 3 say of the words, and of what was read and written.
+    ensures ending { IfOk words (λ all. IfSome (R.remaining (watched reader.old)) (λ input.
+        IsEnding (words_behind (map string_bytes all.items)) (W.contents (watched writer.old)) (W.contents (watched writer.new)) result input)) }
+    ensures worked { result ≡ 0 → has_failed writer.new ≡ false }
     ensures failed { result ≡ 4 → WasCutShort reader.old reader.new ⊎ (has_failed writer.new ≡ true) }
     ensures known { result ≤ 5 }
 {
-    match arguments {
-        Arguments::Nothing => {}
-        Arguments::Something => {
-            let _ = errors.write_all(b"clerk_office takes no arguments: it reads standard input\n");
-            return BAD_ARGUMENTS;
+    let all = match words {
+        Ok(all) => all,
+        Err(error) => return unread(alloc, errors, &error),
+    };
+    let options = match options_behind(alloc, all.as_slice()) {
+        Ok(options) => options,
+        Err(OptionsFault::Help(text)) => return helped(alloc, writer, errors, text.as_str()),
+        Err(OptionsFault::BadWords(text)) => {
+            let _ = errors.write_all(text.as_bytes());
+            return BAD_WORDS;
         }
-        Arguments::Unread => return ended_by(alloc, errors, &OfficeFault::OutOfMemory),
-    }
-    let options = Options::new(CLERKS, JOURNAL).unwrap();
+        Err(OptionsFault::OutOfMemory) => {
+            return ended_by(alloc, errors, &OfficeFault::OutOfMemory);
+        }
+    };
     match run_office(alloc, reader, writer, options) {
         Ok(()) => 0,
         Err(fault) => ended_by(alloc, errors, &fault),
+    }
+}
+
+// Writes the help or the version, where the words ask for it.
+fn helped<W: Write, E: Write>(
+    alloc: Global,
+    writer: &mut Watched<W>,
+    errors: &mut E,
+    text: &str,
+) -> u8
+    requires { has_failed writer.old ≡ false }
+    ensures text { result ≡ 0 → Appends (W.contents (watched writer.old)) (W.contents (watched writer.new)) text.now }
+    ensures worked { result ≡ 0 → has_failed writer.new ≡ false }
+    ensures failed { result ≡ 4 → has_failed writer.new ≡ true }
+    ensures known { (result ≡ 0) ⊎ (result ≡ 4) }
+{
+    match write_all(writer, text.as_bytes()) {
+        Ok(()) => 0,
+        Err(fault) => ended_by(alloc, errors, &fault),
+    }
+}
+
+// Tells of words that can't be read: for want of memory, or else because one of them is no text.
+fn unread<E: Write>(alloc: Global, errors: &mut E, error: &io::Error) -> u8
+    ensures memory { error_kind error.now ≡ ErrorKind.OutOfMemory → result ≡ 5 }
+    ensures no_text { error_kind error.now ≢ ErrorKind.OutOfMemory → result ≡ 1 }
+{
+    match error.kind() {
+        ErrorKind::OutOfMemory => ended_by(alloc, errors, &OfficeFault::OutOfMemory),
+        _ => {
+            let _ = errors.write_all(b"error: a word of the command line is no text\n");
+            BAD_WORDS
+        }
     }
 }
 

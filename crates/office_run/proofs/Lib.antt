@@ -1,1 +1,3 @@
+pub mod AlikeLemmas
+pub mod CallerLemmas
 pub mod RunLemmas

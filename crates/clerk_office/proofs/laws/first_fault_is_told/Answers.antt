@@ -1,5 +1,0 @@
-use Rattle.clerk_office.proofs.FaultLemmas.{first_fault_is_told_lem}
-use Rattle.clerk_office.proofs.laws.first_fault_is_told.Goals as goal
-
-pub returns : goal.returns
-returns c = first_fault_is_told_lem

@@ -1,0 +1,2 @@
+-- The lemmas for the crates above.
+pub use Rattle.office_run.proofs.AlikeLemmas.{run_text_alike}

@@ -1,0 +1,31 @@
+-- The limits of the input, and what a run of the office may leave unread or unwritten.
+use Rattle.std.specs.Prelude.{◌≡◌, ◌+◌, ◌≤◌, ◌⊎◌, ℕ, true, false, List, Option}
+use Rattle.std.specs.Io.{StartsWith}
+use Rattle.std.specs.Io.KnownBytes.{Appends}
+use Rattle.office_streams.specs.declared.watched.Watched.{Watched}
+use Rattle.office_streams.specs.Watched.{has_failed, has_ended, read_calls, bytes_given, counted}
+
+-- how many bytes of input the office takes, and how often it reads: both are its own choice
+abbrev pub most_bytes : ℕ
+most_bytes = 16_777_216
+
+abbrev pub most_reads : ℕ
+most_reads = 17_000_000
+
+-- no more was read than the office takes
+pub record IsWithinLimits {R : Type 0} (old new : Watched R) : Type 0 where
+  pub bytes : bytes_given new ≤ bytes_given old + most_bytes
+  pub calls : read_calls new ≤ read_calls old + most_reads
+
+-- a byte too many came, or the end didn't come within the reads that the office makes
+abbrev pub IsPastLimits : {R : Type 0} → Watched R → Watched R → Type 0
+IsPastLimits old new = (counted (bytes_given old) (most_bytes + 1) ≤ bytes_given new)
+    ⊎ ((counted (read_calls old) most_reads ≤ read_calls new) × (has_ended new ≡ false))
+
+-- why the input can't be read to its end
+abbrev pub WasCutShort : {R : Type 0} → Watched R → Watched R → Type 0
+WasCutShort old new = (has_failed new ≡ true) ⊎ IsPastLimits old new
+
+-- known bytes grow by a beginning of the text
+abbrev pub AppendsFront : Option (List ℕ) → Option (List ℕ) → List ℕ → Type 0
+AppendsFront old new text = (front : List ℕ) × Appends old new front × StartsWith text front

@@ -1,0 +1,104 @@
+-- What a run of the office makes of its input.
+use Rattle.std.specs.Prelude.{◌≡◌, ◌≢◌, ⊤, ℕ, Bool, true, false, List, Option, Result, Ok, Err}
+use Rattle.std.specs.Io.KnownBytes.{Appends}
+use Rattle.court_days.specs.declared.fault.CourtFault.{CourtFault}
+use Rattle.court_days.specs.Words.{CourtFile, CourtView, court_in, file_of}
+use Rattle.court_days.specs.declared.fault.CourtFault.TheVariants as court
+use Rattle.office_rows.specs.declared.fault.RowCause.{RowCause}
+use Rattle.office_rows.specs.declared.row.Row.{Row as RowOf}
+use Rattle.office_rows.specs.Words.{Names, rows_of}
+use Rattle.office_run.specs.Words.{run_text}
+use Rattle.office_streams.specs.declared.fault.OfficeFault.{OfficeFault}
+use Rattle.office_streams.specs.declared.fault.OfficeFault.TheVariants.{Court, Row, ReadFault, WriteFault, OutOfMemory}
+use Rattle.office_streams.specs.declared.watched.Watched.{Watched}
+use Rattle.office_streams.specs.Division.{court_part, rows_part}
+use Rattle.office_streams.specs.Limits.{AppendsFront, IsWithinLimits}
+use Rattle.office_streams.specs.Watched.{has_ended, has_failed}
+
+infixl 10 ◌>>=◌
+abbrev pub ◌>>=◌ : {A B : Type 0} → Result A OfficeFault → (A → Result B OfficeFault) → Result B OfficeFault
+(Ok x) >>= more = more x
+(Err fault) >>= more = Err fault
+
+-- a reading whose faults are faults of the office
+abbrev pub by_office : {A E : Type 0} → (E → OfficeFault) → Result A E → Result A OfficeFault
+by_office fault_of (Ok x) = Ok x
+by_office fault_of (Err e) = Err (fault_of e)
+
+-- the court's file and the rows behind it
+pub record Input : Type 0 where
+  pub file : CourtFile
+  pub rows : List RowOf
+
+-- the names of the judges and rooms that a court's file has
+abbrev pub names_in : CourtFile → Names
+names_in file = record { judges = file.judges; rooms = file.rooms }
+
+-- what an input says, or its first fault, a court's before any row's
+unfoldable pub input_of : ℕ → List ℕ → Result Input OfficeFault
+input_of clerks bytes = do
+  file ← by_office Court (court_in (court_part bytes))
+  rows ← by_office (λ fault. Row fault.0 fault.1) (rows_of clerks (names_in file) (rows_part bytes))
+  Ok (record { file = file; rows = rows })
+
+-- The text of the run of an input, in the court whose file it has. The file names the court's zone, and all values
+-- of a zone that it may stand for have the same offsets.
+pub record IsTextOf (input : Input) (text : List ℕ) : Type 0 where
+  pub court : CourtView
+  pub is_court : file_of court ≡ input.file
+  pub is_text : text ≡ run_text court input.rows
+
+-- what reading the court's file answers: the court or the fault that is defined, unless memory ran out
+abbrev pub AnswersCourt : {X : Type 0} → (X → CourtFile) → Result X OfficeFault → Result CourtFile CourtFault → Type 0
+AnswersCourt view (Ok court) defined = defined ≡ Ok (view court)
+AnswersCourt view (Err (Court fault)) defined = (defined ≡ Err fault) × (fault ≢ court.OutOfMemory)
+AnswersCourt view (Err (Row number cause)) defined = ⊥
+AnswersCourt view (Err ReadFault) defined = ⊥
+AnswersCourt view (Err WriteFault) defined = ⊥
+AnswersCourt view (Err OutOfMemory) defined = ⊤
+
+-- what reading the rows answers: the rows or the fault that is defined, unless memory ran out
+abbrev pub AnswersRowsOf : {X : Type 0} → (X → List RowOf) → Result X OfficeFault → Result (List RowOf) (ℕ × RowCause) → Type 0
+AnswersRowsOf view (Ok rows) defined = defined ≡ Ok (view rows)
+AnswersRowsOf view (Err (Court fault)) defined = ⊥
+AnswersRowsOf view (Err (Row number cause)) defined = defined ≡ Err (number, cause)
+AnswersRowsOf view (Err ReadFault) defined = ⊥
+AnswersRowsOf view (Err WriteFault) defined = ⊥
+AnswersRowsOf view (Err OutOfMemory) defined = ⊤
+
+-- what making the text answers: the text or the fault that is defined, unless memory ran out
+abbrev pub AnswersText : {X : Type 0} → (X → List ℕ) → Result X OfficeFault → Result Input OfficeFault → Type 0
+AnswersText view (Ok text) (Ok input) = IsTextOf input (view text)
+AnswersText view (Ok text) (Err fault) = ⊥
+AnswersText view (Err (Court fault)) said = (said ≡ Err (Court fault)) × (fault ≢ court.OutOfMemory)
+AnswersText view (Err (Row number cause)) said = said ≡ Err (Row number cause)
+AnswersText view (Err ReadFault) said = ⊥
+AnswersText view (Err WriteFault) said = ⊥
+AnswersText view (Err OutOfMemory) said = ⊤
+
+-- By its answer, a run has written the whole text or, where a write failed, a beginning of it; or what it read
+-- has the fault that the answer names. Where reading failed or memory ran out, the answer says nothing of them.
+abbrev pub IsRun : Option (List ℕ) → Option (List ℕ) → Result (Unit {0}) OfficeFault → Result Input OfficeFault → Type 0
+IsRun old new (Ok done) (Ok input) = (text : List ℕ) × IsTextOf input text × Appends old new text
+IsRun old new (Ok done) (Err fault) = ⊥
+IsRun old new (Err WriteFault) (Ok input) = (text : List ℕ) × IsTextOf input text × AppendsFront old new text
+IsRun old new (Err WriteFault) (Err fault) = ⊥
+IsRun old new (Err (Court fault)) said = said ≡ Err (Court fault)
+IsRun old new (Err (Row number cause)) said = said ≡ Err (Row number cause)
+IsRun old new (Err ReadFault) said = ⊤
+IsRun old new (Err OutOfMemory) said = ⊤
+
+-- the answer rests on the whole input
+abbrev pub rests_on_input : Result (Unit {0}) OfficeFault → Bool
+rests_on_input (Ok done) = true
+rests_on_input (Err (Court fault)) = true
+rests_on_input (Err (Row number cause)) = true
+rests_on_input (Err WriteFault) = true
+rests_on_input (Err ReadFault) = false
+rests_on_input (Err OutOfMemory) = false
+
+-- the reader was read to its end, no read failed, and no limit was passed
+pub record WasReadWhole {R : Type 0} (old new : Watched R) : Type 0 where
+  pub ended : has_ended new ≡ true
+  pub worked : has_failed new ≡ false
+  pub within : IsWithinLimits old new

@@ -1,0 +1,21 @@
+//! A run over streams: the input is read, divided and checked, then its whole text is written; or one fault is told.
+#![tactic(auto)]
+
+mod division;
+mod fault;
+mod fault_lines;
+mod input;
+mod laws;
+mod office;
+mod output;
+#[cfg(test)]
+mod tests;
+mod watched;
+
+pub use fault::OfficeFault;
+pub use fault_lines::{fault_line, status_of};
+pub use input::{MAX_INPUT_BYTES, MAX_READ_CALLS};
+pub use laws::{first_divider_divides, texts_are_unique};
+pub use office::run_office;
+pub use output::write_all;
+pub use watched::Watched;

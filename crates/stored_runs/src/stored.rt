@@ -1,0 +1,50 @@
+//! One stored run.
+
+ghost use Rattle.std.specs.Prelude.{◌≡◌, ◌++◌, [], ◌∷◌, OnOk};
+ghost use Rattle.office_streams.specs.Words.{fault_text};
+ghost use Rattle.stored_runs.specs.Stored.{AppendsRun, name_line};
+
+use office_options::Options;
+use office_streams::{OfficeFault, Watched, fault_line, run_office};
+use std::alloc::{AllocError, Global};
+
+/// Adds the line `%%%% NAME`, and then what a run of one clerk's office writes for that input and, where it ends with a
+/// fault, the fault's line. `Err` says that memory ran out.
+pub fn push_run(
+    alloc: Global,
+    output: &mut Vec<u8>,
+    name: &str,
+    input: &[u8],
+) -> Result<(), AllocError>
+    ensures { OnOk result (AppendsRun output.old.items output.new.items name.now input.now) }
+{
+    push_name(output, name)?;
+    let mut reader = Watched::new(input);
+    let mut writer = Watched::new(Vec::new(alloc));
+    let options = Options::new(1, 100_000).unwrap();
+    let answer = run_office(alloc, &mut reader, &mut writer, options);
+    output.extend_from_slice(writer.inner().as_slice())?;
+    match answer {
+        Ok(()) => Ok(()),
+        Err(OfficeFault::OutOfMemory) => Err(AllocError),
+        Err(fault) => push_fault(alloc, output, &fault),
+    }
+}
+
+/// Adds the line with the run's name.
+fn push_name(output: &mut Vec<u8>, name: &str) -> Result<(), AllocError>
+    ensures { OnOk result (output.new.items ≡ output.old.items ++ name_line name.now) }
+{
+    output.extend_from_slice(b"%%%% ")?;
+    output.extend_from_slice(name.as_bytes())?;
+    output.extend_from_slice(b"\n")
+}
+
+/// Adds the fault's line.
+fn push_fault(alloc: Global, output: &mut Vec<u8>, fault: &OfficeFault) -> Result<(), AllocError>
+    ensures { OnOk result (output.new.items ≡ output.old.items ++ fault_text fault.now ++ 10 ∷ []) }
+{
+    let line = fault_line(alloc, fault)?;
+    output.extend_from_slice(line.as_bytes())?;
+    output.extend_from_slice(b"\n")
+}
