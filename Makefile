@@ -26,7 +26,8 @@ bench: build
 
 # Beside the gate, since it needs a C compiler: each growth of memory refused in turn.
 refuse: build
-	@python3 checks/refuse_memory.py $(PROGRAM) examples/smallest.txt examples/days.txt examples/deadlines.txt
+	@python3 checks/refuse_memory.py $(PROGRAM) examples/smallest.txt examples/days.txt examples/deadlines.txt \
+		runs/docket/sheets_and_calendars_at_the_end.in
 
 # Beside the gate, which runs the program once: every status with which it may end, and what it then writes.
 check-program: build
