@@ -44,7 +44,7 @@ COUNT := 600
 compare: build
 	@python3 checks/office_compare.py $(PROGRAM) $(SEED) $(COUNT)
 
-# Beside the gate: the commands that the documents show, and what they print.
+# Beside the gate: the examples, and the commands that the documents show, and what they print.
 commands: build
 	@python3 checks/docs_check.py
 
@@ -61,6 +61,6 @@ help:
 	@echo "make check-program  runs the program for every status, 0 to 5, and looks at all that it writes"
 	@echo "make runs    runs the program on the whole runs of runs/, and compares all that it writes"
 	@echo "make compare compares the program with its reference on inputs made at random (SEED=1 COUNT=600)"
-	@echo "make commands runs the commands that the documents show, and compares what they print"
+	@echo "make commands runs the examples and the commands that the documents show, and compares what they print"
 	@echo "make courts  checks the courts' files of examples/courts, and runs the program on each"
 	@echo "make bench   builds the program, and prints its rows per second and peak memory"

@@ -1,7 +1,9 @@
 #!/usr/bin/env python3
-"""Runs the commands that the documents show, and compares what they print with what stands below them.
+"""Runs the examples and the commands that the documents show, and compares what they print.
 
     docs_check.py
+
+Each examples/NAME.txt must be answered as examples/NAME.out.
 
 In README.md, docs/, examples/ and runs/ a line of an indented block that begins with `$ ` is a command, run in a shell
 at the top of the repository; the lines below it, up to the next command or the end of the block, are what it must
@@ -15,6 +17,7 @@ import subprocess
 import sys
 
 TOP = pathlib.Path(__file__).resolve().parent.parent
+PROGRAM = "crates/clerk_office/out/clerk_office"
 DIVIDER = "%%\n"
 
 
@@ -43,6 +46,13 @@ def prints(command, wanted):
     return ran.stdout.decode() == wanted
 
 
+def is_answered(example):
+    """Whether the program writes what stands beside the example."""
+    with open(example, "rb") as rows:
+        ran = subprocess.run([TOP / PROGRAM], stdin=rows, stdout=subprocess.PIPE, stderr=subprocess.STDOUT, check=False)
+    return (ran.returncode, ran.stdout) == (0, example.with_suffix(".out").read_bytes())
+
+
 def is_told(page, example):
     """Whether the page has each row of the example with its answer, and all lines that stand behind the answers."""
     pairs = re.findall(r"^\| `([^`]*)` \| `([^`]*)` \|", page, re.MULTILINE)
@@ -62,9 +72,13 @@ def main():
     told = is_told((TOP / "docs" / "A_DAY.md").read_text(), TOP / "examples" / "a_day")
     if not told:
         print("docs/A_DAY.md: not the rows and answers of examples/a_day")
-    failed = len(wrong) + (0 if told else 1)
-    print("{} passed, {} failed".format(len(shown) + 1 - failed, failed))
-    sys.exit(0 if shown and failed == 0 else 1)
+    examples = sorted((TOP / "examples").glob("*.txt"))
+    unanswered = [path for path in examples if not is_answered(path)]
+    for path in unanswered:
+        print("{}: answered otherwise".format(path.relative_to(TOP)))
+    failed = len(wrong) + len(unanswered) + (0 if told else 1)
+    print("{} passed, {} failed".format(len(shown) + len(examples) + 1 - failed, failed))
+    sys.exit(0 if shown and examples and failed == 0 else 1)
 
 
 main()
