@@ -16,7 +16,7 @@ use Rattle.hearing_slots.specs.declared.booking.Booking.{Booking}
 use Rattle.docket_laws.proofs.CallerLemmas.{none_of, when-not-None}
 use Rattle.docket_core.specs.declared.rebooking.Rebooking.{Rebooking}
 use Rattle.docket_core.specs.Docket.{DocketView, parts_held}
-use Rattle.docket_core.specs.Changes.{IsAfter, case_of, case_after, docket_after}
+use Rattle.docket_core.specs.Changes.{IsAfter, case_of, case_after, rebooked_docket}
 use Rattle.docket_core.specs.Rebooking.{rebooking_of, changed_by, calendar_after, judge_change, room_change}
 use Rattle.docket_core.proofs.CaseLemmas.{case_is_written, case_changed}
 use Rattle.docket_core.proofs.RebookingLemmas.{judge_rebooked, room_rebooked, calendar_of, nothing_to_take, nothing_taken, same_rebooking, to_set}
@@ -92,10 +92,10 @@ value_changed (Some changed) bookings = refl
 
 abbrev pub CaseIsAfter : DocketView → Command → (case : ℕ) → Rebooking → Type 0
 CaseIsAfter d command case r =
-    value.Case (get_or (docket_after r d).cases case None) ≡ unwrap_or (changed (parts_held d) command (Case case)) (part_value (parts_held d) (Case case))
+    value.Case (get_or (rebooked_docket r d).cases case None) ≡ unwrap_or (changed (parts_held d) command (Case case)) (part_value (parts_held d) (Case case))
 
 -- a booking, a move and a cancellation change their calendars, and the case
-pub hearing_changed : (d : DocketView) (command : Command) (r : Rebooking) → refusal d.bench (parts_held d) command ≡ None → length d.judges ≡ d.bench.judges → length d.rooms ≡ d.bench.rooms → Some r ≡ rebooking_of (parts_held d) command → IsAfter d command (docket_after r d)
+pub hearing_changed : (d : DocketView) (command : Command) (r : Rebooking) → refusal d.bench (parts_held d) command ≡ None → length d.judges ≡ d.bench.judges → length d.rooms ≡ d.bench.rooms → Some r ≡ rebooking_of (parts_held d) command → IsAfter d command (rebooked_docket r d)
 hearing_changed d command r made judges rooms is (Judge j) =
     rw (judge_rebooked (parts_held d) command j, sym is)
     (ap value.Calendar (calendar_of (judge_change r) d.judges j ((stays_when_made d command r made judges rooms is).judges j))

@@ -67,8 +67,8 @@ abbrev pub CanChangeCase : Parts → Command → Type 0
 CanChangeCase parts command = IfSome (option_and_then parts.case (case_of command)) (CanChangeRecord command)
 
 -- the docket after a booking, a move or a cancellation
-abbrev pub docket_after : Rebooking → DocketView → DocketView
-docket_after r d = record d {
+abbrev pub rebooked_docket : Rebooking → DocketView → DocketView
+rebooked_docket r d = record d {
   cases = with_case r.case (set_hearing r.motion (option_map (λ (p : Placement). p.hearing) r.after)) d.cases;
   judges = calendars_after 0 (judge_change r) d.judges;
   rooms = calendars_after 0 (room_change r) d.rooms;

@@ -16,7 +16,7 @@ use std::alloc::{AllocError, Global};
 impl Holdings {
     ghost use Rattle.docket_core.specs.Docket.{parts_held};
     ghost use Rattle.docket_rows.specs.Words.{part_after};
-    ghost use Rattle.docket_core.specs.Changes.{IsAfter, CanChangeRecord, case_after, docket_after};
+    ghost use Rattle.docket_core.specs.Changes.{IsAfter, CanChangeRecord, case_after, rebooked_docket};
     ghost use Rattle.docket_core.specs.Rebooking.{CanChangeAll, judge_change, room_change};
 
     /// Decides the command on the docket as it is, and changes the docket in place where the command isn't refused. A
@@ -61,7 +61,7 @@ impl Holdings {
     fn rebook(&mut self, alloc: Global, rebooking: &Rebooking) -> Result<(), AllocError>
         requires judges { CanChangeAll 0 (judge_change rebooking.now) self.old.judges }
         requires rooms { CanChangeAll 0 (room_change rebooking.now) self.old.rooms }
-        ensures ok { OnOk result (self.new ≡ docket_after rebooking.now self.old) }
+        ensures ok { OnOk result (self.new ≡ rebooked_docket rebooking.now self.old) }
         ensures err { OnErr result (self.new ≡ self.old) }
     {
         calendars::rebook(alloc, rebooking, 0, &mut self.judges, &mut self.rooms)?;
