@@ -87,7 +87,7 @@ fn run(
     (result, writer, reader.ended())
 }
 
-fn page(alloc: Global, most: usize, room: usize) -> Page {
+fn make_page(alloc: Global, most: usize, room: usize) -> Page {
     let text = Vec::new(alloc);
     Page { text, most, room }
 }
@@ -97,7 +97,7 @@ fn takes_two_megabytes_in_any_pieces(rt: HostRuntime) -> Result<(), Fail> {
     let alloc = rt.alloc();
     let input = input_of(alloc, 2_000_000)?;
     for (most, at_once) in [(1, 1), (7, 3)] {
-        let page = page(alloc, at_once, usize::MAX);
+        let page = make_page(alloc, at_once, usize::MAX);
         let (result, writer, ended) = run(alloc, input.as_str(), most, u64::MAX, page);
         result?;
         assert!(rt; ended && !writer.failed());
@@ -112,7 +112,7 @@ fn stops_at_each_read_that_fails(rt: HostRuntime) -> Result<(), Fail> {
     let input = input_of(alloc, 0)?;
     // With 7 bytes a read, this many reads come before the one that tells of the end.
     for reads_left in 0..=(input.len() as u64).div_ceil(7) {
-        let page = page(alloc, 1, usize::MAX);
+        let page = make_page(alloc, 1, usize::MAX);
         let (result, writer, ended) = run(alloc, input.as_str(), 7, reads_left, page);
         let fault = result.err().ok_or("no fault")?;
         assert_eq!(rt; fault_line(alloc, &fault)?.as_str(), "read fault");
@@ -128,7 +128,7 @@ fn leaves_the_beginning_that_a_failing_writer_took(rt: HostRuntime) -> Result<()
     let input = input_of(alloc, 0)?;
     for room in 0..TEXT.len() {
         for most in [1, 100] {
-            let page = page(alloc, most, room);
+            let page = make_page(alloc, most, room);
             let (result, writer, _ended) = run(alloc, input.as_str(), 100, u64::MAX, page);
             let fault = result.err().ok_or("no fault")?;
             assert_eq!(rt; fault_line(alloc, &fault)?.as_str(), "write fault");
