@@ -4,8 +4,8 @@ use pointers::Pointers;
 use std::test::Fail;
 use switches::{Switches, commits, reads};
 use versioned_steps::{
-    Outcome, Step, Store, fresh_means_untouched, run_steps, serial_history,
-    versions_are_last_touches,
+    Outcome, Step, Store, finished_commands_stand_once, fresh_means_untouched, run_steps,
+    serial_history, versions_are_last_touches,
 };
 
 mod counters;
@@ -258,4 +258,7 @@ fn the_laws_are_of_each_instance(_rt: HostRuntime) {
     fresh_means_untouched::<Counters>();
     fresh_means_untouched::<Pointers>();
     fresh_means_untouched::<Switches>();
+    finished_commands_stand_once::<Counters>();
+    finished_commands_stand_once::<Pointers>();
+    finished_commands_stand_once::<Switches>();
 }

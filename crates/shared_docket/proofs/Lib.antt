@@ -1,2 +1,3 @@
+pub mod AlwaysLemmas
 pub mod CallerLemmas
 pub mod SequentialLemmas

@@ -1,5 +1,5 @@
 -- A legal history of the docket's parts is one of the docket of one clerk.
-use Rattle.std.proofs.Common.{◌≡◌, ℕ, zero, suc, true, List, [], ◌∷◌, take, unwrap_or, refl, ap, sym, ◌∙◌}
+use Rattle.std.proofs.Common.{◌≡◌, ℕ, zero, suc, true, List, [], ◌∷◌, drop, take, unwrap_or, refl, ap, sym, ◌∙◌}
 use Rattle.docket_rows.specs.declared.answer.Answer.{Answer}
 use Rattle.docket_rows.specs.declared.command.Command.{Command}
 use Rattle.docket_rows.specs.declared.part.PartId.{PartId}
@@ -11,6 +11,7 @@ use Rattle.versioned_steps.specs.declared.entry.Entry.{Entry}
 use Rattle.versioned_steps.specs.declared.step.Step.{Step}
 use Rattle.versioned_steps.specs.declared.step.Outcome.{Outcome}
 use Rattle.versioned_steps.proofs.CallerLemmas.{legal_empty, legal_serial, run_legal, reads_whole}
+use Rattle.shared_docket.specs.Always.{HoldsAfter}
 use Rattle.shared_docket.specs.DocketLawful.{docket_lawful}
 use Rattle.shared_docket.specs.DocketRules.{docket_rules}
 use Rattle.shared_docket.specs.Sequential.{step_answers, commands_of, rows_of, IsSequential, IsLawfulAfter}
@@ -68,17 +69,23 @@ module _ (bench : Bench) where
   pub history_lawful : (history : List (Entry Command Answer)) → AreLawful bench (rows_of bench history)
   history_lawful history = lawful_docket bench (commands_of history)
 
-  -- a run, as far as so many of its steps
+  -- a run, cut in two after so many of its steps
   run_cut : (w : World PartId PartValue Command Answer) (steps : List (Step Command)) (outcomes : List (Outcome PartId Answer)) (after : World PartId PartValue Command Answer) → IsRun (docket_rules bench) w steps outcomes after → (made : ℕ)
-      → (between : World PartId PartValue Command Answer) × IsRun (docket_rules bench) w (take made steps) (take made outcomes) between
-  run_cut w steps outcomes after run zero = (w, refl)
-  run_cut w [] [] after run (suc n) = (w, refl)
-  run_cut w (s ∷ ss) (o ∷ os) after run (suc n) = let rest = run_cut run.0 ss os after run.2 n in (rest.0, (run.0, run.1, rest.1))
+      → (between : World PartId PartValue Command Answer) × IsRun (docket_rules bench) w (take made steps) (take made outcomes) between × IsRun (docket_rules bench) between (drop made steps) (drop made outcomes) after
+  run_cut w steps outcomes after run zero = (w, refl, run)
+  run_cut w [] [] after run (suc n) = (w, refl, run)
+  run_cut w (s ∷ ss) (o ∷ os) after run (suc n) = let rest = run_cut run.0 ss os after run.2 n in (rest.0, (run.0, run.1, rest.1), rest.2)
   run_cut w [] (o ∷ os) after run (suc n) = absurd run
   run_cut w (s ∷ ss) [] after run (suc n) = absurd run
 
-  pub lawful_after_each : (clerks : ℕ) (steps : List (Step Command)) (outcomes : List (Outcome PartId Answer)) (after : World PartId PartValue Command Answer) → IsRun (docket_rules bench) (opening_world clerks) steps outcomes after → (made : ℕ) → IsLawfulAfter bench clerks steps outcomes made
-  lawful_after_each clerks steps outcomes after run made =
+  -- what holds of legal histories holds after each step
+  pub holds_after : (claim : List (Entry Command Answer) → Type 0) → ((history : List (Entry Command Answer)) → is_legal (docket_rules bench) history ≡ true → claim history) → (clerks : ℕ) (steps : List (Step Command)) (outcomes : List (Outcome PartId Answer)) (after : World PartId PartValue Command Answer) → IsRun (docket_rules bench) (opening_world clerks) steps outcomes after → (made : ℕ) → HoldsAfter claim bench clerks steps outcomes after made
+  holds_after claim of_legal clerks steps outcomes after run made =
       let cut = run_cut (opening_world clerks) steps outcomes after run made in
       let legal = run_legal (docket_rules bench) (docket_lawful bench) (opening_world clerks) (take made steps) (take made outcomes) cut.0 (legal_empty (docket_rules bench)) cut.1 in
-      record { world = cut.0; run = cut.1; answers = legal_sequential cut.0.history legal; lawful = history_lawful cut.0.history }
+      record { between = cut.0; so_far = cut.1; from_there = cut.2; holds = of_legal cut.0.history legal }
+
+  pub lawful_after_each : (clerks : ℕ) (steps : List (Step Command)) (outcomes : List (Outcome PartId Answer)) (after : World PartId PartValue Command Answer) → IsRun (docket_rules bench) (opening_world clerks) steps outcomes after → (made : ℕ) → IsLawfulAfter bench clerks steps outcomes made
+  lawful_after_each clerks steps outcomes after run made =
+      let cut = holds_after (IsSequential bench) legal_sequential clerks steps outcomes after run made in
+      record { world = cut.between; run = cut.so_far; answers = cut.holds; lawful = history_lawful cut.between.history }

@@ -1,3 +1,4 @@
+pub mod Always
 pub mod AnswersLawful
 pub mod DocketLawful
 pub mod DocketRules

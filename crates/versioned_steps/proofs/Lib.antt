@@ -6,5 +6,6 @@ pub mod StoreLemmas
 pub mod WholeLemmas
 pub mod WorldLemmas
 pub mod RunLemmas
+pub mod FinishedLemmas
 pub mod TouchLemmas
 pub mod CallerLemmas

@@ -23,7 +23,7 @@ set_same (y ∷ ys) zero x at = ap (λ z. z ∷ ys) (sym (same_Some y x at))
 set_same (y ∷ ys) (suc k) x at = ap (λ l. y ∷ l) (set_same ys k x at)
 
 -- what stands in a list after one element was exchanged: the new one, or what stood there before
-get_set : {X : Type 0} (xs : List X) (i : ℕ) (x : X) (j : ℕ) (y : X) → slice_get (slice_set xs i x) j ≡ Some y → ((j ≡ i) × (x ≡ y)) ⊎ (slice_get xs j ≡ Some y)
+pub get_set : {X : Type 0} (xs : List X) (i : ℕ) (x : X) (j : ℕ) (y : X) → slice_get (slice_set xs i x) j ≡ Some y → ((j ≡ i) × (x ≡ y)) ⊎ (slice_get xs j ≡ Some y)
 get_set [] i x j y at = inr at
 get_set (z ∷ zs) zero x zero y at = inl (refl, same_Some x y at)
 get_set (z ∷ zs) zero x (suc j) y at = inr at
@@ -47,6 +47,12 @@ past_end xs n i len none =
       | true ↦ λ test. absurd (clash (none (ltb-true i n test)))
       | false ↦ λ test. slice_get_past xs i (omega (arith, ltb-false i n test))
     ]) refl
+
+-- where nobody has any, no clerk has one
+pub idle_own : {X : Type 0} (n clerk : ℕ) (x : X) → slice_get (replicate n None) clerk ≡ Some (Some x) → ⊥
+idle_own zero clerk x at = none-some (Some x) at
+idle_own (suc n) zero x at = none-some x (same_Some None (Some x) at)
+idle_own (suc n) (suc clerk) x at = idle_own n clerk x at
 
 module _ {Part Value Command Answer : Type 0} where
   -- a move that looks at no history, beside any history
@@ -72,12 +78,6 @@ module _ {Part Value Command Answer : Type 0} where
         | inl this ↦ let P : Option (DraftView Part Value Command Answer) → Type 0 = λ o. IfSome o (λ x. x.clerk ≡ clerk) in subst P this.1 new ∙ sym this.0
         | inr old ↦ own other d old
       ]
-
-  -- where nobody has a draft, there is none of another clerk
-  pub idle_own : (n clerk : ℕ) (d : DraftView Part Value Command Answer) → slice_get (replicate n None) clerk ≡ Some (Some d) → ⊥
-  idle_own zero clerk d at = none-some (Some d) at
-  idle_own (suc n) zero d at = none-some d (same_Some None (Some d) at)
-  idle_own (suc n) (suc clerk) d at = idle_own n clerk d at
 
 module _ {Part Value Command Answer : Type 0} (r : Rules Part Value Command Answer) where
   -- a clerk's move is a step of the world

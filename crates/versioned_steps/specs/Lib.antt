@@ -6,4 +6,5 @@ pub mod Stores
 pub mod World
 pub mod Moves
 pub mod Serial
+pub mod Finished
 pub mod Words

@@ -7,3 +7,4 @@ pub use Rattle.versioned_steps.specs.Drafts.{DecisionView, DraftView, decided, I
 pub use Rattle.versioned_steps.specs.Stores.{StoreView, ChangeView, IsStaged, Replays}
 pub use Rattle.versioned_steps.specs.World.{World, IsRun, opening_world, world_of}
 pub use Rattle.versioned_steps.specs.Serial.{Served, served, IsSerial}
+pub use Rattle.versioned_steps.specs.Finished.{Finish, begun_by, begun_then, finish_of, finishes, entered}

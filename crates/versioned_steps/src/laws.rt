@@ -1,11 +1,12 @@
 //! Laws of the definitions, each the contract of a function that does nothing.
-ghost use Rattle.std.specs.Prelude.{◌≡◌, ℕ, true, [], ◌<◌, ◌≤◌, List, length};
+ghost use Rattle.std.specs.Prelude.{◌≡◌, ℕ, true, None, [], ◌<◌, ◌≤◌, List, length};
 ghost use Rattle.versioned_steps.specs.declared.entry.Entry.{Entry};
 ghost use Rattle.versioned_steps.specs.declared.step.Step.{Step};
 ghost use Rattle.versioned_steps.specs.declared.step.Outcome.{Outcome};
+ghost use Rattle.versioned_steps.specs.Finished.{entered, finishes};
 ghost use Rattle.versioned_steps.specs.History.{is_legal, version_of, TouchesAt, IsLastTouch};
 ghost use Rattle.versioned_steps.specs.Reads.{Read, IsFresh};
-ghost use Rattle.versioned_steps.specs.World.{World, IsRun};
+ghost use Rattle.versioned_steps.specs.World.{World, IsRun, opening_world};
 ghost use Rattle.versioned_steps.specs.Serial.{IsSerial};
 
 use crate::parted::Parted;
@@ -33,4 +34,12 @@ pub fn fresh_means_untouched<P: Parted>()
     ensures untouched { (parts : P) (history : List (Entry P.Command P.Answer)) (x : Read P.Part P.Value) →
         ((later : ℕ) → x.at < later → later ≤ length history → TouchesAt (P.rules parts) history later x.part → ⊥) →
         IsFresh (P.rules parts) history x }
+{}
+
+/// Each finished command stands once in the history, and nothing else does: the steps that were answered Finished are, in
+/// their order, its entries at the places 1, 2, 3 and so on, each with the step's clerk, the command that this clerk began
+/// last, the place that was answered and the answer. So no two steps are answered one place.
+pub fn finished_commands_stand_once<P: Parted>()
+    ensures { (parts : P) (clerks : ℕ) (steps : List (Step P.Command)) (outcomes : List (Outcome P.Part P.Answer)) (after : World P.Part P.Value P.Command P.Answer) →
+        IsRun (P.rules parts) (opening_world clerks) steps outcomes after → finishes (λ _. None) steps outcomes ≡ entered 1 after.history }
 {}

@@ -18,7 +18,9 @@ mod store;
 pub use decision::Decision;
 pub use draft::{Draft, ReadNote};
 pub use entry::Entry;
-pub use laws::{fresh_means_untouched, serial_history, versions_are_last_touches};
+pub use laws::{
+    finished_commands_stand_once, fresh_means_untouched, serial_history, versions_are_last_touches,
+};
 pub use parted::Parted;
 pub use run::{World, run_steps, run_steps_in};
 pub use stale::Stale;

@@ -1,0 +1,8 @@
+use Rattle.docket_laws.specs.Words.{AllHaveNotice}
+use Rattle.shared_docket.specs.Sequential.{commands_of, rows_of}
+use Rattle.shared_docket.proofs.AlwaysLemmas.{always}
+use Rattle.shared_docket.proofs.laws.every_hearing_is_noticed.Goals as goal
+
+pub returns : goal.returns
+returns c =
+    always (λ bench history. AllHaveNotice (rows_of bench history)) (λ bench history legal. c.every_hearing_has_its_notice.ensures bench (commands_of history))

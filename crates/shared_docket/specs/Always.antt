@@ -1,0 +1,64 @@
+-- What holds of the docket that clerks share, after each step of every run.
+use Rattle.std.specs.Prelude.{◌≡◌, ℕ, None, List, drop, filter, map, take}
+use Rattle.docket_rows.specs.declared.answer.Answer.{Answer}
+use Rattle.docket_rows.specs.declared.command.Command.{Command}
+use Rattle.docket_rows.specs.declared.part.PartId.{PartId}
+use Rattle.docket_rows.specs.declared.part.PartValue.{PartValue}
+use Rattle.docket_rows.specs.declared.query.Query.TheVariants as query
+use Rattle.docket_rows.specs.declared.sheet.Sheet.{Sheet}
+use Rattle.docket_rows.specs.declared.view.View.TheVariants as view
+use Rattle.docket_rows.specs.Words.{Bench, Parts, is_deadline_in, part_value, parts_of, seen_by}
+use Rattle.docket_laws.specs.Words.{AllHaveNotice, NoneIsBookedTwice, deadline_on_sheet}
+use Rattle.versioned_steps.specs.Words.{World, IsRun, entered, finishes, opening_world, value_of}
+use Rattle.versioned_steps.specs.declared.entry.Entry.{Entry}
+use Rattle.versioned_steps.specs.declared.step.Step.{Step}
+use Rattle.versioned_steps.specs.declared.step.Outcome.{Outcome}
+use Rattle.shared_docket.specs.DocketRules.{docket_rules}
+use Rattle.shared_docket.specs.Sequential.{IsSequential, rows_of}
+
+-- a run of so many clerks, cut short once that many of its steps were made: what is finished by then is as claimed
+pub record HoldsAfter (claim : List (Entry Command Answer) → Type 0) (bench : Bench) (clerks : ℕ) (steps : List (Step Command)) (outcomes : List (Outcome PartId Answer)) (end : World PartId PartValue Command Answer) (made : ℕ) : Type 0 where
+  pub between : World PartId PartValue Command Answer
+  pub so_far : IsRun (docket_rules bench) (opening_world clerks) (take made steps) (take made outcomes) between
+  pub from_there : IsRun (docket_rules bench) between (drop made steps) (drop made outcomes) end
+  pub holds : claim between.history
+
+-- what is finished is as claimed after each step of every run of any clerks in any court, before the first step and
+-- after the last one too
+abbrev pub AlwaysHolds : (Bench → List (Entry Command Answer) → Type 0) → Type 0
+AlwaysHolds claim =
+    (bench : Bench) (clerks : ℕ) (steps : List (Step Command)) (outcomes : List (Outcome PartId Answer)) (end : World PartId PartValue Command Answer) →
+    IsRun (docket_rules bench) (opening_world clerks) steps outcomes end → (made : ℕ) → HoldsAfter (claim bench) bench clerks steps outcomes end made
+
+-- what clerks share after a history is one docket: each answer is that of the step on the rows of those before it, and
+-- each part holds what it holds of the rows after all of them
+pub record IsOneDocket (bench : Bench) (history : List (Entry Command Answer)) : Type 0 where
+  pub answers : IsSequential bench history
+  pub parts : (part : PartId) → value_of (docket_rules bench) history part ≡ part_value (parts_of (rows_of bench history)) part
+
+-- the sheet of a case, as the parts show it that clerks share, has just the deadlines that are docketed in the case, each
+-- with the end that the rules give it by the days as they are docketed then
+abbrev pub ShowDeadlines : Bench → List (Entry Command Answer) → Type 0
+ShowDeadlines bench history =
+    (parts : Parts) → ((part : PartId) → part_value parts part ≡ value_of (docket_rules bench) history part) →
+    (case : ℕ) (sheet : Sheet) → seen_by bench parts (query.Sheet case) ≡ view.Sheet sheet →
+    sheet.deadlines ≡ map (deadline_on_sheet bench (rows_of bench history)) (filter (is_deadline_in case) (rows_of bench history).deadlines)
+
+abbrev pub ClerksShareOneDocket : Type 0
+ClerksShareOneDocket = AlwaysHolds IsOneDocket
+
+abbrev pub NoneIsDoubleBooked : Type 0
+NoneIsDoubleBooked = AlwaysHolds (λ bench history. NoneIsBookedTwice (rows_of bench history))
+
+abbrev pub HearingsHaveNotice : Type 0
+HearingsHaveNotice = AlwaysHolds (λ bench history. AllHaveNotice (rows_of bench history))
+
+abbrev pub DeadlinesAreShown : Type 0
+DeadlinesAreShown = AlwaysHolds ShowDeadlines
+
+-- The steps that were answered Finished are, in their order, the entries of the history at the places 1, 2, 3 and so on:
+-- by clerk, the command that this clerk began last, place and answer. The clerks have begun nothing before.
+abbrev pub FinishedStandOnce : Type 0
+FinishedStandOnce =
+    (bench : Bench) (clerks : ℕ) (steps : List (Step Command)) (outcomes : List (Outcome PartId Answer)) (end : World PartId PartValue Command Answer) →
+    IsRun (docket_rules bench) (opening_world clerks) steps outcomes end → finishes (λ _. None) steps outcomes ≡ entered 1 end.history
