@@ -1,1 +1,6 @@
+pub mod AskedLemmas
+pub mod CallerLemmas
+pub mod ChangeLemmas
+pub mod PublishedLemmas
+pub mod SlotLemmas
 pub mod TrailLemmas
