@@ -31,6 +31,16 @@ pub puts_push : (version : ℕ) (writes : List (PartId × PartValue)) (w : PartI
 puts_push version [] w = refl
 puts_push version (x ∷ xs) w = ap (λ l. l ++ Put (slot_of x.0) version x.1 ∷ []) (puts_push version xs w)
 
+-- so what is pending, and then the changes of the writes that are left, stays the same
+pub puts_more : (version : ℕ) (pending : List Change) (writes : List (PartId × PartValue)) (w : PartId × PartValue)
+    → (pending ++ Put (slot_of w.0) version w.1 ∷ []) ++ puts_of version writes ≡ pending ++ puts_of version (writes ++ w ∷ [])
+puts_more version pending writes w = append_assoc pending (Put (slot_of w.0) version w.1 ∷ []) (puts_of version writes) ∙ ap (λ l. pending ++ l) (sym (puts_push version writes w))
+
+-- to grow to the same history changes nothing
+pub fill_more : (x : Board) (pending : List Change) (trail : Past) → fold applied_to x pending ≡ x → trail ≡ x.trail → fold applied_to x (pending ++ Grow trail ∷ []) ≡ x
+fill_more x pending trail same is =
+    fold-append applied_to x pending (Grow trail ∷ []) ∙ (ap (λ y. applied_to y (Grow trail)) same ∙ ap (λ t. record x { trail = t }) is)
+
 -- what they come to, one after another
 pub puts_made : (x : Board) (version : ℕ) (writes : List (PartId × PartValue)) → fold applied_to x (puts_of version writes) ≡ record x { slots = put_all version writes x.slots }
 puts_made x version [] = refl

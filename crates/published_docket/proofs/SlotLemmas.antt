@@ -133,6 +133,10 @@ module _ (bench : Bench) (small : IsSmall bench) where
 
 -- the slots before any entry
 module _ (bench : Bench) where
+  pub opening_none : opening_slots bench 0 ≡ []
+  unfolding opening_slots
+  opening_none = refl
+
   pub opening_more : (n : ℕ) (slots : List Slot) → slots ≡ opening_slots bench n → slots ++ opening_slot bench n ∷ [] ≡ opening_slots bench (n + 1)
   unfolding opening_slots
   opening_more n slots same = rw (same, add-one n) refl

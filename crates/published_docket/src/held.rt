@@ -89,7 +89,8 @@ impl Held {
         }
     }
 
-    /// Adds so many changes that change nothing.
+    /// Adds so many changes that change nothing. `Err` says that memory ran out.
+    #[tactic(auto, using(crate::proofs::ChangeLemmas::fill_more))]
     pub(crate) fn fill(&mut self, trail: &Trail, count: u32) -> Result<(), AllocError>
         requires { trail.now ≡ self.old.shown.trail }
         ensures shown { self.new.shown ≡ self.old.shown }

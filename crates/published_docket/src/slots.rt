@@ -38,7 +38,7 @@ fn part_at(slot: u32) -> PartId
 }
 
 /// The slots before any entry, each with its part's opening value. `Err` says that memory ran out.
-#[tactic(auto, using(crate::proofs::SlotLemmas::opening_more))]
+#[tactic(auto, using(crate::proofs::SlotLemmas::opening_none, crate::proofs::SlotLemmas::opening_more))]
 pub(crate) fn opening_slots(alloc: Global, parts: &DocketParts) -> Result<Vec<Slot>, AllocError>
     ensures { IfOk result (λ slots. slots.items ≡ opening_slots parts.now 4161) }
 {
