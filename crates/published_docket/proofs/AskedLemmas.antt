@@ -1,22 +1,18 @@
 -- What a query shows rests on the parts that it reads.
-use Rattle.std.proofs.Common.{◌≡◌, ℕ, ◌<◌, ◌≤◌, nat_lt, true, false, not, List, [], ◌∷◌, refl, ap, sym, ◌∙◌, arith, inl, inr}
+use Rattle.std.proofs.Common.{◌≡◌, ◌≤◌, nat_lt, false, refl, ap, ◌∙◌, arith, inl, inr}
 use Rattle.std.proofs.lemmas.Bool.{cases_Bool}
 use Rattle.std.proofs.lemmas.Bool.Decides.{nat_tests}
 use Rattle.std.proofs.lemmas.Cmp.{nat_eq_equiv}
-use Rattle.std.specs.Option.{option_map_or}
-use Rattle.docket_rows.specs.declared.answer.Answer.{Answer}
-use Rattle.docket_rows.specs.declared.command.Command.{Command}
 use Rattle.docket_rows.specs.declared.part.PartId.{PartId}
 use Rattle.docket_rows.specs.declared.part.PartId.TheVariants.{Court, Judge, Case}
 use Rattle.docket_rows.specs.declared.part.PartValue.{PartValue}
 use Rattle.docket_rows.specs.declared.query.Query.{Query}
 use Rattle.docket_rows.specs.declared.query.Query.TheVariants.{Sheet, JudgeDay, Compute}
 use Rattle.docket_rows.specs.Words.{Bench, Parts, is_case_number, part_value, parts_of, parts_read, query_refusal, seen_by, view_of}
-use Rattle.versioned_steps.specs.declared.entry.Entry.{Entry}
-use Rattle.versioned_steps.specs.Words.{is_legal, value_of}
+use Rattle.versioned_steps.specs.Words.{value_of}
 use Rattle.shared_docket.specs.Words.{docket_rules, rows_of}
 use Rattle.shared_docket.proofs.CallerLemmas.{legal_values}
-use Rattle.published_docket.specs.Asked.{asked, parts_asked, reads_asked}
+use Rattle.published_docket.specs.Asked.{parts_asked, reads_asked}
 use Rattle.published_docket.specs.Boards.{Board, IsShown}
 use Rattle.published_docket.specs.Slots.{IsSmall}
 

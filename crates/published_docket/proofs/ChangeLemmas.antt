@@ -1,6 +1,5 @@
 -- What an entry changes of the slots.
-use Rattle.std.proofs.Common.{◌≡◌, ◌≢◌, ℕ, ◌+◌, ◌<◌, Bool, true, false, Option, Some, None, is_some, unwrap_or, List, [], ◌∷◌, ◌++◌, length, map, fold, set, get_or, slice_get, refl, ap, sym, ◌∙◌, subst, arith, inl, inr, append_assoc, All, Contains, if◌then◌else◌}
-use Rattle.std.specs.Map.{lookup}
+use Rattle.std.proofs.Common.{◌≡◌, ◌≢◌, ℕ, ◌+◌, ◌<◌, Option, Some, None, List, [], ◌∷◌, ◌++◌, length, fold, get_or, refl, ap, sym, ◌∙◌, arith, inl, inr, append_assoc, All, Contains}
 use Rattle.std.specs.Option.{option_map_or}
 use Rattle.std.proofs.lemmas.Bool.{cases_Bool, false≢true}
 use Rattle.std.proofs.lemmas.List.{length-set, get_or-set_same, get_or-set_other}
@@ -13,14 +12,14 @@ use Rattle.docket_rows.specs.declared.part.PartId.{PartId}
 use Rattle.docket_rows.specs.declared.part.PartValue.{PartValue}
 use Rattle.docket_rows.specs.Words.{Bench}
 use Rattle.versioned_steps.specs.declared.entry.Entry.{Entry}
-use Rattle.versioned_steps.specs.Words.{AreReadAfter, MayFollow, is_legal, parts_named, reads_on, touches, value_of, version_of, write_to, writes_on}
-use Rattle.versioned_steps.proofs.CallerLemmas.{legal_push, reads_whole, value_push, version_push}
+use Rattle.versioned_steps.specs.Words.{AreReadAfter, parts_named, reads_on, value_of, write_to, writes_on}
+use Rattle.versioned_steps.proofs.CallerLemmas.{reads_whole, value_push, version_push}
 use Rattle.shared_docket.specs.Words.{docket_rules}
 use Rattle.shared_docket.proofs.CallerLemmas.{docket_lawful}
 use Rattle.published_docket.specs.declared.change.Change.{Change}
 use Rattle.published_docket.specs.declared.change.Change.TheVariants.{Put, Grow}
 use Rattle.published_docket.specs.declared.slot.Slot.{Slot}
-use Rattle.published_docket.specs.Boards.{Board, IsShown, known_of}
+use Rattle.published_docket.specs.Boards.{Board}
 use Rattle.published_docket.specs.Changes.{applied_to, puts_of, put_all}
 use Rattle.published_docket.specs.Slots.{HasSlot, IsSmall, IsReplayed, slot_after, slot_of}
 use Rattle.published_docket.specs.Trails.{Past}

@@ -1,5 +1,5 @@
 -- The steps that keep the rule of what is published.
-use Rattle.std.proofs.Common.{◌≡◌, ◌≢◌, ◌⊎◌, ℕ, ◌+◌, Option, Some, None, IfSome, List, [], ◌∷◌, ◌++◌, length, fold, set, true, refl, ap, sym, ◌∙◌, subst, ⊎_elim, append_assoc}
+use Rattle.std.proofs.Common.{◌≡◌, ◌≢◌, ℕ, ◌+◌, Option, Some, None, IfSome, List, [], ◌∷◌, ◌++◌, length, set, refl, ap, sym, ◌∙◌, subst, ⊎_elim, append_assoc}
 use Rattle.std.proofs.lemmas.List.{append-nil}
 use mathlib.Core.Option.{some}
 use mathlib.Core.List.{IsPrefix}
@@ -12,7 +12,7 @@ use Rattle.docket_rows.specs.declared.part.PartId.{PartId}
 use Rattle.docket_rows.specs.declared.part.PartValue.{PartValue}
 use Rattle.docket_rows.specs.Words.{Bench}
 use Rattle.versioned_steps.specs.declared.entry.Entry.{Entry}
-use Rattle.versioned_steps.specs.Words.{MayFollow, is_legal, value_of, writes_on}
+use Rattle.versioned_steps.specs.Words.{MayFollow, value_of, writes_on}
 use Rattle.versioned_steps.proofs.CallerLemmas.{legal_empty, legal_push}
 use Rattle.shared_docket.specs.Words.{docket_rules}
 use Rattle.shared_docket.proofs.CallerLemmas.{docket_lawful}
@@ -69,6 +69,9 @@ turns seat v x y may views h at =
 -- it may stay as it is
 pub stays : (x : Board) → MayShow x x
 stays x = record { shown = λ shown. shown; grown = extends_itself x }
+
+pub stays_same : (x y : Board) → y ≡ x → MayShow x y
+stays_same x y same = subst (λ (z : Board). MayShow x z) (sym same) (stays x)
 
 pub looks : (seat : ℕ) (v : Option Known) (x : Board) → TurnsAt Published seat v x x Sees
 looks seat v x = turns seat v x x (stays x)

@@ -6,7 +6,7 @@ use Rattle.versioned_steps.specs.Words.{is_legal}
 use Rattle.shared_docket.specs.Words.{docket_rules}
 use Rattle.published_docket.specs.declared.change.Change.{Change}
 use Rattle.published_docket.specs.declared.known.Known.{Known}
-use Rattle.published_docket.specs.Boards.{Board, IsShown, known_of}
+use Rattle.published_docket.specs.Boards.{Board, known_of}
 use Rattle.published_docket.specs.Counted.{head_of}
 use Rattle.published_docket.specs.Slots.{IsSmall}
 use Rattle.published_docket.specs.Trails.{Past}

@@ -84,7 +84,8 @@ impl Held {
         ensures { self.new ≡ record self.old { pending = self.old.pending ++ puts_of version writes.items } }
     {
         let mut writes = writes;
-        while let Some((part, value)) = writes.pop() {
+        while let Some(write) = writes.pop() {
+            let (part, value) = write;
             self.queue(rt, Change::Put(slot_of(part), version, value));
         }
     }

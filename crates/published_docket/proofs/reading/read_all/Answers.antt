@@ -1,6 +1,6 @@
-use Rattle.std.proofs.Common.{◌≡◌, ◌+◌, ◌∙◌, Some, None, ap, length, length-append, rules, arith}
-use Rattle.versioned_steps.specs.Words.{copies_of, decided, DraftView}
-use Rattle.versioned_steps.proofs.CallerLemmas.{reading_more, reading_room, reading_done}
+use Rattle.std.proofs.Common.{◌≡◌, ◌+◌, ◌∙◌, Some, ap, length, length-append, rules, arith}
+use Rattle.versioned_steps.specs.Words.{copies_of, DraftView}
+use Rattle.versioned_steps.proofs.CallerLemmas.{reading_more, reading_room}
 use Rattle.docket_rows.specs.declared.answer.Answer.{Answer}
 use Rattle.docket_rows.specs.declared.command.Command.{Command}
 use Rattle.docket_rows.specs.declared.part.PartId.{PartId}

@@ -3,12 +3,12 @@ use Rattle.published_docket.specs.Changes.{puts_of}
 use Rattle.published_docket.proofs.held.Held.write.Given as goal
 
 -- what was taken off is pending
-abbrev pub invariant-loop-part : goal.invariant-loop-part
-invariant-loop-part g l = record {
+abbrev pub invariant-loop-write : goal.invariant-loop-write
+invariant-loop-write g l = record {
   shown : l.self.shown ≡ l.fn.self.shown;
   known : l.self.known ≡ l.fn.self.known;
   pending : l.self.pending ++ puts_of l.version l.writes.items ≡ l.fn.self.pending ++ puts_of l.version l.fn.writes.items;
 }
 
-abbrev pub decreases-loop-part : goal.decreases-loop-part
-decreases-loop-part g l = goal.left-loop-part g l
+abbrev pub decreases-loop-write : goal.decreases-loop-write
+decreases-loop-write g l = goal.left-loop-write g l
