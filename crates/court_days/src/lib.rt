@@ -10,8 +10,6 @@ mod fault;
 mod holiday_list;
 mod key;
 mod laws;
-#[cfg(test)]
-mod tests;
 
 pub use clock::{Clock, Instant, minute_from_text};
 pub use court::Court;

@@ -25,5 +25,3 @@ pub use need::Need;
 pub use open_calendar::OpenCalendar;
 pub use panel::Panel;
 
-#[cfg(test)]
-mod tests;

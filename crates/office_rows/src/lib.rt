@@ -9,8 +9,6 @@ mod forms;
 mod laws;
 mod records;
 mod row;
-#[cfg(test)]
-mod tests;
 
 pub use fault::{RowCause, RowError};
 pub use laws::{

@@ -6,8 +6,6 @@ mod days;
 mod hours;
 mod laws;
 mod service;
-#[cfg(test)]
-mod tests;
 mod timeliness;
 
 pub use access::{extended_for_access, extended_for_access_hours};

@@ -16,8 +16,6 @@ mod refusal;
 mod rule;
 mod showing;
 mod start;
-#[cfg(test)]
-mod tests;
 
 pub use deadline::{DeadlineRow, kept_filing};
 pub use docket_row::DocketRow;

@@ -1,0 +1,27 @@
+//! What no clause says and no whole run shows: instants, changes that leave older values as they were, full lists,
+//! and calls that the program doesn't make.
+mod calendars;
+mod clock;
+mod days;
+mod deadlines;
+
+use court_days::{Court, Day};
+use std::alloc::Global;
+use std::process::Abort;
+use std::test::Fail;
+
+/// The sample court.
+fn court(alloc: Global) -> Result<Court, Fail> {
+    Ok(Court::from_bytes(alloc, sample_court::file().as_bytes())?)
+}
+
+/// The sample court in another zone.
+fn court_in(alloc: Global, zone: &str) -> Result<Court, Fail> {
+    let line = format!(in alloc; "zone = \"{zone}\"")?;
+    let file = sample_court::file_with(alloc, "zone", line.as_str())?;
+    Ok(Court::from_bytes(alloc, file.as_bytes())?)
+}
+
+fn day(rt: &impl Abort, text: &str) -> Day {
+    Day::from_text(text).expect(rt, "a day")
+}
