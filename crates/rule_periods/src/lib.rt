@@ -22,6 +22,7 @@ mod tests;
 pub use deadline::{DeadlineRow, kept_filing};
 pub use docket_row::DocketRow;
 pub use event::Event;
+pub use expiry::Expiry;
 pub use extension::{may_extend, shown_with};
 pub use grant::{Grant, Request};
 pub use laws::codes_name_periods;
