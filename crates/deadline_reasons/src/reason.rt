@@ -1,8 +1,16 @@
 //! The reasons for which a deadline is the day or the instant that it is.
 
+ghost use Rattle.std.specs.Prelude.{◌≡◌, ◌++◌, ◌∷◌, [], IfOk};
+ghost use Rattle.court_days.specs.Words.{DaysView, ClockView};
+ghost use Rattle.rule_periods.specs.Words.{DeadlineRowView};
+ghost use Rattle.deadline_reasons.specs.Derivation.{Lead};
+ghost use Rattle.deadline_reasons.specs.Follows.{Follows};
+ghost use Rattle.deadline_reasons.specs.Standing.{Standing, Unstarted};
+
 use court_days::{Day, Instant, Outage};
-use rule6::ServiceKind;
 use rule_periods::Grant;
+use rule6::ServiceKind;
+use std::alloc::AllocError;
 
 /// Why a day is passed over.
 #[derive(Clone, Copy, Debug, PartialEq, Eq)]
@@ -66,4 +74,17 @@ pub enum Reason {
     NotCovered,
     /// The deadline lies beyond the days that are covered.
     Beyond,
+}
+
+/// The types that a reason is made of, which a function that fills a list of reasons has to name.
+type ReasonTypes = Option<(Day, Cause, ServiceKind, Grant, Instant, Outage)>;
+
+/// Adds a reason. Whatever follows by it is reached behind the ones before.
+pub(crate) fn push(reasons: &mut Vec<Reason>, reason: Reason) -> Result<(), AllocError>
+    ensures items { IfOk result (λ _. reasons.new.items ≡ reasons.old.items ++ reason ∷ []) }
+    ensures leads { (c : DaysView) (clock : ClockView) (row : DeadlineRowView) (here next : Standing) → IfOk result (λ _. Lead c clock row Unstarted reasons.old.items here → Follows c clock row here reason next → Lead c clock row Unstarted reasons.new.items next) }
+{
+    let _types: ReasonTypes = None;
+    reasons.push(reason)?;
+    Ok(())
 }

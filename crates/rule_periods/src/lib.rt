@@ -19,6 +19,7 @@ mod start;
 #[cfg(test)]
 mod tests;
 
+pub use base::{kind_adds, later_event, runs_from_service};
 pub use deadline::{DeadlineRow, kept_filing};
 pub use docket_row::DocketRow;
 pub use event::Event;
@@ -30,5 +31,5 @@ pub use notice::{affidavit_day, notice_day};
 pub use period::{Entered, Length, Mark, Period};
 pub use refusal::PeriodRefusal;
 pub use rule::{ExtensionRule, RulePeriod, ServiceRule, Terms};
-pub use showing::shown;
+pub use showing::{access_direction, ends_certain, is_moved_by_access, shown};
 pub use start::check_start;
