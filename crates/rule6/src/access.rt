@@ -61,9 +61,9 @@ fn meets_an_outage(days: &Days, clock: &Clock, end: Instant) -> bool
         .any(|outage| meets_last_hour(clock, end, *outage))
 }
 
-/// Whether the outage meets the last hour before the end. The hour is taken in stretches through which the clock's
-/// offset stays as it is.
-fn meets_last_hour(clock: &Clock, end: Instant, outage: Outage) -> bool
+/// Whether the outage meets the last hour before the end (Fed. R. Civ. P. 6(a)(3)(B)). The hour is taken in
+/// stretches through which the clock's offset stays as it is.
+pub fn meets_last_hour(clock: &Clock, end: Instant, outage: Outage) -> bool
     ensures { result ≡ meets_last_hour clock.now end outage }
 {
     let (begins, ends) = shut_seconds(outage);

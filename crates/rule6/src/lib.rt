@@ -8,7 +8,7 @@ mod laws;
 mod service;
 mod timeliness;
 
-pub use access::{extended_for_access, extended_for_access_hours};
+pub use access::{extended_for_access, extended_for_access_hours, meets_last_hour};
 pub use days::last_day;
 pub use hours::end_of_hours;
 pub use laws::{end_of_hours_is_counted, last_day_is_counted, last_hour_is_by_seconds};

@@ -73,7 +73,7 @@ fn end_of_length(
 }
 
 /// The event of a period that may take a second day: the later of the two.
-fn later_event(event: Day, second: Option<Day>) -> Day
+pub fn later_event(event: Day, second: Option<Day>) -> Day
     ensures { result ≡ later_event event second }
 {
     match second {
@@ -83,7 +83,7 @@ fn later_event(event: Day, second: Option<Day>) -> Day
 }
 
 /// Whether the kind of service that was given adds three days (Fed. R. Civ. P. 6(d)).
-fn kind_adds(service: Option<ServiceKind>, served: Day) -> bool
+pub fn kind_adds(service: Option<ServiceKind>, served: Day) -> bool
     ensures { result ≡ kind_adds service served }
 {
     match service {
@@ -93,7 +93,7 @@ fn kind_adds(service: Option<ServiceKind>, served: Day) -> bool
 }
 
 /// Whether a period of the table runs from service under Rule 5(b)(2).
-fn runs_from_service(rule: ServiceRule) -> bool
+pub fn runs_from_service(rule: ServiceRule) -> bool
     ensures { result ≡ runs_from_service rule }
 {
     matches!(rule, ServiceRule::Required)

@@ -4,7 +4,7 @@ use court_days::{Day, Instant};
 
 /// The end of a period in days, or of one in hours.
 #[derive(Clone, Copy, Debug, PartialEq, Eq)]
-pub(crate) enum Expiry {
+pub enum Expiry {
     /// With a last day.
     OnDay(Day),
     /// At an instant.

@@ -17,9 +17,11 @@ mod rule;
 mod showing;
 mod start;
 
+pub use base::{kind_adds, later_event, runs_from_service};
 pub use deadline::{DeadlineRow, kept_filing};
 pub use docket_row::DocketRow;
 pub use event::Event;
+pub use expiry::Expiry;
 pub use extension::{may_extend, shown_with};
 pub use grant::{Grant, Request};
 pub use laws::codes_name_periods;
@@ -27,5 +29,5 @@ pub use notice::{affidavit_day, notice_day};
 pub use period::{Entered, Length, Mark, Period};
 pub use refusal::PeriodRefusal;
 pub use rule::{ExtensionRule, RulePeriod, ServiceRule, Terms};
-pub use showing::shown;
+pub use showing::{access_direction, ends_certain, is_moved_by_access, shown};
 pub use start::check_start;

@@ -83,7 +83,7 @@ fn accessed(days: &Days, clock: &Clock, direction: Direction, end: Expiry) -> Op
 }
 
 /// Whether inaccessibility moves the end: of the time for filing, unless it is a date certain.
-fn is_moved_by_access(act: Act, certain: bool) -> bool
+pub fn is_moved_by_access(act: Act, certain: bool) -> bool
     ensures { result ≡ is_moved_by_access act certain }
 {
     match act {
@@ -93,7 +93,7 @@ fn is_moved_by_access(act: Act, certain: bool) -> bool
 }
 
 /// Whether the last extension is to a date certain.
-fn ends_certain(grants: &[Grant]) -> bool
+pub fn ends_certain(grants: &[Grant]) -> bool
     ensures { result ≡ ends_certain grants.now }
 {
     match grants.last() {
@@ -103,7 +103,7 @@ fn ends_certain(grants: &[Grant]) -> bool
 }
 
 /// Whose holidays count for access: the period's, or, once an extension was granted, those of a period after an event.
-fn access_direction(direction: Direction, grants: &[Grant]) -> Direction
+pub fn access_direction(direction: Direction, grants: &[Grant]) -> Direction
     ensures { result ≡ access_direction direction grants.now }
 {
     if grants.is_empty() {

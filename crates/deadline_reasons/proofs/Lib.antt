@@ -1,0 +1,5 @@
+pub mod PassingLemmas
+pub mod Answer
+pub mod AnswerLemmas
+pub mod HourLemmas
+pub mod DerivationLemmas

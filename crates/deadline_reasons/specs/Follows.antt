@@ -1,0 +1,142 @@
+-- What may be said next, and how far it leads: one step of a derivation, by the rule that it names. Each definition
+-- here speaks of one standing; what it doesn't name can't follow there.
+use Rattle.std.specs.Prelude.{◌≡◌, ℕ, ◌*◌, ℤ, pos, ◌+ℤ◌, Bool, true, false, ◌&&◌, Contains, List, [], ◌∷◌, Option, Some, None}
+use Rattle.std.specs.List.{list_any}
+use Rattle.court_days.specs.declared.direction.Direction.{Direction}
+use Rattle.court_days.specs.declared.direction.Direction.TheVariants.{After}
+use Rattle.court_days.specs.Words.{DaysView, ClockView, counted_from, is_covered, is_open, is_permitted, has_outage, civil_of, instant_of, offset_seconds}
+use Rattle.rule6.specs.declared.timeliness.Act.{Act}
+use Rattle.rule6.specs.declared.timeliness.Act.TheVariants as act
+use Rattle.rule6.specs.declared.timeliness.Shown.TheVariants as shown
+use Rattle.rule6.specs.Words.{next_day, hours_from, meets_last_hour}
+use Rattle.rule_periods.specs.declared.grant.Grant.{Grant}
+use Rattle.rule_periods.specs.declared.grant.Grant.TheVariants.{ByDays, ByHours, Until}
+use Rattle.rule_periods.specs.declared.period.Length.{Length}
+use Rattle.rule_periods.specs.declared.period.Length.TheVariants.{Days, Hours}
+use Rattle.rule_periods.specs.Words.{DeadlineRowView, act_of, direction_of, grant_fits, is_certain, is_in_hours}
+use Rattle.deadline_reasons.specs.declared.look.Look.{Look}
+use Rattle.deadline_reasons.specs.declared.reason.Reason.{Reason}
+use Rattle.deadline_reasons.specs.declared.reason.Reason.TheVariants as reason
+use Rattle.deadline_reasons.specs.Passing.{IsCause, away_from_event, for_access, day_later}
+use Rattle.deadline_reasons.specs.Row.{length_of, event_day, adds_three, needs_access, access_holidays}
+use Rattle.deadline_reasons.specs.Standing.{ToCome, Aim, LastDay, Hour, AccessibleDay, AccessibleHour, Standing, Unstarted, Counting, Looking, Runs, CountingHours, HoursEnd, RunsUntil, Moved, MovedUntil, Nowhere, Ended, grants_behind}
+
+-- Days are counted from the day of the event, which is excluded (Fed. R. Civ. P. 6(a)(1)(A)); hours from its instant,
+-- at once (6(a)(2)(A)).
+abbrev pub Begins : ClockView → DeadlineRowView → Length → Reason → Standing → Type 0
+Begins clock row (Days n) (reason.Excluded day) next =
+    (day ≡ event_day row row.period) × (next ≡ Counting day n (direction_of row.period) (record { three = adds_three row row.period; grants = row.grants }))
+Begins clock row (Hours h) (reason.HoursFrom instant) next =
+    (instant ≡ instant_of clock.zone row.event.day (60 * row.event.minute)) × (next ≡ CountingHours instant h (direction_of row.period) row.grants)
+Begins clock row length r next = ⊥
+
+-- Every day counts, and the last one is included (6(a)(1)(B), (C)).
+abbrev pub Counts : DaysView → ℤ → ℕ → Direction → ToCome → Reason → Standing → Type 0
+Counts c from n direction rest (reason.Counted days day) next =
+    (days ≡ n) × (day ≡ counted_from from n direction) × (is_covered c day ≡ true) × (next ≡ Looking day (away_from_event direction) (LastDay rest))
+Counts c from n direction rest reason.NotCovered next =
+    (is_covered c (counted_from from n direction) ≡ false) × (next ≡ Nowhere rest.grants)
+Counts c from n direction rest r next = ⊥
+
+-- the day that was looked for is found
+abbrev pub Finds : ClockView → ℤ → Aim → Reason → Standing → Type 0
+Finds clock d (LastDay rest) (reason.RunsTo day) next = (day ≡ d) × (next ≡ Runs d rest)
+Finds clock d (Hour second grants) (reason.SameTime day instant) next =
+    (day ≡ d) × (instant ≡ instant_of clock.zone d second) × (next ≡ RunsUntil instant grants)
+Finds clock d AccessibleDay (reason.RunsTo day) next = (day ≡ d) × (next ≡ Moved d)
+Finds clock d (AccessibleHour second) (reason.SameTime day instant) next =
+    (day ≡ d) × (instant ≡ instant_of clock.zone d second) × (next ≡ MovedUntil instant)
+Finds clock d aim r next = ⊥
+
+-- A covered day is passed over where there is a cause, and the next one is looked at; a day that is open is the one
+-- that was looked for (6(a)(1)(C), 6(a)(2)(C), 6(a)(3)).
+abbrev pub Looks : DaysView → ClockView → ℤ → Look → Aim → Reason → Standing → Type 0
+Looks c clock d look aim (reason.PassedOver day cause) next =
+    (day ≡ d) × (is_covered c d ≡ true) × IsCause c look d cause × (next ≡ Looking (next_day look.going d) look aim)
+Looks c clock d look aim reason.NotCovered next = (is_covered c d ≡ false) × (next ≡ Nowhere (grants_behind aim))
+Looks c clock d look aim r next = (is_open c look.holidays look.accessible d ≡ true) × Finds clock d aim r next
+
+-- The last day ends at midnight for service. For filing it ends at midnight by electronic means, and by others when
+-- the clerk's office is scheduled to close (6(a)(4)).
+abbrev pub Closes : ClockView → Act → ℤ → Reason → Standing → Type 0
+Closes clock act.Service last (reason.UntilMidnight day) next = (day ≡ last) × (next ≡ Ended (shown.Last last act.Service))
+Closes clock act.Filing last (reason.UntilClosing day minute) next =
+    (day ≡ last) × (minute ≡ clock.closes) × (next ≡ Ended (shown.Last last act.Filing))
+Closes clock a last r next = ⊥
+
+-- From a last day first three days are counted where the service adds them (6(d)), then each extension in turn (6(b),
+-- 4(m)). Then, for filing, an outage on the last day moves the time (6(a)(3)(A)); without one the time ends.
+abbrev pub GoesOn : DaysView → ClockView → DeadlineRowView → ℤ → Bool → List Grant → Reason → Standing → Type 0
+GoesOn c clock row last true grants (reason.ThreeAdded kind) next =
+    (row.service ≡ Some kind) × (next ≡ Counting last 3 After (record { three = false; grants = grants }))
+GoesOn c clock row last false (ByDays n ∷ grants) (reason.Extended grant) next =
+    (grant ≡ ByDays n) × (is_in_hours row.period ≡ false) × (next ≡ Counting last n After (record { three = false; grants = grants }))
+GoesOn c clock row last false (Until d ∷ grants) (reason.Extended grant) next =
+    (grant ≡ Until d) × (is_in_hours row.period ≡ false) × (next ≡ Runs d (record { three = false; grants = grants }))
+GoesOn c clock row last false (g ∷ grants) (reason.NotExtended grant) next =
+    (grant ≡ g) × (grant_fits (is_in_hours row.period) g ≡ false) × (next ≡ Nowhere grants)
+GoesOn c clock row last false [] (reason.Inaccessible outage) next =
+    (needs_access row ≡ true) × Contains c.outages outage × (outage.day ≡ last) × (next ≡ Looking (day_later c last) (for_access (access_holidays row)) AccessibleDay)
+GoesOn c clock row last false [] r next =
+    ((needs_access row && has_outage c last) ≡ false) × Closes clock (act_of row.period) last r next
+GoesOn c clock row last three grants r next = ⊥
+
+-- Every hour counts, also over a change of the clocks (6(a)(2)(B)).
+abbrev pub CountsHours : ClockView → ℤ → ℕ → Direction → List Grant → Reason → Standing → Type 0
+CountsHours clock from h direction grants (reason.HoursCounted hours instant forward) next =
+    (hours ≡ h) × (instant ≡ hours_from from h direction) × (offset_seconds clock.zone instant ≡ offset_seconds clock.zone from +ℤ forward) × (next ≡ HoursEnd instant direction grants)
+CountsHours clock from h direction grants reason.NotCovered next =
+    (civil_of clock.zone (hours_from from h direction) ≡ None) × (next ≡ Nowhere grants)
+CountsHours clock from h direction grants r next = ⊥
+
+-- Hours that end on an open day end there; from another day they are continued to the same time on the next (6(a)(2)(C)).
+abbrev pub EndsHours : DaysView → ClockView → ℤ → Direction → List Grant → Reason → Standing → Type 0
+EndsHours c clock end direction grants (reason.EndsOn day) next =
+    ((second : ℕ) × (civil_of clock.zone end ≡ Some (record { day = day; second = second }))) × (is_permitted c direction day ≡ true) × (next ≡ RunsUntil end grants)
+EndsHours c clock end direction grants (reason.Continued day second) next =
+    (civil_of clock.zone end ≡ Some (record { day = day; second = second })) × (is_permitted c direction day ≡ false) × (next ≡ Looking day (away_from_event direction) (Hour second grants))
+EndsHours c clock end direction grants reason.NotCovered next = (civil_of clock.zone end ≡ None) × (next ≡ Nowhere grants)
+EndsHours c clock end direction grants r next = ⊥
+
+-- From an instant each extension goes on in turn (6(b)). Then, for filing, an outage in the last hour moves the time
+-- (6(a)(3)(B)); without one the time ends.
+abbrev pub GoesOnUntil : DaysView → ClockView → DeadlineRowView → ℤ → List Grant → Reason → Standing → Type 0
+GoesOnUntil c clock row end (ByHours h ∷ grants) (reason.Extended grant) next =
+    (grant ≡ ByHours h) × (is_in_hours row.period ≡ true) × (next ≡ CountingHours end h After grants)
+GoesOnUntil c clock row end (g ∷ grants) (reason.NotExtended grant) next =
+    (grant ≡ g) × (grant_fits (is_in_hours row.period) g ≡ false) × (next ≡ Nowhere grants)
+GoesOnUntil c clock row end [] (reason.LastHour outage day second) next =
+    (needs_access row ≡ true) × Contains c.outages outage × (meets_last_hour clock end outage ≡ true) × (civil_of clock.zone end ≡ Some (record { day = day; second = second })) × (next ≡ Looking (day_later c day) (for_access (access_holidays row)) (AccessibleHour second))
+GoesOnUntil c clock row end [] reason.NotCovered next =
+    ((needs_access row && list_any (meets_last_hour clock end) c.outages) ≡ true) × (civil_of clock.zone end ≡ None) × (next ≡ Nowhere [])
+GoesOnUntil c clock row end [] (reason.UntilInstant instant) next =
+    ((needs_access row && list_any (meets_last_hour clock end) c.outages) ≡ false) × (instant ≡ end) × (next ≡ Ended (shown.Until end))
+GoesOnUntil c clock row end grants r next = ⊥
+
+-- the instant to which an outage moved the time
+abbrev pub ClosesAt : ℤ → Reason → Standing → Type 0
+ClosesAt end (reason.UntilInstant instant) next = (instant ≡ end) × (next ≡ Ended (shown.Until end))
+ClosesAt end r next = ⊥
+
+-- Where a day that was needed isn't covered, only an extension to a date certain gives an end.
+abbrev pub Lacks : DeadlineRowView → List Grant → Reason → Standing → Type 0
+Lacks row (Until d ∷ grants) (reason.Extended grant) next =
+    (grant ≡ Until d) × (is_in_hours row.period ≡ false) × (next ≡ Runs d (record { three = false; grants = grants }))
+Lacks row (g ∷ grants) (reason.NotExtended grant) next =
+    (grant ≡ g) × ((is_certain g && grant_fits (is_in_hours row.period) g) ≡ false) × (next ≡ Nowhere grants)
+Lacks row [] reason.Beyond next = next ≡ Ended shown.Beyond
+Lacks row grants r next = ⊥
+
+-- from where a derivation stands, this reason leads to where it stands next
+abbrev pub Follows : DaysView → ClockView → DeadlineRowView → Standing → Reason → Standing → Type 0
+Follows c clock row Unstarted r next = Begins clock row (length_of row.period) r next
+Follows c clock row (Counting from n direction rest) r next = Counts c from n direction rest r next
+Follows c clock row (Looking d look aim) r next = Looks c clock d look aim r next
+Follows c clock row (Runs last rest) r next = GoesOn c clock row last rest.three rest.grants r next
+Follows c clock row (CountingHours from h direction grants) r next = CountsHours clock from h direction grants r next
+Follows c clock row (HoursEnd end direction grants) r next = EndsHours c clock end direction grants r next
+Follows c clock row (RunsUntil end grants) r next = GoesOnUntil c clock row end grants r next
+Follows c clock row (Moved d) r next = Closes clock (act_of row.period) d r next
+Follows c clock row (MovedUntil end) r next = ClosesAt end r next
+Follows c clock row (Nowhere grants) r next = Lacks row grants r next
+Follows c clock row (Ended shown) r next = ⊥

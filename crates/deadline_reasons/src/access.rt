@@ -1,0 +1,100 @@
+//! The end of a deadline: the last day of its period, or a later day where the clerk's office was inaccessible.
+
+ghost use Rattle.std.specs.Prelude.{◌≡◌, ◌&&◌, true, false, Contains, [], IfSome, IfNone, IfOk};
+ghost use Rattle.court_days.specs.Words.{has_outage};
+ghost use Rattle.rule6.specs.declared.timeliness.Shown.{Shown};
+ghost use Rattle.rule6.specs.declared.timeliness.Shown.TheVariants as shown;
+ghost use Rattle.deadline_reasons.specs.Follows.{Closes};
+ghost use Rattle.deadline_reasons.specs.Row.{needs_access};
+ghost use Rattle.deadline_reasons.specs.Standing.{Runs, Ended};
+ghost use Rattle.deadline_reasons.specs.Derivation.{LeadsOn, with_day};
+
+use crate::look::{day_later, for_access, look_for};
+use crate::reason::{Reason, push};
+use crate::row::{access_holidays, needs_access};
+use court_days::{Clock, Day, Days, Outage};
+use rule_periods::DeadlineRow;
+use rule6::Act;
+use std::alloc::AllocError;
+
+/// Ends a period in days.
+pub(crate) fn close(
+    days: &Days,
+    clock: &Clock,
+    row: &DeadlineRow,
+    reasons: &mut Vec<Reason>,
+    last: Option<Day>,
+) -> Result<(), AllocError>
+    ensures { IfOk result (λ _. (shown : Shown) × LeadsOn days.now clock.now row.now reasons.old.items reasons.new.items (with_day last (record { three = false; grants = [] })) (Ended shown)) }
+{
+    let Some(day) = last else {
+        push(reasons, Reason::Beyond)?;
+        return Ok(());
+    };
+    let Some(outage) = shutting_outage(days, row, day) else {
+        push(reasons, closing(clock, row.period().act(), day))?;
+        return Ok(());
+    };
+    close_later(days, clock, row, reasons, day, outage)
+}
+
+/// Ends a period in days on the last day of which the clerk's office was inaccessible.
+fn close_later(
+    days: &Days,
+    clock: &Clock,
+    row: &DeadlineRow,
+    reasons: &mut Vec<Reason>,
+    last: Day,
+    outage: Outage,
+) -> Result<(), AllocError>
+    requires access { needs_access row.now ≡ true }
+    requires outage { Contains days.now.outages outage }
+    requires day { outage.day ≡ last }
+    ensures { IfOk result (λ _. (shown : Shown) × LeadsOn days.now clock.now row.now reasons.old.items reasons.new.items (Runs last (record { three = false; grants = [] })) (Ended shown)) }
+{
+    push(reasons, Reason::Inaccessible(outage))?;
+    let look = for_access(access_holidays(row));
+    let found = look_for(days, reasons, day_later(days, last), look)?;
+    let Some(day) = found else {
+        push(reasons, Reason::Beyond)?;
+        return Ok(());
+    };
+    push(reasons, Reason::RunsTo(day))?;
+    push(reasons, closing(clock, row.period().act(), day))?;
+    Ok(())
+}
+
+/// When the last day ends (Fed. R. Civ. P. 6(a)(4)).
+fn closing(clock: &Clock, act: Act, day: Day) -> Reason
+    ensures { Closes clock.now act day result (Ended (shown.Last day act)) }
+{
+    match act {
+        Act::Service => Reason::UntilMidnight(day),
+        Act::Filing => Reason::UntilClosing(day, clock.closes()),
+    }
+}
+
+/// The outage that moves the time from its last day, if one does.
+fn shutting_outage(days: &Days, row: &DeadlineRow, last: Day) -> Option<Outage>
+    ensures access { IfSome result (λ _. needs_access row.now ≡ true) }
+    ensures some { IfSome result (λ outage. Contains days.now.outages outage × (outage.day ≡ last)) }
+    ensures none { IfNone result ((needs_access row.now && has_outage days.now last) ≡ false) }
+{
+    if !needs_access(row) {
+        return None;
+    }
+    outage_on(days, last)
+}
+
+/// The first outage that lies on the day, if one does.
+fn outage_on(days: &Days, day: Day) -> Option<Outage>
+    ensures some { IfSome result (λ outage. Contains days.now.outages outage × (outage.day ≡ day)) }
+    ensures none { IfNone result (has_outage days.now day ≡ false) }
+{
+    for outage in days.outages() {
+        if outage.day() == day {
+            return Some(*outage);
+        }
+    }
+    None
+}
