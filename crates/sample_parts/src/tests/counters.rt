@@ -2,10 +2,10 @@
 //! to 100.
 ghost use Rattle.std.specs.Prelude.{◌≡◌};
 
-use crate::tests::plain::Plain;
+use crate::tests::schedules::Named;
 use std::alloc::{AllocError, Global};
 use std::cell::Cell;
-use versioned_steps::{Decision, Parted, Step};
+use versioned_steps::{Decision, Parted};
 
 /// The first cell, if any, and the second.
 pub type Add = (Option<u8>, u8);
@@ -111,48 +111,12 @@ impl Parted for Counters {
     ghost part_eq = { λ _ x y. refl };
 }
 
-impl Plain for Counters {
-    type Value = u64;
-
-    type Command = Add;
-
-    type Answer = Option<u64>;
-
-    fn opening(_cell: u8) -> u64 {
-        0
-    }
-
-    fn next(command: Add, reads: &[(u8, u64)]) -> Option<u8> {
-        match (command.0, reads.len()) {
-            (Some(first), 0) => Some(first),
-            (None, 0) | (Some(_), 1) => Some(command.1),
-            _ => None,
-        }
-    }
-
-    fn decide(command: Add, reads: &[(u8, u64)]) -> (Option<u64>, Option<(u8, u64)>) {
-        let mut total = 1u64;
-        for read in reads {
-            total = total.saturating_add(read.1);
-        }
-        if total < 100 {
-            (Some(total), Some((command.1, total)))
-        } else {
-            (None, None)
-        }
-    }
-}
-
-/// One of the eight steps of two clerks, each with a command of its own.
-pub fn step_of(code: u32) -> Step<Add> {
-    match code % 8 {
-        0 => Step::Begin(0, (Some(1), 2)),
-        1 => Step::Begin(1, (Some(2), 1)),
-        2 => Step::Read(0),
-        3 => Step::Read(1),
-        4 => Step::Commit(0),
-        5 => Step::Commit(1),
-        6 => Step::Discard(0),
-        _ => Step::Discard(1),
+impl Named for Add {
+    fn over(_alloc: Global, cells: &[u8]) -> Result<Add, AllocError> {
+        Ok(match cells {
+            [first, second, ..] => (Some(*first), *second),
+            [second] => (None, *second),
+            [] => (None, 0),
+        })
     }
 }

@@ -1,51 +1,83 @@
 //! With ample memory no step is answered want of memory, also at the limits: 64 clerks, commands that read 33 cells and
 //! write six, and 100 entries.
-use crate::tests::switches::{Switches, commits, reads};
+use crate::tests::schedules::Named;
+use crate::tests::switches::{Cells, Switches};
+use std::alloc::{AllocError, Global};
+use std::process::Abort;
 use std::test::Fail;
-use versioned_steps::{Outcome, run_steps};
+use versioned_steps::{Outcome, Step, run_steps};
 
-// More cells than a command reads.
-static CELLS: [u8; 40] = [
-    0, 1, 2, 3, 4, 5, 6, 7, 8, 9, 10, 11, 12, 13, 14, 15, 16, 17, 18, 19, 20, 21, 22, 23, 24, 25,
-    26, 27, 28, 29, 30, 31, 32, 33, 34, 35, 36, 37, 38, 39,
-];
+/// A command over more cells than a command reads.
+fn over_forty(alloc: Global) -> Result<Cells, AllocError> {
+    let mut cells = Vec::new(alloc);
+    for cell in 0..40u8 {
+        cells.push(cell)?;
+    }
+    Cells::over(alloc, &cells)
+}
 
-// All clerks read at once, and the first to commit is the only one that isn't stale. Then 99 finish one after another.
-#[test]
-fn ample_memory_is_enough_at_the_limits(rt: HostRuntime) -> Result<(), Fail> {
-    let mut steps = Vec::new(rt.alloc());
+/// The clerk takes such a command up, and reads more often than there is to read.
+fn reads(alloc: Global, steps: &mut Vec<Step<Cells>>, clerk: u32) -> Result<(), AllocError> {
+    steps.reserve(1)?;
+    steps.push_reserved(Step::Begin(clerk, over_forty(alloc)?));
+    for _ in 0..40u8 {
+        steps.reserve(1)?;
+        steps.push_reserved(Step::Read(clerk));
+    }
+    Ok(())
+}
+
+fn commits(steps: &mut Vec<Step<Cells>>, clerk: u32) -> Result<(), AllocError> {
+    steps.reserve(1)?;
+    steps.push_reserved(Step::Commit(clerk));
+    Ok(())
+}
+
+/// All clerks read at once, and the first to commit is the only one that isn't stale. Then 99 finish one after another.
+fn all_steps(alloc: Global) -> Result<Vec<Step<Cells>>, AllocError> {
+    let mut steps = Vec::new(alloc);
     for clerk in 0..64u32 {
-        reads(rt.alloc(), &mut steps, clerk, &CELLS)?;
+        reads(alloc, &mut steps, clerk)?;
     }
     for clerk in 0..64u32 {
         commits(&mut steps, clerk)?;
     }
     for round in 0..99u32 {
-        reads(rt.alloc(), &mut steps, round % 64, &CELLS)?;
+        reads(alloc, &mut steps, round % 64)?;
         commits(&mut steps, round % 64)?;
     }
-    let world = run_steps(rt.alloc(), Switches, 64, &steps)?;
+    Ok(steps)
+}
+
+/// How many commits finished, each with 33 cells read, and how many were stale.
+fn counted(rt: &impl Abort, outcomes: &[Outcome<u8, Option<u64>>]) -> (u64, u64) {
     let mut finished = 0u64;
     let mut stale = 0u64;
-    for outcome in &world.outcomes {
+    for outcome in outcomes {
         match outcome {
             Outcome::Began | Outcome::ReadPart(_, _) | Outcome::Ready => {}
             Outcome::Finished(place, answer) => {
                 finished = finished.saturating_add(1);
-                assert_eq!(rt; *place, finished);
-                assert_eq!(rt; *answer, Some(33));
+                assert!(rt; *place == finished && *answer == Some(33));
             }
             Outcome::WasStale(cell, version) => {
                 stale = stale.saturating_add(1);
-                assert_eq!(rt; (*cell, *version), (0, 1));
+                assert!(rt; *cell == 0 && *version == 1);
             }
             _ => assert!(rt; false),
         }
     }
-    assert_eq!(rt; (finished, stale), (100, 63));
-    assert_eq!(rt; (world.history.len(), world.drafts.len()), (100, 64));
-    assert_eq!(rt; world.store.read(rt.alloc(), 0)?, (100, Err(false)));
-    assert_eq!(rt; world.store.read(rt.alloc(), 5)?, (100, Ok(33)));
-    assert_eq!(rt; world.store.read(rt.alloc(), 6)?, (0, Ok(0)));
+    (finished, stale)
+}
+
+#[test]
+fn ample_memory_is_enough_at_the_limits(rt: HostRuntime) -> Result<(), Fail> {
+    let steps = all_steps(rt.alloc())?;
+    let world = run_steps(rt.alloc(), Switches, 64, &steps)?;
+    assert!(rt; counted(&rt, &world.outcomes) == (100, 63));
+    assert!(rt; world.history.len() == 100 && world.drafts.len() == 64);
+    assert!(rt; world.store.read(rt.alloc(), 0)? == (100, Err(false)));
+    assert!(rt; world.store.read(rt.alloc(), 5)? == (100, Ok(33)));
+    assert!(rt; world.store.read(rt.alloc(), 6)? == (0, Ok(0)));
     Ok(())
 }

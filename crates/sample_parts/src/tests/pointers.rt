@@ -2,9 +2,9 @@
 //! name another, and answers what it named.
 ghost use Rattle.std.specs.Prelude.{◌≡◌};
 
-use crate::tests::plain::Plain;
+use crate::tests::schedules::Named;
 use std::alloc::{AllocError, Global};
-use versioned_steps::{Decision, Parted, Step};
+use versioned_steps::{Decision, Parted};
 
 #[derive(Drop)]
 pub struct Pointers;
@@ -73,43 +73,11 @@ impl Parted for Pointers {
     ghost part_eq = { λ _ x y. refl };
 }
 
-impl Plain for Pointers {
-    type Value = u8;
-
-    type Command = (u8, u8);
-
-    type Answer = u8;
-
-    fn opening(cell: u8) -> u8 {
-        cell
-    }
-
-    fn next(command: (u8, u8), reads: &[(u8, u8)]) -> Option<u8> {
-        match reads.len() {
-            0 => Some(command.0),
-            1 => reads.first().map(|read| read.1),
-            _ => None,
-        }
-    }
-
-    fn decide(command: (u8, u8), reads: &[(u8, u8)]) -> (u8, Option<(u8, u8)>) {
-        match reads.last() {
-            Some(read) => (read.1, Some((read.0, command.1))),
-            None => (0, None),
-        }
-    }
-}
-
-/// One of the eight steps of two clerks, each with a command of its own.
-pub fn step_of(code: u32) -> Step<(u8, u8)> {
-    match code % 8 {
-        0 => Step::Begin(0, (3, 4)),
-        1 => Step::Begin(1, (3, 5)),
-        2 => Step::Read(0),
-        3 => Step::Read(1),
-        4 => Step::Commit(0),
-        5 => Step::Commit(1),
-        6 => Step::Discard(0),
-        _ => Step::Discard(1),
+impl Named for (u8, u8) {
+    fn over(_alloc: Global, cells: &[u8]) -> Result<(u8, u8), AllocError> {
+        Ok(match cells {
+            [cell, named, ..] => (*cell, *named),
+            _ => (0, 0),
+        })
     }
 }

@@ -4,9 +4,10 @@
 ghost use Rattle.std.specs.Prelude.{◌≡◌, IfOk};
 ghost use Rattle.sample_parts.specs.Switches.{fits, all_fit, differs, are_apart, thrown, all_thrown};
 
+use crate::tests::schedules::Named;
 use std::alloc::{AllocError, Global};
 use std::marker::Model;
-use versioned_steps::{Decision, Parted, Step};
+use versioned_steps::{Decision, Parted};
 
 /// What a cell holds.
 pub type Content = Result<u64, bool>;
@@ -169,33 +170,8 @@ impl Parted for Switches {
     ghost part_eq = { λ _ x y. refl };
 }
 
-fn cells_of(alloc: Global, cells: &[u8]) -> Result<Cells, AllocError> {
-    let mut copies = Vec::new(alloc);
-    for cell in cells {
-        copies.reserve(1)?;
-        copies.push_reserved(*cell);
+impl Named for Cells {
+    fn over(alloc: Global, cells: &[u8]) -> Result<Cells, AllocError> {
+        Ok(Cells::new(Vec::from_slice(alloc, cells)?))
     }
-    Ok(Cells::new(copies))
-}
-
-/// The clerk takes these cells up, and makes a read for each.
-pub fn reads(
-    alloc: Global,
-    steps: &mut Vec<Step<Cells>>,
-    clerk: u32,
-    cells: &[u8],
-) -> Result<(), AllocError> {
-    steps.reserve(1)?;
-    steps.push_reserved(Step::Begin(clerk, cells_of(alloc, cells)?));
-    for _cell in cells {
-        steps.reserve(1)?;
-        steps.push_reserved(Step::Read(clerk));
-    }
-    Ok(())
-}
-
-pub fn commits(steps: &mut Vec<Step<Cells>>, clerk: u32) -> Result<(), AllocError> {
-    steps.reserve(1)?;
-    steps.push_reserved(Step::Commit(clerk));
-    Ok(())
 }
