@@ -1,7 +1,6 @@
 -- What the definitions of Rule 6 give from where a derivation stands.
 use Rattle.std.proofs.Common.{ℤ, Bool, true, false, List, fold, Option, Some, None, option_map}
 use Rattle.std.specs.Option.{option_and_then}
-use Rattle.court_days.specs.declared.direction.Direction.{Direction}
 use Rattle.court_days.specs.declared.direction.Direction.TheVariants.{After}
 use Rattle.court_days.specs.Words.{DaysView, ClockView, civil_of}
 use Rattle.rule6.specs.declared.timeliness.Shown.{Shown}

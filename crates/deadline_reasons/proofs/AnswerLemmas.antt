@@ -1,17 +1,16 @@
 -- A step of days leaves what the definitions give as it was.
-use Rattle.std.proofs.Common.{◌≡◌, ◌⊎◌, inl, inr, ℕ, ◌*◌, ℤ, Bool, true, false, ◌&&◌, not, Contains, List, [], ◌∷◌, Option, Some, None, option_map, refl, sym, ◌∙◌, ap, arith}
+use Rattle.std.proofs.Common.{◌≡◌, inl, inr, ℕ, ◌*◌, ℤ, Bool, true, false, ◌&&◌, not, Contains, List, [], ◌∷◌, Option, Some, None, option_map, refl, sym, ◌∙◌, ap}
 use Rattle.std.specs.List.{list_any}
 use Rattle.std.specs.Ordering.{int_eq}
 use Rattle.std.proofs.lemmas.Bool.{cases_Bool}
 use Rattle.std.proofs.lemmas.Bool.Decides.{Decides-int_eq}
 use Rattle.std.proofs.lemmas.List.Folds.{list_any-from_Any}
 use Rattle.court_days.specs.declared.direction.Direction.{Direction}
-use Rattle.court_days.specs.declared.direction.Direction.TheVariants.{After, Before}
-use Rattle.court_days.specs.Words.{DaysView, ClockView, OutageView, counted_from, is_covered, is_open, has_outage, instant_of, rolled}
+use Rattle.court_days.specs.Words.{DaysView, ClockView, OutageView, counted_from, is_open, has_outage, instant_of, rolled}
 use Rattle.rule6.specs.declared.timeliness.Act.{Act}
 use Rattle.rule6.specs.declared.timeliness.Act.TheVariants as act
 use Rattle.rule6.specs.declared.timeliness.Shown.TheVariants as shown
-use Rattle.rule6.specs.Words.{expiry_of, last_day_of, end_of_hours_from, extended_day, same_time_on}
+use Rattle.rule6.specs.Words.{expiry_of, last_day_of, end_of_hours_from, extended_day}
 use Rattle.rule_periods.specs.declared.expiry.Expiry.{Expiry}
 use Rattle.rule_periods.specs.declared.expiry.Expiry.TheVariants.{OnDay, AtInstant}
 use Rattle.rule_periods.specs.declared.grant.Grant.{Grant}
@@ -25,9 +24,9 @@ use Rattle.rule_periods.specs.Words.{DeadlineRowView, base_of_period, end_of_rul
 use Rattle.deadline_reasons.specs.declared.look.Look.{Look}
 use Rattle.deadline_reasons.specs.declared.reason.Reason.{Reason}
 use Rattle.deadline_reasons.specs.declared.reason.Reason.TheVariants as reason
-use Rattle.deadline_reasons.specs.Passing.{away_from_event, for_access, day_later}
+use Rattle.deadline_reasons.specs.Passing.{for_access, day_later}
 use Rattle.deadline_reasons.specs.Row.{length_of, event_day, adds_three, needs_access, access_holidays}
-use Rattle.deadline_reasons.specs.Standing.{ToCome, Aim, LastDay, Hour, AccessibleDay, AccessibleHour, Standing, Unstarted, Counting, Looking, Runs, Moved, grants_behind}
+use Rattle.deadline_reasons.specs.Standing.{ToCome, Aim, LastDay, Hour, AccessibleDay, AccessibleHour, Standing, grants_behind}
 use Rattle.deadline_reasons.specs.Follows.{Begins, Counts, Finds, Looks, Closes, GoesOn, Lacks}
 use Rattle.deadline_reasons.proofs.Answer.{answer_from, reached, three_more, with_grants, with_rest}
 use Rattle.deadline_reasons.proofs.PassingLemmas.{found_by, found_skips, found_here, found_none, found_rolls, found_accessible, cause_closes, open_covered}

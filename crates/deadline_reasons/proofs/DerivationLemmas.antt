@@ -3,11 +3,10 @@ use Rattle.std.proofs.Common.{◌≡◌, ℤ, false, ◌&&◌, List, [], ◌∷�
 use Rattle.court_days.specs.Words.{DaysView, ClockView, has_outage}
 use Rattle.rule6.specs.declared.timeliness.Act.{Act}
 use Rattle.rule6.specs.declared.timeliness.Act.TheVariants as act
-use Rattle.rule6.specs.declared.timeliness.Shown.{Shown}
-use Rattle.rule_periods.specs.Words.{DeadlineRowView, act_of, shown_of}
+use Rattle.rule_periods.specs.Words.{DeadlineRowView, act_of}
 use Rattle.deadline_reasons.specs.declared.reason.Reason.{Reason}
 use Rattle.deadline_reasons.specs.declared.reason.Reason.TheVariants as reason
-use Rattle.deadline_reasons.specs.Derivation.{Lead, IsDerivation, DerivationsEndInWhatIsShown}
+use Rattle.deadline_reasons.specs.Derivation.{Lead, DerivationsEndInWhatIsShown}
 use Rattle.deadline_reasons.specs.Follows.{Closes, Follows, GoesOn}
 use Rattle.deadline_reasons.specs.Row.{needs_access}
 use Rattle.deadline_reasons.specs.Standing.{Standing, Unstarted, Counting, Looking, Runs, CountingHours, HoursEnd, RunsUntil, Moved, MovedUntil, Nowhere, Ended}

@@ -1,14 +1,14 @@
 -- A step of hours leaves what the definitions give as it was.
-use Rattle.std.proofs.Common.{◌≡◌, ◌⊎◌, inl, inr, ℕ, ◌*◌, ℤ, Bool, true, false, ◌&&◌, Contains, List, [], ◌∷◌, Option, Some, None, option_map, refl, sym, ◌∙◌, ap, arith}
+use Rattle.std.proofs.Common.{◌≡◌, inl, inr, ℕ, ℤ, true, false, ◌&&◌, Contains, List, [], ◌∷◌, Option, Some, None, option_map, refl, sym, ◌∙◌, ap, arith}
 use Rattle.std.specs.List.{list_any}
 use Rattle.std.specs.Option.{option_and_then}
 use Rattle.std.proofs.lemmas.Bool.{cases_Bool}
 use Rattle.court_days.specs.declared.direction.Direction.{Direction}
-use Rattle.court_days.specs.Words.{DaysView, ClockView, OutageView, CivilTime, civil_of, is_permitted, next_accessible}
+use Rattle.court_days.specs.Words.{DaysView, ClockView, OutageView, CivilTime, civil_of, is_permitted}
 use Rattle.rule6.specs.Words.{continued, end_of_hours_from, extended_end, hours_from, meets_last_hour, same_time_on}
 use Rattle.rule_periods.specs.declared.expiry.Expiry.TheVariants.{AtInstant}
 use Rattle.rule_periods.specs.declared.grant.Grant.{Grant}
-use Rattle.rule_periods.specs.declared.grant.Grant.TheVariants.{ByDays, ByHours, Until}
+use Rattle.rule_periods.specs.declared.grant.Grant.TheVariants.{ByHours}
 use Rattle.rule_periods.specs.Words.{DeadlineRowView, act_of, is_in_hours, shown_end, shown_after}
 use Rattle.deadline_reasons.specs.declared.reason.Reason.{Reason}
 use Rattle.deadline_reasons.specs.declared.reason.Reason.TheVariants as reason

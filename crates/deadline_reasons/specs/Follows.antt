@@ -1,6 +1,6 @@
 -- What may be said next, and how far it leads: one step of a derivation, by the rule that it names. Each definition
 -- here speaks of one standing; what it doesn't name can't follow there.
-use Rattle.std.specs.Prelude.{◌≡◌, ℕ, ◌*◌, ℤ, pos, ◌+ℤ◌, Bool, true, false, ◌&&◌, Contains, List, [], ◌∷◌, Option, Some, None}
+use Rattle.std.specs.Prelude.{◌≡◌, ℕ, ◌*◌, ℤ, ◌+ℤ◌, Bool, true, false, ◌&&◌, Contains, List, [], ◌∷◌, Some, None}
 use Rattle.std.specs.List.{list_any}
 use Rattle.court_days.specs.declared.direction.Direction.{Direction}
 use Rattle.court_days.specs.declared.direction.Direction.TheVariants.{After}

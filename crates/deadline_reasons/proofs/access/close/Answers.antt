@@ -1,8 +1,8 @@
-use Rattle.std.proofs.Common.{◌≡◌, false, [], ◌∙◌, ap, subst}
+use Rattle.std.proofs.Common.{false, [], ◌∙◌, ap, subst}
 use Rattle.rule6.specs.declared.timeliness.Shown.TheVariants as shown
 use Rattle.rule_periods.specs.Words.{act_of}
-use Rattle.deadline_reasons.specs.Derivation.{Lead, with_day}
-use Rattle.deadline_reasons.specs.Follows.{Closes}
+use Rattle.deadline_reasons.specs.Derivation.{Lead}
+use Rattle.deadline_reasons.specs.Leading.{with_day}
 use Rattle.deadline_reasons.specs.Standing.{ToCome, Unstarted, Runs, Ended}
 use Rattle.deadline_reasons.proofs.DerivationLemmas.{closing_follows}
 use Rattle.deadline_reasons.proofs.access.close.Goals as goal

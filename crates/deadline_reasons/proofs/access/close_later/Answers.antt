@@ -1,8 +1,9 @@
-use Rattle.std.proofs.Common.{◌≡◌, true, false, [], IfSome, refl, sym, ◌∙◌, ap, subst, rules, SFits, w32, to_z-of_z}
+use Rattle.std.proofs.Common.{◌≡◌, true, false, [], IfSome, refl, ◌∙◌, ap, subst, rules, SFits, w32, to_z-of_z}
 use Rattle.court_days.specs.Words.{is_open}
 use Rattle.rule6.specs.declared.timeliness.Shown.TheVariants as shown
 use Rattle.rule_periods.specs.Words.{act_of}
-use Rattle.deadline_reasons.specs.Derivation.{Lead, sought}
+use Rattle.deadline_reasons.specs.Derivation.{Lead}
+use Rattle.deadline_reasons.specs.Leading.{sought}
 use Rattle.deadline_reasons.specs.Follows.{Closes}
 use Rattle.deadline_reasons.specs.Passing.{for_access, day_later}
 use Rattle.deadline_reasons.specs.Standing.{AccessibleDay, Unstarted, Looking, Runs, Moved, Nowhere, Ended}

@@ -1,8 +1,8 @@
-use Rattle.std.proofs.Common.{◌≡◌, true, IfSome, refl, sym, ◌∙◌, ap, subst, rules, SFits, w32, to_z-of_z}
+use Rattle.std.proofs.Common.{◌≡◌, true, IfSome, refl, ◌∙◌, ap, subst, rules, SFits, w32, to_z-of_z}
 use Rattle.court_days.specs.Words.{is_covered, is_open}
-use Rattle.deadline_reasons.specs.Derivation.{Lead, sought}
-use Rattle.deadline_reasons.specs.Passing.{away_from_event}
-use Rattle.deadline_reasons.specs.Standing.{ToCome, LastDay, Unstarted, Counting, Looking, Runs}
+use Rattle.deadline_reasons.specs.Derivation.{Lead}
+use Rattle.deadline_reasons.specs.Leading.{sought}
+use Rattle.deadline_reasons.specs.Standing.{LastDay, Unstarted, Counting, Looking, Runs}
 use Rattle.deadline_reasons.proofs.by_days.count.Goals as goal
 
 pub returns-in_default-found : goal.returns-in_default-found

@@ -1,4 +1,4 @@
-use Rattle.std.proofs.Common.{◌≡◌, ◌+ℤ◌, refl, sym, ◌∙◌, ap, rules, SFits, w32, to_z-of_z}
+use Rattle.std.proofs.Common.{◌+ℤ◌, refl, sym, ◌∙◌, ap, rules, SFits, w32, to_z-of_z}
 use Rattle.court_days.specs.Words.{offset_seconds}
 use Rattle.rule6.specs.Words.{hours_from}
 use Rattle.rule6.proofs.CallerLemmas.{no_civil_time}

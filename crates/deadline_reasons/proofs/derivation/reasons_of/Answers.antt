@@ -1,4 +1,4 @@
-use Rattle.std.proofs.Common.{◌≡◌, [], subst, rules}
+use Rattle.std.proofs.Common.{subst, rules}
 use Rattle.deadline_reasons.specs.Derivation.{Lead}
 use Rattle.deadline_reasons.specs.Standing.{Unstarted, Ended}
 use Rattle.deadline_reasons.proofs.DerivationLemmas.{derivation_law, lead_nothing}

@@ -1,4 +1,4 @@
-use Rattle.std.proofs.Common.{◌≡◌, refl, sym, ◌∙◌, ap, subst, rules, SFits, w32, to_z, to_z-of_z}
+use Rattle.std.proofs.Common.{refl, sym, ◌∙◌, ap, subst, rules, SFits, w32, to_z, to_z-of_z}
 use Rattle.rule6.specs.Words.{next_day}
 use Rattle.deadline_reasons.specs.Derivation.{Lead}
 use Rattle.deadline_reasons.specs.Passing.{IsCause}

@@ -1,9 +1,9 @@
-use Rattle.std.proofs.Common.{◌≡◌, ◌≤ℤ◌, ◌+ℤ◌, ◌-ℤ◌, pos, neg_ℤ, unsigned_abs, ℤ, ℕ}
+use Rattle.std.proofs.Common.{◌+ℤ◌, ◌-ℤ◌, pos, unsigned_abs, ℤ}
 use Rattle.court_days.specs.declared.direction.Direction.{Direction}
 use Rattle.court_days.specs.declared.direction.Direction.TheVariants.{After, Before}
 use Rattle.court_days.specs.Words.{DaysView, ClockView}
 use Rattle.rule_periods.specs.Words.{DeadlineRowView}
-use Rattle.deadline_reasons.specs.Derivation.{LeadsOn}
+use Rattle.deadline_reasons.specs.Leading.{LeadsOn}
 use Rattle.deadline_reasons.specs.Standing.{Aim, Looking}
 use Rattle.deadline_reasons.proofs.look.look_for.Given as goal
 
