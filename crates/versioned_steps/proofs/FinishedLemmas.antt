@@ -1,12 +1,12 @@
 -- The steps that finished a command are the entries of the history.
-use Rattle.std.proofs.Common.{◌≡◌, ℕ, zero, suc, ◌+◌, ◌==◌, if◌then◌else◌, ◌⊎◌, inl, inr, true, false, Option, Some, None, option_map, IfSome, List, [], ◌∷◌, ◌++◌, append_assoc, length, replicate, slice_get, slice_set, refl, ap, sym, ◌∙◌, subst, arith}
+use Rattle.std.proofs.Common.{◌≡◌, ℕ, ◌+◌, ◌==◌, if◌then◌else◌, ◌⊎◌, inl, inr, true, false, Option, Some, None, option_map, IfSome, List, [], ◌∷◌, ◌++◌, append_assoc, length, replicate, slice_get, slice_set, refl, ap, sym, ◌∙◌, subst, arith}
 use Rattle.std.proofs.lemmas.List.{append-nil}
 use Rattle.std.proofs.lemmas.Bool.{eqb-true, eq-eqb}
 use Rattle.std.proofs.lemmas.Option.{none-some, same_Some}
 use borrow.Author.Tests.{clash}
 use Rattle.versioned_steps.specs.Rules.{Rules}
 use Rattle.versioned_steps.specs.History.{answer_on, value_of, version_of}
-use Rattle.versioned_steps.specs.Finished.{Finish, begun_by, begun_then, entered, finish_of, finishes}
+use Rattle.versioned_steps.specs.Finished.{begun_by, begun_then, entered, finish_of, finishes}
 use Rattle.versioned_steps.specs.Reads.{copies_of, first_stale}
 use Rattle.versioned_steps.specs.World.{Hand, World, Move, IsStepOf, IsRun, clerk_of, commit_read, move_of, moved, opening_world, read_next, validated}
 use Rattle.versioned_steps.specs.declared.entry.Entry.{Entry}
@@ -14,7 +14,7 @@ use Rattle.versioned_steps.specs.declared.stale.Stale.{Stale}
 use Rattle.versioned_steps.specs.declared.step.Step.{Step}
 use Rattle.versioned_steps.specs.declared.step.Step.TheVariants.{Begin, Read, Commit, Discard}
 use Rattle.versioned_steps.specs.declared.step.Outcome.{Outcome}
-use Rattle.versioned_steps.specs.declared.step.Outcome.TheVariants.{Began, NoClerk, NoMemory}
+use Rattle.versioned_steps.specs.declared.step.Outcome.TheVariants.{NoClerk, NoMemory}
 use Rattle.versioned_steps.proofs.WorldLemmas.{get_set, idle_own}
 
 -- one more entry

@@ -1,5 +1,5 @@
 -- Drafts that are read at one moment, and prepared ones as the history grows.
-use Rattle.std.proofs.Common.{◌≡◌, ℕ, ◌+◌, ◌<◌, ◌≤◌, Some, None, IsSome, List, [], ◌∷◌, ◌++◌, length, map, All, refl, ap, sym, ◌∙◌, subst, arith}
+use Rattle.std.proofs.Common.{◌≡◌, ℕ, ◌<◌, Some, None, IsSome, List, [], ◌∷◌, ◌++◌, length, All, refl, sym, subst, arith}
 use Rattle.std.proofs.lemmas.List.{length-map}
 use Rattle.std.proofs.lemmas.List.Elements.{All-nil, All-head, All-tail, All-push, All-weaker}
 use mathlib.Core.List.{IsPrefix}

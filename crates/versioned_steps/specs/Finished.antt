@@ -7,7 +7,7 @@ use Rattle.versioned_steps.specs.declared.step.Step.TheVariants.{Begin}
 use Rattle.versioned_steps.specs.declared.step.Outcome.{Outcome}
 use Rattle.versioned_steps.specs.declared.step.Outcome.TheVariants.{Began, Finished}
 
--- a finished command, if it is known, with its clerk, its place in the history, counted from 1, and its answer
+-- a finished command, None where its clerk had begun none, with its place in the history, counted from 1, and its answer
 pub record Finish (Command Answer : Type 0) : Type 0 where
   pub clerk : ℕ
   pub command : Option Command
