@@ -81,7 +81,7 @@ GoesOn c clock row last false [] r next =
     ((needs_access row && has_outage c last) ≡ false) × Closes clock (act_of row.period) last r next
 GoesOn c clock row last three grants r next = ⊥
 
--- Every hour counts, also over a change of the clocks (6(a)(2)(B)).
+-- Every hour counts, also over a change of the clocks (6(a)(2)(B)). No day is covered where the clock shows no `Day`.
 abbrev pub CountsHours : ClockView → ℤ → ℕ → Direction → List Grant → Reason → Standing → Type 0
 CountsHours clock from h direction grants (reason.HoursCounted hours instant forward) next =
     (hours ≡ h) × (instant ≡ hours_from from h direction) × (offset_seconds clock.zone instant ≡ offset_seconds clock.zone from +ℤ forward) × (next ≡ HoursEnd instant direction grants)
@@ -89,7 +89,8 @@ CountsHours clock from h direction grants reason.NotCovered next =
     (civil_of clock.zone (hours_from from h direction) ≡ None) × (next ≡ Nowhere grants)
 CountsHours clock from h direction grants r next = ⊥
 
--- Hours that end on an open day end there; from another day they are continued to the same time on the next (6(a)(2)(C)).
+-- Hours that end on an open day end there; from another day they are continued to the same time on the next one
+-- (6(a)(2)(C)).
 abbrev pub EndsHours : DaysView → ClockView → ℤ → Direction → List Grant → Reason → Standing → Type 0
 EndsHours c clock end direction grants (reason.EndsOn day) next =
     ((second : ℕ) × (civil_of clock.zone end ≡ Some (record { day = day; second = second }))) × (is_permitted c direction day ≡ true) × (next ≡ RunsUntil end grants)

@@ -80,7 +80,7 @@ fn counted(event: Instant, h: u32, direction: Direction) -> Option<Instant>
     }
 }
 
-/// By how many seconds the clocks went forward between two instants.
+/// How many seconds further ahead of UTC the clock is at the end than where the hours begin.
 fn forward(clock: &Clock, from: Instant, end: Instant) -> i32
     ensures { offset_seconds clock.now.zone end ≡ offset_seconds clock.now.zone from +ℤ result }
 {

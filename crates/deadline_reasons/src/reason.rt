@@ -47,8 +47,9 @@ pub enum Reason {
     NotExtended(Grant),
     /// The hours are counted from this instant on, that of the event (6(a)(2)(A)).
     HoursFrom(Instant),
-    /// So many hours are counted, of which every one counts (6(a)(2)(B)), and they end at this instant. In between
-    /// the clocks went forward by so many seconds, or backward where the number is negative.
+    /// So many hours are counted, of which every one counts (6(a)(2)(B)), and they end at this instant. There the clock
+    /// is so many seconds further ahead of UTC than where they begin: 0 unless the clocks were changed, and negative
+    /// where they were set back.
     HoursCounted(u32, Instant, i32),
     /// The clock shows this day where the hours end, and there is no cause to pass over it (6(a)(2)(C)).
     EndsOn(Day),
