@@ -4,7 +4,7 @@ ghost use Rattle.std.specs.Prelude.{◌≡◌, ◌≤◌, true, false, [], ◌�
 ghost use Rattle.court_days.specs.Words.{ClockView, counted_from};
 ghost use Rattle.rule6.specs.declared.timeliness.Shown.{Shown};
 ghost use Rattle.rule_periods.specs.declared.grant.Grant.{Grant as GrantData};
-ghost use Rattle.rule_periods.specs.declared.period.Length.TheVariants as length;
+ghost use Rattle.rule_periods.specs.declared.period.Length.TheVariants as stated;
 ghost use Rattle.rule_periods.specs.Words.{DeadlineRowView, is_grant_length, is_in_hours};
 ghost use Rattle.deadline_reasons.specs.Row.{length_of, adds_three};
 ghost use Rattle.deadline_reasons.specs.Standing.{ToCome, Unstarted, Counting, Ended};
@@ -29,7 +29,7 @@ pub(crate) fn push_days(
     reasons: &mut Vec<Reason>,
     n: u32,
 ) -> Result<(), AllocError>
-    requires days { length_of row.now.period ≡ length.Days n }
+    requires days { length_of row.now.period ≡ stated.Days n }
     requires length { n ≤ 3650 }
     ensures { IfOk result (λ _. (shown : Shown) × LeadsOn days.now clock.now row.now reasons.old.items reasons.new.items Unstarted (Ended shown)) }
 {

@@ -6,7 +6,7 @@ ghost use Rattle.court_days.specs.Words.{IsInstantSecond, offset_seconds};
 ghost use Rattle.rule6.specs.declared.timeliness.Shown.{Shown};
 ghost use Rattle.rule6.specs.Words.{hours_from, meets_last_hour};
 ghost use Rattle.rule_periods.specs.declared.grant.Grant.{Grant as GrantData};
-ghost use Rattle.rule_periods.specs.declared.period.Length.TheVariants as length;
+ghost use Rattle.rule_periods.specs.declared.period.Length.TheVariants as stated;
 ghost use Rattle.rule_periods.specs.Words.{DeadlineRowView, is_grant_length, is_in_hours};
 ghost use Rattle.deadline_reasons.specs.Passing.{away_from_event, day_later, for_access};
 ghost use Rattle.deadline_reasons.specs.Row.{length_of, needs_access, access_holidays};
@@ -32,7 +32,7 @@ pub(crate) fn push_hours(
     reasons: &mut Vec<Reason>,
     h: u32,
 ) -> Result<(), AllocError>
-    requires hours { length_of row.now.period ≡ length.Hours h }
+    requires hours { length_of row.now.period ≡ stated.Hours h }
     requires length { h ≤ 8760 }
     ensures { IfOk result (λ _. (shown : Shown) × LeadsOn days.now clock.now row.now reasons.old.items reasons.new.items Unstarted (Ended shown)) }
 {
