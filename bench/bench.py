@@ -8,7 +8,8 @@ input of the office is a court's file, a line '%%', and rows of one kind, drawn 
 the benchmark measure the same inputs. 'example' is the court of examples/district.toml. 'full' is one with all that a
 court's file may have: 100 years, and 4,096 dates in each list of holidays, which make 8,192 closed days in a row, so
 that most of the rows' last days are moved over many years. Both courts get the same rows, and the last line of their
-table compares them. Each input is run once. Seconds are by the wall clock, with about a millisecond for the start of
+table compares them. Others are the example with 1 or 32 judges and rooms. Each input is run once. Seconds are by the
+wall clock, with about a millisecond for the start of
 a shell; a megabyte is 1,000,000 bytes. For a run that doesn't end with status 0, the first line that it wrote to
 standard error is shown and no rows per second. Nothing is asserted and no time is limited. It needs Linux.
 """
@@ -18,6 +19,7 @@ import itertools
 import os
 import pathlib
 import random
+import re
 import subprocess
 import sys
 import tempfile
@@ -38,6 +40,8 @@ DOCKET = ("docket", "hearings", "sheets")
 RUNS = (
     ("example", ("days", "rule periods", "hours", MIXED) + DOCKET),
     ("full", ("hours", MIXED)),
+    ("1 judge", ("hearings",)),
+    ("32 judges", ("hearings",)),
 )
 SIZES = (1000, 10000, 100000)
 SEED = 20250902
@@ -57,9 +61,8 @@ FIRST_CLOSED = datetime.date(2003, 1, 1)
 FIRST_DAY = datetime.date(2008, 1, 31)
 LAST_DAY = datetime.date(2025, 12, 1)
 
-# The names in the example's file, the half hours at which a hearing of one begins there, and its cases.
-JUDGES = ("Ames", "Brandt", "Calloway", "Dunmore", "Ellery", "Forsyth")
-ROOMS = ("11A", "11B", "14C", "15D", "20B", "23A")
+# How many judges and rooms a court has, if not as many as the example. Half hours at which hearings begin. Cases.
+BENCHES = {"1 judge": 1, "32 judges": 32}
 HALF_HOURS = ["{:02}:{:02}".format(at // 2, at % 2 * 30) for at in range(17, 33)]
 CASES = 4096
 
@@ -72,8 +75,9 @@ WITH_SECOND_DAY = ("12a3",)
 class Draw:
     """The words of one row, each drawn when the row asks for it."""
 
-    def __init__(self, source):
+    def __init__(self, source, court):
         self.source = source
+        self.judges, self.rooms = names_in(court, "judges"), names_in(court, "rooms")
 
     def __getitem__(self, word):
         return getattr(self, word)()
@@ -125,8 +129,8 @@ def docket(draw, count):
 def hearing(draw, case, motion):
     """A hearing ex parte on some day: many are refused, since the day is closed or the judge is busy."""
     source = draw.source
-    judges = "+".join(source.sample(JUDGES, source.choice((1, 1, 1, 2))))
-    place = source.choice(ROOMS), draw.day(), source.choice(HALF_HOURS), source.choice(("1", "2", "3q"))
+    judges = "+".join(source.sample(draw.judges, min(len(draw.judges), source.choice((1, 1, 1, 2)))))
+    place = source.choice(draw.rooms), draw.day(), source.choice(HALF_HOURS), source.choice(("1", "2", "3q"))
     return "{},{},{},{},{},{},{},{}".format(case, motion, judges, *place, FIRST_DAY)
 
 
@@ -156,6 +160,20 @@ def sheets(draw, count):
     return opened + ["1,sheet,{}".format(1 + number % 32) for number in range(count - len(opened))]
 
 
+def names_in(court, key):
+    """The names in a list of a court's file, which stands in one line."""
+    return re.findall('"([^"]*)"', re.search("^" + key + " = .*", court, re.MULTILINE).group())
+
+
+def court_of(judges):
+    """The example's file with so many judges and rooms."""
+    court = EXAMPLE.read_text()
+    for key, letter in (("judges", "J"), ("rooms", "R")):
+        names = ", ".join('"{}{}"'.format(letter, number) for number in range(1, judges + 1))
+        court = re.sub("(?m)^" + key + " = .*", "{} = [{}]".format(key, names), court)
+    return court
+
+
 def full_court():
     """The file of the full court."""
     def dates(first):
@@ -178,7 +196,7 @@ def full_court():
 
 def write_input(path, court, kind, count):
     source = random.Random(SEED)
-    draw = Draw(source)
+    draw = Draw(source, court)
     with open(path, "w") as file:
         file.write(court)
         file.write("%%\n")
@@ -230,6 +248,7 @@ def report(kind, court, count, ran, errors):
 def measure_rows(program, folder):
     """Runs each kind of row with each court."""
     courts = {"example": EXAMPLE.read_text(), "full": full_court()}
+    courts.update((name, court_of(judges)) for name, judges in BENCHES.items())
     rows, errors = os.path.join(folder, "rows"), os.path.join(folder, "errors")
     seconds = {}
     print(LINE.format("kind", "court", "rows", "seconds", "rows/second", "peak MB", "status"))
