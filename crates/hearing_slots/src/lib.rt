@@ -24,4 +24,3 @@ pub use laws::{
 pub use need::Need;
 pub use open_calendar::OpenCalendar;
 pub use panel::Panel;
-
