@@ -43,7 +43,7 @@ pub fn schedule_of(alloc: Global, commands: &[Command], line: &str) -> Result<Sc
 
 // The step that a word spells.
 fn step_of(commands: &[Command], word: &str) -> Option<Step<Command>>
-    ensures { IfSome result (λ step. IsSpelled step word.now) }
+    ensures { IfSome result (λ step. IsSpelled commands.now step word.now) }
 {
     if let Some(clerk) = word.strip_suffix('r') {
         return Some(Step::Read(number_of(clerk)?));
