@@ -3,7 +3,6 @@ use Rattle.std.specs.Prelude.{◌≡◌, ℕ, List, map, Ok}
 use Rattle.court_days.specs.Words.{CourtView}
 use Rattle.docket_rows.specs.declared.command.Command.{Command as CommandOf}
 use Rattle.office_rows.specs.declared.row.Row.{Row}
-use Rattle.office_rows.specs.declared.row.Work.{Work}
 use Rattle.office_rows.specs.declared.row.Work.TheVariants.{Command}
 use Rattle.office_rows.specs.Words.{names_of, rows_of}
 

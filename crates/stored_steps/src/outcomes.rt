@@ -1,6 +1,6 @@
 //! The text of what the steps of a schedule were answered.
 
-ghost use Rattle.std.specs.Prelude.{◌≡◌, ◌++◌, [], ◌∷◌, OnOk, string_bytes};
+ghost use Rattle.std.specs.Prelude.{◌≡◌, ◌++◌, OnOk, string_bytes};
 ghost use Rattle.stored_steps.specs.Told.{AddsRun, outcome_text, part_at, part_text, told};
 
 use court_days::{Clock, Court};
