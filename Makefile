@@ -4,9 +4,10 @@
 CRATE    := crates/clerk_office
 PROGRAM  := $(CRATE)/out/clerk_office
 BOOKINGS := crates/measure_bookings
+STEPS    := crates/stored_steps
 EXAMPLE  := examples/smallest.txt
 
-.PHONY: build run test bench refuse check-program runs compare commands courts help
+.PHONY: build run test bench refuse check-program runs compare steps commands courts help
 
 # `rt run` proves the program and the libraries below it, builds it at $(PROGRAM), and runs it, here on the smallest
 # example. Where nothing has changed since the last time it proves nothing anew.
@@ -44,6 +45,12 @@ COUNT := 600
 compare: build
 	@python3 checks/office_compare.py $(PROGRAM) $(SEED) $(COUNT)
 
+# Beside the gate: the steps of clerks who share a docket, and a replay of them in plain Python, on every list of five
+# steps behind some beginnings, and on longer ones that are made at random.
+steps:
+	@cd $(STEPS) && rt run < stdin > /dev/null
+	@python3 checks/steps_compare.py $(STEPS)/out/stored_steps $(SEED)
+
 # Beside the gate: the examples, and the commands that the documents show, and what they print.
 commands: build
 	@python3 checks/docs_check.py
@@ -61,6 +68,7 @@ help:
 	@echo "make check-program  runs the program for every status, 0 to 5, and looks at all that it writes"
 	@echo "make runs    runs the program on the whole runs of runs/, and compares all that it writes"
 	@echo "make compare compares the program with its reference on inputs made at random (SEED=1 COUNT=600)"
+	@echo "make steps   compares the steps of clerks who share a docket with a replay, on every short list of them (SEED=1)"
 	@echo "make commands runs the examples and the commands that the documents show, and compares what they print"
 	@echo "make courts  checks the courts' files of examples/courts, and runs the program on each"
 	@echo "make bench   builds the program, and prints its rows per second and peak memory"
