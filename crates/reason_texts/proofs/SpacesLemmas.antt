@@ -1,6 +1,6 @@
 -- Some spaces are one and those that follow, and how long what stands behind a text is.
 use Rattle.std.proofs.lemmas.List.{length-append}
-use Rattle.std.proofs.Common.{◌≡◌, ◌<◌, ◌-◌, ◌+◌, ◌++◌, ◌∙◌, ℕ, zero, suc, List, [], ◌∷◌, length, replicate, append_assoc, refl, sym, ap, arith}
+use Rattle.std.proofs.Common.{◌≡◌, ◌<◌, ◌-◌, ◌++◌, ◌∙◌, ℕ, zero, suc, List, [], ◌∷◌, length, replicate, append_assoc, refl, sym, ap, arith}
 
 abbrev spaces : ℕ → List ℕ
 spaces n = replicate n 32

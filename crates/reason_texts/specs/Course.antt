@@ -3,7 +3,6 @@ use Rattle.std.specs.Prelude.{Bool, true, false}
 use Rattle.court_days.specs.declared.direction.Direction.TheVariants.{After}
 use Rattle.rule_periods.specs.declared.period.Period.{Period}
 use Rattle.rule_periods.specs.declared.period.Period.TheVariants.{Rule, Entered}
-use Rattle.rule_periods.specs.declared.rule.RulePeriod.{RulePeriod}
 use Rattle.rule_periods.specs.declared.rule.RulePeriod.TheVariants.{Rule4m}
 use Rattle.rule_periods.specs.Words.{direction_of}
 use Rattle.deadline_reasons.specs.declared.reason.Reason.{Reason}

@@ -56,9 +56,8 @@ fn push_detail(text: &mut String, clock: &Clock, reason: &Reason) -> Result<(), 
         Reason::PassedOver(_, cause) => text.push_str(cause_word(cause)),
         Reason::ThreeAdded(kind) => text.push_str(kind_words(kind)),
         Reason::Extended(grant) | Reason::NotExtended(grant) => push_grant(text, grant),
-        Reason::HoursFrom(instant)
-        | Reason::SameTime(_, instant)
-        | Reason::UntilInstant(instant) => push_time_at(text, clock, instant),
+        Reason::HoursFrom(instant) | Reason::SameTime(_, instant) | Reason::UntilInstant(instant) =>
+            push_time_at(text, clock, instant),
         Reason::HoursCounted(h, instant, forward) => push_hours(text, clock, h, instant, forward),
         Reason::Inaccessible(outage) | Reason::LastHour(outage, _, _) => push_outage(text, outage),
         Reason::UntilClosing(_, minute) => push_minute(text, minute),
