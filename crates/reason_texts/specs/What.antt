@@ -1,0 +1,103 @@
+-- What happened, in words.
+use Rattle.std.specs.Prelude.{ℕ, ◌/◌, ℤ, pos, int_lt, unsigned_abs, List, [], ◌++◌, codes, if◌then◌else◌}
+use Rattle.std.specs.Fmt.{decimal}
+use Rattle.std.specs.Ordering.{int_eq}
+use Rattle.court_days.specs.Words.{ClockView, OutageView, civil_of}
+use Rattle.rule_periods.specs.declared.grant.Grant.{Grant}
+use Rattle.rule_periods.specs.declared.grant.Grant.TheVariants.{ByDays, ByHours, Until}
+use Rattle.rule6.specs.declared.service.ServiceKind.{ServiceKind}
+use Rattle.rule6.specs.declared.service.ServiceKind.TheVariants.{HandA, LeftB, MailC, ClerkD, ElectronicE, OtherF}
+use Rattle.deadline_reasons.specs.declared.reason.Cause.{Cause}
+use Rattle.deadline_reasons.specs.declared.reason.Cause.TheVariants as cause
+use Rattle.deadline_reasons.specs.declared.reason.Reason.{Reason}
+use Rattle.deadline_reasons.specs.declared.reason.Reason.TheVariants as reason
+use Rattle.reason_texts.specs.Times.{minute_time, time_of_civil}
+
+abbrev pub cause_text : Cause → List ℕ
+cause_text cause.Saturday = codes "Saturday"
+cause_text cause.Sunday = codes "Sunday"
+cause_text cause.FederalHoliday = codes "legal holiday"
+cause_text cause.StateHoliday = codes "legal holiday of the state"
+cause_text cause.Inaccessible = codes "inaccessible"
+
+-- how a paper was served, by the paragraphs of Rule 5(b)(2)
+abbrev pub kind_text : ServiceKind → List ℕ
+kind_text HandA = codes "by hand"
+kind_text LeftB = codes "at office or home"
+kind_text MailC = codes "by mail"
+kind_text ClerkD = codes "on the clerk"
+kind_text ElectronicE = codes "electronically"
+kind_text OtherF = codes "by other means"
+
+-- the date to which a time is extended stands before it
+abbrev pub grant_text : Grant → List ℕ
+grant_text (ByDays n) = codes "by " ++ decimal n ++ codes " days"
+grant_text (ByHours h) = codes "by " ++ decimal h ++ codes " hours"
+grant_text (Until day) = codes "to this day"
+
+-- that the clocks were set forward or back
+abbrev pub change_words : ℤ → List ℕ
+change_words forward = if int_lt (pos 0) forward then codes ", clocks forward " else codes ", clocks back "
+
+-- by how many whole minutes the clocks were changed, of so many seconds
+abbrev pub change_text : ℤ → List ℕ
+change_text forward =
+    if int_eq forward (pos 0) then [] else change_words forward ++ decimal (unsigned_abs forward / 60) ++ codes " min"
+
+-- `72, at 09:23:00, clocks back 60 min`
+abbrev pub hours_text : ClockView → (hours : ℕ) → (end forward : ℤ) → List ℕ
+hours_text clock hours end forward =
+    decimal hours ++ codes ", at " ++ time_of_civil (civil_of clock.zone end) ++ change_text forward
+
+-- the first minute of an outage, and the first one after it
+abbrev pub outage_text : OutageView → List ℕ
+outage_text outage = minute_time outage.from ++ codes " to " ++ minute_time outage.to
+
+-- the words that a reason begins with
+abbrev pub first_words : Reason → List ℕ
+first_words (reason.Excluded day) = codes "day of the event, excluded"
+first_words (reason.Counted n day) = codes "day "
+first_words (reason.PassedOver day cause) = []
+first_words (reason.RunsTo day) = codes "the time runs to this day"
+first_words (reason.ThreeAdded kind) = codes "3 days added, served "
+first_words (reason.Extended grant) = codes "extended "
+first_words (reason.NotExtended grant) = codes "not extended "
+first_words (reason.HoursFrom instant) = codes "the event, at "
+first_words (reason.HoursCounted h instant forward) = codes "hour "
+first_words (reason.EndsOn day) = codes "the hours end on this day"
+first_words (reason.Continued day second) = codes "the hours end, and are continued"
+first_words (reason.SameTime day instant) = codes "the same time, "
+first_words (reason.Inaccessible outage) = codes "clerk's office inaccessible "
+first_words (reason.LastHour outage day second) = codes "clerk's office inaccessible "
+first_words (reason.UntilMidnight day) = codes "last day, to midnight"
+first_words (reason.UntilClosing day minute) = codes "last day, to "
+first_words (reason.UntilInstant instant) = codes "the time ends at "
+first_words reason.NotCovered = codes "a day that is needed isn't covered"
+first_words reason.Beyond = codes "beyond the days covered"
+
+-- what it says of itself: how many days, which cause, what time
+abbrev pub detail_text : ClockView → Reason → List ℕ
+detail_text clock (reason.Counted n day) = decimal n
+detail_text clock (reason.PassedOver day cause) = cause_text cause
+detail_text clock (reason.ThreeAdded kind) = kind_text kind
+detail_text clock (reason.Extended grant) = grant_text grant
+detail_text clock (reason.NotExtended grant) = grant_text grant
+detail_text clock (reason.HoursFrom instant) = time_of_civil (civil_of clock.zone instant)
+detail_text clock (reason.HoursCounted h instant forward) = hours_text clock h instant forward
+detail_text clock (reason.SameTime day instant) = time_of_civil (civil_of clock.zone instant)
+detail_text clock (reason.Inaccessible outage) = outage_text outage
+detail_text clock (reason.LastHour outage day second) = outage_text outage
+detail_text clock (reason.UntilClosing day minute) = minute_time minute
+detail_text clock (reason.UntilInstant instant) = time_of_civil (civil_of clock.zone instant)
+detail_text clock r = []
+
+-- the words that it ends with
+abbrev pub last_words : Reason → List ℕ
+last_words (reason.Counted n day) = codes ", every day counted"
+last_words (reason.PassedOver day cause) = codes ", passed over"
+-- the first time is when the clerk's office is scheduled to close
+last_words (reason.UntilClosing day minute) = codes ", e-filing to midnight"
+last_words r = []
+
+unfoldable pub what_text : ClockView → Reason → List ℕ
+what_text clock r = first_words r ++ detail_text clock r ++ last_words r

@@ -1,0 +1,80 @@
+//! What a day is looked for, which decides the section that a reason cites.
+
+ghost use Rattle.std.specs.Prelude.{◌≡◌};
+ghost use Rattle.reason_texts.specs.Course.{course_after, course_of, is_summons};
+
+use court_days::Direction;
+use deadline_reasons::Reason;
+use rule_periods::{Period, RulePeriod};
+
+/// What a day is looked for.
+#[derive(Clone, Copy, Debug, PartialEq, Eq)]
+pub enum Search {
+    /// The last day of a period (Fed. R. Civ. P. 6(a)(1)(C)).
+    LastDay,
+    /// A day until the same time of which hours are continued (6(a)(2)(C)).
+    SameTime,
+    /// An accessible day (6(a)(3)(A)).
+    AccessibleDay,
+    /// An accessible day, until the same time of it (6(a)(3)(B)).
+    AccessibleHour,
+}
+
+/// How far the reasons of a deadline have come.
+#[derive(Clone, Copy, Debug, PartialEq, Eq)]
+pub struct Course {
+    /// What a day is looked for.
+    pub search: Search,
+    /// Whether it is looked for among later days or earlier ones.
+    pub direction: Direction,
+    /// Whether the time is that to serve a summons, which is extended under Rule 4(m).
+    pub summons: bool,
+}
+
+impl Course {
+    /// The course before any reason of a deadline with that period.
+    pub fn of(period: &Period) -> Course
+        ensures { result ≡ course_of period.now }
+    {
+        Course {
+            search: Search::LastDay,
+            direction: period.direction(),
+            summons: is_summons(period),
+        }
+    }
+
+    /// The course behind a reason.
+    pub(crate) fn after(self, reason: &Reason) -> Course
+        ensures { result ≡ course_after self reason.now }
+    {
+        match *reason {
+            Reason::ThreeAdded(_) | Reason::Extended(_) => self.towards_later(Search::LastDay),
+            Reason::Continued(_, _) => Course {
+                search: Search::SameTime,
+                direction: self.direction,
+                summons: self.summons,
+            },
+            Reason::Inaccessible(_) => self.towards_later(Search::AccessibleDay),
+            Reason::LastHour(_, _, _) => self.towards_later(Search::AccessibleHour),
+            _ => self,
+        }
+    }
+
+    /// The course where a day is looked for among later ones.
+    fn towards_later(self, search: Search) -> Course
+        ensures { result ≡ record { search = search; direction = Direction.After; summons = self.summons } }
+    {
+        Course {
+            search,
+            direction: Direction::After,
+            summons: self.summons,
+        }
+    }
+}
+
+/// Whether the period is that of Rule 4(m).
+fn is_summons(period: &Period) -> bool
+    ensures { result ≡ is_summons period.now }
+{
+    matches!(period, Period::Rule(RulePeriod::Rule4m))
+}

@@ -1,0 +1,13 @@
+//! The text of a deadline's reasons: a line each, with the day, what happened, and the section of the Rules.
+#![tactic(auto)]
+
+mod course;
+mod day;
+mod line;
+mod section;
+mod spaces;
+mod times;
+mod what;
+
+pub use course::{Course, Search};
+pub use line::{push_reason, push_reasons};

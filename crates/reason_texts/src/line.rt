@@ -1,0 +1,76 @@
+//! The lines of reasons.
+
+ghost use Rattle.std.specs.Prelude.{◌≡◌, ◌++◌, [], ◌∷◌, OnOk, codes, string_bytes};
+ghost use Rattle.reason_texts.specs.Day.{day_column, day_shown};
+ghost use Rattle.reason_texts.specs.Line.{padded, reason_line, reason_lines};
+ghost use Rattle.reason_texts.specs.Section.{section_text};
+ghost use Rattle.reason_texts.specs.What.{what_text};
+
+use crate::course::Course;
+use crate::day::{day_shown, push_day};
+use crate::section::push_section;
+use crate::spaces::push_spaces;
+use crate::what::push_what;
+use court_days::Clock;
+use deadline_reasons::Reason;
+use std::alloc::AllocError;
+
+// How wide what happened is, with the spaces behind it.
+const WIDTH: usize = 42;
+
+/// Adds a line for each reason, in their order, from the course before the first of them on. `Err` says that memory ran
+/// out.
+pub fn push_reasons(
+    text: &mut String,
+    clock: &Clock,
+    course: Course,
+    reasons: &[Reason],
+) -> Result<(), AllocError>
+    ensures { OnOk result (string_bytes text.new ≡ string_bytes text.old ++ reason_lines clock.now course reasons.now) }
+{
+    let mut here = course;
+    for reason in reasons {
+        push_reason(text, clock, here, reason)?;
+        here = here.after(reason);
+    }
+    Ok(())
+}
+
+/// Adds the line of a reason: two spaces, the weekday and the date, what happened, and the section of the Federal Rules
+/// of Civil Procedure by which it goes, or `ours` where they leave it open. Times are those of the court's clock. `Err`
+/// says that memory ran out.
+#[tactic(auto, unfolding(crate::specs::Line::reason_line))]
+pub fn push_reason(
+    text: &mut String,
+    clock: &Clock,
+    course: Course,
+    reason: &Reason,
+) -> Result<(), AllocError>
+    ensures { OnOk result (string_bytes text.new ≡ string_bytes text.old ++ reason_line clock.now course reason.now) }
+{
+    text.push_str("  ")?;
+    push_day(text, day_shown(clock, reason))?;
+    text.push_str("  ")?;
+    push_padded(text, clock, reason)?;
+    push_end(text, course, reason)
+}
+
+/// Adds what happened, and spaces up to the next column.
+#[tactic(auto, using(crate::proofs::SpacesLemmas::length_behind))]
+fn push_padded(text: &mut String, clock: &Clock, reason: &Reason) -> Result<(), AllocError>
+    ensures { OnOk result (string_bytes text.new ≡ string_bytes text.old ++ padded (what_text clock.now reason.now)) }
+{
+    let before = text.len();
+    push_what(text, clock, reason)?;
+    let wide = text.len() - before;
+    push_spaces(text, WIDTH.saturating_sub(wide))
+}
+
+/// Adds the section, and the end of the line.
+fn push_end(text: &mut String, course: Course, reason: &Reason) -> Result<(), AllocError>
+    ensures { OnOk result (string_bytes text.new ≡ string_bytes text.old ++ codes "  " ++ section_text course reason.now ++ 10 ∷ []) }
+{
+    text.push_str("  ")?;
+    push_section(text, course, reason)?;
+    text.push_str("\n")
+}

@@ -1,0 +1,161 @@
+//! What happened, in words.
+
+ghost use Rattle.std.specs.Prelude.{◌≡◌, ◌++◌, OnOk, string_bytes};
+ghost use Rattle.reason_texts.specs.What.{cause_text, change_text, change_words, detail_text, first_words, grant_text, hours_text, kind_text, last_words, outage_text, what_text};
+
+use crate::times::{push_minute, push_time_at};
+use court_days::{Clock, Instant, Outage};
+use deadline_reasons::{Cause, Reason};
+use rule_periods::Grant;
+use rule6::ServiceKind;
+use std::alloc::AllocError;
+use std::fmt::Write;
+
+/// Adds what happened.
+#[tactic(auto, unfolding(crate::specs::What::what_text))]
+pub(crate) fn push_what(text: &mut String, clock: &Clock, reason: &Reason) -> Result<(), AllocError>
+    ensures { OnOk result (string_bytes text.new ≡ string_bytes text.old ++ what_text clock.now reason.now) }
+{
+    text.push_str(first_words(reason))?;
+    push_detail(text, clock, reason)?;
+    text.push_str(last_words(reason))
+}
+
+/// The words that a reason begins with.
+fn first_words(reason: &Reason) -> &'static str
+    ensures { result.now ≡ first_words reason.now }
+{
+    match *reason {
+        Reason::Excluded(_) => "day of the event, excluded",
+        Reason::Counted(_, _) => "day ",
+        Reason::PassedOver(_, _) => "",
+        Reason::RunsTo(_) => "the time runs to this day",
+        Reason::ThreeAdded(_) => "3 days added, served ",
+        Reason::Extended(_) => "extended ",
+        Reason::NotExtended(_) => "not extended ",
+        Reason::HoursFrom(_) => "the event, at ",
+        Reason::HoursCounted(_, _, _) => "hour ",
+        Reason::EndsOn(_) => "the hours end on this day",
+        Reason::Continued(_, _) => "the hours end, and are continued",
+        Reason::SameTime(_, _) => "the same time, ",
+        Reason::Inaccessible(_) | Reason::LastHour(_, _, _) => "clerk's office inaccessible ",
+        Reason::UntilMidnight(_) => "last day, to midnight",
+        Reason::UntilClosing(_, _) => "last day, to ",
+        Reason::UntilInstant(_) => "the time ends at ",
+        Reason::NotCovered => "a day that is needed isn't covered",
+        Reason::Beyond => "beyond the days covered",
+    }
+}
+
+/// Adds what a reason says of itself.
+fn push_detail(text: &mut String, clock: &Clock, reason: &Reason) -> Result<(), AllocError>
+    ensures { OnOk result (string_bytes text.new ≡ string_bytes text.old ++ detail_text clock.now reason.now) }
+{
+    match *reason {
+        Reason::Counted(n, _) => write!(text, "{n}"),
+        Reason::PassedOver(_, cause) => text.push_str(cause_word(cause)),
+        Reason::ThreeAdded(kind) => text.push_str(kind_words(kind)),
+        Reason::Extended(grant) | Reason::NotExtended(grant) => push_grant(text, grant),
+        Reason::HoursFrom(instant) | Reason::SameTime(_, instant) | Reason::UntilInstant(instant) =>
+            push_time_at(text, clock, instant),
+        Reason::HoursCounted(h, instant, forward) => push_hours(text, clock, h, instant, forward),
+        Reason::Inaccessible(outage) | Reason::LastHour(outage, _, _) => push_outage(text, outage),
+        Reason::UntilClosing(_, minute) => push_minute(text, minute),
+        _ => Ok(()),
+    }
+}
+
+/// The words that a reason ends with.
+fn last_words(reason: &Reason) -> &'static str
+    ensures { result.now ≡ last_words reason.now }
+{
+    match *reason {
+        Reason::Counted(_, _) => ", every day counted",
+        Reason::PassedOver(_, _) => ", passed over",
+        Reason::UntilClosing(_, _) => ", e-filing to midnight",
+        _ => "",
+    }
+}
+
+/// Adds how many hours are counted, when they end, and how the clocks were changed meanwhile.
+fn push_hours(
+    text: &mut String,
+    clock: &Clock,
+    hours: u32,
+    end: Instant,
+    forward: i32,
+) -> Result<(), AllocError>
+    ensures { OnOk result (string_bytes text.new ≡ string_bytes text.old ++ hours_text clock.now hours end forward) }
+{
+    write!(text, "{hours}, at ")?;
+    push_time_at(text, clock, end)?;
+    push_change(text, forward)
+}
+
+/// Adds by how many minutes the clocks were changed.
+fn push_change(text: &mut String, forward: i32) -> Result<(), AllocError>
+    ensures { OnOk result (string_bytes text.new ≡ string_bytes text.old ++ change_text forward) }
+{
+    if forward == 0 {
+        return Ok(());
+    }
+    text.push_str(change_words(forward))?;
+    let minutes = forward.unsigned_abs() / 60;
+    write!(text, "{minutes} min")
+}
+
+/// That the clocks were set forward or back.
+fn change_words(forward: i32) -> &'static str
+    ensures { result.now ≡ change_words forward }
+{
+    if forward > 0 {
+        ", clocks forward "
+    } else {
+        ", clocks back "
+    }
+}
+
+/// Adds when the clerk's office was inaccessible.
+fn push_outage(text: &mut String, outage: Outage) -> Result<(), AllocError>
+    ensures { OnOk result (string_bytes text.new ≡ string_bytes text.old ++ outage_text outage) }
+{
+    push_minute(text, outage.from())?;
+    text.push_str(" to ")?;
+    push_minute(text, outage.to())
+}
+
+/// Adds how far the time is extended.
+fn push_grant(text: &mut String, grant: Grant) -> Result<(), AllocError>
+    ensures { OnOk result (string_bytes text.new ≡ string_bytes text.old ++ grant_text grant) }
+{
+    match grant {
+        Grant::ByDays(n) => write!(text, "by {n} days"),
+        Grant::ByHours(h) => write!(text, "by {h} hours"),
+        Grant::Until(_) => text.push_str("to this day"),
+    }
+}
+
+fn cause_word(cause: Cause) -> &'static str
+    ensures { result.now ≡ cause_text cause }
+{
+    match cause {
+        Cause::Saturday => "Saturday",
+        Cause::Sunday => "Sunday",
+        Cause::FederalHoliday => "legal holiday",
+        Cause::StateHoliday => "legal holiday of the state",
+        Cause::Inaccessible => "inaccessible",
+    }
+}
+
+fn kind_words(kind: ServiceKind) -> &'static str
+    ensures { result.now ≡ kind_text kind }
+{
+    match kind {
+        ServiceKind::HandA => "by hand",
+        ServiceKind::LeftB => "at office or home",
+        ServiceKind::MailC => "by mail",
+        ServiceKind::ClerkD => "on the clerk",
+        ServiceKind::ElectronicE => "electronically",
+        ServiceKind::OtherF => "by other means",
+    }
+}
