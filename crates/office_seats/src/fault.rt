@@ -1,0 +1,61 @@
+//! Why an office isn't opened or closed, and why a command isn't finished.
+
+use docket_rows::PartId;
+use thiserror::Error;
+
+/// Why no office was opened, the first reason that applies.
+#[derive(Clone, Copy, Debug, PartialEq, Eq, Error)]
+pub enum OfficeError {
+    /// 1: there are to be no seats, or more than 64.
+    #[error("an office has 1 to 64 seats")]
+    BadSeats,
+    /// 2: the journal is to take more than 1,000,000 entries.
+    #[error("a journal takes at most 1,000,000 entries")]
+    BadLimit,
+    /// 3: what is published gave a seat no place to read from. It may come without cause.
+    #[error("a seat got no place to read from")]
+    NoReader,
+    /// 4: no memory was left.
+    #[error("out of memory")]
+    OutOfMemory,
+}
+
+/// Why a prepared command wasn't finished, the first reason that applies. None of them changes the journal.
+#[derive(Clone, Copy, Debug, PartialEq, Eq, Error)]
+pub enum CommitError {
+    /// 1: the seat has no draft.
+    #[error("nothing is prepared")]
+    NothingPrepared,
+    /// 2: the journal has as many entries as it takes. The draft is kept.
+    #[error("the journal is full")]
+    JournalFull,
+    /// 3: an entry has touched this part after the draft read it, and the last one to do so stands at this place. It is
+    /// the first such part in read order. The draft is dropped.
+    #[error("a part was touched after it was read")]
+    Stale(PartId, u64),
+    /// 4: no memory was left. The draft is kept.
+    #[error("out of memory")]
+    OutOfMemory,
+}
+
+/// Why a command wasn't finished. Neither of them changes the journal, and no draft is left.
+#[derive(Clone, Copy, Debug, PartialEq, Eq, Error)]
+pub enum PerformError {
+    /// 1: the journal has as many entries as it takes.
+    #[error("the journal is full")]
+    JournalFull,
+    /// 2: no memory was left.
+    #[error("out of memory")]
+    OutOfMemory,
+}
+
+/// Why an office wasn't closed, the first reason that applies. It and the tallies stay as they were.
+#[derive(Clone, Copy, Debug, PartialEq, Eq, Error)]
+pub enum CloseError {
+    /// 1: there is no tally of the seat of this number, the least such. Seats are numbered from 1.
+    #[error("the tally of seat {0} is missing")]
+    MissingTally(u8),
+    /// 2: no memory was left.
+    #[error("out of memory")]
+    OutOfMemory,
+}

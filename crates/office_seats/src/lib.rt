@@ -1,0 +1,10 @@
+//! Clerks in threads of their own: their seats, the office that they share, and its journal.
+#![tactic(auto)]
+
+mod done;
+mod fault;
+mod journal;
+
+pub use done::Done;
+pub use fault::{CloseError, CommitError, OfficeError, PerformError};
+pub use journal::Journal;
