@@ -27,13 +27,26 @@ impl Model for DocketRules {
 impl DocketRules {
     /// The rules of this court. `Err` says that memory ran out.
     pub fn new(court: &Court) -> Result<DocketRules, AllocError>
-        ensures { IfOk result (λ rules. rules ≡ bench_of court.now) }
+        ensures value { IfOk result (λ rules. rules ≡ bench_of court.now) }
+        ensures few { IfOk result (λ rules. (rules.judges ≤ 32) × (rules.rooms ≤ 32)) }
     {
         Ok(DocketRules {
             clock: court.clock().copy()?,
             days: court.days().copy()?,
             judges: court.judges(),
             rooms: court.rooms(),
+        })
+    }
+
+    /// The same rules, which share the clock and the days. `Err` says that there are as many copies as can be counted.
+    pub fn copy(&self) -> Result<DocketRules, AllocError>
+        ensures { IfOk result (λ rules. rules ≡ self.now) }
+    {
+        Ok(DocketRules {
+            clock: self.clock.copy()?,
+            days: self.days.copy()?,
+            judges: self.judges,
+            rooms: self.rooms,
         })
     }
 

@@ -1,11 +1,11 @@
 //! The docket of a court, as commands over parts.
 
-ghost use Rattle.std.specs.Prelude.{◌≡◌, IfOk};
-ghost use Rattle.docket_rows.specs.Words.{bench_of};
+ghost use Rattle.std.specs.Prelude.{◌≡◌, ◌≤◌, IfOk};
+ghost use Rattle.docket_rows.specs.Words.{bench_of, parts_read, seen_by};
 
 use court_days::{Court, Days};
 use docket_core::DocketRules;
-use docket_rows::{Answer, Command, Decision as Decided, PartId, PartValue};
+use docket_rows::{Answer, Command, Decision as Decided, PartId, PartValue, Query, View};
 use hearing_slots::Calendar;
 use std::alloc::{AllocError, Global};
 use std::marker::Model;
@@ -33,12 +33,36 @@ impl DocketParts {
     /// The parts of this court's docket. `Err` says that memory ran out.
     // A body that always found no memory would meet this contract, and no test of this crate refuses it yet.
     pub fn new(court: &Court) -> Result<DocketParts, AllocError>
-        ensures { IfOk result (λ parts. parts ≡ bench_of court.now) }
+        ensures value { IfOk result (λ parts. parts ≡ bench_of court.now) }
+        ensures few { IfOk result (λ parts. (parts.judges ≤ 32) × (parts.rooms ≤ 32)) }
     {
         Ok(DocketParts {
             rules: DocketRules::new(court)?,
             days: court.days().copy()?,
         })
+    }
+
+    /// The same parts, which share the clock and the days. `Err` says that there are as many copies as can be counted.
+    pub fn copy(&self) -> Result<DocketParts, AllocError>
+        ensures { IfOk result (λ parts. parts ≡ self.now) }
+    {
+        Ok(DocketParts {
+            rules: self.rules.copy()?,
+            days: self.days.copy()?,
+        })
+    }
+
+    /// What the query shows where these are the parts that were read, or why it is refused. `Err` says that memory ran
+    /// out.
+    pub fn show(
+        &self,
+        alloc: Global,
+        query: &Query,
+        reads: &[(PartId, PartValue)],
+    ) -> Result<View, AllocError>
+        ensures { IfOk result (λ view. view ≡ seen_by self.now (parts_read self.now reads.now) query.now) }
+    {
+        self.rules.show(alloc, query, reads)
     }
 }
 
