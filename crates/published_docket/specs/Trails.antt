@@ -11,6 +11,9 @@ pub record Past : Type 0 where
   pub book : Book
   pub log : List (Entry Command Answer)
 
+abbrev pub past : Book → List (Entry Command Answer) → Past
+past book log = record { book = book; log = log }
+
 -- the two are of one history, and the later begins with the earlier
 pub record IsBeginning (earlier later : Past) : Type 0 where
   pub book : later.book ≡ earlier.book

@@ -1,7 +1,22 @@
 //! The docket as it is published: clerks in threads of their own read it without waiting, and one of them at a time publishes.
 #![tactic(auto)]
 
+mod asked;
+mod change;
+mod held;
+mod known;
 mod law;
+mod protocol;
+mod publisher;
+mod reading;
+mod shown;
+mod slot;
+mod slots;
 mod trail;
 
+pub use known::Known;
+pub use protocol::{DocketReader, DocketReading, Growing, See, enter};
+pub use publisher::Publisher;
+pub use reading::{read_all, show};
+pub use shown::Shown;
 pub use trail::Trail;

@@ -1,4 +1,4 @@
-use Rattle.std.proofs.Common.{List, ap, subst}
+use Rattle.std.proofs.Common.{ap, subst}
 use mathlib.Core.List.{IsPrefix}
 use Rattle.published_docket.proofs.TrailLemmas.{begins_is}
 use Rattle.published_docket.proofs.trail.Trail.begins.Goals as goal

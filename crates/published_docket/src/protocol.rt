@@ -1,0 +1,67 @@
+//! The rule of what is published, and how readers take it.
+
+ghost use Rattle.std.specs.Prelude.{◌≡◌, MatchResult};
+ghost use Rattle.left_right.specs.Sides.{view};
+ghost use Rattle.published_docket.specs.Published.{Sees};
+
+use crate::change::Change;
+use crate::known::Known;
+use crate::shown::Shown;
+use atomic_table::{Join, Split};
+use crossbeam_utils::rule::{Outcome, Protocol};
+use left_right::reader::{Reader, Reading};
+use left_right::writer::Writer;
+
+/// What is published is the docket after its history, and goes on from all that was seen of it.
+pub struct Growing;
+
+impl Protocol<Shown, Option<Known>> for Growing {
+    ghost use Rattle.std.specs.Prelude.{None};
+    ghost use Rattle.published_docket.specs.Published.{Published};
+
+    ghost holds = { Published };
+
+    ghost first = { None };
+}
+
+/// A reader takes what is published, or it is published: it goes on from all that was seen before, and is seen whole.
+pub struct See;
+
+impl Outcome<Shown, Option<Known>> for See {
+    ghost use Rattle.published_docket.specs.Published.{Sees};
+
+    ghost then = { Sees };
+}
+
+// What the publisher knows it tells, and still knows.
+pub(crate) struct Told;
+
+impl Split<Option<Known>> for Told {
+    ghost left = { λ known. known };
+
+    ghost right = { λ known. known };
+}
+
+impl Join<Option<Known>> for Told {
+    ghost use Rattle.std.specs.Prelude.{None};
+
+    ghost both = { λ known told. told };
+
+    ghost spent = { None };
+}
+
+/// Reads the published docket, and waits for nobody.
+pub type DocketReader = Reader<Shown, Option<Known>, Growing>;
+
+/// A reader with what it took, which stays as it is until the reader leaves.
+pub type DocketReading = Reading<Shown, Option<Known>, Growing>;
+
+/// Who publishes.
+pub(crate) type DocketWriter = Writer<Shown, Change, Option<Known>, Growing>;
+
+/// Takes what is published now. The reader comes back where nobody publishes any more.
+pub fn enter(reader: DocketReader) -> Result<DocketReading, DocketReader>
+    ensures { MatchResult result (λ r. Sees (view reader.place) r.part.value r.part.value (view r.place)) (λ r. view r.place ≡ view reader.place) }
+{
+    reader.enter_as::<See>()
+}

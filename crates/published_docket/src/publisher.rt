@@ -1,0 +1,149 @@
+//! The one who publishes.
+
+ghost use Rattle.std.specs.Prelude.{◌≡◌, ◌+◌, ◌<◌, ◌^◌, ◌++◌, ◌∷◌, [], length, true, Some, IfOk};
+ghost use Rattle.left_right.specs.Sides.{view};
+ghost use Rattle.docket_rows.specs.Words.{bench_of};
+ghost use Rattle.versioned_steps.specs.Words.{MayFollow, is_legal, value_of, writes_on};
+ghost use Rattle.shared_docket.specs.Words.{docket_rules};
+
+use crate::change::Change;
+use crate::held::{Held, wait_forever};
+use crate::law::Head;
+use crate::protocol::DocketReader;
+use crate::shown::Shown;
+use crate::trail::Trail;
+use court_days::Court;
+use docket_rows::{Answer, Command, PartId, PartValue};
+use shared_docket::DocketParts;
+use std::alloc::{AllocError, Global};
+use std::marker::Model;
+use std::sync::Wait;
+use versioned_steps::Entry;
+
+/// Publishes the docket of one court for 64 readers, entry after entry.
+#[derive(Drop)]
+pub struct Publisher {
+    // It is there between two calls.
+    held: Option<Held>,
+    head: Head,
+    parts: DocketParts,
+    trail: Trail,
+}
+
+impl Model for Publisher {
+    ghost use Rattle.published_docket.specs.declared.known.Known.{Known};
+    ghost use Rattle.published_docket.specs.Held.{Keeps};
+
+    ghost Value = { Known };
+
+    ghost view = { λ p. record { parts = p.parts; trail = p.trail } };
+
+    ghost invariant = { λ p. Keeps p.held p.head p.parts p.trail };
+}
+
+impl Publisher {
+    /// Publishes the docket of the court before any entry. `Err` says that memory ran out.
+    // A body that always found no memory would meet this contract; the tests call it with ample memory.
+    pub fn new(alloc: Global, court: &Court) -> Result<Publisher, AllocError>
+        ensures parts { IfOk result (λ p. p.parts ≡ bench_of court.now) }
+        ensures log { IfOk result (λ p. p.trail.log ≡ []) }
+    {
+        let parts = DocketParts::new(court)?;
+        let (head, trail) = Trail::open();
+        let first = Shown::open(alloc, &parts, &trail)?;
+        let second = Shown::open(alloc, &parts, &trail)?;
+        let held = Held::new(alloc, first, second)?;
+        Ok(Publisher {
+            held: Some(held),
+            head,
+            parts,
+            trail,
+        })
+    }
+
+    /// The history that is published.
+    pub fn trail(&self) -> &Trail
+        ensures value { result.now ≡ self.now.trail }
+        ensures legal { is_legal (docket_rules self.now.parts) self.now.trail.log ≡ true }
+    {
+        &self.trail
+    }
+
+    /// Whose docket it is.
+    pub fn parts(&self) -> &DocketParts
+        ensures { result.now ≡ self.now.parts }
+    {
+        &self.parts
+    }
+
+    /// Takes the memory for so many changes at once, twice: an entry makes one for each part that it writes, and one
+    /// more, and readers may still be reading what it changes. `Err` says that memory ran out.
+    // A body that always found no memory would meet this contract; the tests call it with ample memory.
+    pub fn warm<R: Wait>(&mut self, rt: &R, count: u32) -> Result<(), AllocError>
+        ensures { self.new ≡ self.old }
+    {
+        let Some(mut held) = self.held.take() else {
+            unreachable!()
+        };
+        let filled = held.fill(&self.trail, count);
+        let held = held.flush(rt);
+        self.held = Some(held.flush(rt));
+        filled
+    }
+
+    /// A reader that has seen all that is published. `Err` says that there are as many readers as can be, or that memory
+    /// ran out.
+    // A body that always found no memory would meet this contract; the tests call it with ample memory.
+    pub fn reader<R: Wait>(&mut self, rt: &R) -> Result<DocketReader, AllocError>
+        ensures kept { self.new ≡ self.old }
+        ensures known { IfOk result (λ r. view r.place ≡ Some self.old) }
+    {
+        let Some(held) = self.held.take() else {
+            unreachable!()
+        };
+        let mut held = held.flush(rt);
+        let reader = held.greet();
+        self.held = Some(held);
+        reader
+    }
+
+    /// Publishes one more entry, with what its command writes. It changes the slots of the parts written alone, and
+    /// waits for the readers that read what was published before the last entry.
+    pub fn publish<R: Wait>(
+        &mut self,
+        rt: &R,
+        entry: &Entry<Command, Answer>,
+        writes: Vec<(PartId, PartValue)>,
+    )
+        requires room { length self.old.trail.log + 1 < 2 ^ 64 }
+        requires follows { MayFollow (docket_rules self.old.parts) self.old.trail.log entry.now }
+        requires writes { writes.items ≡ writes_on (docket_rules self.old.parts) (value_of (docket_rules self.old.parts) self.old.trail.log) entry.now.command }
+        ensures { self.new ≡ record self.old { trail = record self.old.trail { log = self.old.trail.log ++ entry.now ∷ [] } } }
+    {
+        let mut trail = self.trail.again();
+        if !trail.add(&self.head, entry) {
+            wait_forever(rt);
+            unreachable!();
+        }
+        let Some(mut held) = self.held.take() else {
+            unreachable!()
+        };
+        held.write(rt, writes, trail.len());
+        held.queue(rt, Change::Grow(trail.again()));
+        self.held = Some(held.flush(rt));
+        self.trail = trail;
+    }
+
+    /// Waits for the readers, and gives back all memory.
+    pub fn end<R: Wait>(self, rt: &R) {
+        let Publisher {
+            held,
+            head: _,
+            parts: _,
+            trail: _,
+        } = self;
+        if let Some(held) = held {
+            held.end(rt);
+        }
+    }
+}

@@ -1,0 +1,10 @@
+//! Where one part of the docket stands.
+
+use docket_rows::PartValue;
+
+/// The version and the value of a part.
+#[derive(Drop)]
+pub struct Slot {
+    pub version: u64,
+    pub value: PartValue,
+}
