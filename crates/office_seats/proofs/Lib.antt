@@ -1,3 +1,4 @@
+pub mod BookLemmas
 pub mod CountLemmas
 pub mod JournalLemmas
 pub mod PlaceLemmas

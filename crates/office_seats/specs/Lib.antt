@@ -1,5 +1,7 @@
+pub mod Books
 pub mod Closed
 pub mod Finished
 pub mod Places
 pub mod Seats
+pub mod Unnamed
 pub mod Words

@@ -1,6 +1,10 @@
 //! Why an office isn't opened or closed, and why a command isn't finished.
 
+ghost use Rattle.std.specs.Prelude.{◌≡◌};
+ghost use Rattle.office_seats.specs.declared.fault.CommitError.TheVariants.{OutOfMemory};
+
 use docket_rows::PartId;
+use std::alloc::AllocError;
 use thiserror::Error;
 
 /// Why no office was opened, the first reason that applies.
@@ -36,6 +40,14 @@ pub enum CommitError {
     /// 4: no memory was left. The draft is kept.
     #[error("out of memory")]
     OutOfMemory,
+}
+
+impl From<AllocError> for CommitError {
+    ghost from_gives = { λ _ e. e ≡ OutOfMemory };
+
+    fn from(_: AllocError) -> CommitError {
+        CommitError::OutOfMemory
+    }
 }
 
 /// Why a command wasn't finished. Neither of them changes the journal, and no draft is left.

@@ -1,0 +1,120 @@
+//! The one book of an office, which its clerks share under a lock.
+
+ghost use Rattle.std.specs.Prelude.{◌≡◌, ◌+◌, ◌<◌, IfOk, IsSome, Some, option_map};
+ghost use Rattle.versioned_steps.specs.Words.{IsPrepared};
+ghost use Rattle.shared_docket.specs.Words.{docket_rules};
+ghost use Rattle.office_seats.specs.Books.{entries_of};
+ghost use Rattle.office_seats.specs.Finished.{Commits};
+
+use crate::done::Done;
+use crate::fault::CommitError;
+use crate::names::Names;
+use docket_rows::{Answer, Command, PartId, PartValue};
+use published_docket::Publisher;
+use shared_docket::DocketParts;
+use std::alloc::{AllocError, Global};
+use std::marker::Model;
+use std::sync::Wait;
+use std::sync::ledger;
+use std::sync::ledger::Share;
+use versioned_steps::{Draft, Entry, Store};
+
+/// The journal, with the parts as they are after it and what is published of them, and how many entries were counted.
+#[derive(Drop)]
+pub struct Book<L: Names> {
+    publisher: Publisher,
+    journal: Vec<Entry<Command, Answer>>,
+    store: Store<DocketParts>,
+    counted: ledger::Book<L>,
+}
+
+impl<L: Names> Model for Book<L> {
+    ghost use Rattle.std.specs.Prelude.{List};
+    ghost use Rattle.docket_rows.specs.declared.answer.Answer.{Answer};
+    ghost use Rattle.docket_rows.specs.declared.command.Command.{Command};
+    ghost use Rattle.versioned_steps.specs.declared.entry.Entry.{Entry};
+    ghost use Rattle.office_seats.specs.Books.{IsBook};
+
+    ghost Value = { List (Entry Command Answer) };
+
+    ghost view = { λ b. b.journal.items };
+
+    ghost invariant = { λ b. IsBook L.history L.bench b.publisher b.journal.items b.store b.counted.total };
+}
+
+/// The entry that a settled draft becomes.
+fn entry_of(draft: &Draft<DocketParts>) -> Entry<Command, Answer>
+    requires { IsSome draft.now.decision }
+    ensures clerk { result.clerk ≡ draft.now.clerk }
+    ensures command { result.command ≡ draft.now.command }
+    ensures answer { option_map (λ d. d.answer) draft.now.decision ≡ Some result.answer }
+{
+    match draft.decision() {
+        Some(decision) => Entry {
+            clerk: draft.clerk(),
+            command: *draft.command(),
+            answer: decision.answer,
+        },
+        None => unreachable!(),
+    }
+}
+
+/// A copy of what is written, which shares what it can. `Err` says that memory ran out.
+// A body that always found no memory would meet this contract, and no test of this crate refuses it yet.
+fn copy_writes(
+    alloc: Global,
+    writes: &[(PartId, PartValue)],
+) -> Result<Vec<(PartId, PartValue)>, AllocError>
+    ensures { IfOk result (λ copies. copies.items ≡ writes.now) }
+{
+    let mut copies = Vec::new(alloc);
+    for write in writes {
+        let value = write.1.copy(alloc)?;
+        copies.push((write.0, value))?;
+    }
+    Ok(copies)
+}
+
+impl<L: Names> Book<L> {
+    /// Finishes a prepared command as the next entry, where the journal takes one more and no part was touched after the
+    /// draft read it. All memory is taken before the entry is published, so an error leaves the journal as it was. The
+    /// share counts the entry.
+    // A body that always found no memory would meet this contract, and no test of this crate refuses it yet.
+    pub(crate) fn commit<R: Wait>(
+        &mut self,
+        rt: &R,
+        alloc: Global,
+        share: &mut Share<L>,
+        draft: &Draft<DocketParts>,
+        limit: u32,
+    ) -> Result<Done, CommitError>
+        requires prepared { IsPrepared (docket_rules L.bench) self.old draft.now }
+        requires share { 0 < share.old.parts }
+        ensures commits { Commits L.bench self.old limit draft.now result self.new }
+        ensures parts { share.new.parts ≡ share.old.parts }
+        ensures amount { share.new.amount ≡ share.old.amount + entries_of result }
+    {
+        if limit as usize <= self.journal.len() {
+            return Err(CommitError::JournalFull);
+        }
+        if let Some(stale) = self.store.check(draft) {
+            return Err(CommitError::Stale(stale.part, stale.version));
+        }
+        let entry = entry_of(draft);
+        let answer = entry.answer;
+        let Book {
+            publisher,
+            journal,
+            store,
+            counted,
+        } = self;
+        journal.reserve(1)?;
+        let change = store.stage(alloc, draft)?;
+        let writes = copy_writes(alloc, change.writes())?;
+        publisher.publish(rt, &entry, writes);
+        journal.push_reserved(entry);
+        counted.add(share, 1);
+        let place = store.finish(change);
+        Ok(Done { place, answer })
+    }
+}
