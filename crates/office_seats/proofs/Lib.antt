@@ -2,3 +2,5 @@ pub mod BookLemmas
 pub mod CountLemmas
 pub mod JournalLemmas
 pub mod PlaceLemmas
+pub mod SeatLemmas
+pub mod SeenLemmas

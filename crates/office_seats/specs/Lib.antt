@@ -3,5 +3,6 @@ pub mod Closed
 pub mod Finished
 pub mod Places
 pub mod Seats
+pub mod Seen
 pub mod Unnamed
 pub mod Words

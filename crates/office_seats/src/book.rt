@@ -1,16 +1,16 @@
 //! The one book of an office, which its clerks share under a lock.
 
-ghost use Rattle.std.specs.Prelude.{◌≡◌, ◌+◌, ◌<◌, IfOk, IsSome, Some, option_map};
+ghost use Rattle.std.specs.Prelude.{◌≡◌, ◌+◌, ◌<◌, IfNone, IfOk, IfSome, IsSome, Some, option_map};
 ghost use Rattle.versioned_steps.specs.Words.{IsPrepared};
 ghost use Rattle.shared_docket.specs.Words.{docket_rules};
 ghost use Rattle.office_seats.specs.Books.{entries_of};
-ghost use Rattle.office_seats.specs.Finished.{Commits};
+ghost use Rattle.office_seats.specs.Finished.{Commits, Settles};
 
 use crate::done::Done;
 use crate::fault::CommitError;
 use crate::names::Names;
 use docket_rows::{Answer, Command, PartId, PartValue};
-use published_docket::Publisher;
+use published_docket::{Publisher, Trail};
 use shared_docket::DocketParts;
 use std::alloc::{AllocError, Global};
 use std::marker::Model;
@@ -116,5 +116,35 @@ impl<L: Names> Book<L> {
         counted.add(share, 1);
         let place = store.finish(change);
         Ok(Done { place, answer })
+    }
+
+    /// Commits a seat's draft, where the journal goes on from what the seat has seen, which is then all of it. None where
+    /// it doesn't, which never happens: the seat has seen a beginning of this journal.
+    // A body that always found no memory would meet this contract, and no test of this crate refuses it yet.
+    pub(crate) fn settle<R: Wait>(
+        &mut self,
+        rt: &R,
+        alloc: Global,
+        seen: &mut Trail,
+        share: &mut Share<L>,
+        draft: &Draft<DocketParts>,
+        limit: u32,
+    ) -> Option<Result<Done, CommitError>>
+        requires book { seen.old.book ≡ L.history }
+        requires prepared { IsPrepared (docket_rules L.bench) seen.old.log draft.now }
+        requires share { 0 < share.old.parts }
+        ensures book { seen.new.book ≡ seen.old.book }
+        ensures settles { IfSome result (λ r. Settles L.bench seen.old.log limit draft.now r seen.new.log) }
+        ensures unseen { IfNone result (seen.new ≡ seen.old) }
+        ensures parts { share.new.parts ≡ share.old.parts }
+        ensures amount { IfSome result (λ r. share.new.amount ≡ share.old.amount + entries_of r) }
+        ensures uncounted { IfNone result (share.new.amount ≡ share.old.amount) }
+    {
+        if !seen.begins(self.publisher.trail()) {
+            return None;
+        }
+        let result = self.commit(rt, alloc, share, draft, limit);
+        *seen = self.publisher.trail().again();
+        Some(result)
     }
 }

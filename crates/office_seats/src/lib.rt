@@ -5,9 +5,12 @@ mod book;
 mod done;
 mod fault;
 mod journal;
+mod looking;
 mod names;
+mod seat;
 
 pub use done::Done;
 pub use fault::{CloseError, CommitError, OfficeError, PerformError};
 pub use journal::Journal;
 pub use names::Names;
+pub use seat::Seat;

@@ -1,0 +1,117 @@
+//! The seat of a clerk.
+
+ghost use Rattle.std.specs.Prelude.{◌≡◌, true, None, IfOk, IfSome, IsSome, OnOk, OnErr, is_some, length};
+ghost use Rattle.docket_rows.specs.Words.{view_of};
+ghost use Rattle.versioned_steps.specs.Words.{is_legal};
+ghost use Rattle.shared_docket.specs.Words.{docket_rules, rows_of};
+ghost use Rattle.office_seats.specs.Places.{Within, places_of};
+ghost use Rattle.office_seats.specs.Seats.{Goes, IsReady};
+
+use crate::book::Book;
+use crate::looking::{looked, showed};
+use crate::names::Names;
+use docket_rows::{Command, Query, View};
+use published_docket::{DocketReader, Trail};
+use shared_docket::DocketParts;
+use std::alloc::{AllocError, Global};
+use std::marker::Model;
+use std::sync::ledger::Share;
+use std::sync::{Arc, Mutex};
+use versioned_steps::Draft;
+
+/// The seat of one clerk, who works in a thread of their own. It reads the docket without waiting, and waits for other
+/// clerks only where it finishes a command.
+#[derive(Drop)]
+pub struct Seat<L: Names> {
+    book: Arc<Mutex<Book<L>>>,
+    limit: u32,
+    number: u8,
+    // It is there between two calls.
+    reader: Option<DocketReader>,
+    trail: Trail,
+    share: Share<L>,
+    mine: Vec<u64>,
+    draft: Option<Draft<DocketParts>>,
+}
+
+impl<L: Names> Model for Seat<L> {
+    ghost use Rattle.std.specs.Prelude.{option_map, vec_capacity};
+    ghost use Rattle.left_right.specs.Sides.{view as known_by};
+    ghost use Rattle.office_seats.specs.Seats.{SeatView};
+    ghost use Rattle.office_seats.specs.Seen.{IsSeat};
+
+    ghost Value = { SeatView };
+
+    ghost view = { λ s. record { number = s.number; limit = s.limit; seen = s.trail.log; mine = s.mine.items; draft = s.draft } };
+
+    ghost invariant = { λ s. IsSeat L.history L.bench s.trail (option_map (λ r. known_by r.place) s.reader) s.share.parts s.share.amount s.number s.mine.items (vec_capacity s.mine) s.draft };
+}
+
+impl<L: Names> Seat<L> {
+    /// The number of the seat, from 1.
+    pub fn number(&self) -> u8
+        ensures { result ≡ self.now.number }
+    {
+        self.number
+    }
+
+    /// How many entries of the history the seat has seen. They are legal, and the seat's own calls are among them.
+    pub fn seen(&self) -> u64
+        ensures length { result ≡ length self.now.seen }
+        ensures legal { is_legal (docket_rules L.bench) self.now.seen ≡ true }
+        ensures mine { Within self.now.mine (places_of self.now.number self.now.seen) }
+    {
+        self.trail.len()
+    }
+
+    /// Whether the seat has a draft.
+    pub fn has_draft(&self) -> bool
+        ensures { result ≡ is_some self.now.draft }
+    {
+        self.draft.is_some()
+    }
+
+    /// Drops the draft.
+    pub fn discard(&mut self)
+        ensures { self.new ≡ record self.old { draft = None } }
+    {
+        self.draft = None;
+    }
+
+    /// Reads all parts of a command at one moment, and decides it on them. The new draft takes the place of an older one.
+    /// `Err` says that memory ran out; an older draft then stays.
+    // A body that always found no memory would meet this contract, and no test of this crate refuses it yet.
+    pub fn prepare(&mut self, alloc: Global, command: Command) -> Result<(), AllocError>
+        ensures goes { Goes self.old self.new }
+        ensures mine { self.new.mine ≡ self.old.mine }
+        ensures drafted { OnOk result (IsSome self.new.draft) }
+        ensures ready { OnOk result (IfSome self.new.draft (IsReady L.bench self.new command)) }
+        ensures err { OnErr result (self.new.draft ≡ self.old.draft) }
+    {
+        self.mine.reserve(1)?;
+        let Some(reader) = self.reader.take() else {
+            unreachable!()
+        };
+        let clerk = u32::from(self.number);
+        let (reader, draft) = looked(alloc, reader, &mut self.trail, clerk, &command);
+        self.reader = Some(reader);
+        self.draft = Some(draft?);
+        Ok(())
+    }
+
+    /// What the query shows of the docket at one moment, or why it is refused. `Err` says that memory ran out.
+    // A body that always found no memory would meet this contract, and no test of this crate refuses it yet.
+    pub fn show(&mut self, alloc: Global, query: &Query) -> Result<View, AllocError>
+        ensures goes { Goes self.old self.new }
+        ensures mine { self.new.mine ≡ self.old.mine }
+        ensures draft { self.new.draft ≡ self.old.draft }
+        ensures view { IfOk result (λ view. view ≡ view_of L.bench (rows_of L.bench self.new.seen) query.now) }
+    {
+        let Some(reader) = self.reader.take() else {
+            unreachable!()
+        };
+        let (reader, view) = showed(alloc, reader, &mut self.trail, query);
+        self.reader = Some(reader);
+        view
+    }
+}
