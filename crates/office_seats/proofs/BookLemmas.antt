@@ -1,5 +1,5 @@
 -- One entry more in the book, over plain histories, stores and drafts.
-use Rattle.std.proofs.Common.{◌≡◌, ℕ, ◌+◌, ◌<◌, Some, List, [], ◌∷◌, ◌++◌, length, All, option_map, refl, ap, sym, ◌∙◌, subst, arith, length-append}
+use Rattle.std.proofs.Common.{◌≡◌, ℕ, ◌+◌, Some, List, [], ◌∷◌, ◌++◌, length, All, option_map, refl, ap, sym, ◌∙◌, subst, arith, length-append}
 use Rattle.std.proofs.lemmas.Option.{same_Some}
 use Rattle.logbook.specs.Pages.{Book}
 use Rattle.docket_rows.specs.declared.answer.Answer.{Answer}
@@ -8,7 +8,7 @@ use Rattle.docket_rows.specs.declared.part.PartId.{PartId}
 use Rattle.docket_rows.specs.declared.part.PartValue.{PartValue}
 use Rattle.docket_rows.specs.Words.{Bench}
 use Rattle.versioned_steps.specs.declared.entry.Entry.{Entry}
-use Rattle.versioned_steps.specs.Words.{DecisionView, IsFresh, IsPrepared, MayCommit, MayFollow, Replays, StoreView, decided, entry_of, value_of, writes_on}
+use Rattle.versioned_steps.specs.Words.{DecisionView, IsFresh, IsPrepared, MayCommit, MayFollow, Replays, StoreView, decided, value_of, writes_on}
 use Rattle.versioned_steps.proofs.CallerLemmas.{may_follow, kept_by, put_by}
 use Rattle.shared_docket.specs.Words.{docket_rules}
 use Rattle.shared_docket.proofs.CallerLemmas.{docket_lawful}
@@ -55,7 +55,7 @@ pub book_longer : (history : Book) (bench : Bench) (published later : Known) (jo
     → IsBook history bench later longer next more
 book_longer history bench published later journal longer store next total more e was shown pushed same replays counted =
     let known : later ≡ record { parts = bench; trail = past history (journal ++ e ∷ []) } =
-        shown ∙ ap (λ (k : Known). record k { trail = record k.trail { log = k.trail.log ++ e ∷ [] } }) was.published_is in
+    shown ∙ ap (λ (k : Known). record k { trail = record k.trail { log = k.trail.log ++ e ∷ [] } }) was.published_is in
     let count : length longer ≡ length journal + 1 = ap length pushed ∙ length-append journal (e ∷ []) in
     record {
       published_is = known ∙ ap (λ (l : List (Entry Command Answer)). record { parts = bench; trail = past history l }) (sym pushed);

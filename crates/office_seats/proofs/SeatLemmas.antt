@@ -1,5 +1,5 @@
 -- What a seat keeps, as it looks again.
-use Rattle.std.proofs.Common.{◌≡◌, ℕ, ◌<◌, ◌≤◌, Option, Some, None, IfSome, List, length, refl, ap, sym, ◌∙◌, subst, arith}
+use Rattle.std.proofs.Common.{◌≡◌, ℕ, ◌≤◌, Option, Some, None, IfSome, List, length, refl, ap, sym, ◌∙◌, subst, arith}
 use Rattle.std.proofs.lemmas.Option.{same_Some}
 use mathlib.Core.List.{IsPrefix}
 use Rattle.logbook.specs.Pages.{Book}
@@ -12,7 +12,6 @@ use Rattle.shared_docket.specs.Words.{docket_rules}
 use Rattle.published_docket.specs.declared.known.Known.{Known}
 use Rattle.published_docket.specs.Words.{Past}
 use Rattle.office_seats.specs.Finished.{DocketDraft}
-use Rattle.office_seats.specs.Places.{places_of, Within}
 use Rattle.office_seats.specs.Seen.{HasSeen, Looks, IsOwn, IsSeat}
 use Rattle.office_seats.proofs.PlaceLemmas.{within_longer}
 

@@ -1,10 +1,10 @@
 -- What a seat has seen, as it looks again.
-use Rattle.std.proofs.Common.{◌≡◌, ℕ, true, Option, Some, None, IfSome, List, length, refl, ap, sym, ◌∙◌, subst}
+use Rattle.std.proofs.Common.{◌≡◌, true, Option, IfSome, sym, ◌∙◌, subst}
 use Rattle.docket_rows.specs.Words.{Bench}
 use Rattle.versioned_steps.specs.Words.{is_legal}
 use Rattle.shared_docket.specs.Words.{docket_rules}
 use Rattle.published_docket.specs.declared.known.Known.{Known}
-use Rattle.published_docket.specs.Words.{Past, Board, IsBeginning, Extends, Sees, known_of}
+use Rattle.published_docket.specs.Words.{Past, Board, Extends, Sees, known_of}
 use Rattle.published_docket.proofs.CallerLemmas.{begins_itself, begins_on}
 use Rattle.office_seats.specs.Seen.{HasSeen, Looks}
 

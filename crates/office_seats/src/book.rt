@@ -14,9 +14,8 @@ use published_docket::{Publisher, Trail};
 use shared_docket::DocketParts;
 use std::alloc::{AllocError, Global};
 use std::marker::Model;
-use std::sync::Wait;
-use std::sync::ledger;
 use std::sync::ledger::Share;
+use std::sync::{Wait, ledger};
 use versioned_steps::{Draft, Entry, Store};
 
 /// The journal, with the parts as they are after it and what is published of them, and how many entries were counted.

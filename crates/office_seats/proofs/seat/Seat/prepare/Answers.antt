@@ -10,7 +10,7 @@ pub invariant_of-self-in_err-draft : goal.invariant_of-self-in_err-draft
 invariant_of-self-in_err-draft g c =
     let knows = seat_knows c.self.invariant (view c.in-Some.reader.place) (rw (sym c.in-Some.ensures.value) at c.self.invariant.there) in
     seat_looked c.self.invariant c.looked-reader.new.trail (view c.looked-reader.result.0.place) c.reserve.new.self.items (vec_capacity c.reserve.new.self)
-      (c.looked-reader.ensures.looks g.L.Names.bench knows) c.reserve.ensures.items c.reserve.ensures.capacity
+    (c.looked-reader.ensures.looks g.L.Names.bench knows) c.reserve.ensures.items c.reserve.ensures.capacity
 
 pub invariant_of-self-2 : goal.invariant_of-self-2
 invariant_of-self-2 g c =
@@ -20,8 +20,8 @@ invariant_of-self-2 g c =
     let read : IsReadAll (docket_rules bench) c.looked-reader.new.trail.log c.in_ok-draft.field-0 = rw c.in_ok-draft.was at (c.looked-reader.ensures.read bench knows) in
     let room : length c.reserve.new.self.items < vec_capacity c.reserve.new.self = omega (arith, c.in_ok-reserve.ensures.ok, c.reserve.new.self.ok) in
     seat_drafted c.self.invariant c.looked-reader.new.trail (view c.looked-reader.result.0.place) c.reserve.new.self.items (vec_capacity c.reserve.new.self)
-      (c.looked-reader.ensures.looks bench knows) c.reserve.ensures.items c.in_ok-draft.field-0
-      (record { prepared = read.prepared; clerk = clerk ∙ c.from-clerk.ensures; room = room })
+    (c.looked-reader.ensures.looks bench knows) c.reserve.ensures.items c.in_ok-draft.field-0
+    (record { prepared = read.prepared; clerk = clerk ∙ c.from-clerk.ensures; room = room })
 
 pub returns-clause-goes : goal.returns-clause-goes
 returns-clause-goes g c =
