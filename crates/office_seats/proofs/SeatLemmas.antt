@@ -1,5 +1,7 @@
 -- What a seat keeps, as it looks again.
-use Rattle.std.proofs.Common.{◌≡◌, ℕ, ◌≤◌, Option, Some, None, IfSome, List, length, refl, ap, sym, ◌∙◌, subst, arith}
+use Rattle.std.proofs.Common.{◌≡◌, ℕ, ◌+◌, ◌≤◌, Option, Some, None, IfSome, List, [], ◌∷◌, ◌++◌, length, refl, ap, sym, ◌∙◌, subst, arith, length-append}
+use Rattle.std.specs.declared.result.Result.{Result}
+use Rattle.std.specs.declared.result.Result.TheVariants.{Ok, Err}
 use Rattle.std.proofs.lemmas.Option.{same_Some}
 use mathlib.Core.List.{IsPrefix}
 use Rattle.logbook.specs.Pages.{Book}
@@ -11,9 +13,14 @@ use Rattle.versioned_steps.proofs.CallerLemmas.{prepared_longer}
 use Rattle.shared_docket.specs.Words.{docket_rules}
 use Rattle.published_docket.specs.declared.known.Known.{Known}
 use Rattle.published_docket.specs.Words.{Past}
-use Rattle.office_seats.specs.Finished.{DocketDraft}
-use Rattle.office_seats.specs.Seen.{HasSeen, Looks, IsOwn, IsSeat}
-use Rattle.office_seats.proofs.PlaceLemmas.{within_longer}
+use Rattle.published_docket.proofs.CallerLemmas.{prefix_trans}
+use Rattle.office_seats.specs.declared.done.Done.{Done}
+use Rattle.office_seats.specs.declared.fault.CommitError.{CommitError}
+use Rattle.office_seats.specs.declared.fault.CommitError.TheVariants.{NothingPrepared, JournalFull, Stale, OutOfMemory}
+use Rattle.office_seats.specs.Finished.{DocketDraft, Settles, next_entry}
+use Rattle.office_seats.specs.Places.{places_of, Within}
+use Rattle.office_seats.specs.Seen.{HasSeen, KnowsOf, Looks, IsOwn, IsSeat}
+use Rattle.office_seats.proofs.PlaceLemmas.{within_longer, within_next}
 
 -- a draft stays the seat's as more is seen, and as there is more room
 own_longer : (bench : Bench) (h k : List (Entry Command Answer)) (number calls others capacity room : ℕ) (draft : Option DocketDraft) → IsPrefix h k → others ≡ calls → capacity ≤ room → IfSome draft (IsOwn bench h number calls capacity) → IfSome draft (IsOwn bench k number others room)
@@ -51,3 +58,60 @@ module _ {history : Book} {bench : Bench} {trail : Past} {reader : Option (Optio
     within = rw same (within_longer number mine trail.log after.log looks.later.log was.within);
     own = own;
   }
+
+  -- its draft is its own
+  pub seat_own : (d : DocketDraft) → draft ≡ Some d → IsOwn bench trail.log number (length mine) capacity d
+  seat_own d is = let P : Option DocketDraft → Type 0 = λ o. IfSome o (IsOwn bench trail.log number (length mine) capacity) in subst P is was.own
+
+  -- its reader knows of the office
+  pub seat_known : (known : Option Known) → Some known ≡ Some was.known → KnowsOf history bench known
+  seat_known known same =
+      let seen = seat_knows known same in
+      record { knows = seen.knows; there = seen.there; parts = seen.parts; book = seen.ahead.book ∙ was.book }
+
+  -- it has seen more, and its draft is as it was
+  pub seat_kept : (after : Past) (now : Option Known) (held sum : ℕ) → HasSeen bench after now → after.book ≡ trail.book → IsPrefix trail.log after.log → held ≡ parts → sum ≡ amount → IsSeat history bench after (Some now) held sum number mine capacity draft
+  seat_kept after now held sum seen same begins holds counts =
+      rw (holds, counts) (seat_looked after now mine capacity (record { seen = seen; later = record { book = same; log = begins } }) refl (omega arith))
+
+  -- it has seen more, and its draft is gone
+  pub seat_dropped : (after : Past) (now : Option Known) (held sum : ℕ) → HasSeen bench after now → after.book ≡ trail.book → IsPrefix trail.log after.log → held ≡ parts → sum ≡ amount → IsSeat history bench after (Some now) held sum number mine capacity None
+  seat_dropped after now held sum seen same begins holds counts = record {
+    book = same ∙ was.book;
+    known = now;
+    there = refl;
+    seen = seen;
+    one_part = holds ∙ was.one_part;
+    counted = counts ∙ was.counted;
+    within = within_longer number mine trail.log after.log begins was.within;
+    own = tt;
+  }
+
+  -- its draft became an entry, at the end of its calls
+  pub seat_finished : (after : Past) (now : Option Known) (held sum : ℕ) (calls : List ℕ) (room limit : ℕ) (done : Done) (d : DocketDraft) → HasSeen bench after now → after.book ≡ trail.book → draft ≡ Some d → Settles bench trail.log limit d (Ok done) after.log → held ≡ parts → sum ≡ amount + 1 → calls ≡ mine ++ done.place ∷ []
+      → IsSeat history bench after (Some now) held sum number calls room None
+  seat_finished after now held sum calls room limit done d seen same is settles holds counts pushed =
+      let before = settles.before in
+      let made = settles.commits.made in
+      let within : Within (mine ++ (length before + 1) ∷ []) (places_of number (before ++ next_entry bench before d.clerk d.command ∷ [])) =
+          within_next number mine before (next_entry bench before d.clerk d.command) (seat_own d is).clerk (within_longer number mine trail.log before settles.later was.within) in
+      let longer : length calls ≡ length mine + 1 = ap length pushed ∙ length-append mine (done.place ∷ []) in
+      record {
+        book = same ∙ was.book;
+        known = now;
+        there = refl;
+        seen = seen;
+        one_part = holds ∙ was.one_part;
+        counted = omega (arith, counts, was.counted, longer);
+        within = rw (pushed, made.place, made.history) within;
+        own = tt;
+      }
+
+-- all that was seen is seen still
+pub settles_later : (bench : Bench) (seen : List (Entry Command Answer)) (limit : ℕ) (d : DocketDraft) (r : Result Done CommitError) (now : List (Entry Command Answer)) → Settles bench seen limit d r now → IsPrefix seen now
+settles_later bench seen limit d (Ok done) now s =
+    prefix_trans seen s.before now s.later (next_entry bench s.before d.clerk d.command ∷ [], sym s.commits.made.history)
+settles_later bench seen limit d (Err JournalFull) now s = subst (IsPrefix seen) (sym s.commits.same) s.later
+settles_later bench seen limit d (Err (Stale part version)) now s = subst (IsPrefix seen) (sym s.commits.same) s.later
+settles_later bench seen limit d (Err OutOfMemory) now s = subst (IsPrefix seen) (sym s.commits.same) s.later
+settles_later bench seen limit d (Err NothingPrepared) now s = absurd s.commits

@@ -1,12 +1,14 @@
 -- What a seat has seen, as it looks again.
-use Rattle.std.proofs.Common.{◌≡◌, true, Option, IfSome, sym, ◌∙◌, subst}
+use Rattle.std.proofs.Common.{◌≡◌, true, refl, ap, Option, IfSome, sym, ◌∙◌, subst}
+use mathlib.Core.List.{IsPrefix}
+use Rattle.logbook.specs.Pages.{Book}
 use Rattle.docket_rows.specs.Words.{Bench}
 use Rattle.versioned_steps.specs.Words.{is_legal}
 use Rattle.shared_docket.specs.Words.{docket_rules}
 use Rattle.published_docket.specs.declared.known.Known.{Known}
 use Rattle.published_docket.specs.Words.{Past, Board, Extends, Sees, known_of}
 use Rattle.published_docket.proofs.CallerLemmas.{begins_itself, begins_on}
-use Rattle.office_seats.specs.Seen.{HasSeen, Looks}
+use Rattle.office_seats.specs.Seen.{HasSeen, KnowsOf, Looks}
 
 module _ (bench : Bench) (before : Past) (v : Option Known) (seen : HasSeen bench before v) where
   -- what is published goes on from what the reader knew
@@ -34,4 +36,27 @@ module _ (bench : Bench) (before : Past) (v : Option Known) (seen : HasSeen benc
   looks_same after same = record {
     seen = record { knows = seen.knows; there = same ∙ seen.there; parts = seen.parts; ahead = seen.ahead; legal = seen.legal };
     later = begins_itself before;
+  }
+
+module _ {history : Book} {bench : Bench} {v : Option Known} (knows : KnowsOf history bench v) where
+  -- what is published goes on from what the reader knew
+  goes_on : (x : Board) (w : Option Known) → Sees v x x w → Extends knows.knows x
+  goes_on x w sees = let P : Option Known → Type 0 = λ o. IfSome o (λ k. Extends k x) in subst P knows.there sees.later
+
+  -- so it is of the same history
+  pub same_history : (x : Board) (w : Option Known) → Sees v x x w → x.trail.book ≡ history
+  same_history x w sees = (goes_on x w sees).trail.book ∙ knows.book
+
+  pub knows_on : (x : Board) (w after : Option Known) → Sees v x x w → after ≡ w → KnowsOf history bench after
+  knows_on x w after sees left =
+      record { knows = known_of x; there = left ∙ sees.seen; parts = (goes_on x w sees).parts ∙ knows.parts; book = same_history x w sees }
+
+  -- and the reader knows no less than what was seen, where that is a beginning of it
+  pub knows_seen : (x : Board) (w after : Option Known) (trail : Past) → Sees v x x w → after ≡ w → trail.book ≡ history → is_legal (docket_rules bench) trail.log ≡ true → IsPrefix trail.log x.trail.log → HasSeen bench trail after
+  knows_seen x w after trail sees left book legal begins = record {
+    knows = known_of x;
+    there = left ∙ sees.seen;
+    parts = (goes_on x w sees).parts ∙ knows.parts;
+    ahead = record { book = same_history x w sees ∙ sym book; log = begins };
+    legal = legal;
   }

@@ -42,3 +42,10 @@ pub record IsSeat (history : Book) (bench : Bench) (trail : Past) (reader : Opti
   pub counted : amount ≡ length mine
   pub within : Within mine (places_of number trail.log)
   pub own : IfSome draft (IsOwn bench trail.log number (length mine) capacity)
+
+-- the reader knows of this court and this history
+pub record KnowsOf (history : Book) (bench : Bench) (known : Option Known) : Type 0 where
+  pub knows : Known
+  pub there : known ≡ Some knows
+  pub parts : knows.parts ≡ bench
+  pub book : knows.trail.book ≡ history

@@ -8,6 +8,7 @@ mod journal;
 mod looking;
 mod names;
 mod seat;
+mod settling;
 
 pub use done::Done;
 pub use fault::{CloseError, CommitError, OfficeError, PerformError};

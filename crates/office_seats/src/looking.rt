@@ -1,17 +1,20 @@
 //! How a seat reads what is published.
 
-ghost use Rattle.std.specs.Prelude.{◌≡◌, IfOk};
+ghost use Rattle.std.specs.Prelude.{◌≡◌, true, IfOk};
+ghost use mathlib.Core.List.{IsPrefix};
 ghost use Rattle.left_right.specs.Sides.{view};
 ghost use Rattle.docket_rows.specs.Words.{Bench, view_of};
-ghost use Rattle.versioned_steps.specs.Words.{IsReadAll};
+ghost use Rattle.versioned_steps.specs.Words.{IsReadAll, is_legal};
 ghost use Rattle.shared_docket.specs.Words.{docket_rules, rows_of};
 ghost use Rattle.published_docket.specs.Words.{IsShown};
-ghost use Rattle.office_seats.specs.Seen.{HasSeen, Looks};
+ghost use Rattle.office_seats.specs.Seen.{HasSeen, KnowsOf, Looks};
 
+use crate::names::Names;
 use docket_rows::{Command, Query, View};
 use published_docket::{DocketReader, Shown, Trail, enter, read_all, show};
 use shared_docket::DocketParts;
 use std::alloc::{AllocError, Global};
+use std::sync::Wait;
 use versioned_steps::Draft;
 
 // Notes how far the history has gone, and makes a draft of the command at this moment.
@@ -90,4 +93,52 @@ pub(crate) fn showed(
         }
         Err(reader) => (reader, Err(AllocError)),
     }
+}
+
+// Whether what is published is no less than what was seen.
+fn caught_at(shown: &Shown, trail: &Trail) -> bool
+    requires { shown.now.trail.book ≡ trail.now.book }
+    ensures { result ≡ true → IsPrefix trail.now.log shown.now.trail.log }
+{
+    trail.begins(shown.trail())
+}
+
+// Takes what is published now, and says whether it is no less than what was seen.
+fn caught<L: Names>(reader: DocketReader, trail: &Trail) -> (DocketReader, bool)
+    requires knows { KnowsOf L.history L.bench (view reader.place) }
+    requires book { trail.now.book ≡ L.history }
+    requires legal { is_legal (docket_rules L.bench) trail.now.log ≡ true }
+    ensures knows { KnowsOf L.history L.bench (view result.0.place) }
+    ensures seen { result.1 ≡ true → HasSeen L.bench trail.now (view result.0.place) }
+{
+    match enter(reader) {
+        Ok(reading) => {
+            let done = caught_at(reading.get(), trail);
+            (reading.leave(), done)
+        }
+        Err(reader) => (reader, false),
+    }
+}
+
+/// Takes what is published until it is no less than what was seen. All of the journal was published before it was seen,
+/// so the first time serves, but no clause says so.
+pub(crate) fn caught_up<L: Names, R: Wait>(
+    rt: &R,
+    reader: DocketReader,
+    trail: &Trail,
+) -> DocketReader
+    requires knows { KnowsOf L.history L.bench (view reader.place) }
+    requires book { trail.now.book ≡ L.history }
+    requires legal { is_legal (docket_rules L.bench) trail.now.log ≡ true }
+    ensures { HasSeen L.bench trail.now (view result.place) }
+{
+    let mut reader = reader;
+    for _ in rt.forever() {
+        let (next, done) = caught::<L>(reader, trail);
+        reader = next;
+        if done {
+            return reader;
+        }
+    }
+    unreachable!()
 }

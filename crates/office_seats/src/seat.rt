@@ -5,18 +5,21 @@ ghost use Rattle.docket_rows.specs.Words.{view_of};
 ghost use Rattle.versioned_steps.specs.Words.{is_legal};
 ghost use Rattle.shared_docket.specs.Words.{docket_rules, rows_of};
 ghost use Rattle.office_seats.specs.Places.{Within, places_of};
-ghost use Rattle.office_seats.specs.Seats.{Goes, IsReady};
+ghost use Rattle.office_seats.specs.Seats.{Goes, IsReady, SeatCommits};
 
 use crate::book::Book;
-use crate::looking::{looked, showed};
+use crate::done::Done;
+use crate::fault::CommitError;
+use crate::looking::{caught_up, looked, showed};
 use crate::names::Names;
+use crate::settling::settled;
 use docket_rows::{Command, Query, View};
 use published_docket::{DocketReader, Trail};
 use shared_docket::DocketParts;
 use std::alloc::{AllocError, Global};
 use std::marker::Model;
 use std::sync::ledger::Share;
-use std::sync::{Arc, Mutex};
+use std::sync::{Arc, Mutex, Wait};
 use versioned_steps::Draft;
 
 /// The seat of one clerk, who works in a thread of their own. It reads the docket without waiting, and waits for other
@@ -113,5 +116,44 @@ impl<L: Names> Seat<L> {
         let (reader, view) = showed(alloc, reader, &mut self.trail, query);
         self.reader = Some(reader);
         view
+    }
+
+    /// Finishes the command of the draft, where the journal takes one more entry and no part was touched after the draft
+    /// read it. An `Ok` and `Stale` spend the draft; the other errors keep it. A refusal by the docket is an answer of a
+    /// finished command.
+    // A body that always found no memory would meet this contract, and no test of this crate refuses it yet.
+    pub fn commit<R: Wait>(&mut self, rt: &R, alloc: Global) -> Result<Done, CommitError>
+        ensures { SeatCommits L.bench self.old result self.new }
+    {
+        let Some(draft) = &self.draft else {
+            return Err(CommitError::NothingPrepared);
+        };
+        let Some(reader) = self.reader.take() else {
+            unreachable!()
+        };
+        let result = settled::<L, R>(
+            rt,
+            alloc,
+            &self.book,
+            &mut self.trail,
+            &mut self.share,
+            draft,
+            self.limit,
+        );
+        self.reader = Some(caught_up::<L, R>(rt, reader, &self.trail));
+        match result {
+            Ok(done) => {
+                self.mine.push_reserved(done.place);
+                self.draft = None;
+                Ok(done)
+            }
+            Err(CommitError::Stale(part, version)) => {
+                self.draft = None;
+                Err(CommitError::Stale(part, version))
+            }
+            Err(CommitError::JournalFull) => Err(CommitError::JournalFull),
+            Err(CommitError::OutOfMemory) => Err(CommitError::OutOfMemory),
+            Err(CommitError::NothingPrepared) => unreachable!(),
+        }
     }
 }
