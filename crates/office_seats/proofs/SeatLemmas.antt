@@ -19,7 +19,7 @@ use Rattle.office_seats.specs.declared.fault.CommitError.{CommitError}
 use Rattle.office_seats.specs.declared.fault.CommitError.TheVariants.{NothingPrepared, JournalFull, Stale, OutOfMemory}
 use Rattle.office_seats.specs.Finished.{DocketDraft, Settles, next_entry}
 use Rattle.office_seats.specs.Places.{places_of, Within}
-use Rattle.office_seats.specs.Seen.{HasSeen, KnowsOf, Looks, IsOwn, IsSeat}
+use Rattle.office_seats.specs.Seen.{HasSeen, KnowsOf, Looks, IsOwn, IsSeat, IsTally}
 use Rattle.office_seats.proofs.PlaceLemmas.{within_longer, within_next}
 
 -- a draft stays the seat's as more is seen, and as there is more room
@@ -106,6 +106,10 @@ module _ {history : Book} {bench : Bench} {trail : Past} {reader : Option (Optio
         within = rw (pushed, made.place, made.history) within;
         own = tt;
       }
+
+  -- what it leaves
+  pub seat_leaves : IsTally history bench trail parts amount number mine
+  seat_leaves = record { book = was.book; legal = was.seen.legal; one_part = was.one_part; counted = was.counted; within = was.within }
 
 -- all that was seen is seen still
 pub settles_later : (bench : Bench) (seen : List (Entry Command Answer)) (limit : ℕ) (d : DocketDraft) (r : Result Done CommitError) (now : List (Entry Command Answer)) → Settles bench seen limit d r now → IsPrefix seen now

@@ -49,3 +49,11 @@ pub record KnowsOf (history : Book) (bench : Bench) (known : Option Known) : Typ
   pub there : known ≡ Some knows
   pub parts : knows.parts ≡ bench
   pub book : knows.trail.book ≡ history
+
+-- what a seat leaves: what it had seen, and its calls, counted in its share
+pub record IsTally (history : Book) (bench : Bench) (trail : Past) (parts amount number : ℕ) (mine : List ℕ) : Type 0 where
+  pub book : trail.book ≡ history
+  pub legal : is_legal (docket_rules bench) trail.log ≡ true
+  pub one_part : parts ≡ 1
+  pub counted : amount ≡ length mine
+  pub within : Within mine (places_of number trail.log)

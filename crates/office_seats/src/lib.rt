@@ -9,9 +9,11 @@ mod looking;
 mod names;
 mod seat;
 mod settling;
+mod tally;
 
 pub use done::Done;
 pub use fault::{CloseError, CommitError, OfficeError, PerformError};
 pub use journal::Journal;
 pub use names::Names;
 pub use seat::Seat;
+pub use tally::Tally;

@@ -13,6 +13,7 @@ use crate::fault::CommitError;
 use crate::looking::{caught_up, looked, showed};
 use crate::names::Names;
 use crate::settling::settled;
+use crate::tally::Tally;
 use docket_rows::{Command, Query, View};
 use published_docket::{DocketReader, Trail};
 use shared_docket::DocketParts;
@@ -154,6 +155,31 @@ impl<L: Names> Seat<L> {
             Err(CommitError::JournalFull) => Err(CommitError::JournalFull),
             Err(CommitError::OutOfMemory) => Err(CommitError::OutOfMemory),
             Err(CommitError::NothingPrepared) => unreachable!(),
+        }
+    }
+
+    /// Gives up the seat, and drops its draft.
+    #[tactic(auto, using(crate::proofs::SeatLemmas::seat_leaves))]
+    pub fn leave(self) -> Tally<L>
+        ensures number { result.number ≡ self.number }
+        ensures seen { result.seen ≡ self.seen }
+        ensures mine { result.mine ≡ self.mine }
+    {
+        let Seat {
+            book: _,
+            limit: _,
+            number,
+            reader: _,
+            trail,
+            share,
+            mine,
+            draft: _,
+        } = self;
+        Tally {
+            number,
+            trail,
+            share,
+            mine,
         }
     }
 }
