@@ -94,7 +94,7 @@ module _ {history : Book} {bench : Bench} {trail : Past} {reader : Option (Optio
       let before = settles.before in
       let made = settles.commits.made in
       let within : Within (mine ++ (length before + 1) ∷ []) (places_of number (before ++ next_entry bench before d.clerk d.command ∷ [])) =
-          within_next number mine before (next_entry bench before d.clerk d.command) (seat_own d is).clerk (within_longer number mine trail.log before settles.later was.within) in
+      within_next number mine before (next_entry bench before d.clerk d.command) (seat_own d is).clerk (within_longer number mine trail.log before settles.later was.within) in
       let longer : length calls ≡ length mine + 1 = ap length pushed ∙ length-append mine (done.place ∷ []) in
       record {
         book = same ∙ was.book;

@@ -1,5 +1,5 @@
 -- What a seat has seen, as it looks again.
-use Rattle.std.proofs.Common.{◌≡◌, true, refl, ap, Option, IfSome, sym, ◌∙◌, subst}
+use Rattle.std.proofs.Common.{◌≡◌, true, Option, IfSome, sym, ◌∙◌, subst}
 use mathlib.Core.List.{IsPrefix}
 use Rattle.logbook.specs.Pages.{Book}
 use Rattle.docket_rows.specs.Words.{Bench}
@@ -30,13 +30,6 @@ module _ (bench : Bench) (before : Past) (v : Option Known) (seen : HasSeen benc
         seen = record { knows = known_of x; there = left ∙ sees.seen; parts = same_court x w sees; ahead = begins_itself x.trail; legal = legal };
         later = begins_on before seen.knows.trail x.trail seen.ahead ext.trail;
       })
-
-  -- a seat that saw nothing new
-  pub looks_same : (after : Option Known) → after ≡ v → Looks bench before before after
-  looks_same after same = record {
-    seen = record { knows = seen.knows; there = same ∙ seen.there; parts = seen.parts; ahead = seen.ahead; legal = seen.legal };
-    later = begins_itself before;
-  }
 
 module _ {history : Book} {bench : Bench} {v : Option Known} (knows : KnowsOf history bench v) where
   -- what is published goes on from what the reader knew

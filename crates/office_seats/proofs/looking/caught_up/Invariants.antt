@@ -1,4 +1,3 @@
-use Rattle.std.proofs.Common.{◌≡◌}
 use Rattle.left_right.specs.Sides.{view}
 use Rattle.office_seats.specs.Seen.{KnowsOf}
 use Rattle.office_seats.proofs.looking.caught_up.Given as goal

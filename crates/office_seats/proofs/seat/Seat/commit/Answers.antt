@@ -10,7 +10,7 @@ pub invariant_of-self : goal.invariant_of-self
 invariant_of-self g c =
     let drafted : c.self.inside.draft ≡ Some c.in-Some.draft = cc (c.in-Some.is) in
     seat_finished c.self.invariant c.settled-result.new.seen (view c.caught_up.result.place) c.settled-result.new.share.parts c.settled-result.new.share.amount c.push_reserved.new.self.items (vec_capacity c.push_reserved.new.self) c.self.inside.limit c.in-Ok.done c.in-Some.draft
-      c.caught_up.ensures c.settled-result.ensures.book drafted c.in-Ok.ensures.settles c.settled-result.ensures.parts c.in-Ok.ensures.amount c.push_reserved.ensures.items
+    c.caught_up.ensures c.settled-result.ensures.book drafted c.in-Ok.ensures.settles c.settled-result.ensures.parts c.in-Ok.ensures.amount c.push_reserved.ensures.items
 
 pub invariant_of-self-in-Err-Stale : goal.invariant_of-self-in-Err-Stale
 invariant_of-self-in-Err-Stale g c =
