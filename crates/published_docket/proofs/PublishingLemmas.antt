@@ -1,5 +1,5 @@
 -- While one more entry is published.
-use Rattle.std.proofs.Common.{◌≡◌, ℕ, ◌+◌, true, Some, List, [], ◌∷◌, ◌++◌, length, fold, refl, ap, sym, ◌∙◌, subst, length-append}
+use Rattle.std.proofs.Common.{◌≡◌, ℕ, ◌+◌, true, Option, Some, List, [], ◌∷◌, ◌++◌, length, fold, refl, ap, sym, ◌∙◌, subst, length-append}
 use Rattle.logbook.specs.Pages.{Named}
 use Rattle.docket_rows.specs.declared.answer.Answer.{Answer}
 use Rattle.docket_rows.specs.declared.command.Command.{Command}
@@ -33,6 +33,28 @@ pub record IsPublishing (k : Known) (h q : HeldView) (e : Entry Command Answer) 
   pub grown : t ≡ record k.trail { log = k.trail.log ++ e ∷ [] }
   pub count : n ≡ length t.log
   pub queued : q ≡ record h { pending = (h.pending ++ puts_of n writes) ++ Grow t ∷ [] }
+
+-- what holds of one who publishes is told of what its contracts see
+pub publishing : (kept : Option HeldView) (head : Named) (k now : Known) → Keeps kept head k.parts k.trail → k ≡ now → (h q w : HeldView) (e : Entry Command Answer) (writes : List (PartId × PartValue)) (s t u : Past) (n : ℕ) → Some h ≡ kept
+    → MayFollow (docket_rules now.parts) now.trail.log e → writes ≡ writes_on (docket_rules now.parts) (value_of (docket_rules now.parts) now.trail.log) e.command
+    → s ≡ k.trail → t ≡ record s { log = s.log ++ e ∷ [] } → n ≡ length t.log
+    → w ≡ record h { pending = h.pending ++ puts_of n writes } → u ≡ t → q ≡ record w { pending = w.pending ++ Grow u ∷ [] }
+    → IsPublishing k h q e writes t n
+publishing kept head k now keeps seen h q w e writes s t u n took follows written again grown count wrote copied queued =
+    let same : h ≡ keeps.held_is = cc (took, keeps.there) in
+    record {
+      known = ap (λ (x : HeldView). known_of x.shown) same ∙ keeps.shown;
+      none = ap (λ (x : HeldView). x.pending) same ∙ keeps.nothing_pending;
+      small = keeps.small;
+      follows = subst (λ (y : Known). MayFollow (docket_rules y.parts) y.trail.log e) (sym seen) follows;
+      written = subst (λ (y : Known). writes ≡ writes_on (docket_rules y.parts) (value_of (docket_rules y.parts) y.trail.log) e.command) (sym seen) written;
+      grown = grown ∙ ap (λ (x : Past). record x { log = x.log ++ e ∷ [] }) again;
+      count = count;
+      queued =
+          queued
+          ∙ (ap (λ (x : Past). record w { pending = w.pending ++ Grow x ∷ [] }) copied
+          ∙ ap (λ (x : HeldView). record x { pending = x.pending ++ Grow t ∷ [] }) wrote);
+    }
 
 module _ (k : Known) (h q : HeldView) (e : Entry Command Answer) (writes : List (PartId × PartValue)) (t : Past) (n : ℕ) (p : IsPublishing k h q e writes t n) where
   made : fold applied_to q.shown q.pending ≡ record { parts = h.shown.parts; trail = t; slots = put_all n writes h.shown.slots }

@@ -43,7 +43,7 @@ impl Model for Publisher {
 
 impl Publisher {
     /// Publishes the docket of the court before any entry. `Err` says that memory ran out.
-    // A body that always found no memory would meet this contract; the tests call it with ample memory.
+    // A body that always found no memory would meet this contract, and no test of this crate refuses it yet.
     pub fn new(alloc: Global, court: &Court) -> Result<Publisher, AllocError>
         ensures parts { IfOk result (λ p. p.parts ≡ bench_of court.now) }
         ensures log { IfOk result (λ p. p.trail.log ≡ []) }
@@ -78,7 +78,7 @@ impl Publisher {
 
     /// Takes the memory for so many changes at once, twice: an entry makes one for each part that it writes, and one
     /// more, and readers may still be reading what it changes. `Err` says that memory ran out.
-    // A body that always found no memory would meet this contract; the tests call it with ample memory.
+    // A body that always found no memory would meet this contract, and no test of this crate refuses it yet.
     pub fn warm<R: Wait>(&mut self, rt: &R, count: u32) -> Result<(), AllocError>
         ensures { self.new ≡ self.old }
     {
@@ -93,7 +93,7 @@ impl Publisher {
 
     /// A reader that has seen all that is published. `Err` says that there are as many readers as can be, or that memory
     /// ran out.
-    // A body that always found no memory would meet this contract; the tests call it with ample memory.
+    // A body that always found no memory would meet this contract, and no test of this crate refuses it yet.
     pub fn reader<R: Wait>(&mut self, rt: &R) -> Result<DocketReader, AllocError>
         ensures kept { self.new ≡ self.old }
         ensures known { IfOk result (λ r. view r.place ≡ Some self.old) }
