@@ -8,7 +8,7 @@ use Rattle.docket_rows.specs.declared.part.PartId.{PartId}
 use Rattle.docket_rows.specs.declared.part.PartValue.{PartValue}
 use Rattle.docket_rows.specs.Words.{Bench}
 use Rattle.versioned_steps.specs.declared.entry.Entry.{Entry}
-use Rattle.versioned_steps.specs.Words.{DecisionView, IsFresh, IsPrepared, MayCommit, MayFollow, Replays, StoreView, decided, value_of, writes_on}
+use Rattle.versioned_steps.specs.Words.{DecisionView, IsFresh, IsPrepared, IsReadAll, MayCommit, MayFollow, Replays, StoreView, decided, value_of, writes_on}
 use Rattle.versioned_steps.proofs.CallerLemmas.{may_follow, kept_by, put_by}
 use Rattle.shared_docket.specs.Words.{docket_rules}
 use Rattle.shared_docket.proofs.CallerLemmas.{docket_lawful}
@@ -25,6 +25,14 @@ module _ (bench : Bench) where
   ready h d s own replays fresh prepared =
       let P : Bench → Type 0 = λ b. Replays (docket_rules b) h s → All (IsFresh (docket_rules b) h) d.reads in
       record { prepared = prepared; fresh = subst P own (fresh h) replays }
+
+  -- a draft that was read from the store now
+  pub read_now : (h : List (Entry Command Answer)) (d : DocketDraft) (s : StoreView Bench PartId PartValue) → s.owner ≡ bench → Replays (docket_rules bench) h s
+      → ((k : List (Entry Command Answer)) → Replays (docket_rules s.owner) k s → IsReadAll (docket_rules s.owner) k d)
+      → IsReadAll (docket_rules bench) h d
+  read_now h d s own replays all =
+      let P : Bench → Type 0 = λ b. Replays (docket_rules b) h s → IsReadAll (docket_rules b) h d in
+      subst P own (all h) replays
 
   -- the entry that a draft becomes which may be committed is its command's on the parts as they all are now
   pub entry_next : (h : List (Entry Command Answer)) (d : DocketDraft) (e : Entry Command Answer) → MayCommit (docket_rules bench) h d → e.clerk ≡ d.clerk → e.command ≡ d.command → option_map (λ x. x.answer) d.decision ≡ Some e.answer → e ≡ next_entry bench h d.clerk d.command
@@ -63,3 +71,12 @@ book_longer history bench published later journal longer store next total more e
       replays = rw pushed replays;
       counted = omega (arith, counted, was.counted, count);
     }
+
+-- the book without entries
+pub book_opened : (history : Book) (bench parts : Bench) (published : Known) (journal : List (Entry Command Answer)) (store : StoreView Bench PartId PartValue) (total : ℕ) → published ≡ record { parts = bench; trail = past history [] }
+    → journal ≡ [] → parts ≡ bench → store.owner ≡ parts → Replays (docket_rules parts) [] store → total ≡ 0
+    → IsBook history bench published journal store total
+book_opened history bench parts published journal store total is empty same owner replays none =
+    let P : Bench → Type 0 = λ b. Replays (docket_rules b) [] store in
+    let Q : List (Entry Command Answer) → Type 0 = λ j. IsBook history bench published j store total in
+    subst Q (sym empty) (record { published_is = is; owner = owner ∙ same; replays = subst P same replays; counted = none })

@@ -1,7 +1,8 @@
 -- What a seat keeps, as it looks again.
-use Rattle.std.proofs.Common.{◌≡◌, ℕ, ◌+◌, ◌≤◌, Option, Some, None, IfSome, List, [], ◌∷◌, ◌++◌, length, refl, ap, sym, ◌∙◌, subst, arith, length-append}
+use Rattle.std.proofs.Common.{◌≡◌, ℕ, ◌+◌, ◌≤◌, true, Option, Some, None, IfSome, IsSome, List, [], ◌∷◌, ◌++◌, length, refl, ap, sym, ◌∙◌, subst, arith, length-append}
 use Rattle.std.specs.declared.result.Result.{Result}
 use Rattle.std.specs.declared.result.Result.TheVariants.{Ok, Err}
+use Rattle.std.proofs.lemmas.Bool.{false≢true}
 use Rattle.std.proofs.lemmas.Option.{same_Some}
 use mathlib.Core.List.{IsPrefix}
 use Rattle.logbook.specs.Pages.{Book}
@@ -9,16 +10,20 @@ use Rattle.docket_rows.specs.declared.answer.Answer.{Answer}
 use Rattle.docket_rows.specs.declared.command.Command.{Command}
 use Rattle.docket_rows.specs.Words.{Bench}
 use Rattle.versioned_steps.specs.declared.entry.Entry.{Entry}
-use Rattle.versioned_steps.proofs.CallerLemmas.{prepared_longer}
+use Rattle.versioned_steps.specs.Words.{is_legal}
+use Rattle.versioned_steps.proofs.CallerLemmas.{legal_empty, prepared_longer}
 use Rattle.shared_docket.specs.Words.{docket_rules}
 use Rattle.published_docket.specs.declared.known.Known.{Known}
-use Rattle.published_docket.specs.Words.{Past}
-use Rattle.published_docket.proofs.CallerLemmas.{prefix_trans}
+use Rattle.published_docket.specs.Words.{Past, past}
+use Rattle.published_docket.proofs.CallerLemmas.{prefix_self, prefix_trans}
 use Rattle.office_seats.specs.declared.done.Done.{Done}
 use Rattle.office_seats.specs.declared.fault.CommitError.{CommitError}
 use Rattle.office_seats.specs.declared.fault.CommitError.TheVariants.{NothingPrepared, JournalFull, Stale, OutOfMemory}
-use Rattle.office_seats.specs.Finished.{DocketDraft, Settles, next_entry}
+use Rattle.office_seats.specs.declared.fault.PerformError.{PerformError}
+use Rattle.office_seats.specs.declared.fault.PerformError.TheVariants as perform
+use Rattle.office_seats.specs.Finished.{DocketDraft, IsMade, Settles, Makes, next_entry}
 use Rattle.office_seats.specs.Places.{places_of, Within}
+use Rattle.office_seats.specs.Seats.{SeatView, Goes, IsReady, DraftCommits, SeatCommits, SeatPerforms, mine_then}
 use Rattle.office_seats.specs.Seen.{HasSeen, KnowsOf, Looks, IsOwn, IsSeat, IsTally}
 use Rattle.office_seats.proofs.PlaceLemmas.{within_longer, within_next}
 
@@ -27,6 +32,27 @@ own_longer : (bench : Bench) (h k : List (Entry Command Answer)) (number calls o
 own_longer bench h k number calls others capacity room None begins same le own = tt
 own_longer bench h k number calls others capacity room (Some d) begins same le own =
     record { prepared = prepared_longer (docket_rules bench) h k begins d own.prepared; clerk = own.clerk; room = omega (arith, own.room, same, le) }
+
+-- a seat that has seen nothing and done nothing
+pub seat_opened : (history : Book) (bench : Bench) (trail : Past) (known : Option Known) (parts amount number capacity : ℕ) → KnowsOf history bench known → trail ≡ past history [] → parts ≡ 1 → amount ≡ 0 → IsSeat history bench trail (Some known) parts amount number [] capacity None
+seat_opened history bench trail known parts amount number capacity knows start one none =
+    let P : Past → Type 0 = λ t. IsSeat history bench t (Some known) parts amount number [] capacity None in
+    subst P (sym start) (record {
+      book = refl;
+      known = known;
+      there = refl;
+      seen = record {
+        knows = knows.knows;
+        there = knows.there;
+        parts = knows.parts;
+        ahead = record { book = knows.book; log = (knows.knows.trail.log, refl) };
+        legal = legal_empty (docket_rules bench);
+      };
+      one_part = one;
+      counted = none;
+      within = tt;
+      own = tt;
+    })
 
 module _ {history : Book} {bench : Bench} {trail : Past} {reader : Option (Option Known)} {parts amount number capacity : ℕ} {mine : List ℕ} {draft : Option DocketDraft} (was : IsSeat history bench trail reader parts amount number mine capacity draft) where
   -- what its reader knows
@@ -75,26 +101,37 @@ module _ {history : Book} {bench : Bench} {trail : Past} {reader : Option (Optio
       rw (holds, counts) (seat_looked after now mine capacity (record { seen = seen; later = record { book = same; log = begins } }) refl (omega arith))
 
   -- it has seen more, and its draft is gone
-  pub seat_dropped : (after : Past) (now : Option Known) (held sum : ℕ) → HasSeen bench after now → after.book ≡ trail.book → IsPrefix trail.log after.log → held ≡ parts → sum ≡ amount → IsSeat history bench after (Some now) held sum number mine capacity None
-  seat_dropped after now held sum seen same begins holds counts = record {
+  pub seat_dropped : (after : Past) (now : Option Known) (held sum : ℕ) (calls : List ℕ) (room : ℕ) → HasSeen bench after now → after.book ≡ trail.book → IsPrefix trail.log after.log → held ≡ parts → sum ≡ amount → calls ≡ mine → IsSeat history bench after (Some now) held sum number calls room None
+  seat_dropped after now held sum calls room seen same begins holds counts own = record {
     book = same ∙ was.book;
     known = now;
     there = refl;
     seen = seen;
     one_part = holds ∙ was.one_part;
-    counted = counts ∙ was.counted;
-    within = within_longer number mine trail.log after.log begins was.within;
+    counted = counts ∙ was.counted ∙ ap length (sym own);
+    within = rw own (within_longer number mine trail.log after.log begins was.within);
     own = tt;
   }
 
-  -- its draft became an entry, at the end of its calls
-  pub seat_finished : (after : Past) (now : Option Known) (held sum : ℕ) (calls : List ℕ) (room limit : ℕ) (done : Done) (d : DocketDraft) → HasSeen bench after now → after.book ≡ trail.book → draft ≡ Some d → Settles bench trail.log limit d (Ok done) after.log → held ≡ parts → sum ≡ amount + 1 → calls ≡ mine ++ done.place ∷ []
+  -- its draft is gone, and nothing else happened
+  pub seat_idle : (calls : List ℕ) (room : ℕ) → calls ≡ mine → IsSeat history bench trail reader parts amount number calls room None
+  seat_idle calls room own = record {
+    book = was.book;
+    known = was.known;
+    there = was.there;
+    seen = was.seen;
+    one_part = was.one_part;
+    counted = was.counted ∙ ap length (sym own);
+    within = rw own was.within;
+    own = tt;
+  }
+
+  -- a command of its clerk became an entry, at the end of its calls
+  pub seat_made : (after : Past) (now : Option Known) (held sum : ℕ) (calls : List ℕ) (room limit : ℕ) (done : Done) (clerk : ℕ) (command : Command) (before : List (Entry Command Answer)) → HasSeen bench after now → after.book ≡ trail.book → clerk ≡ number → IsPrefix trail.log before → IsMade bench before limit clerk command done after.log → held ≡ parts → sum ≡ amount + 1 → calls ≡ mine ++ done.place ∷ []
       → IsSeat history bench after (Some now) held sum number calls room None
-  seat_finished after now held sum calls room limit done d seen same is settles holds counts pushed =
-      let before = settles.before in
-      let made = settles.commits.made in
-      let within : Within (mine ++ (length before + 1) ∷ []) (places_of number (before ++ next_entry bench before d.clerk d.command ∷ [])) =
-      within_next number mine before (next_entry bench before d.clerk d.command) (seat_own d is).clerk (within_longer number mine trail.log before settles.later was.within) in
+  seat_made after now held sum calls room limit done clerk command before seen same own later made holds counts pushed =
+      let within : Within (mine ++ (length before + 1) ∷ []) (places_of number (before ++ next_entry bench before clerk command ∷ [])) =
+      within_next number mine before (next_entry bench before clerk command) own (within_longer number mine trail.log before later was.within) in
       let longer : length calls ≡ length mine + 1 = ap length pushed ∙ length-append mine (done.place ∷ []) in
       record {
         book = same ∙ was.book;
@@ -106,6 +143,12 @@ module _ {history : Book} {bench : Bench} {trail : Past} {reader : Option (Optio
         within = rw (pushed, made.place, made.history) within;
         own = tt;
       }
+
+  -- its draft did
+  pub seat_finished : (after : Past) (now : Option Known) (held sum : ℕ) (calls : List ℕ) (room limit : ℕ) (done : Done) (d : DocketDraft) → HasSeen bench after now → after.book ≡ trail.book → draft ≡ Some d → Settles bench trail.log limit d (Ok done) after.log → held ≡ parts → sum ≡ amount + 1 → calls ≡ mine ++ done.place ∷ []
+      → IsSeat history bench after (Some now) held sum number calls room None
+  seat_finished after now held sum calls room limit done d seen same is settles holds counts pushed =
+      seat_made after now held sum calls room limit done d.clerk d.command settles.before seen same (seat_own d is).clerk settles.later settles.commits.made holds counts pushed
 
   -- what it leaves
   pub seat_leaves : IsTally history bench trail parts amount number mine
@@ -119,3 +162,85 @@ settles_later bench seen limit d (Err JournalFull) now s = subst (IsPrefix seen)
 settles_later bench seen limit d (Err (Stale part version)) now s = subst (IsPrefix seen) (sym s.commits.same) s.later
 settles_later bench seen limit d (Err OutOfMemory) now s = subst (IsPrefix seen) (sym s.commits.same) s.later
 settles_later bench seen limit d (Err NothingPrepared) now s = absurd s.commits
+
+-- so where a command was made whole
+pub makes_later : (bench : Bench) (seen : List (Entry Command Answer)) (limit clerk : ℕ) (command : Command) (r : Result Done PerformError) (now : List (Entry Command Answer)) → Makes bench seen limit clerk command r now → IsPrefix seen now
+makes_later bench seen limit clerk command (Ok done) now m =
+    prefix_trans seen m.before now m.later (next_entry bench m.before clerk command ∷ [], sym m.makes.history)
+makes_later bench seen limit clerk command (Err perform.JournalFull) now m = subst (IsPrefix seen) (sym m.makes.same) m.later
+makes_later bench seen limit clerk command (Err perform.OutOfMemory) now m = subst (IsPrefix seen) (sym m.makes) m.later
+
+-- and where it was made after more had been seen
+makes_on : (bench : Bench) (first seen : List (Entry Command Answer)) (limit clerk : ℕ) (command : Command) (r : Result Done PerformError) (now : List (Entry Command Answer)) → IsPrefix first seen → Makes bench seen limit clerk command r now → Makes bench first limit clerk command r now
+makes_on bench first seen limit clerk command r now begins m =
+    record { before = m.before; later = prefix_trans first seen m.before begins m.later; makes = m.makes; legal = m.legal }
+
+pub goes_on : (a b c : SeatView) → Goes a b → Goes b c → Goes a c
+goes_on a b c first then =
+    record { number = then.number ∙ first.number; limit = then.limit ∙ first.limit; seen = prefix_trans a.seen b.seen c.seen first.seen then.seen }
+
+goes_bare : (a b : SeatView) → Goes a b → Goes a (record b { draft = None })
+goes_bare a b goes = record { number = goes.number; limit = goes.limit; seen = goes.seen }
+
+-- a command that was performed after the seat had done nothing but look
+pub performs_on : (bench : Bench) (a b c : SeatView) (command : Command) (r : Result Done PerformError) → Goes a b → b.mine ≡ a.mine → SeatPerforms bench b command r c → SeatPerforms bench a command r c
+performs_on bench a b c command r goes same performs =
+    let calls = ap (mine_then r) same in
+    let makes = makes_on bench a.seen b.seen b.limit b.number command r c.seen goes.seen performs.makes in
+    record {
+      goes = goes_on a b c goes performs.goes;
+      makes = rw (goes.number, goes.limit) at makes;
+      mine = performs.mine ∙ calls;
+      draft = performs.draft;
+    }
+
+module _ (bench : Bench) (a : SeatView) (command : Command) where
+  -- what a seat has done that prepared and committed the command once, and dropped its draft
+  abbrev pub Tried : Result Done CommitError → SeatView → Type 0
+  Tried (Ok done) n = SeatPerforms bench a command (Ok done) n
+  Tried (Err JournalFull) n = SeatPerforms bench a command (Err perform.JournalFull) n
+  Tried (Err OutOfMemory) n = SeatPerforms bench a command (Err perform.OutOfMemory) n
+  Tried (Err (Stale part version)) n = Goes a n × (n.mine ≡ a.mine)
+  Tried (Err NothingPrepared) n = ⊥
+
+  tried_drafted : (b n : SeatView) (d : DocketDraft) (r : Result Done CommitError) → Goes a b → b.mine ≡ a.mine → IsReady bench b command d → Goes b n → Settles bench b.seen b.limit d r n.seen → n.mine ≡ mine_then r b.mine → Tried r (record n { draft = None })
+  tried_drafted b n d (Ok done) goes same ready later settles calls =
+      let made : IsMade bench settles.before a.limit a.number command done n.seen = rw (ready.clerk, goes.number, goes.limit, ready.command_is) at settles.commits.made in
+      record {
+        goes = goes_bare a n (goes_on a b n goes later);
+        makes = record { before = settles.before; later = prefix_trans a.seen b.seen settles.before goes.seen settles.later; makes = made; legal = settles.legal };
+        mine = calls ∙ ap (λ l. l ++ done.place ∷ []) same;
+        draft = refl;
+      }
+  tried_drafted b n d (Err JournalFull) goes same ready later settles calls = record {
+    goes = goes_bare a n (goes_on a b n goes later);
+    makes = record { before = settles.before; later = prefix_trans a.seen b.seen settles.before goes.seen settles.later; makes = rw goes.limit at settles.commits; legal = settles.legal };
+    mine = calls ∙ same;
+    draft = refl;
+  }
+  tried_drafted b n d (Err OutOfMemory) goes same ready later settles calls = record {
+    goes = goes_bare a n (goes_on a b n goes later);
+    makes = record { before = settles.before; later = prefix_trans a.seen b.seen settles.before goes.seen settles.later; makes = settles.commits.same; legal = settles.legal };
+    mine = calls ∙ same;
+    draft = refl;
+  }
+  tried_drafted b n d (Err (Stale part version)) goes same ready later settles calls = (goes_bare a n (goes_on a b n goes later), calls ∙ same)
+  tried_drafted b n d (Err NothingPrepared) goes same ready later settles calls = absurd settles.commits
+
+  pub tried : (b n : SeatView) (draft : Option DocketDraft) (r : Result Done CommitError) → Goes a b → b.mine ≡ a.mine → IsSome draft → IfSome draft (IsReady bench b command) → b.draft ≡ draft → SeatCommits bench b r n → Tried r (record n { draft = None })
+  tried b n None r goes same some ready is commits = absurd (false≢true some)
+  tried b n (Some d) r goes same some ready is commits =
+      let P : Option DocketDraft → Type 0 = λ o. DraftCommits bench o b.seen b.limit r n.seen in
+      tried_drafted b n d r goes same ready commits.goes (subst P is commits.commits) commits.mine
+
+-- no memory was left, before anything was done
+pub performs_nothing : (bench : Bench) (a n : SeatView) (command : Command) (r : Result Done PerformError) → is_legal (docket_rules bench) a.seen ≡ true → r ≡ Err perform.OutOfMemory → n.number ≡ a.number → n.limit ≡ a.limit → n.seen ≡ a.seen → n.mine ≡ a.mine → n.draft ≡ None → SeatPerforms bench a command r n
+performs_nothing bench a n command r legal is number limit seen mine none =
+    let begins : IsPrefix a.seen n.seen = subst (IsPrefix a.seen) (sym seen) (prefix_self a.seen) in
+    let P : Result Done PerformError → Type 0 = λ x. SeatPerforms bench a command x n in
+    subst P (sym is) (record {
+      goes = record { number = number; limit = limit; seen = begins };
+      makes = record { before = n.seen; later = begins; makes = refl; legal = rw seen legal };
+      mine = mine;
+      draft = none;
+    })

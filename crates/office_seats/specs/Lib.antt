@@ -1,6 +1,7 @@
 pub mod Books
 pub mod Closed
 pub mod Finished
+pub mod Opened
 pub mod Places
 pub mod Seats
 pub mod Seen

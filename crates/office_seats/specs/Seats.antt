@@ -12,7 +12,8 @@ use Rattle.shared_docket.specs.Words.{docket_rules}
 use Rattle.office_seats.specs.declared.done.Done.{Done}
 use Rattle.office_seats.specs.declared.fault.CommitError.{CommitError}
 use Rattle.office_seats.specs.declared.fault.CommitError.TheVariants.{NothingPrepared, JournalFull, Stale, OutOfMemory}
-use Rattle.office_seats.specs.Finished.{DocketDraft, Settles}
+use Rattle.office_seats.specs.declared.fault.PerformError.{PerformError}
+use Rattle.office_seats.specs.Finished.{DocketDraft, Settles, Makes}
 
 -- what contracts see of a seat: its number, how many entries the journal takes, what it has seen of the history, the places of the
 -- calls that it finished, in order, and its draft
@@ -29,8 +30,8 @@ pub record Goes (old new : SeatView) : Type 0 where
   pub limit : new.limit ≡ old.limit
   pub seen : IsPrefix old.seen new.seen
 
--- the calls finished, and the draft that is left, after this result of a commit
-abbrev pub mine_then : Result Done CommitError → List ℕ → List ℕ
+-- the calls finished after this result, and the draft that is left after this result of a commit
+abbrev pub mine_then : {E : Type 0} → Result Done E → List ℕ → List ℕ
 mine_then (Ok done) mine = mine ++ done.place ∷ []
 mine_then (Err e) mine = mine
 
@@ -59,3 +60,10 @@ module _ (bench : Bench) where
     pub commits : DraftCommits old.draft old.seen old.limit result new.seen
     pub mine : new.mine ≡ mine_then result old.mine
     pub draft : new.draft ≡ draft_then result old.draft
+
+  -- what this result of performing a command says
+  pub record SeatPerforms (old : SeatView) (command : Command) (result : Result Done PerformError) (new : SeatView) : Type 0 where
+    pub goes : Goes old new
+    pub makes : Makes bench old.seen old.limit old.number command result new.seen
+    pub mine : new.mine ≡ mine_then result old.mine
+    pub draft : new.draft ≡ None

@@ -1,16 +1,21 @@
 //! The one book of an office, which its clerks share under a lock.
 
-ghost use Rattle.std.specs.Prelude.{◌≡◌, ◌+◌, ◌<◌, IfNone, IfOk, IfSome, IsSome, Some, option_map};
+ghost use Rattle.std.specs.Prelude.{◌≡◌, ◌+◌, ◌<◌, [], IfNone, IfOk, IfSome, IsSome, Some, option_map};
+ghost use Rattle.left_right.specs.Sides.{view};
+ghost use Rattle.docket_rows.specs.Words.{bench_of};
 ghost use Rattle.versioned_steps.specs.Words.{IsPrepared};
 ghost use Rattle.shared_docket.specs.Words.{docket_rules};
+ghost use Rattle.published_docket.specs.Words.{past};
 ghost use Rattle.office_seats.specs.Books.{entries_of};
-ghost use Rattle.office_seats.specs.Finished.{Commits, Settles};
+ghost use Rattle.office_seats.specs.Finished.{Commits, Makes, MakesNow, Settles};
+ghost use Rattle.office_seats.specs.Seen.{KnowsOf};
 
 use crate::done::Done;
-use crate::fault::CommitError;
+use crate::fault::{CommitError, PerformError};
 use crate::names::Names;
+use court_days::Court;
 use docket_rows::{Answer, Command, PartId, PartValue};
-use published_docket::{Publisher, Trail};
+use published_docket::{DocketReader, Publisher, Trail};
 use shared_docket::DocketParts;
 use std::alloc::{AllocError, Global};
 use std::marker::Model;
@@ -75,6 +80,42 @@ fn copy_writes(
 }
 
 impl<L: Names> Book<L> {
+    /// The book of an office without entries. `Err` says that memory ran out.
+    // A body that always found no memory would meet this contract, and no test of this crate refuses it yet.
+    pub(crate) fn open<R: Wait>(
+        rt: &R,
+        alloc: Global,
+        publisher: Publisher,
+        counted: ledger::Book<L>,
+        court: &Court,
+    ) -> Result<Book<L>, AllocError>
+        requires publisher { publisher ≡ record { parts = L.bench; trail = past L.history [] } }
+        requires court { L.bench ≡ bench_of court.now }
+        requires counted { counted.total ≡ 0 }
+        ensures { IfOk result (λ book. book ≡ []) }
+    {
+        let mut publisher = publisher;
+        // An entry makes at most 34 changes: one for each part that it writes, and one more. Those of two entries may wait.
+        publisher.warm(rt, 68)?;
+        let parts = DocketParts::new(court)?;
+        let store = Store::new(alloc, parts);
+        Ok(Book {
+            publisher,
+            journal: Vec::new(alloc),
+            store,
+            counted,
+        })
+    }
+
+    /// A reader of the docket. `Err` says that there are as many readers as can be, or that memory ran out.
+    // A body that always found no memory would meet this contract, and no test of this crate refuses it yet.
+    pub(crate) fn reader<R: Wait>(&mut self, rt: &R) -> Result<DocketReader, AllocError>
+        ensures same { self.new ≡ self.old }
+        ensures knows { IfOk result (λ r. KnowsOf L.history L.bench (view r.place)) }
+    {
+        self.publisher.reader(rt)
+    }
+
     /// Finishes a prepared command as the next entry, where the journal takes one more and no part was touched after the
     /// draft read it. All memory is taken before the entry is published, so an error leaves the journal as it was. The
     /// share counts the entry.
@@ -143,6 +184,62 @@ impl<L: Names> Book<L> {
             return None;
         }
         let result = self.commit(rt, alloc, share, draft, limit);
+        *seen = self.publisher.trail().again();
+        Some(result)
+    }
+
+    // Makes a command whole: all its parts are read now, so none of them can have been touched later.
+    // A body that always found no memory would meet this contract, and no test of this crate refuses it yet.
+    fn make<R: Wait>(
+        &mut self,
+        rt: &R,
+        alloc: Global,
+        share: &mut Share<L>,
+        clerk: u32,
+        command: Command,
+        limit: u32,
+    ) -> Result<Done, PerformError>
+        requires share { 0 < share.old.parts }
+        ensures makes { MakesNow L.bench self.old limit clerk command result self.new }
+        ensures parts { share.new.parts ≡ share.old.parts }
+        ensures amount { share.new.amount ≡ share.old.amount + entries_of result }
+    {
+        let draft = self.store.prepare(alloc, clerk, command)?;
+        match self.commit(rt, alloc, share, &draft, limit) {
+            Ok(done) => Ok(done),
+            Err(CommitError::JournalFull) => Err(PerformError::JournalFull),
+            Err(CommitError::OutOfMemory) => Err(PerformError::OutOfMemory),
+            Err(CommitError::Stale(_, _)) => unreachable!(),
+            Err(CommitError::NothingPrepared) => unreachable!(),
+        }
+    }
+
+    /// Makes a seat's command whole, where the journal goes on from what the seat has seen, which is then all of it. None
+    /// where it doesn't, which never happens.
+    // A body that always found no memory would meet this contract, and no test of this crate refuses it yet.
+    pub(crate) fn settle_now<R: Wait>(
+        &mut self,
+        rt: &R,
+        alloc: Global,
+        seen: &mut Trail,
+        share: &mut Share<L>,
+        clerk: u32,
+        command: Command,
+        limit: u32,
+    ) -> Option<Result<Done, PerformError>>
+        requires book { seen.old.book ≡ L.history }
+        requires share { 0 < share.old.parts }
+        ensures book { seen.new.book ≡ seen.old.book }
+        ensures makes { IfSome result (λ r. Makes L.bench seen.old.log limit clerk command r seen.new.log) }
+        ensures unseen { IfNone result (seen.new ≡ seen.old) }
+        ensures parts { share.new.parts ≡ share.old.parts }
+        ensures amount { IfSome result (λ r. share.new.amount ≡ share.old.amount + entries_of r) }
+        ensures uncounted { IfNone result (share.new.amount ≡ share.old.amount) }
+    {
+        if !seen.begins(self.publisher.trail()) {
+            return None;
+        }
+        let result = self.make(rt, alloc, share, clerk, command, limit);
         *seen = self.publisher.trail().again();
         Some(result)
     }

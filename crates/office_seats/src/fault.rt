@@ -2,6 +2,8 @@
 
 ghost use Rattle.std.specs.Prelude.{◌≡◌};
 ghost use Rattle.office_seats.specs.declared.fault.CommitError.TheVariants.{OutOfMemory};
+ghost use Rattle.office_seats.specs.declared.fault.OfficeError.TheVariants as office;
+ghost use Rattle.office_seats.specs.declared.fault.PerformError.TheVariants as perform;
 
 use docket_rows::PartId;
 use std::alloc::AllocError;
@@ -16,12 +18,21 @@ pub enum OfficeError {
     /// 2: the journal is to take more than 1,000,000 entries.
     #[error("a journal takes at most 1,000,000 entries")]
     BadLimit,
-    /// 3: what is published gave a seat no place to read from. It may come without cause.
+    /// 3: what is published gave a seat no place to read from, or no memory was left to make its reader, which can't be
+    /// told apart. It may come without cause.
     #[error("a seat got no place to read from")]
     NoReader,
     /// 4: no memory was left.
     #[error("out of memory")]
     OutOfMemory,
+}
+
+impl From<AllocError> for OfficeError {
+    ghost from_gives = { λ _ e. e ≡ office.OutOfMemory };
+
+    fn from(_: AllocError) -> OfficeError {
+        OfficeError::OutOfMemory
+    }
 }
 
 /// Why a prepared command wasn't finished, the first reason that applies. None of them changes the journal.
@@ -53,12 +64,20 @@ impl From<AllocError> for CommitError {
 /// Why a command wasn't finished. Neither of them changes the journal, and no draft is left.
 #[derive(Clone, Copy, Debug, PartialEq, Eq, Error)]
 pub enum PerformError {
-    /// 1: the journal has as many entries as it takes.
+    /// The journal has as many entries as it takes.
     #[error("the journal is full")]
     JournalFull,
-    /// 2: no memory was left.
+    /// No memory was left. It may come before a full journal is found, since the command's parts are read first.
     #[error("out of memory")]
     OutOfMemory,
+}
+
+impl From<AllocError> for PerformError {
+    ghost from_gives = { λ _ e. e ≡ perform.OutOfMemory };
+
+    fn from(_: AllocError) -> PerformError {
+        PerformError::OutOfMemory
+    }
 }
 
 /// Why an office wasn't closed, the first reason that applies. It and the tallies stay as they were.

@@ -1,18 +1,22 @@
 //! The seat of a clerk.
 
-ghost use Rattle.std.specs.Prelude.{◌≡◌, true, None, IfOk, IfSome, IsSome, OnOk, OnErr, is_some, length};
+ghost use Rattle.std.specs.Prelude.{◌≡◌, [], true, None, IfNone, IfOk, IfSome, IsSome, OnOk, OnErr, is_some, length};
+ghost use Rattle.left_right.specs.Sides.{view};
 ghost use Rattle.docket_rows.specs.Words.{view_of};
 ghost use Rattle.versioned_steps.specs.Words.{is_legal};
 ghost use Rattle.shared_docket.specs.Words.{docket_rules, rows_of};
+ghost use Rattle.published_docket.specs.Words.{past};
+ghost use Rattle.office_seats.specs.Opened.{open_seat};
 ghost use Rattle.office_seats.specs.Places.{Within, places_of};
-ghost use Rattle.office_seats.specs.Seats.{Goes, IsReady, SeatCommits};
+ghost use Rattle.office_seats.specs.Seats.{Goes, IsReady, SeatCommits, SeatPerforms};
+ghost use Rattle.office_seats.specs.Seen.{KnowsOf};
 
 use crate::book::Book;
 use crate::done::Done;
-use crate::fault::CommitError;
+use crate::fault::{CommitError, PerformError};
 use crate::looking::{caught_up, looked, showed};
 use crate::names::Names;
-use crate::settling::settled;
+use crate::settling::{made, settled};
 use crate::tally::Tally;
 use docket_rows::{Command, Query, View};
 use published_docket::{DocketReader, Trail};
@@ -52,6 +56,35 @@ impl<L: Names> Model for Seat<L> {
 }
 
 impl<L: Names> Seat<L> {
+    /// A seat that has seen nothing and done nothing.
+    #[tactic(auto, using(crate::proofs::SeatLemmas::seat_opened))]
+    pub(crate) fn open(
+        alloc: Global,
+        book: Arc<Mutex<Book<L>>>,
+        limit: u32,
+        number: u8,
+        reader: DocketReader,
+        trail: Trail,
+        share: Share<L>,
+    ) -> Seat<L>
+        requires knows { KnowsOf L.history L.bench (view reader.place) }
+        requires trail { trail ≡ past L.history [] }
+        requires parts { share.parts ≡ 1 }
+        requires amount { share.amount ≡ 0 }
+        ensures { result ≡ open_seat limit number }
+    {
+        Seat {
+            book,
+            limit,
+            number,
+            reader: Some(reader),
+            trail,
+            share,
+            mine: Vec::new(alloc),
+            draft: None,
+        }
+    }
+
     /// The number of the seat, from 1.
     pub fn number(&self) -> u8
         ensures { result ≡ self.now.number }
@@ -156,6 +189,97 @@ impl<L: Names> Seat<L> {
             Err(CommitError::OutOfMemory) => Err(CommitError::OutOfMemory),
             Err(CommitError::NothingPrepared) => unreachable!(),
         }
+    }
+
+    // Prepares and commits the command once. None where a part was touched in between; nothing is finished then, and no
+    // draft is left.
+    // A body that always found no memory would meet this contract, and no test of this crate refuses it yet.
+    fn try_once<R: Wait>(
+        &mut self,
+        rt: &R,
+        alloc: Global,
+        command: &Command,
+    ) -> Option<Result<Done, PerformError>>
+        requires { self.old.draft ≡ None }
+        ensures performs { IfSome result (λ r. SeatPerforms L.bench self.old command.now r self.new) }
+        ensures goes { IfNone result (Goes self.old self.new) }
+        ensures mine { IfNone result (self.new.mine ≡ self.old.mine) }
+        ensures draft { self.new.draft ≡ None }
+    {
+        let Ok(()) = self.prepare(alloc, *command) else {
+            // It tells that what was seen is legal.
+            let _seen = self.seen();
+            return Some(Err(PerformError::OutOfMemory));
+        };
+        let result = self.commit(rt, alloc);
+        self.discard();
+        match result {
+            Ok(done) => Some(Ok(done)),
+            Err(CommitError::JournalFull) => Some(Err(PerformError::JournalFull)),
+            Err(CommitError::OutOfMemory) => Some(Err(PerformError::OutOfMemory)),
+            Err(CommitError::Stale(_, _)) => None,
+            Err(CommitError::NothingPrepared) => unreachable!(),
+        }
+    }
+
+    // Makes the command while it holds the lock, so that no part can be touched in between. An older
+    // draft is dropped.
+    // A body that always found no memory would meet this contract, and no test of this crate refuses it yet.
+    fn make<R: Wait>(
+        &mut self,
+        rt: &R,
+        alloc: Global,
+        command: &Command,
+    ) -> Result<Done, PerformError>
+        ensures { SeatPerforms L.bench self.old command.now result self.new }
+    {
+        self.draft = None;
+        self.mine.reserve(1)?;
+        let Some(reader) = self.reader.take() else {
+            unreachable!()
+        };
+        let clerk = u32::from(self.number);
+        let result = made::<L, R>(
+            rt,
+            alloc,
+            &self.book,
+            &mut self.trail,
+            &mut self.share,
+            clerk,
+            command,
+            self.limit,
+        );
+        self.reader = Some(caught_up::<L, R>(rt, reader, &self.trail));
+        match result {
+            Ok(done) => {
+                self.mine.push_reserved(done.place);
+                Ok(done)
+            }
+            Err(error) => Err(error),
+        }
+    }
+
+    /// Finishes a command. It is prepared and committed up to so many times, until no part was touched in between; then
+    /// it is made while no other clerk can finish one, so it is never stale. An older draft is dropped, and none is left.
+    /// A refusal by the docket is an answer of a finished command.
+    // A body that always found no memory would meet this contract, and no test of this crate refuses it yet.
+    pub fn perform<R: Wait>(
+        &mut self,
+        rt: &R,
+        alloc: Global,
+        command: Command,
+        tries: u32,
+    ) -> Result<Done, PerformError>
+        ensures { SeatPerforms L.bench self.old command result self.new }
+    {
+        let command = &command;
+        self.discard();
+        for _try in 0..tries {
+            if let Some(result) = self.try_once(rt, alloc, command) {
+                return result;
+            }
+        }
+        self.make(rt, alloc, command)
     }
 
     /// Gives up the seat, and drops its draft.

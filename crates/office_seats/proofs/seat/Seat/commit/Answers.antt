@@ -17,7 +17,7 @@ invariant_of-self-in-Err-Stale g c =
     let told = rw c.in-Err-Stale.is at c.settled-result.ensures.amount in
     let counts : c.settled-result.new.share.amount ≡ c.self.inside.share.amount = omega (arith, told) in
     let begins = settles_later g.L.Names.bench c.self.inside.trail.log c.self.inside.limit c.in-Some.draft c.settled-result.result c.settled-result.new.seen.log c.settled-result.ensures.settles in
-    seat_dropped c.self.invariant c.settled-result.new.seen (view c.caught_up.result.place) c.settled-result.new.share.parts c.settled-result.new.share.amount c.caught_up.ensures c.settled-result.ensures.book begins c.settled-result.ensures.parts counts
+    seat_dropped c.self.invariant c.settled-result.new.seen (view c.caught_up.result.place) c.settled-result.new.share.parts c.settled-result.new.share.amount c.self.inside.mine.items (vec_capacity c.self.inside.mine) c.caught_up.ensures c.settled-result.ensures.book begins c.settled-result.ensures.parts counts refl
 
 pub invariant_of-self-in-Err-JournalFull : goal.invariant_of-self-in-Err-JournalFull
 invariant_of-self-in-Err-JournalFull g c =
