@@ -1,8 +1,7 @@
 -- What a seat keeps, as it looks again.
-use Rattle.std.proofs.Common.{◌≡◌, ℕ, ◌+◌, ◌≤◌, true, Option, Some, None, IfSome, IsSome, List, [], ◌∷◌, ◌++◌, length, refl, ap, sym, ◌∙◌, subst, arith, length-append}
+use Rattle.std.proofs.Common.{◌≡◌, ℕ, ◌+◌, ◌≤◌, true, Option, Some, None, IfSome, List, [], ◌∷◌, ◌++◌, length, refl, ap, sym, ◌∙◌, subst, arith, length-append}
 use Rattle.std.specs.declared.result.Result.{Result}
 use Rattle.std.specs.declared.result.Result.TheVariants.{Ok, Err}
-use Rattle.std.proofs.lemmas.Bool.{false≢true}
 use Rattle.std.proofs.lemmas.Option.{same_Some}
 use mathlib.Core.List.{IsPrefix}
 use Rattle.logbook.specs.Pages.{Book}
@@ -23,7 +22,7 @@ use Rattle.office_seats.specs.declared.fault.PerformError.{PerformError}
 use Rattle.office_seats.specs.declared.fault.PerformError.TheVariants as perform
 use Rattle.office_seats.specs.Finished.{DocketDraft, IsMade, Settles, Makes, next_entry}
 use Rattle.office_seats.specs.Places.{places_of, Within}
-use Rattle.office_seats.specs.Seats.{SeatView, Goes, IsReady, DraftCommits, SeatCommits, SeatPerforms, mine_then}
+use Rattle.office_seats.specs.Seats.{SeatView, SeatPerforms}
 use Rattle.office_seats.specs.Seen.{HasSeen, KnowsOf, Looks, IsOwn, IsSeat, IsTally}
 use Rattle.office_seats.proofs.PlaceLemmas.{within_longer, within_next}
 
@@ -169,69 +168,6 @@ makes_later bench seen limit clerk command (Ok done) now m =
     prefix_trans seen m.before now m.later (next_entry bench m.before clerk command ∷ [], sym m.makes.history)
 makes_later bench seen limit clerk command (Err perform.JournalFull) now m = subst (IsPrefix seen) (sym m.makes.same) m.later
 makes_later bench seen limit clerk command (Err perform.OutOfMemory) now m = subst (IsPrefix seen) (sym m.makes) m.later
-
--- and where it was made after more had been seen
-makes_on : (bench : Bench) (first seen : List (Entry Command Answer)) (limit clerk : ℕ) (command : Command) (r : Result Done PerformError) (now : List (Entry Command Answer)) → IsPrefix first seen → Makes bench seen limit clerk command r now → Makes bench first limit clerk command r now
-makes_on bench first seen limit clerk command r now begins m =
-    record { before = m.before; later = prefix_trans first seen m.before begins m.later; makes = m.makes; legal = m.legal }
-
-pub goes_on : (a b c : SeatView) → Goes a b → Goes b c → Goes a c
-goes_on a b c first then =
-    record { number = then.number ∙ first.number; limit = then.limit ∙ first.limit; seen = prefix_trans a.seen b.seen c.seen first.seen then.seen }
-
-goes_bare : (a b : SeatView) → Goes a b → Goes a (record b { draft = None })
-goes_bare a b goes = record { number = goes.number; limit = goes.limit; seen = goes.seen }
-
--- a command that was performed after the seat had done nothing but look
-pub performs_on : (bench : Bench) (a b c : SeatView) (command : Command) (r : Result Done PerformError) → Goes a b → b.mine ≡ a.mine → SeatPerforms bench b command r c → SeatPerforms bench a command r c
-performs_on bench a b c command r goes same performs =
-    let calls = ap (mine_then r) same in
-    let makes = makes_on bench a.seen b.seen b.limit b.number command r c.seen goes.seen performs.makes in
-    record {
-      goes = goes_on a b c goes performs.goes;
-      makes = rw (goes.number, goes.limit) at makes;
-      mine = performs.mine ∙ calls;
-      draft = performs.draft;
-    }
-
-module _ (bench : Bench) (a : SeatView) (command : Command) where
-  -- what a seat has done that prepared and committed the command once, and dropped its draft
-  abbrev pub Tried : Result Done CommitError → SeatView → Type 0
-  Tried (Ok done) n = SeatPerforms bench a command (Ok done) n
-  Tried (Err JournalFull) n = SeatPerforms bench a command (Err perform.JournalFull) n
-  Tried (Err OutOfMemory) n = SeatPerforms bench a command (Err perform.OutOfMemory) n
-  Tried (Err (Stale part version)) n = Goes a n × (n.mine ≡ a.mine)
-  Tried (Err NothingPrepared) n = ⊥
-
-  tried_drafted : (b n : SeatView) (d : DocketDraft) (r : Result Done CommitError) → Goes a b → b.mine ≡ a.mine → IsReady bench b command d → Goes b n → Settles bench b.seen b.limit d r n.seen → n.mine ≡ mine_then r b.mine → Tried r (record n { draft = None })
-  tried_drafted b n d (Ok done) goes same ready later settles calls =
-      let made : IsMade bench settles.before a.limit a.number command done n.seen = rw (ready.clerk, goes.number, goes.limit, ready.command_is) at settles.commits.made in
-      record {
-        goes = goes_bare a n (goes_on a b n goes later);
-        makes = record { before = settles.before; later = prefix_trans a.seen b.seen settles.before goes.seen settles.later; makes = made; legal = settles.legal };
-        mine = calls ∙ ap (λ l. l ++ done.place ∷ []) same;
-        draft = refl;
-      }
-  tried_drafted b n d (Err JournalFull) goes same ready later settles calls = record {
-    goes = goes_bare a n (goes_on a b n goes later);
-    makes = record { before = settles.before; later = prefix_trans a.seen b.seen settles.before goes.seen settles.later; makes = rw goes.limit at settles.commits; legal = settles.legal };
-    mine = calls ∙ same;
-    draft = refl;
-  }
-  tried_drafted b n d (Err OutOfMemory) goes same ready later settles calls = record {
-    goes = goes_bare a n (goes_on a b n goes later);
-    makes = record { before = settles.before; later = prefix_trans a.seen b.seen settles.before goes.seen settles.later; makes = settles.commits.same; legal = settles.legal };
-    mine = calls ∙ same;
-    draft = refl;
-  }
-  tried_drafted b n d (Err (Stale part version)) goes same ready later settles calls = (goes_bare a n (goes_on a b n goes later), calls ∙ same)
-  tried_drafted b n d (Err NothingPrepared) goes same ready later settles calls = absurd settles.commits
-
-  pub tried : (b n : SeatView) (draft : Option DocketDraft) (r : Result Done CommitError) → Goes a b → b.mine ≡ a.mine → IsSome draft → IfSome draft (IsReady bench b command) → b.draft ≡ draft → SeatCommits bench b r n → Tried r (record n { draft = None })
-  tried b n None r goes same some ready is commits = absurd (false≢true some)
-  tried b n (Some d) r goes same some ready is commits =
-      let P : Option DocketDraft → Type 0 = λ o. DraftCommits bench o b.seen b.limit r n.seen in
-      tried_drafted b n d r goes same ready commits.goes (subst P is commits.commits) commits.mine
 
 -- no memory was left, before anything was done
 pub performs_nothing : (bench : Bench) (a n : SeatView) (command : Command) (r : Result Done PerformError) → is_legal (docket_rules bench) a.seen ≡ true → r ≡ Err perform.OutOfMemory → n.number ≡ a.number → n.limit ≡ a.limit → n.seen ≡ a.seen → n.mine ≡ a.mine → n.draft ≡ None → SeatPerforms bench a command r n

@@ -114,15 +114,7 @@ impl<L: Names> Office<L> {
         let (counted, mut rest) = blank.open::<L>();
         let trail = publisher.trail().again();
         let book = locked(alloc, Book::open(rt, alloc, publisher, counted, court)?)?;
-        let opened = seats_of(
-            rt,
-            alloc,
-            &book,
-            &mut rest,
-            &trail,
-            seats,
-            journal_limit,
-        );
+        let opened = seats_of(rt, alloc, &book, &mut rest, &trail, seats, journal_limit);
         match opened {
             Ok(opened) => Ok((Office { book, seats, rest }, opened)),
             Err(error) => Err(error),
