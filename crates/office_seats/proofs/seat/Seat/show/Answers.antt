@@ -1,0 +1,17 @@
+use Rattle.std.proofs.Common.{refl, sym, arith}
+use Rattle.std.specs.Vec.{vec_capacity}
+use Rattle.left_right.specs.Sides.{view}
+use Rattle.office_seats.proofs.SeatLemmas.{seat_knows, seat_looked}
+use Rattle.office_seats.proofs.seat.Seat.show.Goals as goal
+
+pub invariant_of-self : goal.invariant_of-self
+invariant_of-self g c =
+    let knows = seat_knows c.self.invariant (view c.in-Some.reader.place) (rw (sym c.in-Some.ensures.value) at c.self.invariant.there) in
+    seat_looked c.self.invariant c.showed-reader.new.trail (view c.showed-reader.result.0.place) c.self.inside.mine.items (vec_capacity c.self.inside.mine)
+    (c.showed-reader.ensures.looks g.L.Names.bench knows) refl (omega arith)
+
+pub returns-clause-goes : goal.returns-clause-goes
+returns-clause-goes g c =
+    let knows = seat_knows c.self.invariant (view c.in-Some.reader.place) (rw (sym c.in-Some.ensures.value) at c.self.invariant.there) in
+    let looks = c.showed-reader.ensures.looks g.L.Names.bench knows in
+    rw (← c.self.view_is) (record { number = refl; limit = refl; seen = looks.later.log })

@@ -1,0 +1,19 @@
+-- Where the entries of a clerk stand in a history.
+use Rattle.std.specs.Prelude.{◌≡◌, ℕ, ◌+◌, ◌==◌, if◌then◌else◌, List, [], ◌∷◌, ◌⊎◌, ⊤}
+use Rattle.versioned_steps.specs.declared.entry.Entry.{Entry}
+
+-- the places of the entries of this clerk, rising, where so many entries stand before these; the first place of all is 1
+abbrev pub places_after : {Command Answer : Type 0} → (before : ℕ) → (clerk : ℕ) → List (Entry Command Answer) → List ℕ
+places_after before clerk [] = []
+places_after before clerk (e ∷ es) =
+    if e.clerk == clerk then (before + 1) ∷ places_after (before + 1) clerk es else places_after (before + 1) clerk es
+
+-- in a whole history
+abbrev pub places_of : {Command Answer : Type 0} → (clerk : ℕ) → List (Entry Command Answer) → List ℕ
+places_of clerk history = places_after 0 clerk history
+
+-- the first list has some of the places of the second, in the same order
+abbrev pub Within : List ℕ → List ℕ → Type 0
+Within [] places = ⊤
+Within (m ∷ ms) [] = ⊥
+Within (m ∷ ms) (p ∷ ps) = (m ≡ p) × Within ms ps ⊎ Within (m ∷ ms) ps

@@ -1,0 +1,59 @@
+-- What a seat has seen of the history, and what its reader knows of it.
+use Rattle.std.specs.Prelude.{◌≡◌, ℕ, ◌<◌, true, Option, Some, IfSome, List, length}
+use Rattle.logbook.specs.Pages.{Book}
+use Rattle.docket_rows.specs.declared.answer.Answer.{Answer}
+use Rattle.docket_rows.specs.declared.command.Command.{Command}
+use Rattle.docket_rows.specs.Words.{Bench}
+use Rattle.versioned_steps.specs.declared.entry.Entry.{Entry}
+use Rattle.versioned_steps.specs.Words.{IsPrepared, is_legal}
+use Rattle.shared_docket.specs.Words.{docket_rules}
+use Rattle.published_docket.specs.declared.known.Known.{Known}
+use Rattle.published_docket.specs.Words.{Past, IsBeginning}
+use Rattle.office_seats.specs.Finished.{DocketDraft}
+use Rattle.office_seats.specs.Places.{places_of, Within}
+
+-- what was seen is legal, and the reader knows of this court and no less of the history
+pub record HasSeen (bench : Bench) (trail : Past) (known : Option Known) : Type 0 where
+  pub knows : Known
+  pub there : known ≡ Some knows
+  pub parts : knows.parts ≡ bench
+  pub ahead : IsBeginning trail knows.trail
+  pub legal : is_legal (docket_rules bench) trail.log ≡ true
+
+-- the seat has seen no less than before
+pub record Looks (bench : Bench) (before after : Past) (known : Option Known) : Type 0 where
+  pub seen : HasSeen bench after known
+  pub later : IsBeginning before after
+
+-- a draft of this clerk, prepared on this history, with a place for the call that it may become
+pub record IsOwn (bench : Bench) (seen : List (Entry Command Answer)) (number : ℕ) (calls capacity : ℕ) (d : DocketDraft) : Type 0 where
+  pub prepared : IsPrepared (docket_rules bench) seen d
+  pub clerk : d.clerk ≡ number
+  pub room : calls < capacity
+
+-- what a seat keeps between two calls: it has seen a beginning of the office's history; its calls are entries of that, counted in its
+-- share of the ledger
+pub record IsSeat (history : Book) (bench : Bench) (trail : Past) (reader : Option (Option Known)) (parts amount number : ℕ) (mine : List ℕ) (capacity : ℕ) (draft : Option DocketDraft) : Type 0 where
+  pub book : trail.book ≡ history
+  pub known : Option Known
+  pub there : reader ≡ Some known
+  pub seen : HasSeen bench trail known
+  pub one_part : parts ≡ 1
+  pub counted : amount ≡ length mine
+  pub within : Within mine (places_of number trail.log)
+  pub own : IfSome draft (IsOwn bench trail.log number (length mine) capacity)
+
+-- the reader knows of this court and this history
+pub record KnowsOf (history : Book) (bench : Bench) (known : Option Known) : Type 0 where
+  pub knows : Known
+  pub there : known ≡ Some knows
+  pub parts : knows.parts ≡ bench
+  pub book : knows.trail.book ≡ history
+
+-- what a seat leaves: what it had seen, and its calls, counted in its share
+pub record IsTally (history : Book) (bench : Bench) (trail : Past) (parts amount number : ℕ) (mine : List ℕ) : Type 0 where
+  pub book : trail.book ≡ history
+  pub legal : is_legal (docket_rules bench) trail.log ≡ true
+  pub one_part : parts ≡ 1
+  pub counted : amount ≡ length mine
+  pub within : Within mine (places_of number trail.log)

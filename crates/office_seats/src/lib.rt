@@ -1,0 +1,21 @@
+//! Clerks in threads of their own: their seats, the office that they share, and its journal.
+#![tactic(auto)]
+
+mod book;
+mod done;
+mod fault;
+mod journal;
+mod looking;
+mod names;
+mod office;
+mod seat;
+mod settling;
+mod tally;
+
+pub use done::Done;
+pub use fault::{CloseError, CommitError, OfficeError, PerformError};
+pub use journal::Journal;
+pub use names::Names;
+pub use office::Office;
+pub use seat::Seat;
+pub use tally::Tally;

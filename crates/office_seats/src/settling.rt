@@ -1,0 +1,76 @@
+//! How a seat's draft is committed, and a command is made whole, under the lock.
+
+ghost use Rattle.std.specs.Prelude.{◌≡◌, ◌+◌, ◌<◌};
+ghost use Rattle.versioned_steps.specs.Words.{IsPrepared};
+ghost use Rattle.shared_docket.specs.Words.{docket_rules};
+ghost use Rattle.office_seats.specs.Books.{entries_of};
+ghost use Rattle.office_seats.specs.Finished.{Makes, Settles};
+
+use crate::book::Book;
+use crate::done::Done;
+use crate::fault::{CommitError, PerformError};
+use crate::names::Names;
+use docket_rows::Command;
+use published_docket::Trail;
+use shared_docket::DocketParts;
+use std::alloc::Global;
+use std::sync::ledger::Share;
+use std::sync::{Mutex, Wait};
+use versioned_steps::Draft;
+
+/// Commits a seat's draft at the end of the journal, all of which the seat has then seen.
+// A body that always found no memory would meet this contract, and no test of this crate refuses it yet.
+pub(crate) fn settled<L: Names, R: Wait>(
+    rt: &R,
+    alloc: Global,
+    book: &Mutex<Book<L>>,
+    seen: &mut Trail,
+    share: &mut Share<L>,
+    draft: &Draft<DocketParts>,
+    limit: u32,
+) -> Result<Done, CommitError>
+    requires book { seen.old.book ≡ L.history }
+    requires prepared { IsPrepared (docket_rules L.bench) seen.old.log draft.now }
+    requires share { 0 < share.old.parts }
+    ensures book { seen.new.book ≡ seen.old.book }
+    ensures settles { Settles L.bench seen.old.log limit draft.now result seen.new.log }
+    ensures parts { share.new.parts ≡ share.old.parts }
+    ensures amount { share.new.amount ≡ share.old.amount + entries_of result }
+{
+    for _ in rt.forever() {
+        if let Some(result) = book.lock(rt).settle(rt, alloc, seen, share, draft, limit) {
+            return result;
+        }
+    }
+    unreachable!()
+}
+
+/// Makes a seat's command whole at the end of the journal, all of which the seat has then seen.
+// A body that always found no memory would meet this contract, and no test of this crate refuses it yet.
+pub(crate) fn made<L: Names, R: Wait>(
+    rt: &R,
+    alloc: Global,
+    book: &Mutex<Book<L>>,
+    seen: &mut Trail,
+    share: &mut Share<L>,
+    clerk: u32,
+    command: &Command,
+    limit: u32,
+) -> Result<Done, PerformError>
+    requires book { seen.old.book ≡ L.history }
+    requires share { 0 < share.old.parts }
+    ensures book { seen.new.book ≡ seen.old.book }
+    ensures makes { Makes L.bench seen.old.log limit clerk command.now result seen.new.log }
+    ensures parts { share.new.parts ≡ share.old.parts }
+    ensures amount { share.new.amount ≡ share.old.amount + entries_of result }
+{
+    for _ in rt.forever() {
+        if let Some(result) = book
+            .lock(rt)
+            .settle_now(rt, alloc, seen, share, clerk, *command, limit)
+        {
+            return result;
+        }
+    }
+    unreachable!()
+}
