@@ -1,5 +1,5 @@
 -- Numbers among those of tallies, and what the tallies of all seats come to.
-use Rattle.std.proofs.Common.{◌≡◌, ℕ, zero, suc, ◌+◌, ◌<◌, ◌≤◌, true, List, [], ◌∷◌, length, get_or, All, Contains, inl, inr, subst, arith}
+use Rattle.std.proofs.Common.{◌≡◌, ℕ, ◌+◌, ◌<◌, ◌≤◌, true, List, [], ◌∷◌, length, All, Contains, inl, inr, subst, arith}
 use Rattle.std.proofs.lemmas.Bool.{cases_lt}
 use Rattle.std.proofs.lemmas.List.{length-map}
 use Rattle.std.proofs.lemmas.List.Elements.{All-head, All-tail}
@@ -21,14 +21,6 @@ no_tally [] k none has = omega (arith, has.1)
 no_tally (t ∷ ts) k none has =
     let P : TallyView → Type 0 = λ (x : TallyView). x.number ≡ k → ⊥ in
     no_tally ts k (All-tail P t ts none) (behind t.number k (numbers_of ts) (All-head P t ts none) has)
-
--- where one of them has it, it is
-pub one_tally : (ts : List TallyView) (k i : ℕ) (d : TallyView) → i < length ts → (get_or ts i d).number ≡ k → Contains (numbers_of ts) k
-one_tally [] k i d within is = absurd (omega (arith, within))
-one_tally (t ∷ ts) k zero d within is = (0, omega arith, is)
-one_tally (t ∷ ts) k (suc i) d within is =
-    let rest = one_tally ts k i d (omega (arith, within)) is in
-    (suc rest.0, omega (arith, rest.1), rest.2)
 
 -- the seats up to this one have tallies, and so has the next
 pub one_more : (ts : List TallyView) (before : ℕ) → HasTallies before ts → Contains (numbers_of ts) (before + 1) → HasTallies (before + 1) ts

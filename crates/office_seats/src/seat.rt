@@ -251,9 +251,9 @@ impl<L: Names> Seat<L> {
         );
         self.reader = Some(caught_up::<L, R>(rt, reader, &self.trail));
         match result {
-            Ok(done) => {
-                self.mine.push_reserved(done.place);
-                Ok(done)
+            Ok(finished) => {
+                self.mine.push_reserved(finished.place);
+                Ok(finished)
             }
             Err(error) => Err(error),
         }

@@ -17,8 +17,8 @@ returns-in_err-reserve g c =
 pub invariant_of-self-in-Ok : goal.invariant_of-self-in-Ok
 invariant_of-self-in-Ok g c =
     let makes = c.in-Ok.ensures.makes in
-    let pushed = c.push_reserved.ensures.items ∙ ap (λ (l : List ℕ). l ++ c.in-Ok.done.place ∷ []) c.reserve.ensures.items in
-    seat_made c.self.invariant c.made-result.new.seen (view c.caught_up.result.place) c.made-result.new.share.parts c.made-result.new.share.amount c.push_reserved.new.self.items (vec_capacity c.push_reserved.new.self) c.self.inside.limit c.in-Ok.done c.from-clerk.result c.args.command.now makes.before
+    let pushed = c.push_reserved.ensures.items ∙ ap (λ (l : List ℕ). l ++ c.in-Ok.finished.place ∷ []) c.reserve.ensures.items in
+    seat_made c.self.invariant c.made-result.new.seen (view c.caught_up.result.place) c.made-result.new.share.parts c.made-result.new.share.amount c.push_reserved.new.self.items (vec_capacity c.push_reserved.new.self) c.self.inside.limit c.in-Ok.finished c.from-clerk.result c.args.command.now makes.before
     c.caught_up.ensures c.made-result.ensures.book c.from-clerk.ensures makes.later makes.makes c.made-result.ensures.parts c.in-Ok.ensures.amount pushed
 
 pub invariant_of-self-in-Err : goal.invariant_of-self-in-Err
@@ -31,8 +31,8 @@ invariant_of-self-in-Err g c =
 pub returns-in-Ok : goal.returns-in-Ok
 returns-in-Ok g c =
     let bench = g.L.Names.bench in
-    let pushed = c.push_reserved.ensures.items ∙ ap (λ (l : List ℕ). l ++ c.in-Ok.done.place ∷ []) c.reserve.ensures.items in
-    let begins = makes_later bench c.self.inside.trail.log c.self.inside.limit c.from-clerk.result c.args.command.now (Ok c.in-Ok.done) c.made-result.new.seen.log c.in-Ok.ensures.makes in
+    let pushed = c.push_reserved.ensures.items ∙ ap (λ (l : List ℕ). l ++ c.in-Ok.finished.place ∷ []) c.reserve.ensures.items in
+    let begins = makes_later bench c.self.inside.trail.log c.self.inside.limit c.from-clerk.result c.args.command.now (Ok c.in-Ok.finished) c.made-result.new.seen.log c.in-Ok.ensures.makes in
     rw (← c.self.view_is) (record {
       goes = record { number = refl; limit = refl; seen = begins };
       makes = rw c.from-clerk.ensures at c.in-Ok.ensures.makes;
