@@ -2,21 +2,17 @@
 
 ghost use Rattle.std.specs.Prelude.{◌≡◌, ◌≢◌, ◌≤◌, ◌⊎◌, true, false, map, string_bytes, IfErr, IfOk, IfSome};
 ghost use Rattle.std.specs.IoError.{error_kind};
-ghost use Rattle.std.specs.Io.KnownBytes.{Appends};
 ghost use Rattle.clap.specs.Words.{takes};
-ghost use Rattle.office_options.specs.Words.{command_line};
-ghost use Rattle.office_streams.specs.Words.{WasCutShort, has_ended, has_failed, status_number, watched};
-ghost use Rattle.clerk_office.specs.Program.{AsksForHelp, HasMistake, IsEnding, IsRefused, faults_in, words_behind};
+ghost use Rattle.office_options.specs.Words.{HasMistake, IsRefused, command_line, words_behind};
+ghost use Rattle.office_streams.specs.Words.{WasCutShort, has_ended, has_failed, watched};
+ghost use Rattle.clerk_office.specs.Program.{IsEnding, faults_in};
 
 use crate::words::options_behind;
 use office_options::OptionsFault;
-use office_streams::{OfficeFault, Watched, fault_line, run_office, status_of, write_all};
+use office_streams::{BAD_WORDS, OfficeFault, Watched, ended_by, helped, run_office, unread};
 use std::alloc::Global;
 use std::io;
 use std::io::{ErrorKind, Read, Write};
-
-// The status of a run whose words the program doesn't take.
-const BAD_WORDS: u8 = 1;
 
 /// Runs the office with the options that the words give, of which the first is the program's name. The status is 0 where
 /// every row was answered, and where help or the version was asked for and is written instead; 1 where a word is no text
@@ -70,47 +66,4 @@ pub fn run_program<R: Read, W: Write, E: Write>(
         Ok(()) => 0,
         Err(fault) => ended_by(alloc, errors, &fault),
     }
-}
-
-// Writes the help or the version, where the words ask for it.
-fn helped<W: Write, E: Write>(
-    alloc: Global,
-    writer: &mut Watched<W>,
-    errors: &mut E,
-    text: &str,
-) -> u8
-    requires { has_failed writer.old ≡ false }
-    ensures text { result ≡ 0 → Appends (W.contents (watched writer.old)) (W.contents (watched writer.new)) text.now }
-    ensures worked { result ≡ 0 → has_failed writer.new ≡ false }
-    ensures failed { result ≡ 4 → has_failed writer.new ≡ true }
-    ensures known { (result ≡ 0) ⊎ (result ≡ 4) }
-{
-    match write_all(writer, text.as_bytes()) {
-        Ok(()) => 0,
-        Err(fault) => ended_by(alloc, errors, &fault),
-    }
-}
-
-// Tells of words that can't be read: for want of memory, or else because one of them is no text.
-fn unread<E: Write>(alloc: Global, errors: &mut E, error: &io::Error) -> u8
-    ensures memory { error_kind error.now ≡ ErrorKind.OutOfMemory → result ≡ 5 }
-    ensures no_text { error_kind error.now ≢ ErrorKind.OutOfMemory → result ≡ 1 }
-{
-    match error.kind() {
-        ErrorKind::OutOfMemory => ended_by(alloc, errors, &OfficeFault::OutOfMemory),
-        _ => {
-            let _ = errors.write_all(b"error: a word of the command line is no text\n");
-            BAD_WORDS
-        }
-    }
-}
-
-// Tells of the fault, where there is memory for its line, and gives its status.
-fn ended_by<E: Write>(alloc: Global, errors: &mut E, fault: &OfficeFault) -> u8
-    ensures { result ≡ status_number fault.now }
-{
-    if let Ok(line) = fault_line(alloc, fault) {
-        let _ = writeln!(errors, "{line}");
-    }
-    status_of(fault)
 }

@@ -2,12 +2,15 @@
 
 ghost use Rattle.std.specs.Prelude.{◌≡◌, Some, None, option_copied, nat_lt, IfOk, IfErr, if◌then◌else◌};
 ghost use Rattle.docket_rows.specs.declared.part.PartId.{PartId};
-ghost use Rattle.docket_rows.specs.Words.{AreSound, Rows, answered, bench_of, has_case, opening_rows, part_after, part_value, seen_by, step, view_of};
+ghost use Rattle.docket_rows.specs.Words.{AreSound, Rows, answered, bench_of, deadline_in, has_case, opening_rows, part_after, part_value, seen_by, step, view_of};
 
 use crate::holdings::Holdings;
-use court_days::Court;
+use crate::seen::deadline_in;
+use crate::sight::Sight;
+use court_days::{Court, Days};
 use docket_rows::{Answer, Command, Query, View};
 use hearing_slots::Calendar;
+use rule_periods::DocketRow;
 use std::alloc::{AllocError, Global};
 use std::marker::Model;
 
@@ -74,5 +77,18 @@ impl Docket {
         ensures { option_copied result ≡ (if nat_lt judge self.now.bench.judges then Some ((parts_held self.now).judge judge) else None) }
     {
         self.holdings.calendar(judge)
+    }
+    /// The days of the court's file, with the holidays and the outages that are docketed. It takes no memory.
+    pub fn days(&self) -> &Days
+        ensures { result.now ≡ (parts_held self.now).days }
+    {
+        self.holdings.days()
+    }
+
+    /// The deadline of that number of the case, as it is docketed, if there is one. It takes no memory.
+    pub fn deadline(&self, case: u32, number: u32) -> Option<&DocketRow>
+        ensures { option_copied result ≡ deadline_in (parts_held self.now) case number }
+    {
+        deadline_in(&self.holdings, case, number)
     }
 }

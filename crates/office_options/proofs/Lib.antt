@@ -1,3 +1,4 @@
+pub mod CallerLemmas
 pub mod DefaultLemmas
 pub mod FaultLemmas
 pub mod NumberLemmas

@@ -25,3 +25,16 @@ IsFaultAmong kinds OutOfMemory = Unit {0}
 -- the answer for words with these kinds of fault: options only where there is none
 abbrev pub IsAnswerFor : {T : Type 0} → Kinds → Result T OptionsFault → Type 0
 IsAnswerFor kinds result = MatchResult result (λ _. kinds ≡ []) (IsFaultAmong kinds)
+
+-- the words name something that the program doesn't have, or a value that it doesn't take
+abbrev pub HasMistake : Kinds → Type 0
+HasMistake kinds = (k : ErrorKind) × IsAmong k kinds × IsMistake k
+
+-- the words ask for the help or for the version
+abbrev pub AsksForHelp : Kinds → Type 0
+AsksForHelp kinds = IsAmong kind.DisplayHelp kinds ⊎ IsAmong kind.DisplayVersion kinds
+
+-- the words have faults, and ask for no help
+pub record IsRefused (kinds : Kinds) : Type 0 where
+  pub faulty : kinds ≢ []
+  pub no_help : AsksForHelp kinds → ⊥

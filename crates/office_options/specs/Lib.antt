@@ -1,4 +1,5 @@
 pub mod CommandLine
 pub mod Held
 pub mod Kinds
+pub mod Named
 pub mod Words

@@ -8,7 +8,9 @@ mod options;
 mod reading;
 #[cfg(test)]
 mod tests;
+mod words;
 
 pub use fault::OptionsFault;
 pub use options::Options;
-pub use reading::options_of;
+pub use reading::{fault_from, options_of};
+pub use words::texts_behind;

@@ -15,8 +15,8 @@ use clap::Error;
 use clap::error::ErrorKind;
 use std::alloc::Global;
 
-// What `clap`'s error becomes: its text, by where that text goes.
-fn fault_from(alloc: Global, error: &Error) -> OptionsFault
+/// What an error of `clap` becomes: its text, by where that text goes.
+pub fn fault_from(alloc: Global, error: &Error) -> OptionsFault
     ensures { IsFaultOf (kind_of error.now) result }
 {
     if error.kind() == ErrorKind::OutOfMemory {

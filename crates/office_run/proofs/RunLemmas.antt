@@ -58,7 +58,7 @@ sheets_same court p q same first zero = refl
 sheets_same court p q same first (suc n) =
     rw (same_view (bench_of court) p q (query.Sheet first) same) (ap (λ s. sheet_shown court (seen_by (bench_of court) q (query.Sheet first)) ++ s) (sheets_same court p q same (first + 1) n))
 
-calendars_same : (court : CourtView) (p q : Parts) → ((part : PartId) → part_value p part ≡ part_value q part) → (first count : ℕ) → calendars_from court p first count ≡ calendars_from court q first count
+pub calendars_same : (court : CourtView) (p q : Parts) → ((part : PartId) → part_value p part ≡ part_value q part) → (first count : ℕ) → calendars_from court p first count ≡ calendars_from court q first count
 unfolding calendars_from
 calendars_same court p q same first zero = refl
 calendars_same court p q same first (suc n) =

@@ -18,9 +18,13 @@ abbrev pub reply_text : CourtView → Reply → List ℕ
 reply_text court (Made answer) = answer_text court.clock answer ++ 10 ∷ []
 reply_text court (Viewed view) = view_lines court view
 
--- the reply to the row of that number, counted from 1: the number, the clerk's, and the text
+-- what stands before a reply: the number of the row, counted from 1, and that of its clerk
+abbrev pub row_numbers : (number clerk : ℕ) → List ℕ
+row_numbers number clerk = decimal number ++ codes " " ++ decimal clerk ++ codes " "
+
+-- the reply to a row
 unfoldable pub line_of : CourtView → (number clerk : ℕ) → Reply → List ℕ
-line_of court number clerk reply = decimal number ++ codes " " ++ decimal clerk ++ codes " " ++ reply_text court reply
+line_of court number clerk reply = row_numbers number clerk ++ reply_text court reply
 
 -- the replies to rows, the first of which has that number
 unfoldable pub lines_from : CourtView → (docketed : Rows) → (number : ℕ) → List Row → List ℕ

@@ -4,5 +4,5 @@
 mod reply;
 mod text;
 
-pub use reply::Reply;
-pub use text::run_text;
+pub use reply::{Reply, reply_to};
+pub use text::{push_calendars, push_numbers, push_reply, run_text};

@@ -19,7 +19,7 @@ pub enum Reply {
 }
 
 /// Carries out what a row asks for, and answers it. `Err` says that memory ran out, and leaves the docket as it was.
-pub(crate) fn reply_to(alloc: Global, docket: &mut Docket, work: &Work) -> Result<Reply, AllocError>
+pub fn reply_to(alloc: Global, docket: &mut Docket, work: &Work) -> Result<Reply, AllocError>
     ensures { (bench : Bench) (docketed : Rows) → Holds bench docket.old docketed → IfOk result (λ r. (r ≡ reply_to bench docketed work.now) × Holds bench docket.new (docketed_then bench docketed work.now)) }
 {
     match work {

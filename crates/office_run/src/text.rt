@@ -5,7 +5,7 @@ ghost use Rattle.docket_rows.specs.Words.{bench_of, opening_rows};
 ghost use Rattle.docket_core.specs.Words.{parts_held};
 ghost use Rattle.office_texts.specs.Words.{calendar_lines};
 ghost use Rattle.office_run.specs.Replies.{Holds, docketed_after};
-ghost use Rattle.office_run.specs.Text.{calendars_from, line_of, lines_from, reply_text, run_text, sheet_shown, sheets_from};
+ghost use Rattle.office_run.specs.Text.{calendars_from, line_of, lines_from, reply_text, row_numbers, run_text, sheet_shown, sheets_from};
 
 use crate::reply::{Reply, reply_to};
 use court_days::Court;
@@ -61,15 +61,23 @@ fn push_line(
 ) -> Result<(), AllocError>
     ensures { OnOk result (string_bytes text.new ≡ string_bytes text.old ++ line_of court.now number clerk reply.now) }
 {
-    push_number(text, number)?;
-    text.push_str(" ")?;
-    push_number(text, u64::from(clerk))?;
-    text.push_str(" ")?;
+    push_numbers(text, number, clerk)?;
     push_reply(text, court, reply)
 }
 
-/// Adds the text of a reply, with the ends of its lines.
-fn push_reply(text: &mut String, court: &Court, reply: &Reply) -> Result<(), AllocError>
+/// Adds what stands before a reply: the number of the row, counted from 1, and that of its clerk. `Err` says that memory
+/// ran out.
+pub fn push_numbers(text: &mut String, number: u64, clerk: u8) -> Result<(), AllocError>
+    ensures { OnOk result (string_bytes text.new ≡ string_bytes text.old ++ row_numbers number clerk) }
+{
+    push_number(text, number)?;
+    text.push_str(" ")?;
+    push_number(text, u64::from(clerk))?;
+    text.push_str(" ")
+}
+
+/// Adds the text of a reply, with the ends of its lines. `Err` says that memory ran out.
+pub fn push_reply(text: &mut String, court: &Court, reply: &Reply) -> Result<(), AllocError>
     ensures { OnOk result (string_bytes text.new ≡ string_bytes text.old ++ reply_text court.now reply.now) }
 {
     match reply {
@@ -111,8 +119,8 @@ fn push_sheet_shown(text: &mut String, court: &Court, view: &View) -> Result<(),
     }
 }
 
-/// Adds the calendars of so many judges, from the first number on.
-fn push_calendars(
+/// Adds the calendars of so many judges, from the first number on. `Err` says that memory ran out.
+pub fn push_calendars(
     text: &mut String,
     court: &Court,
     docket: &Docket,

@@ -1,3 +1,5 @@
+pub mod CallerLemmas
 pub mod DivisionLemmas
 pub mod DividerLemmas
+pub mod StatusLemmas
 pub mod UniqueTextLemmas

@@ -8,6 +8,7 @@ use Rattle.office_rows.specs.declared.fault.RowCause.{RowCause}
 use Rattle.office_rows.specs.declared.row.Row.{Row as RowOf}
 use Rattle.office_rows.specs.Words.{Names, rows_of}
 use Rattle.office_run.specs.Words.{run_text}
+use Rattle.office_streams.specs.declared.checking.CheckedInput.{CheckedInput}
 use Rattle.office_streams.specs.declared.fault.OfficeFault.{OfficeFault}
 use Rattle.office_streams.specs.declared.fault.OfficeFault.TheVariants.{Court, Row, ReadFault, WriteFault, OutOfMemory}
 use Rattle.office_streams.specs.declared.watched.Watched.{Watched}
@@ -66,27 +67,37 @@ AnswersRowsOf view (Err ReadFault) defined = ⊥
 AnswersRowsOf view (Err WriteFault) defined = ⊥
 AnswersRowsOf view (Err OutOfMemory) defined = ⊤
 
--- what making the text answers: the text or the fault that is defined, unless memory ran out
-abbrev pub AnswersText : {X : Type 0} → (X → List ℕ) → Result X OfficeFault → Result Input OfficeFault → Type 0
-AnswersText view (Ok text) (Ok input) = IsTextOf input (view text)
-AnswersText view (Ok text) (Err fault) = ⊥
-AnswersText view (Err (Court fault)) said = (said ≡ Err (Court fault)) × (fault ≢ court.OutOfMemory)
-AnswersText view (Err (Row number cause)) said = said ≡ Err (Row number cause)
-AnswersText view (Err ReadFault) said = ⊥
-AnswersText view (Err WriteFault) said = ⊥
-AnswersText view (Err OutOfMemory) said = ⊤
+-- what is made of an input fits it, or is the fault that the input has, unless memory ran out
+abbrev pub AnswersInput : {X : Type 0} → (Input → X → Type 0) → Result X OfficeFault → Result Input OfficeFault → Type 0
+AnswersInput Fits (Ok x) (Ok input) = Fits input x
+AnswersInput Fits (Ok x) (Err fault) = ⊥
+AnswersInput Fits (Err (Court fault)) said = (said ≡ Err (Court fault)) × (fault ≢ court.OutOfMemory)
+AnswersInput Fits (Err (Row number cause)) said = said ≡ Err (Row number cause)
+AnswersInput Fits (Err ReadFault) said = ⊥
+AnswersInput Fits (Err WriteFault) said = ⊥
+AnswersInput Fits (Err OutOfMemory) said = ⊤
 
--- By its answer, a run has written the whole text or, where a write failed, a beginning of it; or what it read
--- has the fault that the answer names. Where reading failed or memory ran out, the answer says nothing of them.
+-- a court and rows are those of the input
+pub record IsChecked (input : Input) (checked : CheckedInput) : Type 0 where
+  pub court : file_of checked.court ≡ input.file
+  pub rows : checked.rows.items ≡ input.rows
+
+-- By its answer, a run has written the whole of a text that is one of the input or, where a write failed, a beginning
+-- of it; or what it read has the fault that the answer names. Where reading failed or memory ran out, the answer says
+-- nothing of them.
+abbrev pub IsRunBy : (Input → List ℕ → Type 0) → Option (List ℕ) → Option (List ℕ) → Result (Unit {0}) OfficeFault → Result Input OfficeFault → Type 0
+IsRunBy IsText old new (Ok done) (Ok input) = (text : List ℕ) × IsText input text × Appends old new text
+IsRunBy IsText old new (Ok done) (Err fault) = ⊥
+IsRunBy IsText old new (Err WriteFault) (Ok input) = (text : List ℕ) × IsText input text × AppendsFront old new text
+IsRunBy IsText old new (Err WriteFault) (Err fault) = ⊥
+IsRunBy IsText old new (Err (Court fault)) said = said ≡ Err (Court fault)
+IsRunBy IsText old new (Err (Row number cause)) said = said ≡ Err (Row number cause)
+IsRunBy IsText old new (Err ReadFault) said = ⊤
+IsRunBy IsText old new (Err OutOfMemory) said = ⊤
+
+-- the run of the office: its text is that of the replies, sheets and calendars
 abbrev pub IsRun : Option (List ℕ) → Option (List ℕ) → Result (Unit {0}) OfficeFault → Result Input OfficeFault → Type 0
-IsRun old new (Ok done) (Ok input) = (text : List ℕ) × IsTextOf input text × Appends old new text
-IsRun old new (Ok done) (Err fault) = ⊥
-IsRun old new (Err WriteFault) (Ok input) = (text : List ℕ) × IsTextOf input text × AppendsFront old new text
-IsRun old new (Err WriteFault) (Err fault) = ⊥
-IsRun old new (Err (Court fault)) said = said ≡ Err (Court fault)
-IsRun old new (Err (Row number cause)) said = said ≡ Err (Row number cause)
-IsRun old new (Err ReadFault) said = ⊤
-IsRun old new (Err OutOfMemory) said = ⊤
+IsRun old new result said = IsRunBy IsTextOf old new result said
 
 -- the answer rests on the whole input
 abbrev pub rests_on_input : Result (Unit {0}) OfficeFault → Bool
@@ -102,3 +113,14 @@ pub record WasReadWhole {R : Type 0} (old new : Watched R) : Type 0 where
   pub ended : has_ended new ≡ true
   pub worked : has_failed new ≡ false
   pub within : IsWithinLimits old new
+
+-- an input has a fault of its court's file
+pub record HasCourtFault (said : Result Input OfficeFault) : Type 0 where
+  pub fault : CourtFault
+  pub told : said ≡ Err (Court fault)
+
+-- an input has a fault of a row
+pub record HasRowFault (said : Result Input OfficeFault) : Type 0 where
+  pub number : ℕ
+  pub cause : RowCause
+  pub told : said ≡ Err (Row number cause)

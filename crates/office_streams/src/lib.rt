@@ -1,7 +1,9 @@
 //! A run over streams: the input is read, divided and checked, then its whole text is written; or one fault is told.
 #![tactic(auto)]
 
+mod checking;
 mod division;
+mod endings;
 mod fault;
 mod fault_lines;
 mod input;
@@ -12,9 +14,12 @@ mod output;
 mod tests;
 mod watched;
 
+pub use checking::{CheckedInput, check_input};
+pub use division::divide;
+pub use endings::{BAD_WORDS, ended_by, helped, unread};
 pub use fault::OfficeFault;
 pub use fault_lines::{fault_line, status_of};
-pub use input::{MAX_INPUT_BYTES, MAX_READ_CALLS};
+pub use input::{MAX_INPUT_BYTES, MAX_READ_CALLS, read_all};
 pub use laws::{first_divider_divides, texts_are_unique};
 pub use office::run_office;
 pub use output::write_all;

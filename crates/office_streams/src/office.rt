@@ -1,20 +1,17 @@
 //! A run of the office, from its input to its output.
 
 ghost use Rattle.std.specs.Prelude.{◌≡◌, ◌≢◌, true, false, IfSome, OnErr, OnOk, string_bytes};
-ghost use Rattle.court_days.specs.Words.{court_in, file_of};
-ghost use Rattle.office_rows.specs.Words.{names_of, rows_of};
 ghost use Rattle.office_streams.specs.Limits.{WasCutShort};
-ghost use Rattle.office_streams.specs.Office.{AnswersCourt, AnswersRowsOf, AnswersText, IsRun, WasReadWhole, input_of, rests_on_input};
+ghost use Rattle.office_streams.specs.Office.{AnswersInput, IsRun, IsTextOf, WasReadWhole, input_of, rests_on_input};
 ghost use Rattle.office_streams.specs.Watched.{has_ended, has_failed, watched};
 
-use crate::division::divide;
+use crate::checking::check_input;
 use crate::fault::OfficeFault;
 use crate::input::read_all;
 use crate::output::write_all;
 use crate::watched::Watched;
-use court_days::{Court, CourtFault};
+use court_days::CourtFault;
 use office_options::Options;
-use office_rows::{Row, RowError, read_rows};
 use office_run::run_text;
 use std::alloc::Global;
 use std::io::{Read, Write};
@@ -53,42 +50,12 @@ pub fn run_office<R: Read, W: Write>(
 }
 
 // The text of the run of an input.
-#[tactic(auto, unfolding(crate::specs::Office::input_of))]
 fn answers_to(alloc: Global, input: &[u8], clerks: u8) -> Result<String, OfficeFault>
-    ensures { AnswersText (λ text. string_bytes text) result (input_of clerks input.now) }
+    ensures { AnswersInput (λ said text. IsTextOf said (string_bytes text)) result (input_of clerks input.now) }
 {
-    let (file, rows) = divide(input);
-    let court = court_of(alloc, file)?;
-    let rows = rows_behind(alloc, rows, clerks, &court)?;
-    match run_text(alloc, &court, rows.as_slice()) {
+    let checked = check_input(alloc, input, clerks)?;
+    match run_text(alloc, &checked.court, checked.rows.as_slice()) {
         Ok(text) => Ok(text),
         Err(_) => Err(OfficeFault::OutOfMemory),
-    }
-}
-
-// The court whose file this is.
-fn court_of(alloc: Global, file: &[u8]) -> Result<Court, OfficeFault>
-    ensures { AnswersCourt file_of result (court_in file.now) }
-{
-    match Court::from_bytes(alloc, file) {
-        Ok(court) => Ok(court),
-        Err(CourtFault::OutOfMemory) => Err(OfficeFault::OutOfMemory),
-        Err(fault) => Err(OfficeFault::Court(fault)),
-    }
-}
-
-// The rows that the bytes behind the court's file are.
-fn rows_behind(
-    alloc: Global,
-    bytes: &[u8],
-    clerks: u8,
-    court: &Court,
-) -> Result<Vec<Row>, OfficeFault>
-    ensures { AnswersRowsOf (λ rows. rows.items) result (rows_of clerks (names_of court.now) bytes.now) }
-{
-    match read_rows(alloc, bytes, clerks, court) {
-        Ok(rows) => Ok(rows),
-        Err(RowError::Fault(number, cause)) => Err(OfficeFault::Row(number, cause)),
-        Err(RowError::OutOfMemory) => Err(OfficeFault::OutOfMemory),
     }
 }

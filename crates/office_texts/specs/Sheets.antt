@@ -75,7 +75,11 @@ unfoldable pub motion_lines : CourtView → SheetMotion → List ℕ
 motion_lines court m =
     codes "motion " ++ decimal m.number ++ codes " served " ++ day_text m.served ++ codes " need " ++ need_text m.need ++ 10 ∷ hearing_line_if_set court m.hearing
 
--- `case 1 filed 2025-03-03`, then its deadlines, then its motions
+-- `case 1 filed 2025-03-03`
+abbrev pub case_line : Sheet → List ℕ
+case_line s = codes "case " ++ decimal s.case ++ codes " filed " ++ day_text s.filed ++ (10 ∷ [])
+
+-- the line of the case, then its deadlines, then its motions
 unfoldable pub sheet_lines : CourtView → Sheet → List ℕ
 sheet_lines court s =
-    codes "case " ++ decimal s.case ++ codes " filed " ++ day_text s.filed ++ (10 ∷ []) ++ flat_map (deadline_line court.clock) s.deadlines ++ flat_map (motion_lines court) s.motions
+    case_line s ++ flat_map (deadline_line court.clock) s.deadlines ++ flat_map (motion_lines court) s.motions

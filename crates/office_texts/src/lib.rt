@@ -14,5 +14,5 @@ mod views;
 pub use answers::push_answer;
 pub use calendars::push_calendar;
 pub use numbers::push_number;
-pub use sheets::push_sheet;
+pub use sheets::{push_case, push_deadline, push_motions, push_sheet};
 pub use views::push_view;

@@ -4,10 +4,10 @@ mod motions;
 
 ghost use Rattle.std.specs.Prelude.{◌≡◌, ◌++◌, OnOk, string_bytes};
 ghost use Rattle.std.specs.List.{flat_map};
-ghost use Rattle.office_texts.specs.Sheets.{deadline_line, motion_lines, sheet_lines};
+ghost use Rattle.office_texts.specs.Sheets.{case_line, deadline_line, motion_lines, sheet_lines};
 
 use court_days::{Clock, Court};
-use deadlines::push_deadline;
+pub use deadlines::push_deadline;
 use docket_rows::{Sheet, SheetDeadline, SheetMotion};
 use motions::push_motion;
 use std::alloc::AllocError;
@@ -18,11 +18,18 @@ use std::fmt::Write;
 pub fn push_sheet(text: &mut String, court: &Court, sheet: &Sheet) -> Result<(), AllocError>
     ensures { OnOk result (string_bytes text.new ≡ string_bytes text.old ++ sheet_lines court.now sheet.now) }
 {
-    let case = sheet.case;
-    let filed = sheet.filed;
-    write!(text, "case {case} filed {filed}\n")?;
+    push_case(text, sheet)?;
     push_deadlines(text, court.clock(), sheet.deadlines.as_slice())?;
     push_motions(text, court, sheet.motions.as_slice())
+}
+
+/// Adds the first line of a sheet, that of its case. `Err` says that memory ran out.
+pub fn push_case(text: &mut String, sheet: &Sheet) -> Result<(), AllocError>
+    ensures { OnOk result (string_bytes text.new ≡ string_bytes text.old ++ case_line sheet.now) }
+{
+    let case = sheet.case;
+    let filed = sheet.filed;
+    write!(text, "case {case} filed {filed}\n")
 }
 
 /// Adds a line for each deadline.
@@ -39,8 +46,12 @@ fn push_deadlines(
     Ok(())
 }
 
-/// Adds the lines of each motion.
-fn push_motions(text: &mut String, court: &Court, motions: &[SheetMotion]) -> Result<(), AllocError>
+/// Adds the lines of each motion. `Err` says that memory ran out.
+pub fn push_motions(
+    text: &mut String,
+    court: &Court,
+    motions: &[SheetMotion],
+) -> Result<(), AllocError>
     ensures { OnOk result (string_bytes text.new ≡ string_bytes text.old ++ flat_map (motion_lines court.now) motions.now) }
 {
     for motion in motions {

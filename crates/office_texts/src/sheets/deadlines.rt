@@ -12,9 +12,10 @@ use rule6::{Filing, Means};
 use std::alloc::AllocError;
 use std::fmt::Write;
 
-/// Adds the line of a deadline: its number, its period, when its time ends, and whether it was met.
+/// Adds the line of a deadline: its number, its period, when its time ends, and whether it was met. `Err` says that
+/// memory ran out.
 #[tactic(auto, unfolding(crate::specs::Sheets::deadline_line))]
-pub(super) fn push_deadline(
+pub fn push_deadline(
     text: &mut String,
     clock: &Clock,
     deadline: &SheetDeadline,

@@ -1,5 +1,5 @@
 use Rattle.std.proofs.Common.{◌∙◌, sym}
-use Rattle.clerk_office.proofs.StatusLemmas.{no_fault_ends_with_1}
+use Rattle.office_streams.proofs.CallerLemmas.{no_fault_ends_with_1}
 use Rattle.clerk_office.proofs.program.run_program.Goals as goal
 
 -- words that the command line takes are never told to be mistaken

@@ -3,7 +3,7 @@ use Rattle.std.proofs.Common.{◌≡◌, arith}
 use Rattle.court_days.specs.declared.fault.CourtFault.TheVariants as court
 use Rattle.office_streams.specs.declared.fault.OfficeFault.{OfficeFault}
 use Rattle.office_streams.specs.declared.fault.OfficeFault.TheVariants.{Court, Row, ReadFault, WriteFault, OutOfMemory}
-use Rattle.office_streams.specs.Words.{status_number}
+use Rattle.office_streams.specs.Fault.{status_number}
 
 pub no_fault_ends_with_1 : (fault : OfficeFault) → status_number fault ≡ 1 → ⊥
 no_fault_ends_with_1 (Court court.NotToml) e = omega (arith, e)

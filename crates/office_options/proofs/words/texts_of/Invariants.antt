@@ -1,6 +1,6 @@
 use Rattle.std.proofs.Common.{◌≡◌, ◌++◌, map, string_bytes, drop}
 use Rattle.clap.specs.Walk.{texts}
-use Rattle.clerk_office.proofs.words.texts_of.Given as goal
+use Rattle.office_options.proofs.words.texts_of.Given as goal
 
 -- the texts so far, and those of the words that are left, are those of all words
 abbrev pub invariant-loop-word : goal.invariant-loop-word

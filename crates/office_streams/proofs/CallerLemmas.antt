@@ -1,0 +1,2 @@
+-- The lemmas for the crates above.
+pub use Rattle.office_streams.proofs.StatusLemmas.{no_fault_ends_with_1}

@@ -1,0 +1,60 @@
+//! An input checked: the court whose file it begins with, and its rows.
+
+ghost use Rattle.std.specs.Prelude.{◌≡◌};
+ghost use Rattle.court_days.specs.Words.{court_in, file_of};
+ghost use Rattle.office_rows.specs.Words.{names_of, rows_of};
+ghost use Rattle.office_streams.specs.Office.{AnswersCourt, AnswersInput, AnswersRowsOf, IsChecked, input_of};
+
+use crate::division::divide;
+use crate::fault::OfficeFault;
+use court_days::{Court, CourtFault};
+use office_rows::{Row, RowError, read_rows};
+use std::alloc::Global;
+
+/// What an input holds that has no fault.
+#[derive(Drop)]
+pub struct CheckedInput {
+    /// The court whose file stands before the line `%%`.
+    pub court: Court,
+    /// The rows behind it.
+    pub rows: Vec<Row>,
+}
+
+/// The court and the rows of an input, or its first fault: one of the court's file, or else the first of a row that has
+/// one. There are so many clerks. `OutOfMemory` alone comes where memory ran out.
+#[tactic(auto, unfolding(crate::specs::Office::input_of))]
+pub fn check_input(alloc: Global, input: &[u8], clerks: u8) -> Result<CheckedInput, OfficeFault>
+    ensures { AnswersInput IsChecked result (input_of clerks input.now) }
+{
+    let (file, rows) = divide(input);
+    let court = court_of(alloc, file)?;
+    let rows = rows_behind(alloc, rows, clerks, &court)?;
+    Ok(CheckedInput { court, rows })
+}
+
+// The court whose file this is.
+fn court_of(alloc: Global, file: &[u8]) -> Result<Court, OfficeFault>
+    ensures { AnswersCourt file_of result (court_in file.now) }
+{
+    match Court::from_bytes(alloc, file) {
+        Ok(court) => Ok(court),
+        Err(CourtFault::OutOfMemory) => Err(OfficeFault::OutOfMemory),
+        Err(fault) => Err(OfficeFault::Court(fault)),
+    }
+}
+
+// The rows that the bytes behind the court's file are.
+fn rows_behind(
+    alloc: Global,
+    bytes: &[u8],
+    clerks: u8,
+    court: &Court,
+) -> Result<Vec<Row>, OfficeFault>
+    ensures { AnswersRowsOf (λ rows. rows.items) result (rows_of clerks (names_of court.now) bytes.now) }
+{
+    match read_rows(alloc, bytes, clerks, court) {
+        Ok(rows) => Ok(rows),
+        Err(RowError::Fault(number, cause)) => Err(OfficeFault::Row(number, cause)),
+        Err(RowError::OutOfMemory) => Err(OfficeFault::OutOfMemory),
+    }
+}
