@@ -25,10 +25,13 @@ bench: build
 	@cd $(BOOKINGS) && rt run > /dev/null
 	@python3 bench/bench.py $(PROGRAM) $(BOOKINGS)/out/measure_bookings
 
-# Beside the gate, since it needs a C compiler: each growth of memory refused in turn.
+# Beside the gate, since it needs a C compiler: each growth of memory refused in turn, of the program, and of the steps of
+# clerks who share a docket.
 refuse: build
 	@python3 checks/refuse_memory.py $(PROGRAM) examples/smallest.txt examples/days.txt examples/deadlines.txt \
 		runs/docket/sheets_and_calendars_at_the_end.in
+	@cd $(STEPS) && rt run < stdin > /dev/null
+	@python3 checks/refuse_steps.py $(STEPS)/out/stored_steps $(STEPS)/stdin $(SEED)
 
 # Beside the gate, which runs the program once: every status with which it may end, and what it then writes.
 check-program: build
@@ -64,7 +67,7 @@ help:
 	@echo "make         proves and builds the program, which is then $(PROGRAM)"
 	@echo "make run     that, and runs it on $(EXAMPLE)"
 	@echo "make test    proves and tests everything from nothing (rt ci)"
-	@echo "make refuse  runs the program with each growth of its memory refused in turn; it needs a C compiler"
+	@echo "make refuse  runs the program, and the steps of clerks who share a docket, with each growth of memory refused in turn; it needs a C compiler (SEED=1)"
 	@echo "make check-program  runs the program for every status, 0 to 5, and looks at all that it writes"
 	@echo "make runs    runs the program on the whole runs of runs/, and compares all that it writes"
 	@echo "make compare compares the program with its reference on inputs made at random (SEED=1 COUNT=600)"

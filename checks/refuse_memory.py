@@ -19,6 +19,14 @@ LIBRARY = pathlib.Path(__file__).with_suffix(".c")
 REFUSED = (5, b"", b"out of memory\n")
 
 
+def built_library(folder):
+    """The library that refuses, built in that folder."""
+    library = pathlib.Path(folder) / "refuse_memory.so"
+    compiler = os.environ.get("CC", "cc")
+    subprocess.run([compiler, "-shared", "-fPIC", "-O1", "-o", library, LIBRARY, "-ldl"], check=True)
+    return library
+
+
 def run(program, text, library, number):
     """The status of a run with that growth refused, and what it wrote to standard output and to standard error."""
     surroundings = dict(os.environ, LD_PRELOAD=str(library), REFUSE=str(number))
@@ -43,11 +51,10 @@ def refuse_each(program, path, library):
 def main():
     program, *inputs = sys.argv[1:]
     with tempfile.TemporaryDirectory() as folder:
-        library = pathlib.Path(folder) / "refuse_memory.so"
-        compiler = os.environ.get("CC", "cc")
-        subprocess.run([compiler, "-shared", "-fPIC", "-O1", "-o", library, LIBRARY, "-ldl"], check=True)
+        library = built_library(folder)
         ended = [refuse_each(program, pathlib.Path(path), library) for path in inputs]
     sys.exit(0 if all(ended) and ended else 1)
 
 
-main()
+if __name__ == "__main__":
+    main()
