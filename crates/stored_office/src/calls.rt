@@ -1,0 +1,82 @@
+//! The calls of seats, as lines spell them.
+use anyhow::{Context, Result, bail};
+use court_days::Court;
+use docket_rows::{Command, Query};
+use office_rows::{Row, RowError, Work, read_rows};
+use std::alloc::Global;
+
+/// One call. Seats are told by their numbers.
+#[derive(Clone, Copy)]
+pub enum Call {
+    /// `prepare ROW`: the row's clerk prepares its command.
+    Prepare(u8, Command),
+    /// `commit SEAT`
+    Commit(u8),
+    /// `perform TRIES ROW`: the row's clerk performs its command, with so many tries.
+    Perform(u8, Command, u32),
+    /// `show ROW`: the row's clerk is shown what its query asks for.
+    Show(u8, Query),
+    /// `discard SEAT`
+    Discard(u8),
+    /// `draft SEAT`: whether the seat has one.
+    Draft(u8),
+    /// `seen SEAT`: how many entries of the history the seat has seen.
+    Seen(u8),
+    /// `leave SEAT`
+    Leave(u8),
+    /// `close`: with all tallies that were left.
+    Close,
+}
+
+/// The call that a line spells. An error says what is wrong with the line, or that memory ran out.
+pub fn call_of(alloc: Global, court: &Court, line: &str) -> Result<Call> {
+    if line == "close" {
+        return Ok(Call::Close);
+    }
+    let (word, rest) = line.split_once(" ").context("no call")?;
+    match word {
+        "prepare" => {
+            let (seat, command) = command_in(alloc, court, rest)?;
+            Ok(Call::Prepare(seat, command))
+        }
+        "perform" => {
+            let (tries, row) = rest.split_once(" ").context("no row to perform")?;
+            let (seat, command) = command_in(alloc, court, row)?;
+            Ok(Call::Perform(seat, command, tries.parse()?))
+        }
+        "show" => {
+            let row = row_in(alloc, court, rest)?;
+            match row.work {
+                Work::Query(query) => Ok(Call::Show(row.clerk, query)),
+                Work::Command(_) => bail!("no query: {rest}"),
+            }
+        }
+        "commit" => Ok(Call::Commit(rest.parse()?)),
+        "discard" => Ok(Call::Discard(rest.parse()?)),
+        "draft" => Ok(Call::Draft(rest.parse()?)),
+        "seen" => Ok(Call::Seen(rest.parse()?)),
+        "leave" => Ok(Call::Leave(rest.parse()?)),
+        _ => bail!("no call: {line}"),
+    }
+}
+
+/// Whose command the row is, and which.
+fn command_in(alloc: Global, court: &Court, text: &str) -> Result<(u8, Command)> {
+    let row = row_in(alloc, court, text)?;
+    match row.work {
+        Work::Command(command) => Ok((row.clerk, command)),
+        Work::Query(_) => bail!("no command: {text}"),
+    }
+}
+
+/// The one row of a text.
+fn row_in(alloc: Global, court: &Court, text: &str) -> Result<Row> {
+    match read_rows(alloc, text.as_bytes(), 64, court) {
+        Ok(rows) => match rows.as_slice() {
+            [row] => Ok(*row),
+            _ => bail!("not one row: {text}"),
+        },
+        Err(RowError::Fault(_, cause)) => bail!("fault {cause} in {text}"),
+        Err(RowError::OutOfMemory) => bail!("no memory is left"),
+    }
+}

@@ -1,0 +1,80 @@
+//! The close of an office.
+
+ghost use Rattle.std.specs.Prelude.{◌≡◌};
+
+use crate::apart::are_apart;
+use crate::dockets::push_docket;
+use anyhow::{Result, bail};
+use court_days::Court;
+use docket_rows::{Answer, Command};
+use office_seats::{CloseError, CloseRefused, Names, Office, Tally};
+use office_texts::{push_answer, push_number};
+use std::alloc::{AllocError, Global};
+use std::sync::Wait;
+use versioned_steps::Entry;
+
+/// Closes the office with these tallies, and adds what that was answered: the entries of the journal, a line each, and the
+/// sheets and calendars of the docket after it. A close that finds no memory is made once more. It gives the office and the
+/// tallies back where one is missing.
+pub fn push_closed<L: Names, R: Wait>(
+    rt: &R,
+    alloc: Global,
+    text: &mut String,
+    court: &Court,
+    office: Office<L>,
+    tallies: Vec<Tally<L>>,
+) -> Result<Option<(Office<L>, Vec<Tally<L>>)>>
+    requires all { L.parts ≡ 64 }
+{
+    if !are_apart(tallies.as_slice()) {
+        bail!("two tallies are of one seat");
+    }
+    let mut result = office.close(rt, alloc, tallies);
+    if let Err(CloseRefused {
+        cause: CloseError::OutOfMemory,
+        office,
+        tallies,
+    }) = result
+    {
+        text.push_str("out of memory\n")?;
+        result = office.close(rt, alloc, tallies);
+    }
+    match result {
+        Ok(journal) => {
+            text.push_str("closed\n")?;
+            push_entries(text, court, journal.entries())?;
+            push_docket(alloc, text, court, &journal.docket(alloc, court)?)?;
+            Ok(None)
+        }
+        Err(CloseRefused {
+            cause: CloseError::MissingTally(number),
+            office,
+            tallies,
+        }) => {
+            text.push_str("missing ")?;
+            push_number(text, u64::from(number))?;
+            text.push_str("\n")?;
+            Ok(Some((office, tallies)))
+        }
+        Err(_) => bail!("no memory is left"),
+    }
+}
+
+/// Adds a line for each entry: its place, its clerk and its answer.
+fn push_entries(
+    text: &mut String,
+    court: &Court,
+    entries: &[Entry<Command, Answer>],
+) -> Result<(), AllocError> {
+    let mut place = 0u64;
+    for entry in entries {
+        place = place.saturating_add(1);
+        push_number(text, place)?;
+        text.push_str(" ")?;
+        push_number(text, u64::from(entry.clerk))?;
+        text.push_str(" ")?;
+        push_answer(text, court.clock(), &entry.answer)?;
+        text.push_str("\n")?;
+    }
+    Ok(())
+}

@@ -1,0 +1,136 @@
+//! Calls that are made one after another.
+
+ghost use Rattle.std.specs.Prelude.{◌≡◌, ◌<◌, IfSome, length};
+
+use crate::answers::{push_committed, push_performed, push_prepared, push_shown};
+use crate::calls::{Call, call_of};
+use crate::closing::push_closed;
+use anyhow::{Context, Result};
+use court_days::Court;
+use office_seats::{Names, Office, Seat, Tally};
+use office_texts::push_number;
+use std::alloc::Global;
+use std::sync::Wait;
+
+/// An office, the seats that are taken, and the tallies of those that were left.
+#[derive(Drop)]
+pub struct Desk<L: Names> {
+    // None once it is closed.
+    office: Option<Office<L>>,
+    seats: Vec<Seat<L>>,
+    tallies: Vec<Tally<L>>,
+}
+
+impl<L: Names> Desk<L> {
+    pub fn new(alloc: Global, office: Office<L>, seats: Vec<Seat<L>>) -> Desk<L> {
+        Desk {
+            office: Some(office),
+            seats,
+            tallies: Vec::new(alloc),
+        }
+    }
+
+    /// The seat of that number.
+    fn seat(&mut self, number: u8) -> Result<&mut Seat<L>> {
+        let place = place_of(self.seats.as_slice(), number).context("no such seat")?;
+        Ok(&mut self.seats[place])
+    }
+
+    /// Leaves the seat of that number.
+    fn leave(&mut self, number: u8) -> Result<()> {
+        let place = place_of(self.seats.as_slice(), number).context("no such seat")?;
+        self.tallies.reserve(1)?;
+        let seat = self.seats.remove(place);
+        self.tallies.push_reserved(seat.leave());
+        Ok(())
+    }
+}
+
+/// Where the seat of that number stands.
+fn place_of<L: Names>(seats: &[Seat<L>], number: u8) -> Option<usize>
+    ensures { IfSome result (λ place. place < length seats.now) }
+{
+    for place in 0..seats.len() {
+        if seats[place].number() == number {
+            return Some(place);
+        }
+    }
+    None
+}
+
+/// Makes these calls, a line each, and adds each line with what the call was answered.
+pub fn push_calls<L: Names, R: Wait>(
+    rt: &R,
+    alloc: Global,
+    text: &mut String,
+    court: &Court,
+    desk: Desk<L>,
+    calls: &str,
+) -> Result<()>
+    requires all { L.parts ≡ 64 }
+{
+    let mut desk = desk;
+    for line in calls.lines() {
+        text.push_str(line)?;
+        text.push_str("\n")?;
+        let call = call_of(alloc, court, line)?;
+        push_call(rt, alloc, text, court, &mut desk, &call)?;
+    }
+    Ok(())
+}
+
+/// Makes the call, and adds what it was answered.
+fn push_call<L: Names, R: Wait>(
+    rt: &R,
+    alloc: Global,
+    text: &mut String,
+    court: &Court,
+    desk: &mut Desk<L>,
+    call: &Call,
+) -> Result<()>
+    requires all { L.parts ≡ 64 }
+{
+    match *call {
+        Call::Prepare(number, command) => push_prepared(alloc, text, desk.seat(number)?, command),
+        Call::Commit(number) => push_committed(rt, alloc, text, court, desk.seat(number)?),
+        Call::Perform(number, command, tries) => {
+            push_performed(rt, alloc, text, court, desk.seat(number)?, command, tries)
+        }
+        Call::Show(number, query) => push_shown(alloc, text, court, desk.seat(number)?, &query),
+        Call::Discard(number) => {
+            desk.seat(number)?.discard();
+            Ok(())
+        }
+        Call::Draft(number) => {
+            let drafted = desk.seat(number)?.has_draft();
+            text.push_str(if drafted { "a draft\n" } else { "no draft\n" })?;
+            Ok(())
+        }
+        Call::Seen(number) => {
+            push_number(text, desk.seat(number)?.seen())?;
+            text.push_str("\n")?;
+            Ok(())
+        }
+        Call::Leave(number) => desk.leave(number),
+        Call::Close => close(rt, alloc, text, court, desk),
+    }
+}
+
+/// Closes the office with all tallies that were left, and adds what that was answered.
+fn close<L: Names, R: Wait>(
+    rt: &R,
+    alloc: Global,
+    text: &mut String,
+    court: &Court,
+    desk: &mut Desk<L>,
+) -> Result<()>
+    requires all { L.parts ≡ 64 }
+{
+    let office = desk.office.take().context("the office is closed")?;
+    let tallies = std::mem::replace(&mut desk.tallies, Vec::new(alloc));
+    if let Some((office, tallies)) = push_closed(rt, alloc, text, court, office, tallies)? {
+        desk.office = Some(office);
+        desk.tallies = tallies;
+    }
+    Ok(())
+}

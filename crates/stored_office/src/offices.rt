@@ -1,0 +1,90 @@
+//! An office of clerks who take turns.
+
+ghost use Rattle.std.specs.Prelude.{◌≡◌, []};
+ghost use Rattle.docket_rows.specs.Words.{bench_of};
+ghost use Rattle.published_docket.specs.Words.{past};
+
+use crate::desk::{Desk, push_calls};
+use anyhow::{Result, bail};
+use court_days::Court;
+use office_seats::{Names, Office, OfficeError};
+use published_docket::Publisher;
+use std::alloc::Global;
+use std::marker::Brand;
+use std::sync::Wait;
+use std::sync::ledger::Blank;
+
+/// How often an office is opened anew where one of its seats got no place to read from, which may come without cause.
+pub const TRIES: u32 = 8;
+
+/// How an office is opened.
+#[derive(Clone, Copy)]
+pub struct Opening {
+    /// How many seats it has.
+    pub seats: u8,
+    /// How many entries its journal takes, or how many commands each of its clerks performs.
+    pub number: u32,
+}
+
+/// Opens an office for this court, and adds these lines, each of which is a call of one of its seats, with what it is
+/// answered.
+pub fn push_office<R: Wait>(
+    rt: &R,
+    alloc: Global,
+    text: &mut String,
+    court: &Court,
+    opening: Opening,
+    calls: &str,
+) -> Result<()> {
+    for _try in 0..TRIES {
+        let Ok(publisher) = Publisher::new(alloc, court) else {
+            text.push_str("out of memory\n")?;
+            continue;
+        };
+        let blank = Blank::new(64);
+        if is_done::<Brand, R>(rt, alloc, text, court, opening, blank, publisher, calls)? {
+            return Ok(());
+        }
+    }
+    bail!("no office was opened in {TRIES} tries")
+}
+
+/// Opens the office and makes the calls. False where a seat got no place to read from, or no memory was left.
+fn is_done<L: Names, R: Wait>(
+    rt: &R,
+    alloc: Global,
+    text: &mut String,
+    court: &Court,
+    opening: Opening,
+    blank: Blank,
+    publisher: Publisher,
+    calls: &str,
+) -> Result<bool>
+    requires name { blank.name ≡ L.name }
+    requires parts { blank.parts ≡ L.parts }
+    requires all { L.parts ≡ 64 }
+    requires publisher { publisher ≡ record { parts = L.bench; trail = past L.history [] } }
+    requires court { L.bench ≡ bench_of court.now }
+{
+    let Opening { seats, number } = opening;
+    match Office::<L>::new(rt, alloc, blank, publisher, court, seats, number) {
+        Ok((office, seats)) => {
+            text.push_str("opened\n")?;
+            push_calls(rt, alloc, text, court, Desk::new(alloc, office, seats), calls)?;
+            Ok(true)
+        }
+        Err(OfficeError::BadSeats) => {
+            text.push_str("refused 1 BadSeats\n")?;
+            Ok(true)
+        }
+        Err(OfficeError::BadLimit) => {
+            text.push_str("refused 2 BadLimit\n")?;
+            Ok(true)
+        }
+        Err(OfficeError::NoReader) => Ok(false),
+        Err(OfficeError::OutOfMemory) => {
+            text.push_str("out of memory\n")?;
+            Ok(false)
+        }
+    }
+}

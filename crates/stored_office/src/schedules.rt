@@ -1,0 +1,46 @@
+//! All schedules of an input.
+use crate::crowd::push_crowd;
+use crate::offices::{Opening, push_office};
+use anyhow::{Context, Result, bail};
+use court_days::Court;
+use std::alloc::Global;
+use std::sync::Wait;
+use std::thread::Threads;
+
+/// For each schedule of the input its lines, each with what it was answered behind it. An error says what is wrong with the
+/// input, or that memory ran out.
+pub fn run_all<R: Threads + Wait + Sync>(rt: &R, alloc: Global, input: &str) -> Result<String> {
+    let (file, schedules) = input
+        .split_once("\n%%\n")
+        .context("no line %% behind the court's file")?;
+    let court = Court::from_bytes(alloc, file.as_bytes())?;
+    let mut text = String::new(alloc);
+    for schedule in schedules.split("\n\n") {
+        push_schedule(rt, alloc, &mut text, &court, schedule)?;
+        text.push_str("\n")?;
+    }
+    Ok(text)
+}
+
+/// Adds the schedule's lines, each with what it was answered behind it.
+fn push_schedule<R: Threads + Wait + Sync>(
+    rt: &R,
+    alloc: Global,
+    text: &mut String,
+    court: &Court,
+    schedule: &str,
+) -> Result<()> {
+    let (first, calls) = schedule.split_once("\n").unwrap_or((schedule, ""));
+    text.push_str(first)?;
+    text.push_str("\n")?;
+    let mut words = first.split(' ');
+    let kind = words.next().context("an empty line")?;
+    let seats = words.next().context("no number of seats")?.parse()?;
+    let number = words.next().context("no number behind that of the seats")?.parse()?;
+    let opening = Opening { seats, number };
+    match kind {
+        "office" => push_office(rt, alloc, text, court, opening, calls),
+        "threads" => push_crowd(rt, alloc, text, court, opening),
+        _ => bail!("no kind of schedule: {kind}"),
+    }
+}
