@@ -1,5 +1,5 @@
 -- What the status with which the program ends says of its words and of its run.
-use Rattle.std.specs.Prelude.{◌≡◌, ◌⊎◌, ℕ, List, [], Option, Some, Result, Ok, codes, true, IfOk, IfErr}
+use Rattle.std.specs.Prelude.{◌≡◌, ◌⊎◌, ℕ, List, [], Option, Some, Result, Ok, Err, codes, true, IfOk, IfErr}
 use Rattle.clap.specs.Kinds.{Kinds}
 use Rattle.clap.specs.Faults.{fault_of}
 use Rattle.clap.specs.Words.{Text, takes}
@@ -7,6 +7,7 @@ use Rattle.office_options.specs.declared.fault.OptionsFault.{OptionsFault}
 use Rattle.office_options.specs.declared.fault.OptionsFault.TheVariants.{OutOfMemory}
 use Rattle.office_options.specs.declared.options.Options.{Options}
 use Rattle.office_options.specs.Words.{AsksForHelp, DefaultsHold, IsAnswerFor, command_line, number_held}
+use Rattle.office_streams.specs.declared.fault.OfficeFault.TheVariants.{WriteFault}
 use Rattle.office_streams.specs.Words.{HasCourtFault, HasRowFault, IsRun, input_of}
 
 -- the faults that the words have, of which the first that comes up is told; help and version are among them
@@ -33,8 +34,10 @@ pub record WithClerks (words : List Text) (IsSo : ℕ → Type 0) : Type 0 where
   pub given : Give words clerks journal
   pub is_so : IsSo clerks
 
--- 0 says that help was asked for or all rows were answered, 2 that the court's file has a fault, and 3 that a row has one
+-- 0 says that help was asked for or all rows were answered, 2 that the court's file has a fault, 3 that a row has one, and 4 that
+-- nothing was written, or that writing stopped within what was to be written
 pub record IsEnding (words : List Text) (old new : Option (List ℕ)) (status : ℕ) (input : List ℕ) : Type 0 where
   pub answered : status ≡ 0 → AsksForHelp (faults_in words) ⊎ WithClerks words (λ clerks. IsRun old new (Ok tt) (input_of clerks input))
   pub court : status ≡ 2 → WithClerks words (λ clerks. HasCourtFault (input_of clerks input))
   pub row : status ≡ 3 → WithClerks words (λ clerks. HasRowFault (input_of clerks input))
+  pub cut : status ≡ 4 → AsksForHelp (faults_in words) ⊎ ((new ≡ old) ⊎ WithClerks words (λ clerks. IsRun old new (Err WriteFault) (input_of clerks input)))
