@@ -10,7 +10,7 @@ use Rattle.docket_rows.specs.Words.{Bench}
 use Rattle.versioned_steps.specs.declared.entry.Entry.{Entry}
 use Rattle.versioned_steps.specs.Words.{is_legal}
 use Rattle.shared_docket.specs.Words.{docket_rules}
-use Rattle.office_seats.specs.Closed.{TallyView, numbers_of, calls_of, HasTallies, AreOfSeats, IsClosed}
+use Rattle.office_seats.specs.Closed.{TallyView, numbers_of, calls_of, AreApart, HasTallies, AreOfSeats, IsClosed}
 use Rattle.office_seats.specs.Places.{Within, places_of}
 use Rattle.office_seats.proofs.CountLemmas.{counted}
 use Rattle.office_seats.proofs.NumberLemmas.{behind, each_once, has_all, no_others}
@@ -39,7 +39,11 @@ module _ (seats : ℕ) (ts : List TallyView) (whole : HasTallies seats ts) where
   pub of_seats : length ts ≤ seats → AreOfSeats seats ts
   of_seats few = no_others seats (numbers_of ts) whole (omega (arith, few, length-map ts (λ (t : TallyView). t.number)))
 
-  -- and no two are of one seat, so their calls, which are as many as the entries, are these
+  -- and no two are of one seat
+  pub apart : length ts ≤ seats → AreApart ts
+  apart few = each_once seats (numbers_of ts) whole (omega (arith, few, length-map ts (λ (t : TallyView). t.number)))
+
+  -- so their calls, which are as many as the entries, are these
   pub closes : (bench : Bench) (journal : List (Entry Command Answer)) → length ts ≤ seats → is_legal (docket_rules bench) journal ≡ true → All (λ (t : TallyView). IsPrefix t.seen journal) ts → All (λ (t : TallyView). Within t.mine (places_of t.number journal)) ts → calls_of ts ≡ length journal → IsClosed bench ts journal
   closes bench journal few legal seen mine all =
-      counted journal bench ts (each_once seats (numbers_of ts) whole (omega (arith, few, length-map ts (λ (t : TallyView). t.number)))) legal seen mine all
+      counted journal bench ts (apart few) legal seen mine all

@@ -146,8 +146,8 @@ impl<L: Names> Office<L> {
 
     /// Closes the office, once all its seats were left, and gives the journal of all that their clerks finished: each
     /// tally's calls are its entries of that number, and it has no others. `Err` gives back the office and the tallies; it
-    /// is `MissingTally` of the least number without a tally, or else `OutOfMemory`. Condition: no two tallies are of one
-    /// seat. They are of seats of this office, since `L` names it.
+    /// is `MissingTally` of the least number without a tally, or else `OutOfMemory`. The tallies are of seats of this
+    /// office, since `L` names it, and if no seat's is missing there is one of each.
     // A body that always found no memory would meet this contract, and no test of this crate refuses it yet.
     pub fn close<R: Wait>(
         self,
@@ -156,10 +156,10 @@ impl<L: Names> Office<L> {
         tallies: Vec<Tally<L>>,
     ) -> Result<Journal, CloseRefused<L>>
         requires all { L.parts ≡ 64 }
-        requires apart { AreApart tallies.items }
         ensures closed { IfOk result (λ journal. IsClosed L.bench tallies.items journal) }
         ensures whole { OnOk result (HasTallies self tallies.items) }
         ensures seats { OnOk result (AreOfSeats self tallies.items) }
+        ensures apart { OnOk result (AreApart tallies.items) }
         ensures cause { IfErr result (λ r. StaysOpen self tallies.items r.cause) }
         ensures office { IfErr result (λ r. r.office ≡ self) }
         ensures tallies { IfErr result (λ r. r.tallies.items ≡ tallies.items) }

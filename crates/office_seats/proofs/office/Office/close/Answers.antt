@@ -1,6 +1,6 @@
 use Rattle.std.proofs.Common.{◌≡◌, ◌≤◌, List, length, subst, arith}
 use Rattle.office_seats.specs.Closed.{TallyView, HasTallies}
-use Rattle.office_seats.proofs.ClosingLemmas.{of_seats}
+use Rattle.office_seats.proofs.ClosingLemmas.{apart, of_seats}
 use Rattle.office_seats.proofs.office.Office.close.Goals as goal
 
 pub closed-requires-clause-whole : goal.closed-requires-clause-whole
@@ -20,6 +20,12 @@ returns-in-Ok-clause-seats g c =
     let whole : HasTallies c.self.inside.seats ts = subst (HasTallies c.self.inside.seats) c.deref.ensures.value c.in_default.ensures.whole in
     let few : length ts ≤ c.self.inside.seats = omega (arith, c.in-Ok.ensures.few, c.self.invariant.all_parts) in
     rw (← c.self.view_is) (of_seats c.self.inside.seats ts whole few)
+
+pub returns-in-Ok-clause-apart : goal.returns-in-Ok-clause-apart
+returns-in-Ok-clause-apart g c =
+    let ts : List TallyView = c.args.tallies.items in
+    let whole : HasTallies c.self.inside.seats ts = subst (HasTallies c.self.inside.seats) c.deref.ensures.value c.in_default.ensures.whole in
+    apart c.self.inside.seats ts whole (omega (arith, c.in-Ok.ensures.few, c.self.invariant.all_parts))
 
 pub returns-in-Err-clause-cause : goal.returns-in-Err-clause-cause
 returns-in-Err-clause-cause g c =
