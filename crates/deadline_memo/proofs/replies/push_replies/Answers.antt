@@ -1,4 +1,4 @@
-use Rattle.std.proofs.Common.{◌≡◌, ◌≤◌, ◌+◌, ◌∙◌, drop, take, length, string_bytes, refl, sym, ap, subst, arith}
+use Rattle.std.proofs.Common.{◌≡◌, ◌≤◌, ◌+◌, ◌∙◌, take, length, string_bytes, refl, sym, ap, subst, arith}
 use Rattle.docket_rows.specs.Words.{Rows, bench_of, opening_rows}
 use Rattle.office_run.specs.Words.{Holds, docketed_after, docketed_then}
 use Rattle.office_run.proofs.CallerLemmas.{docketed_at}

@@ -1,8 +1,7 @@
-use Rattle.std.proofs.Common.{◌≡◌, ◌+◌, ◌-◌, ◌∙◌, string_bytes, sym, ap, arith}
+use Rattle.std.proofs.Common.{◌≡◌, ◌+◌, ◌-◌, ◌∙◌, string_bytes, ap, arith}
 use Rattle.docket_rows.specs.declared.query.Query.TheVariants as query
 use Rattle.docket_rows.specs.Words.{bench_of, view_of}
-use Rattle.deadline_memo.specs.Memo.{AreSheets, IsSheetOf}
-use Rattle.deadline_memo.specs.Sheets.{IsSheetShown}
+use Rattle.deadline_memo.specs.Memo.{IsSheetOf}
 use Rattle.deadline_memo.specs.Texts.{Adds}
 use Rattle.deadline_memo.proofs.DocketLemmas.{days_held}
 use Rattle.deadline_memo.proofs.TextLemmas.{adds_range, adds_range_end}
