@@ -19,6 +19,7 @@ Line = namedtuple("Line", "day what section")
 
 AFTER, BEFORE = "after", "before"
 DAY = 86400
+COLUMN = 50
 AMENDED = day_of_text("2016-12-01")
 KINDS = {"A": "by hand", "B": "at office or home", "C": "by mail", "D": "on the clerk", "E": "electronically",
          "F": "by other means"}
@@ -37,12 +38,12 @@ def expect(said, why):
 
 
 def line_of(text):
-    """The line that is written so: two spaces, the day or as many spaces, what happened in 42 columns, the section."""
+    """The line that is written so: two spaces, the day or as many spaces, what happened in 50 columns, the section."""
     found = re.fullmatch(r"  (?:([A-Z][a-z]{2}) (\d{4}-\d\d-\d\d)| {14})  (\S(?:.*\S)?) +(?<=  )(\S.*)", text)
     expect(found, "the line has another form")
     name, date, what, section = found.groups()
     # one run of spaces parts the two; neither has two spaces in a row
-    expect("  " not in what and text == text[:18] + what.ljust(42) + "  " + section, "the columns don't stand in line")
+    expect("  " not in what and text == text[:18] + what.ljust(COLUMN) + "  " + section, "the columns don't stand in line")
     if name is None:
         return Line(None, what, section)
     day = day_of_text(date)
@@ -54,6 +55,7 @@ def checked(calendar, deadline, lines, answer):
     """That the lines lead from the event to what is answered, as `last DATE`, `until DATE TIME` or `beyond`."""
     place = begins
     for line in lines:
+        expect(not isinstance(place, str), "nothing may follow the end of the time")
         place = place(calendar, deadline, line)
     expect(isinstance(place, str), "the reasons end before the time does")
     expect(place == answer, "the reasons lead to {}, and the answer is {}".format(place, answer))
@@ -235,7 +237,9 @@ def counting_hours(start, hours, direction, grants):
     def place(calendar, deadline, line):
         end = counted(start, 3600 * hours, direction)
         day, time = shown_at(calendar, end)
-        forward = offset_at(calendar.clock.zone, end) - offset_at(calendar.clock.zone, start)
+        # how far the clocks were set forward between the earlier of the two and the later
+        earlier, later = min(start, end), max(start, end)
+        forward = offset_at(calendar.clock.zone, later) - offset_at(calendar.clock.zone, earlier)
         change = ""
         if forward:
             change = ", clocks {} {} min".format("forward" if forward > 0 else "back", abs(forward) // 60)

@@ -6,8 +6,8 @@
 Rows are made at random from SEED (by default 1) until COUNT deadlines (by default 10000) were shown: ends that are
 computed, and deadlines that are started and extended, with holidays and outages that are entered meanwhile. Every
 deadline that an answer or a sheet shows must have reasons that lead to what is shown, by the steps of derivation_steps.py
-alone, which computes no deadline. Then each of the examples is checked too, and reasons of every shape are spoiled in
-every way below and must be refused. The status is 0 where all of this is so. It needs Python 3.8 or later.
+alone, which computes no deadline. So must those of the examples and of the stored run. Then reasons of every shape are
+spoiled in every way below and must be refused. The status is 0 where all of this is so. It needs Python 3.8 or later.
 """
 import pathlib
 import random
@@ -16,12 +16,12 @@ import subprocess
 import sys
 from collections import Counter
 
-from derivation_steps import AFTER, Calendar, Deadline, Wrong, checked, line_of
+from derivation_steps import AFTER, COLUMN, WEEKDAYS, Calendar, Deadline, Wrong, checked, line_of
 from made_inputs import CODES, HOLIDAYS, ZONES, listed, quoted
-from reference.civil import CannotTell, day_of_text, minute_of_text
+from reference.civil import day_of_text, day_text, minute_of_text, weekday
 from reference.court_file import court_of, split, table_of
 
-EXAMPLES = pathlib.Path(__file__).resolve().parent.parent / "examples"
+TOP = pathlib.Path(__file__).resolve().parent.parent
 
 # Of the periods of the Rules the number of days, the act, and whether they run from service under Rule 5(b)(2).
 RULES = {"4m": (90, "service", False), "12a1Ai": (21, "service", False), "12a1Aii-us": (60, "service", False),
@@ -133,12 +133,7 @@ def wrong_with(calendar, deadline, texts, shown):
 
 def a_date(chance):
     first = day_of_text(chance.choice(["2007-10-25", "2016-11-15", "2025-02-20", "2025-08-20", "2025-10-20"]))
-    return text_of(first + chance.randrange(40))
-
-
-def text_of(day):
-    from reference.civil import day_text
-    return day_text(day)
+    return day_text(first + chance.randrange(40))
 
 
 def a_time(chance):
@@ -203,19 +198,17 @@ def an_input(chance):
 
 def other_day(text, days):
     """The line with a day that lies so many days later, and its weekday."""
-    from derivation_steps import WEEKDAYS
-    from reference.civil import weekday
     day = day_of_text(text[6:16])
     if day is None:
         return None
-    return "  {} {}".format(WEEKDAYS[weekday(day + days)], text_of(day + days)) + text[16:]
+    return "  {} {}".format(WEEKDAYS[weekday(day + days)], day_text(day + days)) + text[16:]
 
 
 def swapped(text, old, new):
     """The line with another word, in columns that still stand in line."""
     if old not in text:
         return None
-    return text[:18] + text[18:60].rstrip().replace(old, new).ljust(42) + text[60:].replace(old, new)
+    return text[:18] + text[18:18 + COLUMN].rstrip().replace(old, new).ljust(COLUMN) + text[18 + COLUMN:]
 
 
 def lines_spoiled(texts):
@@ -239,27 +232,31 @@ def line_spoiled(text):
     yield "a week too late", other_day(text, 7)
     if text[2:5].strip():
         yield "a wrong weekday", "  " + ("Mon" if text[2:5] != "Mon" else "Tue") + text[5:]
-    section = text[62:]
+    section = text[20 + COLUMN:]
     for other in ["6(a)(1)(A)", "6(a)(1)(B)", "6(a)(1)(C)", "6(a)(1)(C), 6(a)(5)", "6(a)(2)(C)", "6(a)(3)(A)",
                   "6(a)(3)(B)", "6(a)(4)", "6(a)(5)", "6(b)", "4(m)", "6(d)", "ours", section + ", 6(a)(6)",
                   section.replace(", 6(a)(6)(C)", "").replace(", 6(a)(6)", ""), section.replace(", 6(a)(5)", "")]:
         if other != section:
-            yield "the section {} in place of another".format(other) if other[0] in "64o" else "another section", text[:62] + other
+            yield "the section " + other, text[:20 + COLUMN] + other
     yield "a Sunday for a Saturday", swapped(text, "Saturday", "Sunday")
     yield "a Saturday for a Sunday", swapped(text, "Sunday", "Saturday")
     yield "a holiday for a Saturday", swapped(text, "Saturday", "legal holiday")
-    yield "a day too many", re.sub(r"  day (\d+),", lambda found: "  day {},".format(int(found[1]) + 1), text)
+    found = re.match(r"day (\d+),", text[18:])
+    if found:
+        yield "a day too many", swapped(text, found[0], "day {},".format(int(found[1]) + 1))
     yield "another service", swapped(text, "by mail", "by hand")
     yield "service by hand", swapped(text, "on the clerk", "by hand")
     yield "filing for service", swapped(text, "last day, to midnight", "last day, to 17:00, e-filing to midnight")
     yield "service for filing", swapped(text, ", e-filing to midnight", "")
-    yield "the clocks left out", re.sub(r", clocks (forward|back) \d+ min( *)", r"\2", text)
+    yield "the clocks left out", re.sub(r", clocks (forward|back) \d+ min", lambda found: " " * len(found[0]), text)
+    yield "the clocks set back for forward", swapped(text, "clocks forward", "clocks back")
+    yield "the clocks set forward for back", swapped(text, "clocks back", "clocks forward")
     yield "an open day passed over", swapped(text, "the time runs to this day", "Saturday, passed over")
     yield "a closed day taken", swapped(text, "Saturday, passed over", "the time runs to this day")
     yield "a holiday taken", swapped(text, "legal holiday, passed over", "the time runs to this day")
     yield "hours not continued", swapped(text, "the hours end, and are continued", "the hours end on this day")
     yield "an extension left out", swapped(text, "extended by", "not extended by")
-    yield "a column moved", text[:60] + " " + text[60:]
+    yield "a column moved", text[:18 + COLUMN] + " " + text[18 + COLUMN:]
 
 
 def shape(texts):
@@ -272,7 +269,8 @@ def main(words):
     seed, count = (int(word) for word in (words[1:] + ["1", "10000"][len(words) - 1:]))
     chance = random.Random(seed)
     shown, wrong, shapes = 0, 0, {}
-    inputs = [path.read_bytes() for path in sorted(EXAMPLES.glob("*.txt"))]
+    inputs = [path.read_bytes() for path in sorted((TOP / "examples").glob("*.txt"))]
+    inputs.append((TOP / "crates" / "deadline_memo" / "stdin").read_bytes())
     while shown < count or inputs:
         data = inputs.pop() if inputs else an_input(chance)
         ran = subprocess.run([program], input=data, stdout=subprocess.PIPE, stderr=subprocess.PIPE)

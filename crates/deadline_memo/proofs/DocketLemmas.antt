@@ -7,7 +7,7 @@ use Rattle.rule_periods.specs.declared.refusal.PeriodRefusal.{PeriodRefusal}
 use Rattle.rule_periods.specs.Words.{EventView, start_refusal}
 use Rattle.docket_rows.specs.declared.query.Query.TheVariants as query
 use Rattle.docket_rows.specs.declared.view.View.TheVariants as view
-use Rattle.docket_rows.specs.Words.{Bench, CaseRecordView, NumberedDeadline, Parts, Rows, deadline_in, parts_of, query_refusal, refusal_of, seen_by, shown_if_asked, view_of}
+use Rattle.docket_rows.specs.Words.{Bench, Rows, deadline_in, parts_of, query_refusal, seen_by, view_of}
 use Rattle.docket_core.specs.Words.{DocketView, parts_held}
 use Rattle.docket_laws.proofs.CallerLemmas.{hold_same}
 use Rattle.office_run.specs.declared.reply.Reply.{Reply}

@@ -15,6 +15,7 @@ use Rattle.office_rows.specs.declared.row.Work.TheVariants.{Command, Query}
 use Rattle.office_run.specs.declared.reply.Reply.{Reply}
 use Rattle.office_run.specs.declared.reply.Reply.TheVariants.{Made, Viewed}
 use Rattle.office_run.specs.Words.{docketed_then, reply_text, reply_to, row_numbers}
+use Rattle.reason_texts.specs.Words.{NamedDay}
 use Rattle.deadline_memo.specs.Reasons.{AreReasonsIfAny}
 use Rattle.deadline_memo.specs.Sheets.{IsSheet}
 use Rattle.deadline_memo.specs.Texts.{Is, Then}
@@ -54,9 +55,9 @@ abbrev pub deadline_computed : Work → Reply → Option DeadlineRowView
 deadline_computed work reply = if is_computed reply then deadline_asked work else None
 
 -- the reasons of the deadline whose end a reply tells, as it is docketed behind the row, or of that whose end is computed
-abbrev pub AreReasonsTold : CourtView → (docketed : Rows) → Option (ℕ × ℕ) → Option DeadlineRowView → List ℕ → Type 0
-AreReasonsTold court docketed (Some told) computed = AreReasonsIfAny court docketed.days (deadline_in (parts_of docketed) told.0 told.1)
-AreReasonsTold court docketed None computed = AreReasonsIfAny court docketed.days computed
+abbrev pub AreReasonsTold : CourtView → List NamedDay → (docketed : Rows) → Option (ℕ × ℕ) → Option DeadlineRowView → List ℕ → Type 0
+AreReasonsTold court names docketed (Some told) computed = AreReasonsIfAny court names docketed.days (deadline_in (parts_of docketed) told.0 told.1)
+AreReasonsTold court names docketed None computed = AreReasonsIfAny court names docketed.days computed
 
 -- the sheet that a reply shows
 abbrev pub sheet_replied : Reply → Option Sheet
@@ -64,23 +65,23 @@ sheet_replied (Viewed (view.Sheet sheet)) = Some sheet
 sheet_replied reply = None
 
 -- a sheet with the reasons of its deadlines, or the text of a reply and the reasons of the deadline that it tells
-abbrev pub IsReplyWith : CourtView → (docketed : Rows) → Work → Reply → Option Sheet → List ℕ → Type 0
-IsReplyWith court docketed work reply (Some sheet) = Then (Is (codes "sheet\n")) (IsSheet court docketed.days sheet)
-IsReplyWith court docketed work reply None =
-    Then (Is (reply_text court reply)) (AreReasonsTold court docketed (deadline_told work reply) (deadline_computed work reply))
+abbrev pub IsReplyWith : CourtView → List NamedDay → (docketed : Rows) → Work → Reply → Option Sheet → List ℕ → Type 0
+IsReplyWith court names docketed work reply (Some sheet) = Then (Is (codes "sheet\n")) (IsSheet court names docketed.days sheet)
+IsReplyWith court names docketed work reply None =
+    Then (Is (reply_text court reply)) (AreReasonsTold court names docketed (deadline_told work reply) (deadline_computed work reply))
 
-abbrev pub IsReply : CourtView → (docketed : Rows) → Work → Reply → List ℕ → Type 0
-IsReply court docketed work reply = IsReplyWith court docketed work reply (sheet_replied reply)
+abbrev pub IsReply : CourtView → List NamedDay → (docketed : Rows) → Work → Reply → List ℕ → Type 0
+IsReply court names docketed work reply = IsReplyWith court names docketed work reply (sheet_replied reply)
 
 -- the reply to a row, before which this is docketed: the row's number, its clerk's, and the reply
-abbrev pub IsRow : CourtView → (docketed : Rows) → (number : ℕ) → Row → List ℕ → Type 0
-IsRow court docketed number row =
+abbrev pub IsRow : CourtView → List NamedDay → (docketed : Rows) → (number : ℕ) → Row → List ℕ → Type 0
+IsRow court names docketed number row =
     Then (Is (row_numbers number row.clerk))
-    (IsReply court (docketed_then (bench_of court) docketed row.work) row.work (reply_to (bench_of court) docketed row.work))
+    (IsReply court names (docketed_then (bench_of court) docketed row.work) row.work (reply_to (bench_of court) docketed row.work))
 
 -- the replies to rows, the first of which has that number
-unfoldable pub AreReplies : CourtView → (docketed : Rows) → (number : ℕ) → List Row → List ℕ → Type 0
-AreReplies court docketed number [] = Is []
-AreReplies court docketed number (row ∷ rows) =
-    Then (IsRow court docketed number row)
-    (AreReplies court (docketed_then (bench_of court) docketed row.work) (number + 1) rows)
+unfoldable pub AreReplies : CourtView → List NamedDay → (docketed : Rows) → (number : ℕ) → List Row → List ℕ → Type 0
+AreReplies court names docketed number [] = Is []
+AreReplies court names docketed number (row ∷ rows) =
+    Then (IsRow court names docketed number row)
+    (AreReplies court names (docketed_then (bench_of court) docketed row.work) (number + 1) rows)

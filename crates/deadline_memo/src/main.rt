@@ -5,6 +5,7 @@
 
 mod command;
 mod memo;
+mod names;
 mod program;
 mod reasons;
 mod replies;

@@ -17,6 +17,7 @@ use docket_core::Docket;
 use docket_rows::{Answer, Command, Query, Sheet, View};
 use office_rows::{Row, Work};
 use office_run::{Reply, push_numbers, push_reply, reply_to};
+use reason_texts::HolidayName;
 use std::alloc::{AllocError, Global};
 
 /// Carries out each row in turn, and adds the reply to it. `Err` says that memory ran out.
@@ -24,16 +25,17 @@ pub(crate) fn push_replies(
     alloc: Global,
     text: &mut String,
     court: &Court,
+    names: &[HolidayName],
     docket: &mut Docket,
     rows: &[Row],
 ) -> Result<(), AllocError>
     requires { Holds (bench_of court.now) docket.old (opening_rows (bench_of court.now)) }
-    ensures text { OnOk result (Adds (AreReplies court.now (opening_rows (bench_of court.now)) 1 rows.now) (string_bytes text.old) (string_bytes text.new)) }
+    ensures text { OnOk result (Adds (AreReplies court.now names.now (opening_rows (bench_of court.now)) 1 rows.now) (string_bytes text.old) (string_bytes text.new)) }
     ensures docket { OnOk result (Holds (bench_of court.now) docket.new (docketed_after (bench_of court.now) (opening_rows (bench_of court.now)) rows.now)) }
 {
     let mut number = 1u64;
     for row in rows {
-        push_row(alloc, text, court, docket, number, row)?;
+        push_row(alloc, text, court, names, docket, number, row)?;
         number += 1;
     }
     Ok(())
@@ -44,16 +46,17 @@ fn push_row(
     alloc: Global,
     text: &mut String,
     court: &Court,
+    names: &[HolidayName],
     docket: &mut Docket,
     number: u64,
     row: &Row,
 ) -> Result<(), AllocError>
-    ensures text { (docketed : Rows) → Holds (bench_of court.now) docket.old docketed → OnOk result (Adds (IsRow court.now docketed number row.now) (string_bytes text.old) (string_bytes text.new)) }
+    ensures text { (docketed : Rows) → Holds (bench_of court.now) docket.old docketed → OnOk result (Adds (IsRow court.now names.now docketed number row.now) (string_bytes text.old) (string_bytes text.new)) }
     ensures docket { (docketed : Rows) → Holds (bench_of court.now) docket.old docketed → OnOk result (Holds (bench_of court.now) docket.new (docketed_then (bench_of court.now) docketed row.now.work)) }
 {
     let reply = reply_to(alloc, docket, &row.work)?;
     push_numbers(text, number, row.clerk)?;
-    push_explained(alloc, text, court, docket, &row.work, &reply)
+    push_explained(alloc, text, court, names, docket, &row.work, &reply)
 }
 
 /// Adds the reply to what was asked for, and the reasons of the deadlines that it shows, where the docket is as it was
@@ -62,20 +65,21 @@ fn push_explained(
     alloc: Global,
     text: &mut String,
     court: &Court,
+    names: &[HolidayName],
     docket: &Docket,
     work: &Work,
     reply: &Reply,
 ) -> Result<(), AllocError>
-    ensures { (before : Rows) → reply.now ≡ reply_to (bench_of court.now) before work.now → Holds (bench_of court.now) docket.now (docketed_then (bench_of court.now) before work.now) → OnOk result (Adds (IsReply court.now (docketed_then (bench_of court.now) before work.now) work.now reply.now) (string_bytes text.old) (string_bytes text.new)) }
+    ensures { (before : Rows) → reply.now ≡ reply_to (bench_of court.now) before work.now → Holds (bench_of court.now) docket.now (docketed_then (bench_of court.now) before work.now) → OnOk result (Adds (IsReply court.now names.now (docketed_then (bench_of court.now) before work.now) work.now reply.now) (string_bytes text.old) (string_bytes text.new)) }
 {
     match sheet_replied(reply) {
         Some(sheet) => {
             text.push_str("sheet\n")?;
-            push_sheet(alloc, text, court, docket.days(), sheet)
+            push_sheet(alloc, text, court, names, docket.days(), sheet)
         }
         None => {
             push_reply(text, court, reply)?;
-            push_reasons_told(alloc, text, court, docket, work, reply)
+            push_reasons_told(alloc, text, court, names, docket, work, reply)
         }
     }
 }
@@ -95,15 +99,18 @@ fn push_reasons_told(
     alloc: Global,
     text: &mut String,
     court: &Court,
+    names: &[HolidayName],
     docket: &Docket,
     work: &Work,
     reply: &Reply,
 ) -> Result<(), AllocError>
-    ensures { (before : Rows) → reply.now ≡ reply_to (bench_of court.now) before work.now → Holds (bench_of court.now) docket.now (docketed_then (bench_of court.now) before work.now) → OnOk result (Adds (AreReasonsTold court.now (docketed_then (bench_of court.now) before work.now) (deadline_told work.now reply.now) (deadline_computed work.now reply.now)) (string_bytes text.old) (string_bytes text.new)) }
+    ensures { (before : Rows) → reply.now ≡ reply_to (bench_of court.now) before work.now → Holds (bench_of court.now) docket.now (docketed_then (bench_of court.now) before work.now) → OnOk result (Adds (AreReasonsTold court.now names.now (docketed_then (bench_of court.now) before work.now) (deadline_told work.now reply.now) (deadline_computed work.now reply.now)) (string_bytes text.old) (string_bytes text.new)) }
 {
     match deadline_told(work, reply) {
-        Some((case, number)) => push_docketed_reasons(alloc, text, court, docket, case, number),
-        None if is_computed(reply) => push_reasons_asked(alloc, text, court, docket, work),
+        Some((case, number)) => push_docketed_reasons(
+            alloc, text, court, names, docket, case, number,
+        ),
+        None if is_computed(reply) => push_reasons_asked(alloc, text, court, names, docket, work),
         None => Ok(()),
     }
 }
@@ -120,13 +127,14 @@ fn push_reasons_asked(
     alloc: Global,
     text: &mut String,
     court: &Court,
+    names: &[HolidayName],
     docket: &Docket,
     work: &Work,
 ) -> Result<(), AllocError>
-    ensures { (before : Rows) (shown : Shown) → Viewed (Computed shown) ≡ reply_to (bench_of court.now) before work.now → Holds (bench_of court.now) docket.now (docketed_then (bench_of court.now) before work.now) → OnOk result (Adds (AreReasonsIfAny court.now (docketed_then (bench_of court.now) before work.now).days (deadline_asked work.now)) (string_bytes text.old) (string_bytes text.new)) }
+    ensures { (before : Rows) (shown : Shown) → Viewed (Computed shown) ≡ reply_to (bench_of court.now) before work.now → Holds (bench_of court.now) docket.now (docketed_then (bench_of court.now) before work.now) → OnOk result (Adds (AreReasonsIfAny court.now names.now (docketed_then (bench_of court.now) before work.now).days (deadline_asked work.now)) (string_bytes text.old) (string_bytes text.new)) }
 {
     match work {
-        Work::Query(query) => push_reasons_queried(alloc, text, court, docket, query),
+        Work::Query(query) => push_reasons_queried(alloc, text, court, names, docket, query),
         _ => Ok(()),
     }
 }
@@ -136,16 +144,18 @@ fn push_reasons_queried(
     alloc: Global,
     text: &mut String,
     court: &Court,
+    names: &[HolidayName],
     docket: &Docket,
     query: &Query,
 ) -> Result<(), AllocError>
-    ensures { (docketed : Rows) (shown : Shown) → Computed shown ≡ view_of (bench_of court.now) docketed query.now → Holds (bench_of court.now) docket.now docketed → OnOk result (Adds (AreReasonsIfAny court.now docketed.days (deadline_queried query.now)) (string_bytes text.old) (string_bytes text.new)) }
+    ensures { (docketed : Rows) (shown : Shown) → Computed shown ≡ view_of (bench_of court.now) docketed query.now → Holds (bench_of court.now) docket.now docketed → OnOk result (Adds (AreReasonsIfAny court.now names.now docketed.days (deadline_queried query.now)) (string_bytes text.old) (string_bytes text.new)) }
 {
     match query {
         Query::Compute(period, event, second, service) => push_started_reasons(
             alloc,
             text,
             court,
+            names,
             docket.days(),
             period,
             event,

@@ -6,7 +6,8 @@ ghost use Rattle.office_streams.specs.Words.{AnswersInput, IsRunBy, WasCutShort,
 ghost use Rattle.deadline_memo.specs.Memo.{IsMemoOf};
 
 use crate::memo::memo_text;
-use office_streams::{OfficeFault, Watched, check_input, read_all, write_all};
+use crate::names::names_in;
+use office_streams::{OfficeFault, Watched, check_input, divide, read_all, write_all};
 use std::alloc::Global;
 use std::io::{Read, Write};
 
@@ -47,7 +48,13 @@ fn memo_of(alloc: Global, input: &[u8]) -> Result<String, OfficeFault>
     ensures { AnswersInput (λ said text. IsMemoOf said (string_bytes text)) result (input_of 1 input.now) }
 {
     let checked = check_input(alloc, input, 1)?;
-    match memo_text(alloc, &checked.court, checked.rows.as_slice()) {
+    let names = names_in(alloc, divide(input).0)?;
+    match memo_text(
+        alloc,
+        &checked.court,
+        names.as_slice(),
+        checked.rows.as_slice(),
+    ) {
         Ok(text) => Ok(text),
         Err(_) => Err(OfficeFault::OutOfMemory),
     }

@@ -12,6 +12,7 @@ use court_days::{Court, Days};
 use docket_core::Docket;
 use docket_rows::{Query, Sheet, SheetDeadline, View};
 use office_texts::{push_case, push_deadline, push_motions};
+use reason_texts::HolidayName;
 use std::alloc::{AllocError, Global};
 
 /// Adds the lines of a sheet, with the reasons of each deadline behind its line. `Err` says that memory ran out.
@@ -19,13 +20,14 @@ pub(crate) fn push_sheet(
     alloc: Global,
     text: &mut String,
     court: &Court,
+    names: &[HolidayName],
     days: &Days,
     sheet: &Sheet,
 ) -> Result<(), AllocError>
-    ensures { OnOk result (Adds (IsSheet court.now days.now sheet.now) (string_bytes text.old) (string_bytes text.new)) }
+    ensures { OnOk result (Adds (IsSheet court.now names.now days.now sheet.now) (string_bytes text.old) (string_bytes text.new)) }
 {
     push_case(text, sheet)?;
-    push_deadlines(alloc, text, court, days, sheet.deadlines.as_slice())?;
+    push_deadlines(alloc, text, court, names, days, sheet.deadlines.as_slice())?;
     push_motions(text, court, sheet.motions.as_slice())
 }
 
@@ -34,13 +36,14 @@ fn push_deadlines(
     alloc: Global,
     text: &mut String,
     court: &Court,
+    names: &[HolidayName],
     days: &Days,
     deadlines: &[SheetDeadline],
 ) -> Result<(), AllocError>
-    ensures { OnOk result (Adds (Each (IsDeadline court.now days.now) deadlines.now) (string_bytes text.old) (string_bytes text.new)) }
+    ensures { OnOk result (Adds (Each (IsDeadline court.now names.now days.now) deadlines.now) (string_bytes text.old) (string_bytes text.new)) }
 {
     for deadline in deadlines {
-        push_explained(alloc, text, court, days, deadline)?;
+        push_explained(alloc, text, court, names, days, deadline)?;
     }
     Ok(())
 }
@@ -50,13 +53,14 @@ fn push_explained(
     alloc: Global,
     text: &mut String,
     court: &Court,
+    names: &[HolidayName],
     days: &Days,
     deadline: &SheetDeadline,
 ) -> Result<(), AllocError>
-    ensures { OnOk result (Adds (IsDeadline court.now days.now deadline.now) (string_bytes text.old) (string_bytes text.new)) }
+    ensures { OnOk result (Adds (IsDeadline court.now names.now days.now deadline.now) (string_bytes text.old) (string_bytes text.new)) }
 {
     push_deadline(text, court.clock(), deadline)?;
-    push_deadline_reasons(alloc, text, court, days, &deadline.row)
+    push_deadline_reasons(alloc, text, court, names, days, &deadline.row)
 }
 
 /// Adds the sheets of the open ones of so many cases, from the first number on.
@@ -64,16 +68,17 @@ pub(crate) fn push_sheets(
     alloc: Global,
     text: &mut String,
     court: &Court,
+    names: &[HolidayName],
     docket: &Docket,
     first: u32,
     count: u32,
 ) -> Result<(), AllocError>
     requires numbers { first + count ≤ 5_000 }
-    ensures { (docketed : Rows) → Holds (bench_of court.now) docket.now docketed → OnOk result (Adds (AreSheets court.now docketed first count) (string_bytes text.old) (string_bytes text.new)) }
+    ensures { (docketed : Rows) → Holds (bench_of court.now) docket.now docketed → OnOk result (Adds (AreSheets court.now names.now docketed first count) (string_bytes text.old) (string_bytes text.new)) }
 {
     for case in first..first + count {
         let view = docket.show(alloc, &Query::Sheet(case))?;
-        push_sheet_shown(alloc, text, court, docket.days(), &view)?;
+        push_sheet_shown(alloc, text, court, names, docket.days(), &view)?;
     }
     Ok(())
 }
@@ -83,13 +88,14 @@ fn push_sheet_shown(
     alloc: Global,
     text: &mut String,
     court: &Court,
+    names: &[HolidayName],
     days: &Days,
     view: &View,
 ) -> Result<(), AllocError>
-    ensures { OnOk result (Adds (IsSheetShown court.now days.now view.now) (string_bytes text.old) (string_bytes text.new)) }
+    ensures { OnOk result (Adds (IsSheetShown court.now names.now days.now view.now) (string_bytes text.old) (string_bytes text.new)) }
 {
     match view {
-        View::Sheet(sheet) => push_sheet(alloc, text, court, days, sheet),
+        View::Sheet(sheet) => push_sheet(alloc, text, court, names, days, sheet),
         _ => Ok(()),
     }
 }

@@ -1,4 +1,4 @@
-use Rattle.std.proofs.Common.{◌≡◌, ◌≤◌, ◌+◌, ◌∙◌, drop, take, length, string_bytes, refl, sym, ap, subst, arith}
+use Rattle.std.proofs.Common.{◌≡◌, ◌≤◌, ◌+◌, ◌∙◌, take, length, string_bytes, refl, sym, ap, subst, arith}
 use Rattle.docket_rows.specs.Words.{Rows, bench_of, opening_rows}
 use Rattle.office_run.specs.Words.{Holds, docketed_after, docketed_then}
 use Rattle.office_run.proofs.CallerLemmas.{docketed_at}
@@ -25,10 +25,10 @@ loop-row-preserved c =
       number = omega arith;
       holds = subst (Holds bench c.push_row.new.docket) (sym more) (c.in_ok-push_row.ensures.docket docketed holds);
       leads = λ new rest.
-          c.loop-row.invariant.leads new (replies_more court docketed c.loop-row.number rows i row (string_bytes c.loop-row.text) _ new c.loop-row-test.true is (c.in_ok-push_row.ensures.text docketed holds) (rw more at rest));
+          c.loop-row.invariant.leads new (replies_more court c.args.names.now docketed c.loop-row.number rows i row (string_bytes c.loop-row.text) _ new c.loop-row-test.true is (c.in_ok-push_row.ensures.text docketed holds) (rw more at rest));
     }
 
 pub returns-clause-text : goal.returns-clause-text
 returns-clause-text c =
     let past : length c.args.rows.now ≤ c.loop-row.row-index = omega (arith, c.loop-row-test.false) in
-    c.loop-row.invariant.leads (string_bytes c.loop-row.text) (replies_end c.args.court.now _ c.loop-row.number c.args.rows.now c.loop-row.row-index (string_bytes c.loop-row.text) past)
+    c.loop-row.invariant.leads (string_bytes c.loop-row.text) (replies_end c.args.court.now c.args.names.now _ c.loop-row.number c.args.rows.now c.loop-row.row-index (string_bytes c.loop-row.text) past)

@@ -13,4 +13,4 @@ returns-clause-text c docketed holds =
     let row = c.args.row.now in
     let numbers = row_numbers c.args.number row.clerk in
     let replied = c.in_ok-reply.ensures bench docketed holds in
-    on_ok c.push_explained.result (λ added. adds_then (Is numbers) (IsReply court (docketed_then bench docketed row.work) row.work (reply_to bench docketed row.work)) (string_bytes c.args.text.now) _ (string_bytes c.push_explained.new.text) (adds_text numbers _ _ c.in_ok-push_numbers.ensures) (rw replied.0 at added)) (c.push_explained.ensures docketed replied.0 replied.1)
+    on_ok c.push_explained.result (λ added. adds_then (Is numbers) (IsReply court c.args.names.now (docketed_then bench docketed row.work) row.work (reply_to bench docketed row.work)) (string_bytes c.args.text.now) _ (string_bytes c.push_explained.new.text) (adds_text numbers _ _ c.in_ok-push_numbers.ensures) (rw replied.0 at added)) (c.push_explained.ensures docketed replied.0 replied.1)
