@@ -1,3 +1,4 @@
 pub mod AnsweredLemmas
 pub mod RowLemmas
 pub mod WorkLemmas
+pub mod DeskLemmas

@@ -1,4 +1,5 @@
 pub mod Answered
+pub mod Desks
 pub mod Rows
 pub mod Steps
 pub mod Worked

@@ -2,8 +2,13 @@
 #![tactic(auto)]
 
 mod answer;
+mod desk;
+mod duty;
 mod gate;
+mod hired;
+mod state;
 mod worker;
+mod workers;
 
 pub use answer::RowAnswer;
 pub use gate::Gate;
