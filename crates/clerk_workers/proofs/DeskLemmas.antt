@@ -7,15 +7,14 @@ use Rattle.office_rows.specs.declared.row.Row.{Row}
 use Rattle.clerk_workers.specs.declared.state.State.{State}
 use Rattle.clerk_workers.specs.Desks.{AreUnderWay, AreWorked, DeskView, HiredView, IsIn, IsReady, IsWorked, begun_at}
 
--- the clerk who was hired last began at the first of the desks
-pub begun_push : (hired : List HiredView) (clerk : HiredView) → begun_at (hired ++ clerk ∷ []) ≡ clerk.desk ∷ begun_at hired
-begun_push hired clerk =
-    ap reverse (map-append (λ (h : HiredView). h.desk) hired (clerk ∷ [])) ∙ reverse-append (map (λ (h : HiredView). h.desk) hired) (clerk.desk ∷ [])
+-- what is taken from a list one after another, the last first, and put behind others
+pub turned_more : {X Y : Type 0} (f : X → Y) (others : List Y) (xs : List X) (x : X) → others ++ reverse (map f (xs ++ x ∷ [])) ≡ (others ++ f x ∷ []) ++ reverse (map f xs)
+turned_more f others xs x =
+    ap (λ ys. others ++ ys) (ap reverse (map-append f xs (x ∷ [])) ∙ reverse-append (map f xs) (f x ∷ [])) ∙ sym (append_assoc others (f x ∷ []) (reverse (map f xs)))
 
 -- desks, and behind them those of hired clerks, one more of whom is hired
 pub begun_more : (others : List DeskView) (hired : List HiredView) (clerk : HiredView) → others ++ begun_at (hired ++ clerk ∷ []) ≡ (others ++ clerk.desk ∷ []) ++ begun_at hired
-begun_more others hired clerk =
-    ap (λ (ds : List DeskView). others ++ ds) (begun_push hired clerk) ∙ sym (append_assoc others (clerk.desk ∷ []) (begun_at hired))
+begun_more others hired clerk = turned_more (λ (h : HiredView). h.desk) others hired clerk
 
 module _ (bench : Bench) (rows : List Row) where
   -- one more desk
@@ -38,11 +37,15 @@ pub all_push : {X : Type 0} (P : X → Type 0) (xs : List X) (x : X) → All P x
 all_push P [] x all one = All-cons P x [] one (All-nil P)
 all_push P (y ∷ xs) x all one = All-cons P y (xs ++ x ∷ []) (All-head P y xs all) (all_push P xs x (All-tail P y xs all) one)
 
-all_but_last : {X : Type 0} (P : X → Type 0) (xs : List X) (x : X) → All P (xs ++ x ∷ []) → All P xs × P x
+pub all_but_last : {X : Type 0} (P : X → Type 0) (xs : List X) (x : X) → All P (xs ++ x ∷ []) → All P xs × P x
 all_but_last P [] x all = (All-nil P, All-head P x [] all)
 all_but_last P (y ∷ xs) x all =
     let rest = all_but_last P xs x (All-tail P y (xs ++ x ∷ []) all) in
     (All-cons P y xs (All-head P y (xs ++ x ∷ []) all) rest.0, rest.1)
+
+pub all_first : {X : Type 0} (P : X → Type 0) (xs ys : List X) → All P (xs ++ ys) → All P xs
+all_first P [] ys all = All-nil P
+all_first P (x ∷ xs) ys all = All-cons P x xs (All-head P x (xs ++ ys) all) (all_first P xs ys (All-tail P x (xs ++ ys) all))
 
 pub others_ready : (rows : List Row) (all others : List DeskView) (desk : DeskView) → all ≡ others ++ desk ∷ [] → All (IsReady rows) all → All (IsReady rows) others
 others_ready rows all others desk same ready = (all_but_last (IsReady rows) others desk (subst (All (IsReady rows)) same ready)).0

@@ -1,7 +1,7 @@
 -- The desks of clerks at work.
 use Rattle.std.specs.Prelude.{◌≡◌, ℕ, ◌≤◌, List, [], ◌∷◌, ◌++◌, length, map, reverse, All, ⊤}
 use Rattle.docket_rows.specs.Words.{Bench}
-use Rattle.office_seats.specs.Words.{SeatView}
+use Rattle.office_seats.specs.Words.{SeatView, TallyView}
 use Rattle.office_rows.specs.declared.row.Row.{Row}
 use Rattle.clerk_workers.specs.declared.answer.RowAnswer.{RowAnswer}
 use Rattle.clerk_workers.specs.declared.state.State.{State}
@@ -44,6 +44,16 @@ module _ (bench : Bench) (rows : List Row) where
 pub record HiredView : Type 0 where
   pub desk : DeskView
   pub rows : List Row
+
+-- the seats at these desks, what they would leave, and the answers there, the last desk first
+abbrev pub seats_at : List DeskView → List SeatView
+seats_at desks = reverse (map (λ (d : DeskView). d.seat) desks)
+
+abbrev pub tallies_at : List DeskView → List TallyView
+tallies_at desks = reverse (map (λ (d : DeskView). tally_of d.seat) desks)
+
+abbrev pub answers_at : List DeskView → List (List RowAnswer)
+answers_at desks = reverse (map (λ (d : DeskView). d.answers) desks)
 
 -- the desks at which these clerks began, the one hired last first
 abbrev pub begun_at : List HiredView → List DeskView

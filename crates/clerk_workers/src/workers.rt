@@ -96,22 +96,18 @@ fn in_scope<
 
 /// Lets the clerks of all desks do their rows, each in a thread of its own, and gives the desks back in the same order.
 /// Where a thread can't be made for each of them, none of the clerks begins.
-pub(crate) fn at_work<
-    'e,
-    L: Names + Send + Sync + 'e,
-    R: Threads + Wait + Sync + 'e,
-    G: Gate + 'e,
->(
-    rt: &'e R,
+pub(crate) fn at_work<L: Names + Send + Sync, R: Threads + Wait + Sync, G: Gate>(
+    rt: &R,
     alloc: Global,
     desks: Vec<Desk<L>>,
-    rows: &'e [Row],
-    gate: &'e G,
-    start: &'e OnceLock<bool>,
+    rows: &[Row],
+    gate: &G,
 ) -> Vec<Desk<L>>
     requires { All (IsReady rows.now) desks.items }
     ensures { AreWorked L.bench rows.now desks.items result.items }
 {
+    let word = OnceLock::new();
+    let start = &word;
     thread::scope(
         thread::scope_env(),
         rt,
