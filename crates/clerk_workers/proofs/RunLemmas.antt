@@ -112,10 +112,12 @@ module _ (bench : Bench) (rows : List Row) where
       let worked = is_done o n (All-head (λ (d : DeskView). d.state ≡ Done) n new all) are.0 in
       let same : first + 0 ≡ o.seat.number = omega (arith, numbered.0) in
       let mine : n.answers ≡ answers_of o.seat.number rows answers = merged 0 (omega arith) ∙ ap (λ k. answers_of k rows answers) same in
-      let P : List RowAnswer → Type 0 = λ each. HasWorked bench o.seat (works_of o.seat.number rows) each (tally_of n.seat) in
-      (subst P mine worked, all_from (first + 1) old new answers are.1 (All-tail (λ (d : DeskView). d.state ≡ Done) n new all) numbered.1 (λ place lt.
-          let next : first + suc place ≡ first + 1 + place = omega arith in
-          merged (suc place) (omega (arith, lt)) ∙ ap (λ k. answers_of k rows answers) next))
+      let P : List RowAnswer → Type 0 = λ each. HasWorked bench o.seat (works_of o.seat.number rows) each (tally_of n.seat) in (
+        subst P mine worked,
+        all_from (first + 1) old new answers are.1 (All-tail (λ (d : DeskView). d.state ≡ Done) n new all) numbered.1 (λ place lt.
+            let next : first + suc place ≡ first + 1 + place = omega arith in
+            merged (suc place) (omega (arith, lt)) ∙ ap (λ k. answers_of k rows answers) next),
+      )
 
   module _ (old new : List DeskView) (are : AreWorked bench rows old new) (all : All (λ (d : DeskView). d.state ≡ Done) new) (in_order : AreInOrder (seats_at old)) where
     numbered : AreNumbered 1 (map (λ (d : DeskView). d.seat) (reverse old))
@@ -136,9 +138,9 @@ module _ (bench : Bench) (rows : List Row) where
     pub run_all : (answers : List RowAnswer) → AreMerged rows (answers_at new) answers → AllWorked bench rows answers (seats_at old) (tallies_at new)
     run_all answers merged =
         let all_of = all_from 1 (reverse old) (reverse new) answers (worked_turned old new are) (all_turned (λ (d : DeskView). d.state ≡ Done) new all) numbered (λ place lt.
-            let short : place < length (answers_at new) = omega (arith, lt, length-reverse new, answers_long new) in
-            let on : place + 1 ≡ 1 + place = omega arith in
-            ap (list_at place) (map_turned (λ (d : DeskView). d.answers) new) ∙ (merged place short ∙ ap (λ k. answers_of k rows answers) on)) in
+        let short : place < length (answers_at new) = omega (arith, lt, length-reverse new, answers_long new) in
+        let on : place + 1 ≡ 1 + place = omega arith in
+        ap (list_at place) (map_turned (λ (d : DeskView). d.answers) new) ∙ (merged place short ∙ ap (λ k. answers_of k rows answers) on)) in
         let P : List SeatView → Type 0 = λ ss. AllWorked bench rows answers ss (map (λ (d : DeskView). tally_of d.seat) (reverse new)) in
         let Q : List TallyView → Type 0 = λ ts. AllWorked bench rows answers (seats_at old) ts in
         subst Q (map_turned (λ (d : DeskView). tally_of d.seat) new) (subst P (map_turned (λ (d : DeskView). d.seat) old) all_of)

@@ -4,4 +4,5 @@ pub mod Merged
 pub mod Rows
 pub mod Runs
 pub mod Steps
+pub mod Words
 pub mod Worked

@@ -15,13 +15,7 @@ use std::thread::{Scope, Threads};
 
 // Starts a thread for each desk, the last desk first, and then gives the word to start. Where no thread can be made for
 // one, the word is no, and this desk and those before it stay.
-fn hire_all<
-    's,
-    'e: 's,
-    L: Names + Send + Sync + 'e,
-    R: Threads + Wait + Sync + 'e,
-    G: Gate + 'e,
->(
+fn hire_all<'s, 'e: 's, L: Names + Send + Sync + 'e, R: Threads + Wait + Sync + 'e, G: Gate + 'e>(
     scope: &'s Scope<'s, &'e ()>,
     rt: &'e R,
     alloc: Global,
@@ -65,13 +59,7 @@ fn join_all<'e, L: Names, R: Threads>(
 }
 
 // Starts all clerks in this scope, and waits for them. Where there is no memory to note who was hired, none begins.
-fn in_scope<
-    's,
-    'e: 's,
-    L: Names + Send + Sync + 'e,
-    R: Threads + Wait + Sync + 'e,
-    G: Gate + 'e,
->(
+fn in_scope<'s, 'e: 's, L: Names + Send + Sync + 'e, R: Threads + Wait + Sync + 'e, G: Gate + 'e>(
     scope: &'s Scope<'s, &'e ()>,
     rt: &'e R,
     alloc: Global,
@@ -87,9 +75,7 @@ fn in_scope<
         return desks;
     };
     let mut desks = desks;
-    hire_all(
-        scope, rt, alloc, &mut desks, &mut hired, rows, gate, start,
-    );
+    hire_all(scope, rt, alloc, &mut desks, &mut hired, rows, gate, start);
     join_all(rt, &mut desks, &mut hired, rows);
     desks
 }

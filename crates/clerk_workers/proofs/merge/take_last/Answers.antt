@@ -1,4 +1,4 @@
-use Rattle.std.proofs.Common.{◌≡◌, ◌+◌, ◌-◌, ◌++◌, ◌<◌, ◌∷◌, [], ℕ, List, length, map, ap, sym, subst, arith, get_or, set}
+use Rattle.std.proofs.Common.{◌≡◌, ◌-◌, ◌<◌, ℕ, length, map, ap, sym, subst, arith, set}
 use Rattle.clerk_workers.specs.Merged.{IsTaken}
 use Rattle.clerk_workers.proofs.MergeLemmas.{taken}
 use Rattle.clerk_workers.proofs.merge.take_last.Goals as goal

@@ -1,8 +1,7 @@
-use Rattle.std.proofs.Common.{◌≡◌, ◌∙◌, ◌++◌, ◌≤◌, [], List, All, ap, length, arith, refl, sym, subst}
-use Rattle.std.proofs.lemmas.List.{length-map, length-reverse}
+use Rattle.std.proofs.Common.{◌≡◌, ◌∙◌, ◌++◌, List, All, ap, length, arith, refl, sym, subst}
 use Rattle.office_seats.specs.Words.{SeatView, TallyView}
 use Rattle.clerk_workers.specs.declared.state.State.TheVariants.{Waiting, Done}
-use Rattle.clerk_workers.specs.Desks.{DeskView, seats_at, tallies_at, answers_at}
+use Rattle.clerk_workers.specs.Desks.{DeskView, seats_at}
 use Rattle.clerk_workers.specs.Rows.{AreOfClerks}
 use Rattle.clerk_workers.specs.Runs.{AllStopped, AllWorked}
 use Rattle.clerk_workers.proofs.RunLemmas.{answers_long, run_all, run_many, run_stopped, run_waiting, worked_long}

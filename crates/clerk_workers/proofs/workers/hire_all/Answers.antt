@@ -1,7 +1,6 @@
-use Rattle.std.proofs.Common.{◌≡◌, ◌+◌, ◌++◌, ◌∷◌, [], ◌∙◌, List, All, length, vec_capacity, ap, sym, subst, refl, arith}
-use Rattle.std.proofs.lemmas.List.Elements.{All-cons}
-use Rattle.clerk_workers.specs.Desks.{AreUnderWay, AreWorked, DeskView, HiredView, IsReady, IsWorked, begun_at}
-use Rattle.clerk_workers.proofs.DeskLemmas.{all_push, begun_more, last_ready, others_ready, worked_push, worked_ready}
+use Rattle.std.proofs.Common.{◌≡◌, ◌++◌, ◌∷◌, [], ◌∙◌, List, All, ap, sym, subst, arith}
+use Rattle.clerk_workers.specs.Desks.{AreWorked, DeskView, HiredView, begun_at}
+use Rattle.clerk_workers.proofs.DeskLemmas.{all_push, begun_more, others_ready, worked_push, worked_ready}
 use Rattle.clerk_workers.proofs.workers.hire_all.Goals as goal
 
 pub loop-desk-preserved : goal.loop-desk-preserved

@@ -1,5 +1,4 @@
-use Rattle.std.proofs.Common.{◌≡◌, ◌+◌, ◌++◌, ◌∷◌, [], ◌∙◌, List, All, length, vec_capacity, ap, sym, subst, refl, arith, append-nil}
-use Rattle.clerk_workers.specs.Desks.{AreUnderWay, AreWorked, DeskView, HiredView, IsWorked, begun_at}
+use Rattle.std.proofs.Common.{◌≡◌, length, arith}
 use Rattle.clerk_workers.proofs.DeskLemmas.{way_joined, way_done}
 use Rattle.clerk_workers.proofs.workers.join_all.Goals as goal
 
