@@ -25,7 +25,8 @@ a command or a question. It writes to standard output: an answer to each row
 and under it the reasons of the deadline that it shows, then the docket sheets
 of the cases that are open, with the reasons under each deadline, and each
 judge's calendar. 'ours' stands in place of a section where the Rules leave a
-choice.
+choice. A holiday is called by the name that it has in a table [holiday_names]
+of the court's file, as 2025-09-01 = \"Labor Day\".
 
     deadline_memo < day.txt
 
