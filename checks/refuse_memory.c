@@ -1,8 +1,10 @@
 // Put before the C library, it refuses the program one growth: the one numbered REFUSE, counted from 1 in the order
-// in which the program asks.
+// in which the program asks. Where it does, it makes the file that REFUSED names.
 #define _GNU_SOURCE
 #include <dlfcn.h>
+#include <fcntl.h>
 #include <stdlib.h>
+#include <unistd.h>
 
 static int refuses(void)
 {
@@ -11,7 +13,10 @@ static int refuses(void)
         const char *number = getenv("REFUSE");
         refused = number ? strtoul(number, NULL, 10) : 0;
     }
-    return ++asked == refused;
+    if (++asked != refused)
+        return 0;
+    close(open(getenv("REFUSED"), O_CREAT | O_WRONLY, 0600));
+    return 1;
 }
 
 void *malloc(size_t size)

@@ -3,10 +3,11 @@
 
     refuse_memory.py PROGRAM INPUT..
 
-For each input the first growth is refused, then the second, and so on, until a run ends without a refusal. Each run
-in which one is refused must end with status 5, write nothing to standard output and `out of memory` to standard
-error. The last run must write what the file INPUT's neighbour with the ending `.out` has. The status is 0 where
-all of that is so. It needs Linux and a C compiler, `cc` or the one that CC names.
+For each input the first growth is refused, then the second, and so on, until a run ends without a refusal. A run in
+which one is refused must end with status 5, write nothing to standard output and `out of memory` to standard error; or
+it could do without that growth, and writes what it would have written with it. The last run must write what the file
+INPUT's neighbour with the ending `.out` has. The status is 0 where all of that is so. It needs Linux and a C compiler,
+`cc` or the one that CC names.
 """
 import os
 import pathlib
@@ -28,24 +29,30 @@ def built_library(folder):
 
 
 def run(program, text, library, number):
-    """The status of a run with that growth refused, and what it wrote to standard output and to standard error."""
-    surroundings = dict(os.environ, LD_PRELOAD=str(library), REFUSE=str(number))
+    """Whether that growth was refused, and a run's status and what it wrote to standard output and to standard error."""
+    mark = library.with_name("refused")
+    mark.unlink(missing_ok=True)
+    surroundings = dict(os.environ, LD_PRELOAD=str(library), REFUSE=str(number), REFUSED=str(mark))
     ran = subprocess.run([program], input=text, capture_output=True, env=surroundings, check=False)
-    return ran.returncode, ran.stdout, ran.stderr
+    return mark.exists(), (ran.returncode, ran.stdout, ran.stderr)
 
 
 def refuse_each(program, path, library):
     """Whether each run with that input ended as it must."""
     text = path.read_bytes()
     wanted = (0, path.with_suffix(".out").read_bytes(), b"")
-    number = 1
-    while (ended := run(program, text, library, number)) == REFUSED:
+    number, ends = 1, 0
+    while True:
+        refused, ended = run(program, text, library, number)
+        if refused and ended == REFUSED:
+            ends += 1
+        elif ended != wanted or not (refused or ends):
+            print(f"{path}: with growth {number} refused it ended so: {ended}")
+            return False
+        elif not refused:
+            print(f"{path}: {number - 1} growths, each refused once: {ends} ended the run, {number - 1 - ends} it could do without")
+            return True
         number += 1
-    if ended != wanted or number == 1:
-        print(f"{path}: with growth {number} refused it ended so: {ended}")
-        return False
-    print(f"{path}: {number - 1} growths, each refused once")
-    return True
 
 
 def main():

@@ -5,11 +5,11 @@
 
 PROGRAM is stored_steps, and reads INPUT, and then lists of steps that are made at random from SEED (by default 1), as
 steps_compare.py makes them. Of each the first growth is refused, then the second, and so on, until a run ends without a
-refusal. A run in which one is refused may end in two ways. With status 1 it writes nothing to standard output, and to
+refusal. A run in which one is refused may end in three ways. With status 1 it writes nothing to standard output, and to
 standard error one line that says so. With status 0 one step is answered `no memory`: it would have taken memory, and
-changes nothing, so that all others are answered as the replay answers them where that step isn't made. The last run is
-answered as the replay answers all. The status is 0 where all of that is so. It needs Linux, Python 3.8 or later and a C
-compiler, `cc` or the one that CC names.
+changes nothing, so that all others are answered as the replay answers them where that step isn't made. Or it could do
+without that growth, and all is answered as the replay answers it, as it must be in the last run. The status is 0 where
+all of that is so. It needs Linux, Python 3.8 or later and a C compiler, `cc` or the one that CC names.
 """
 import pathlib
 import random
@@ -67,22 +67,23 @@ class Schedules:
 
 def refuse_each(program, name, text, library):
     """Whether each run on that input ended as it must."""
-    schedules, ends, steps = Schedules(text), 0, 0
+    schedules, number, ends, steps = Schedules(text), 1, 0, 0
     while True:
-        number = ends + steps + 1
-        ended = run(program, text.encode(), library, number)
+        refused, ended = run(program, text.encode(), library, number)
         status, output, errors = ended
         refusals = schedules.refusals(output.decode()) if (status, errors) == (0, b"") else None
-        if ended in ENDED:
+        if refused and ended in ENDED:
             ends += 1
-        elif refusals == 1:
+        elif refused and refusals == 1:
             steps += 1
-        elif refusals == 0 and steps:
-            print(f"{name}: {number - 1} growths, each refused once: {steps} lost one step, and {ends} ended the run")
-            return True
-        else:
+        elif refusals != 0 or not (refused or steps):
             print(f"{name}: with growth {number} refused it ended so: {ended}")
             return False
+        elif not refused:
+            print(f"{name}: {number - 1} growths, each refused once: {steps} lost one step, {ends} ended the run, "
+                  f"{number - 1 - steps - ends} it could do without")
+            return True
+        number += 1
 
 
 def texts(path, seed):
