@@ -7,7 +7,6 @@ ghost use Rattle.office_seats.specs.Words.{AreApart, numbers_of};
 use office_seats::{Names, Tally};
 
 /// Whether no two of the tallies are of one seat.
-#[tactic(auto, unfolding(std::specs::List::IsDistinct))]
 pub fn are_apart<L: Names>(tallies: &[Tally<L>]) -> bool
     ensures { result ≡ true → AreApart tallies.now }
 {

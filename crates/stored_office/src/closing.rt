@@ -30,11 +30,13 @@ pub fn push_closed<L: Names, R: Wait>(
         bail!("two tallies are of one seat");
     }
     let mut result = office.close(rt, alloc, tallies);
-    if let Err(CloseRefused {
-        cause: CloseError::OutOfMemory,
-        office,
-        tallies,
-    }) = result
+    if let Err(
+        CloseRefused {
+            cause: CloseError::OutOfMemory,
+            office,
+            tallies,
+        },
+    ) = result
     {
         text.push_str("out of memory\n")?;
         result = office.close(rt, alloc, tallies);
@@ -46,11 +48,13 @@ pub fn push_closed<L: Names, R: Wait>(
             push_docket(alloc, text, court, &journal.docket(alloc, court)?)?;
             Ok(None)
         }
-        Err(CloseRefused {
-            cause: CloseError::MissingTally(number),
-            office,
-            tallies,
-        }) => {
+        Err(
+            CloseRefused {
+                cause: CloseError::MissingTally(number),
+                office,
+                tallies,
+            },
+        ) => {
             text.push_str("missing ")?;
             push_number(text, u64::from(number))?;
             text.push_str("\n")?;

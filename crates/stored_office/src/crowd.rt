@@ -22,7 +22,7 @@ use std::thread::Threads;
 
 /// Opens an office for this court, whose clerks each perform so many commands in a thread of their own, closes it, and adds
 /// what is found of its journal. None of that rests on which thread was first.
-pub fn push_crowd<R: Threads + Wait + Sync>(
+pub fn push_crowd<R: Threads + Wait + Eprint + Sync>(
     rt: &R,
     alloc: Global,
     text: &mut String,
@@ -39,7 +39,7 @@ pub fn push_crowd<R: Threads + Wait + Sync>(
 }
 
 /// Opens the office and has its clerks work. False where a seat got no place to read from.
-fn is_done<L: Names + Send + Sync, R: Threads + Wait + Sync>(
+fn is_done<L: Names + Send + Sync, R: Threads + Wait + Eprint + Sync>(
     rt: &R,
     alloc: Global,
     text: &mut String,
@@ -61,7 +61,10 @@ fn is_done<L: Names + Send + Sync, R: Threads + Wait + Sync>(
             push_worked(rt, alloc, text, court, office, worked, number)?;
             Ok(true)
         }
-        Err(OfficeError::NoReader) => Ok(false),
+        Err(OfficeError::NoReader) => {
+            rt.eprintln("a seat got no place to read from")?;
+            Ok(false)
+        }
         Err(error) => bail!("{error}"),
     }
 }
