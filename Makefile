@@ -4,7 +4,9 @@
 CRATE    := crates/clerk_office
 PROGRAM  := $(CRATE)/out/clerk_office
 BOOKINGS := crates/measure_bookings
+SEATS    := crates/measure_seats
 STEPS    := crates/stored_steps
+OFFICES  := crates/stored_office
 MEMO     := crates/deadline_memo
 EXAMPLE  := examples/smallest.txt
 
@@ -28,15 +30,18 @@ test:
 
 bench: build
 	@cd $(BOOKINGS) && rt run > /dev/null
-	@python3 bench/bench.py $(PROGRAM) $(BOOKINGS)/out/measure_bookings
+	@cd $(SEATS) && rt run > /dev/null
+	@python3 bench/bench.py $(PROGRAM) $(BOOKINGS)/out/measure_bookings $(SEATS)/out/measure_seats
 
-# Beside the gate, since it needs a C compiler: each growth of memory refused in turn, of the program, and of the steps of
-# clerks who share a docket.
+# Beside the gate, since it needs a C compiler: each growth of memory refused in turn, of the program, of the steps of clerks
+# who share a docket, and of the calls of an office's seats.
 refuse: build
 	@python3 checks/refuse_memory.py $(PROGRAM) examples/smallest.txt examples/days.txt examples/deadlines.txt \
 		runs/docket/sheets_and_calendars_at_the_end.in
 	@cd $(STEPS) && rt run < stdin > /dev/null
 	@python3 checks/refuse_steps.py $(STEPS)/out/stored_steps $(STEPS)/stdin $(SEED)
+	@cd $(OFFICES) && rt run < stdin > /dev/null
+	@python3 checks/refuse_office.py $(OFFICES)/out/stored_office checks/refuse_office.txt
 
 # Beside the gate, which runs the program once: every status with which it may end, and what it then writes.
 check-program: build
@@ -86,4 +91,4 @@ help:
 	@echo "make steps   compares the steps of clerks who share a docket with a replay, on every short list of them (SEED=1)"
 	@echo "make commands runs the examples and the commands that the documents show, and compares what they print"
 	@echo "make courts  checks the courts' files of examples/courts, and runs the program on each"
-	@echo "make bench   builds the program, and prints its rows per second and peak memory"
+	@echo "make bench   builds the program, and prints its rows per second and peak memory, and what clerks in threads do in a second"

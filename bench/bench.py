@@ -1,9 +1,12 @@
 #!/usr/bin/env python3
 """Measures the program on growing numbers of rows: seconds, rows per second and peak memory.
 
-    bench.py PROGRAM BOOKINGS
+    bench.py PROGRAM BOOKINGS SEATS
 
-PROGRAM is the clerk's office, and BOOKINGS the program that changes calendars and measures that itself. Each
+PROGRAM is the clerk's office, BOOKINGS the program that changes calendars and measures that itself, and SEATS the one
+that has clerks work in threads of their own, and measures that: how many hearings they move in a second, each before a
+judge of their own or all before one, and how many sheets they are shown in a second while one more clerk moves a hearing.
+Beside them stands what one clerk does alone in a second, on a docket of one thread. Each
 input of the office is a court's file, a line '%%', and rows of one kind, drawn from a fixed seed, so that two runs of
 the benchmark measure the same inputs. 'example' is the court of examples/district.toml. 'full' is one with all that a
 court's file may have: 100 years, and 4,096 dates in each list of holidays, which make 8,192 closed days in a row, so
@@ -48,6 +51,7 @@ SEED = 20250902
 
 LINE = "{:<14}{:<9}{:>9}{:>10}{:>13}{:>9}  {}"
 BOOKINGS_LINE = "{:<23}{:>9}{:>10}"
+SEATS_LINE = "{:<28}{:>9}{:>13}"
 
 EXAMPLE = pathlib.Path(__file__).resolve().parent.parent / "examples" / "district.toml"
 
@@ -275,14 +279,26 @@ def measure_bookings(program):
         print("the bookings ended with status {}".format(ran.returncode))
 
 
-def main(program, bookings):
+def measure_seats(program):
+    """Runs the last program, each line of which is a kind of work, its threads, and how much they did in a second."""
+    ran = subprocess.run([program, "measure"], stdout=subprocess.PIPE, check=False)
+    print(SEATS_LINE.format("kind", "threads", "a second"))
+    for line in ran.stdout.decode().splitlines():
+        kind, threads, rate = line.rsplit(None, 2)
+        print(SEATS_LINE.format(kind.replace("_", " "), threads, "{:,}".format(int(rate))))
+    if ran.returncode != 0:
+        print("the seats ended with status {}".format(ran.returncode))
+
+
+def main(program, bookings, seats):
     adopt_orphans()
     with tempfile.TemporaryDirectory() as folder:
         measure_rows(os.path.abspath(program), folder)
     measure_bookings(os.path.abspath(bookings))
+    measure_seats(os.path.abspath(seats))
 
 
 if __name__ == "__main__":
-    if len(sys.argv) != 3:
-        sys.exit("usage: bench.py PROGRAM BOOKINGS")
-    main(sys.argv[1], sys.argv[2])
+    if len(sys.argv) != 4:
+        sys.exit("usage: bench.py PROGRAM BOOKINGS SEATS")
+    main(*sys.argv[1:])

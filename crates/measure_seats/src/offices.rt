@@ -81,11 +81,20 @@ fn done_by<L: Names + Send + Sync, R: Threads + Wait + Sync>(
                 finished: AtomicU64::new(0),
             };
             let counts = thread::map_vec(rt, seats, &|seat| work(rt, alloc, &share, seat))?;
-            Ok(Some(counts.iter().sum()))
+            Ok(Some(sum_of(counts.as_slice())))
         }
         Err(OfficeError::NoReader) => Ok(None),
         Err(error) => bail!("{error}"),
     }
+}
+
+/// The sum, or the greatest number there is where that is less.
+fn sum_of(counts: &[u64]) -> u64 {
+    let mut sum = 0u64;
+    for count in counts {
+        sum = sum.saturating_add(*count);
+    }
+    sum
 }
 
 /// Opens each clerk's case and sets its hearing.

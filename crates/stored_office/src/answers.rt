@@ -12,11 +12,11 @@ pub fn push_prepared<L: Names>(
     alloc: Global,
     text: &mut String,
     seat: &mut Seat<L>,
-    command: Command,
+    command: &Command,
 ) -> Result<()> {
-    if seat.prepare(alloc, command).is_err() {
+    if seat.prepare(alloc, *command).is_err() {
         text.push_str("out of memory\n")?;
-        seat.prepare(alloc, command)?;
+        seat.prepare(alloc, *command)?;
     }
     text.push_str("prepared\n")?;
     Ok(())
@@ -53,13 +53,13 @@ pub fn push_performed<L: Names, R: Wait>(
     text: &mut String,
     court: &Court,
     seat: &mut Seat<L>,
-    command: Command,
+    command: &Command,
     tries: u32,
 ) -> Result<()> {
-    let mut result = seat.perform(rt, alloc, command, tries);
+    let mut result = seat.perform(rt, alloc, *command, tries);
     if let Err(PerformError::OutOfMemory) = result {
         text.push_str("out of memory\n")?;
-        result = seat.perform(rt, alloc, command, tries);
+        result = seat.perform(rt, alloc, *command, tries);
     }
     match result {
         Ok(done) => push_done(text, court.clock(), &done)?,

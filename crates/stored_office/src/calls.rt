@@ -1,9 +1,13 @@
 //! The calls of seats, as lines spell them.
 use anyhow::{Context, Result, bail};
-use court_days::Court;
+use court_days::{Court, Day};
 use docket_rows::{Command, Query};
 use office_rows::{Row, RowError, Work, read_rows};
+use rule_periods::{Grant, Request};
 use std::alloc::Global;
+
+// The checker finds these types only where they have names, so a function that takes a row apart names them.
+type RowTypes = Option<(Work, Command, Query, Option<Day>, Grant, Request)>;
 
 /// One call. Seats are told by their numbers.
 #[derive(Clone, Copy)]
@@ -28,8 +32,28 @@ pub enum Call {
     Close,
 }
 
+/// A line, and the call that it spells.
+#[derive(Drop)]
+pub struct Line {
+    pub text: String,
+    pub call: Call,
+}
+
+/// The calls that these lines spell. An error says what is wrong with the first that spells none, or that memory ran out.
+pub fn lines_of(alloc: Global, court: &Court, lines: &str) -> Result<Vec<Line>> {
+    let _types: RowTypes = None;
+    let mut calls = Vec::new(alloc);
+    for line in lines.lines() {
+        let call = call_of(alloc, court, line)?;
+        let mut text = String::new(alloc);
+        text.push_str(line)?;
+        calls.push(Line { text, call })?;
+    }
+    Ok(calls)
+}
+
 /// The call that a line spells. An error says what is wrong with the line, or that memory ran out.
-pub fn call_of(alloc: Global, court: &Court, line: &str) -> Result<Call> {
+fn call_of(alloc: Global, court: &Court, line: &str) -> Result<Call> {
     if line == "close" {
         return Ok(Call::Close);
     }
@@ -45,9 +69,9 @@ pub fn call_of(alloc: Global, court: &Court, line: &str) -> Result<Call> {
             Ok(Call::Perform(seat, command, tries.parse()?))
         }
         "show" => {
-            let row = row_in(alloc, court, rest)?;
-            match row.work {
-                Work::Query(query) => Ok(Call::Show(row.clerk, query)),
+            let Row { clerk, work } = row_in(alloc, court, rest)?;
+            match work {
+                Work::Query(query) => Ok(Call::Show(clerk, query)),
                 Work::Command(_) => bail!("no query: {rest}"),
             }
         }
@@ -62,9 +86,10 @@ pub fn call_of(alloc: Global, court: &Court, line: &str) -> Result<Call> {
 
 /// Whose command the row is, and which.
 fn command_in(alloc: Global, court: &Court, text: &str) -> Result<(u8, Command)> {
-    let row = row_in(alloc, court, text)?;
-    match row.work {
-        Work::Command(command) => Ok((row.clerk, command)),
+    let _types: RowTypes = None;
+    let Row { clerk, work } = row_in(alloc, court, text)?;
+    match work {
+        Work::Command(command) => Ok((clerk, command)),
         Work::Query(_) => bail!("no command: {text}"),
     }
 }

@@ -2,7 +2,6 @@
 
 ghost use Rattle.std.specs.Prelude.{◌≡◌};
 
-use crate::apart::are_apart;
 use crate::dockets::push_docket;
 use anyhow::{Result, bail};
 use court_days::Court;
@@ -26,15 +25,14 @@ pub fn push_closed<L: Names, R: Wait>(
 ) -> Result<Option<(Office<L>, Vec<Tally<L>>)>>
     requires all { L.parts ≡ 64 }
 {
-    if !are_apart(tallies.as_slice()) {
-        bail!("two tallies are of one seat");
-    }
     let mut result = office.close(rt, alloc, tallies);
-    if let Err(CloseRefused {
-        cause: CloseError::OutOfMemory,
-        office,
-        tallies,
-    }) = result
+    if let Err(
+        CloseRefused {
+            cause: CloseError::OutOfMemory,
+            office,
+            tallies,
+        },
+    ) = result
     {
         text.push_str("out of memory\n")?;
         result = office.close(rt, alloc, tallies);
@@ -46,11 +44,13 @@ pub fn push_closed<L: Names, R: Wait>(
             push_docket(alloc, text, court, &journal.docket(alloc, court)?)?;
             Ok(None)
         }
-        Err(CloseRefused {
-            cause: CloseError::MissingTally(number),
-            office,
-            tallies,
-        }) => {
+        Err(
+            CloseRefused {
+                cause: CloseError::MissingTally(number),
+                office,
+                tallies,
+            },
+        ) => {
             text.push_str("missing ")?;
             push_number(text, u64::from(number))?;
             text.push_str("\n")?;

@@ -4,7 +4,6 @@ ghost use Rattle.std.specs.Prelude.{◌≡◌, []};
 ghost use Rattle.docket_rows.specs.Words.{bench_of};
 ghost use Rattle.published_docket.specs.Words.{past};
 
-use crate::apart::are_apart;
 use crate::offices::{Opening, TRIES};
 use crate::replay::push_replay;
 use crate::work::{Worked, work};
@@ -22,7 +21,7 @@ use std::thread::Threads;
 
 /// Opens an office for this court, whose clerks each perform so many commands in a thread of their own, closes it, and adds
 /// what is found of its journal. None of that rests on which thread was first.
-pub fn push_crowd<R: Threads + Wait + Sync>(
+pub fn push_crowd<R: Threads + Wait + Eprint + Sync>(
     rt: &R,
     alloc: Global,
     text: &mut String,
@@ -39,7 +38,7 @@ pub fn push_crowd<R: Threads + Wait + Sync>(
 }
 
 /// Opens the office and has its clerks work. False where a seat got no place to read from.
-fn is_done<L: Names + Send + Sync, R: Threads + Wait + Sync>(
+fn is_done<L: Names + Send + Sync, R: Threads + Wait + Eprint + Sync>(
     rt: &R,
     alloc: Global,
     text: &mut String,
@@ -61,7 +60,10 @@ fn is_done<L: Names + Send + Sync, R: Threads + Wait + Sync>(
             push_worked(rt, alloc, text, court, office, worked, number)?;
             Ok(true)
         }
-        Err(OfficeError::NoReader) => Ok(false),
+        Err(OfficeError::NoReader) => {
+            rt.eprintln("a seat got no place to read from")?;
+            Ok(false)
+        }
         Err(error) => bail!("{error}"),
     }
 }
@@ -80,9 +82,6 @@ fn push_worked<L: Names, R: Wait>(
 {
     push_failures(text, worked.as_slice())?;
     let (tallies, done) = divided(alloc, worked)?;
-    if !are_apart(tallies.as_slice()) {
-        bail!("two tallies are of one seat");
-    }
     match office.close(rt, alloc, tallies) {
         Ok(journal) => push_replay(alloc, text, court, &journal, done.as_slice(), count),
         Err(refused) => {

@@ -3,7 +3,7 @@
 ghost use Rattle.std.specs.Prelude.{◌≡◌, ◌<◌, IfSome, length};
 
 use crate::answers::{push_committed, push_performed, push_prepared, push_shown};
-use crate::calls::{Call, call_of};
+use crate::calls::{Call, Line};
 use crate::closing::push_closed;
 use anyhow::{Context, Result};
 use court_days::Court;
@@ -58,23 +58,22 @@ fn place_of<L: Names>(seats: &[Seat<L>], number: u8) -> Option<usize>
     None
 }
 
-/// Makes these calls, a line each, and adds each line with what the call was answered.
+/// Makes these calls, and adds the line of each with what it was answered.
 pub fn push_calls<L: Names, R: Wait>(
     rt: &R,
     alloc: Global,
     text: &mut String,
     court: &Court,
     desk: Desk<L>,
-    calls: &str,
+    calls: &[Line],
 ) -> Result<()>
     requires all { L.parts ≡ 64 }
 {
     let mut desk = desk;
-    for line in calls.lines() {
-        text.push_str(line)?;
+    for line in calls {
+        text.push_str(line.text.as_str())?;
         text.push_str("\n")?;
-        let call = call_of(alloc, court, line)?;
-        push_call(rt, alloc, text, court, &mut desk, &call)?;
+        push_call(rt, alloc, text, court, &mut desk, &line.call)?;
     }
     Ok(())
 }
@@ -91,10 +90,10 @@ fn push_call<L: Names, R: Wait>(
     requires all { L.parts ≡ 64 }
 {
     match *call {
-        Call::Prepare(number, command) => push_prepared(alloc, text, desk.seat(number)?, command),
+        Call::Prepare(number, command) => push_prepared(alloc, text, desk.seat(number)?, &command),
         Call::Commit(number) => push_committed(rt, alloc, text, court, desk.seat(number)?),
         Call::Perform(number, command, tries) => {
-            push_performed(rt, alloc, text, court, desk.seat(number)?, command, tries)
+            push_performed(rt, alloc, text, court, desk.seat(number)?, &command, tries)
         }
         Call::Show(number, query) => push_shown(alloc, text, court, desk.seat(number)?, &query),
         Call::Discard(number) => {

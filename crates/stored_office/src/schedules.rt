@@ -9,7 +9,11 @@ use std::thread::Threads;
 
 /// For each schedule of the input its lines, each with what it was answered behind it. An error says what is wrong with the
 /// input, or that memory ran out.
-pub fn run_all<R: Threads + Wait + Sync>(rt: &R, alloc: Global, input: &str) -> Result<String> {
+pub fn run_all<R: Threads + Wait + Eprint + Sync>(
+    rt: &R,
+    alloc: Global,
+    input: &str,
+) -> Result<String> {
     let (file, schedules) = input
         .split_once("\n%%\n")
         .context("no line %% behind the court's file")?;
@@ -23,7 +27,7 @@ pub fn run_all<R: Threads + Wait + Sync>(rt: &R, alloc: Global, input: &str) -> 
 }
 
 /// Adds the schedule's lines, each with what it was answered behind it.
-fn push_schedule<R: Threads + Wait + Sync>(
+fn push_schedule<R: Threads + Wait + Eprint + Sync>(
     rt: &R,
     alloc: Global,
     text: &mut String,
@@ -36,7 +40,10 @@ fn push_schedule<R: Threads + Wait + Sync>(
     let mut words = first.split(' ');
     let kind = words.next().context("an empty line")?;
     let seats = words.next().context("no number of seats")?.parse()?;
-    let number = words.next().context("no number behind that of the seats")?.parse()?;
+    let number = words
+        .next()
+        .context("no number behind that of the seats")?
+        .parse()?;
     let opening = Opening { seats, number };
     match kind {
         "office" => push_office(rt, alloc, text, court, opening, calls),

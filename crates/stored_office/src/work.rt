@@ -75,7 +75,7 @@ fn is_shown<L: Names>(
 /// The command that the clerk of that number performs at that place of their list, counted from 0. Clerks have cases of their
 /// own, and share two judges, two rooms and the court's days.
 pub fn command_at(clerk: u8, place: u32) -> Command {
-    let case = u32::from(clerk).wrapping_add(place / EACH_CASE * 64);
+    let case = u32::from(clerk).wrapping_add((place / EACH_CASE).wrapping_mul(64));
     let step = place % EACH_CASE;
     let motion = step / 4 + 1;
     match step % 4 {
