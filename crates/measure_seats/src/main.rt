@@ -22,6 +22,7 @@ use work::Kind;
 
 /// How many commands, and how many views, are done of each kind when they are measured. All threads share them.
 const MOVES: u32 = 40_000;
+
 const VIEWS: u32 = 400_000;
 
 fn main(rt: HostRuntime) -> Result<()> {

@@ -123,7 +123,14 @@ fn work<L: Names, R: Wait>(rt: &R, alloc: Global, share: &Share, seat: Seat<L>) 
         return move_often(rt, alloc, &mut seat, judge, share.each);
     }
     if share.threads < clerk {
-        move_until(rt, alloc, &mut seat, judge, u64::from(share.threads), &share.finished);
+        move_until(
+            rt,
+            alloc,
+            &mut seat,
+            judge,
+            u64::from(share.threads),
+            &share.finished,
+        );
         return 0;
     }
     let shown = view_often(alloc, &mut seat, share.each);
