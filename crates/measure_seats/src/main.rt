@@ -20,10 +20,11 @@ use std::thread::Threads;
 use std::time::Instant;
 use work::Kind;
 
-/// How many commands, and how many views, are done of each kind when they are measured. All threads share them.
-const MOVES: u32 = 40_000;
+/// How many commands are finished of each kind when they are measured. All threads share them.
+const MOVES: u32 = 200_000;
 
-const VIEWS: u32 = 400_000;
+/// So for views.
+const VIEWS: u32 = 2_000_000;
 
 fn main(rt: HostRuntime) -> Result<()> {
     let mut words = env::args(&rt)?;
