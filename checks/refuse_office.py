@@ -1,90 +1,86 @@
 #!/usr/bin/env python3
-"""Runs the calls of an office's seats with each growth of its memory refused in turn.
+"""Makes the calls of an office's seats with each growth of memory refused in turn.
 
     refuse_office.py PROGRAM INPUT
 
-PROGRAM is `stored_office`, which makes the calls that INPUT lists, and makes a call that answers want of memory once more.
-The first growth is refused, then the second, and so on, until a run ends without a refusal. Each run in which one is
-refused must end in one of three ways. A call, or the opening of the office, answered want of memory: then the program
-writes what it writes with ample memory, and one line `out of memory` more, above what the same call was answered when it
-was made again. Or a seat got no place to read from, and the office was opened anew: then it writes what it writes with
-ample memory, and says so on standard error. Or the program itself, which reads lines and writes text, found no memory: then
-it ends with status 1 and writes nothing. So no call that was refused memory answers anything else, changes anything, or
-waits for good. Each kind of call must have been refused memory at least once. It needs Linux and a C compiler, `cc` or the
-one that CC names.
+PROGRAM is stored_office, and makes the calls that INPUT lists; a call that is answered want of memory it makes once more.
+The first growth is refused, then the second, and so on, until a run ends without a refusal. A run in which one is refused
+must end in one of three ways. A call, or the opening of the office, was answered want of memory: the program writes what
+it writes with ample memory, and one line `out of memory` more, above what the same call was answered when it was made
+again. Or a seat got no place to read from, and the office was opened anew: the program says so on standard error, and
+writes what it writes with ample memory. Or the program itself, which reads calls and writes text, found no memory: it ends
+with status 1, writes nothing to standard output, and says so on standard error. So a call that is refused memory says so;
+it changes nothing, does without it nowhere, and doesn't wait for good. Each kind of call that takes memory must have been
+refused it. The status is 0 where all of that is so. It needs Linux, Python 3.8 or later and a C compiler, `cc` or the one
+that CC names.
 """
 import collections
-import os
 import pathlib
 import subprocess
 import sys
 import tempfile
 
-LIBRARY = pathlib.Path(__file__).with_name("refuse_memory.c")
+from refuse_memory import built_library, run
 
-# What the line above `out of memory` begins with, where the opening or a call was refused.
+# What the line above `out of memory` begins with: that of the opening, and of each call that takes memory.
 CALLS = ("office", "prepare", "commit", "perform", "show", "close")
 REFUSED = b"out of memory\n"
 NO_READER = b"a seat got no place to read from\n"
-SECONDS = 60
+# What the program says where it lacks memory for its input, the court's file, a call's row or its text.
+ENDED = [b"Error: " + text + b"\n"
+         for text in (b"out of memory", b"11 OutOfMemory", b"no memory is left", b"memory allocation failed")]
 
 
-def run(program, text, library, number):
-    """The status of a run with that growth refused, and what it wrote to standard output and to standard error."""
-    surroundings = dict(os.environ, LD_PRELOAD=str(library), REFUSE=str(number))
-    ran = subprocess.run([program], input=text, capture_output=True, env=surroundings, check=False, timeout=SECONDS)
-    return ran.returncode, ran.stdout, ran.stderr
-
-
-def refused_call(written, wanted):
-    """The first word of the line under which `out of memory` stands, where that line alone is more than is wanted."""
-    lines, wanted = written.splitlines(keepends=True), wanted.splitlines(keepends=True)
+def refused_call(output, wanted):
+    """The call under whose line `out of memory` stands, where that line alone is more than is wanted."""
+    lines, wanted = output.splitlines(keepends=True), wanted.splitlines(keepends=True)
     for place, line in enumerate(lines):
         if line == REFUSED and lines[:place] + lines[place + 1:] == wanted:
             return lines[place - 1].split()[0].decode()
     return None
 
 
-def ended_as(ended, wanted):
-    """In which of the three ways a run ended, or None."""
-    status, written, told = ended
-    if status == 0 and told == b"":
-        return refused_call(written, wanted)
+def who_was_refused(ended, wanted):
+    """Which call was refused memory, or that a reader or the program itself was; None where a run didn't end as it must."""
+    status, output, errors = ended
+    if (status, errors) == (0, b""):
+        return refused_call(output, wanted)
     if ended == (0, wanted, NO_READER):
-        return "a reader"
-    if status == 1 and written == b"" and told != b"":
+        return "a seat's reader"
+    if (status, output) == (1, b"") and errors in ENDED:
         return "the program itself"
     return None
 
 
 def refuse_each(program, path, library):
-    """Whether each run ended as it must."""
+    """Whether each run on that input ended as it must."""
     text = path.read_bytes()
     wanted = subprocess.run([program], input=text, capture_output=True, check=True).stdout
-    counts = collections.Counter()
-    number = 1
-    while (ended := run(program, text, library, number)) != (0, wanted, b""):
-        way = ended_as(ended, wanted)
-        if way is None:
-            print("with growth {} refused it ended so: {}".format(number, ended))
+    counts, number = collections.Counter(), 1
+    while True:
+        refused, ended = run(program, text, library, number)
+        if not refused and ended == (0, wanted, b""):
+            break
+        who = who_was_refused(ended, wanted) if refused else None
+        if who is None:
+            print(f"{path}: with growth {number} refused it ended so: {ended}")
             return False
-        counts[way] += 1
+        counts[who] += 1
         number += 1
-    for way, count in sorted(counts.items()):
-        print("{:<20}{:>6} growths, each refused once".format(way, count))
+    told = ", ".join(f"{count} {who}" for who, count in sorted(counts.items()))
+    print(f"{path}: {number - 1} growths, each refused once: {told}")
     missing = [call for call in CALLS if call not in counts]
     if missing:
-        print("never refused memory: " + ", ".join(missing))
+        print(f"{path}: never refused memory: {', '.join(missing)}")
     return not missing
 
 
-def main():
-    program, path = sys.argv[1:]
+def main(program, path):
     with tempfile.TemporaryDirectory() as folder:
-        library = pathlib.Path(folder) / "refuse_memory.so"
-        compiler = os.environ.get("CC", "cc")
-        subprocess.run([compiler, "-shared", "-fPIC", "-O1", "-o", library, LIBRARY, "-ldl"], check=True)
-        sys.exit(0 if refuse_each(program, pathlib.Path(path), library) else 1)
+        sys.exit(0 if refuse_each(program, pathlib.Path(path), built_library(folder)) else 1)
 
 
-main()
+if __name__ == "__main__":
+    if len(sys.argv) != 3:
+        sys.exit("usage: refuse_office.py PROGRAM INPUT")
+    main(*sys.argv[1:])
