@@ -1,6 +1,7 @@
 //! All clerks at work, each in a thread of its own.
 
 ghost use Rattle.std.specs.Prelude.{◌≡◌, ◌+◌, ◌≤◌, [], All, List, length, vec_capacity};
+ghost use Rattle.office_rows.specs.declared.row.Row.{Row};
 ghost use Rattle.clerk_workers.specs.Desks.{AreUnderWay, AreWorked, DeskView, IsReady};
 
 use crate::desk::Desk;
@@ -48,10 +49,9 @@ fn join_all<'e, L: Names, R: Threads>(
     rt: &R,
     desks: &mut Vec<Desk<L>>,
     hired: &mut Vec<Hired<'e, L>>,
-    rows: &[Row],
 )
     requires room { length desks.old.items + length hired.old.items ≤ vec_capacity desks.old }
-    ensures { (start : List DeskView) → AreUnderWay L.bench rows.now start desks.old.items hired.old.items → AreWorked L.bench rows.now start desks.new.items }
+    ensures { (rows : List Row) (start : List DeskView) → AreUnderWay L.bench rows start desks.old.items hired.old.items → AreWorked L.bench rows start desks.new.items }
 {
     while let Some(clerk) = hired.pop() {
         desks.push_reserved(clerk.join(rt));
@@ -76,7 +76,7 @@ fn in_scope<'s, 'e: 's, L: Names + Send + Sync + 'e, R: Threads + Wait + Sync + 
     };
     let mut desks = desks;
     hire_all(scope, rt, alloc, &mut desks, &mut hired, rows, gate, start);
-    join_all(rt, &mut desks, &mut hired, rows);
+    join_all(rt, &mut desks, &mut hired);
     desks
 }
 

@@ -1,0 +1,8 @@
+use Rattle.sample_clerks.proofs.tests.answers_to.Given as goal
+
+-- the ledger is that of the blank, and names the history and the court that are published
+abbrev pub ghosts-answers_in-L-Ledger : goal.ghosts-answers_in-L-Ledger
+ghosts-answers_in-L-Ledger g a = record { name = a.blank.name; parts = a.blank.parts }
+
+abbrev pub ghosts-answers_in-L-Names : goal.ghosts-answers_in-L-Names
+ghosts-answers_in-L-Names g a = record { history = a.publisher.trail.book; bench = a.publisher.parts }

@@ -1,0 +1,208 @@
+//! Clerks in threads of their own, whose rows are held until others were answered.
+
+ghost use Rattle.std.specs.Prelude.{◌≡◌, []};
+ghost use Rattle.docket_rows.specs.Words.{bench_of};
+ghost use Rattle.published_docket.specs.Words.{past};
+ghost use Rattle.clerk_workers.specs.Words.{AreOfClerks};
+
+use clerk_workers::{Gate, RowAnswer, run_clerks};
+use court_days::{Court, Day};
+use docket_rows::{Answer, Command, Query, Refusal, View};
+use office_rows::{Row, Work};
+use office_seats::{Names, Office};
+use published_docket::Publisher;
+use std::alloc::Global;
+use std::marker::Brand;
+use std::process::Abort;
+use std::sync::atomic::{AtomicU64, Ordering};
+use std::sync::ledger::Blank;
+use std::sync::Wait;
+use std::test::Fail;
+use std::thread::{Threads, yield_now};
+
+/// What clerks wait for at a gate, and whether one of them waited in vain.
+#[derive(Drop)]
+struct Signs {
+    first: AtomicU64,
+    second: AtomicU64,
+    in_vain: AtomicU64,
+}
+
+impl Signs {
+    fn new() -> Signs {
+        Signs {
+            first: AtomicU64::new(0),
+            second: AtomicU64::new(0),
+            in_vain: AtomicU64::new(0),
+        }
+    }
+
+    /// Waits for a sign, for so many turns at most.
+    fn wait_for(&self, sign: &AtomicU64) {
+        for _turn in 0..10_000_000u32 {
+            if sign.load(Ordering::SeqCst) == 1 {
+                return;
+            }
+            yield_now();
+        }
+        self.in_vain.store(1, Ordering::SeqCst);
+    }
+}
+
+/// Holds clerk 2's first commit until clerk 1 has reached its own, and clerk 1's until clerk 2 was answered.
+#[derive(Drop)]
+struct SecondFirst {
+    signs: Signs,
+}
+
+impl Gate for SecondFirst {
+    fn before_commit(&self, clerk: u8, _row: u32) {
+        if clerk == 1 {
+            self.signs.first.store(1, Ordering::SeqCst);
+            self.signs.wait_for(&self.signs.second);
+        } else {
+            self.signs.wait_for(&self.signs.first);
+        }
+    }
+
+    fn after_answer(&self, clerk: u8, _row: u32) {
+        if clerk == 2 {
+            self.signs.second.store(1, Ordering::SeqCst);
+        }
+    }
+}
+
+/// Holds clerk 1's commit until row 2 was answered, and clerk 2 after row 2 until row 1 was answered.
+#[derive(Drop)]
+struct LookedBetween {
+    signs: Signs,
+}
+
+impl Gate for LookedBetween {
+    fn before_commit(&self, _clerk: u8, _row: u32) {
+        self.signs.wait_for(&self.signs.second);
+    }
+
+    fn after_answer(&self, _clerk: u8, row: u32) {
+        if row == 1 {
+            self.signs.first.store(1, Ordering::SeqCst);
+        }
+        if row == 2 {
+            self.signs.second.store(1, Ordering::SeqCst);
+            self.signs.wait_for(&self.signs.first);
+        }
+    }
+}
+
+/// The answers of a new office of two clerks to these rows.
+#[tactic(auto, using(clerk_workers::proofs::CallerLemmas::open_in_order))]
+fn answers_in<L: Names + Send + Sync, R: Threads + Wait + Sync + Abort, G: Gate>(
+    rt: &R,
+    alloc: Global,
+    blank: Blank,
+    publisher: Publisher,
+    court: &Court,
+    rows: &[Row],
+    gate: &G,
+) -> Option<Vec<RowAnswer>>
+    requires name { blank.name ≡ L.name }
+    requires parts { blank.parts ≡ L.parts }
+    requires all { L.parts ≡ 64 }
+    requires publisher { publisher ≡ record { parts = L.bench; trail = past L.history [] } }
+    requires court { L.bench ≡ bench_of court.now }
+    requires clerks { AreOfClerks 2 rows.now }
+{
+    let Ok((_office, seats)) = Office::<L>::new(rt, alloc, blank, publisher, court, 2, 100) else {
+        return None;
+    };
+    match run_clerks(rt, alloc, seats, rows, gate) {
+        Ok(ran) => Some(ran.answers),
+        Err(_) => None,
+    }
+}
+
+/// The same, where a seat may get no place to read from, which may come without cause, so it is tried up to eight times.
+fn answers_to<R: Threads + Wait + Sync + Abort, G: Gate>(
+    rt: &R,
+    alloc: Global,
+    rows: &[Row],
+    gate: &G,
+) -> Result<Vec<RowAnswer>, Fail>
+    requires { AreOfClerks 2 rows.now }
+{
+    let court = Court::from_bytes(alloc, sample_court::file().as_bytes())?;
+    for _try in 0..8 {
+        let publisher = Publisher::new(alloc, &court)?;
+        let blank = Blank::new(64);
+        if let Some(answers) =
+            answers_in::<Brand, R, G>(rt, alloc, blank, publisher, &court, rows, gate)
+        {
+            return Ok(answers);
+        }
+    }
+    panic!(rt; "no run was started in eight tries")
+}
+
+fn open(rt: &impl Abort, clerk: u8) -> Row
+    ensures { result.clerk ≡ clerk }
+{
+    let filed = Day::from_text("2025-03-03").expect(rt, "a day");
+    Row {
+        clerk,
+        work: Work::Command(Command::OpenCase { case: 1, filed }),
+    }
+}
+
+fn sheet(clerk: u8) -> Row
+    ensures { result.clerk ≡ clerk }
+{
+    Row {
+        clerk,
+        work: Work::Query(Query::Sheet(1)),
+    }
+}
+
+/// Fails unless the answer is that of the entry at this place.
+fn is_made(rt: &impl Abort, given: &RowAnswer, place: u64, answer: Answer) {
+    match given {
+        RowAnswer::Made(done) => assert!(rt; done.place == place && done.answer == answer),
+        _ => panic!(rt; "no command was finished"),
+    }
+}
+
+#[test]
+fn the_clerk_who_is_held_goes_stale(rt: HostRuntime) -> Result<(), Fail> {
+    let gate = SecondFirst {
+        signs: Signs::new(),
+    };
+    let rows = [open(&rt, 1), open(&rt, 2)];
+    let answers = answers_to(&rt, rt.alloc(), &rows, &gate)?;
+    assert!(rt; gate.signs.in_vain.load(Ordering::SeqCst) == 0, "the clerks weren't at work together");
+    match answers.as_slice() {
+        [first, second] => {
+            is_made(&rt, first, 2, Answer::Refused(Refusal::CaseIsOpen));
+            is_made(&rt, second, 1, Answer::Opened);
+        }
+        _ => panic!(rt; "two rows have two answers"),
+    }
+    Ok(())
+}
+
+#[test]
+fn a_clerk_sees_what_the_other_finished(rt: HostRuntime) -> Result<(), Fail> {
+    let gate = LookedBetween {
+        signs: Signs::new(),
+    };
+    let rows = [open(&rt, 1), sheet(2), sheet(2)];
+    let answers = answers_to(&rt, rt.alloc(), &rows, &gate)?;
+    assert!(rt; gate.signs.in_vain.load(Ordering::SeqCst) == 0, "the clerks weren't at work together");
+    match answers.as_slice() {
+        [
+            first,
+            RowAnswer::Viewed(View::Refused(Refusal::NoSuchCase)),
+            RowAnswer::Viewed(View::Sheet(_)),
+        ] => is_made(&rt, first, 1, Answer::Opened),
+        _ => panic!(rt; "the sheet was shown before its case was opened, or not behind it"),
+    }
+    Ok(())
+}
