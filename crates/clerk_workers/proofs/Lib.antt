@@ -1,0 +1,3 @@
+pub mod AnsweredLemmas
+pub mod RowLemmas
+pub mod WorkLemmas
