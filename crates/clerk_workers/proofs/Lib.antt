@@ -1,3 +1,4 @@
 pub mod AnsweredLemmas
+pub mod CallerLemmas
 pub mod RowLemmas
 pub mod WorkLemmas
