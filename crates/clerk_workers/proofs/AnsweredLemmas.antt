@@ -1,12 +1,12 @@
 -- Answers to a clerk's rows, as more of the history is seen and more rows are answered.
 use Rattle.std.proofs.Common.{◌≡◌, ℕ, ◌+◌, ◌≤◌, List, [], ◌∷◌, ◌++◌, length, All, refl, ap, sym, ◌∙◌, append_assoc, append-nil, arith, length-append, subst}
-use Rattle.std.proofs.lemmas.List.Elements.{All-nil, All-cons, All-head, All-tail}
+use Rattle.std.proofs.lemmas.List.Elements.{All-nil, All-cons}
 use mathlib.Core.List.{IsPrefix}
 use Rattle.docket_rows.specs.declared.answer.Answer.{Answer}
 use Rattle.docket_rows.specs.declared.command.Command.{Command}
 use Rattle.docket_rows.specs.Words.{Bench}
 use Rattle.versioned_steps.specs.declared.entry.Entry.{Entry}
-use Rattle.published_docket.proofs.CallerLemmas.{prefix_self, prefix_trans}
+use Rattle.published_docket.proofs.CallerLemmas.{prefix_trans}
 use Rattle.office_rows.specs.declared.row.Work.{Work}
 use Rattle.office_rows.specs.declared.row.Work.TheVariants as work
 use Rattle.clerk_workers.specs.declared.answer.RowAnswer.{RowAnswer}

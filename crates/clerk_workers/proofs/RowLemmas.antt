@@ -1,10 +1,12 @@
 -- The rows of one clerk among those of all.
-use Rattle.std.proofs.Common.{◌≡◌, ℕ, zero, ◌+◌, ◌==◌, if◌then◌else◌, true, false, List, [], ◌∷◌, ◌++◌, take, drop, length, refl, ap, sym, ◌∙◌, arith, take-append-drop, length-append}
+use Rattle.std.proofs.Common.{◌≡◌, ℕ, ◌+◌, ◌<◌, ◌==◌, get_or, if◌then◌else◌, true, false, List, [], ◌∷◌, ◌++◌, take, drop, length, refl, ap, sym, ◌∙◌, take-append-drop, length-append}
 use Rattle.std.proofs.lemmas.Bool.Decides.{Decides-eqb}
+use Rattle.std.proofs.lemmas.List.{take_more}
 use mathlib.Core.List.{IsPrefix}
 use Rattle.office_rows.specs.declared.row.Row.{Row}
 use Rattle.office_rows.specs.declared.row.Work.{Work}
-use Rattle.clerk_workers.specs.Rows.{works_of}
+use Rattle.clerk_workers.specs.declared.answer.RowAnswer.{RowAnswer}
+use Rattle.clerk_workers.specs.Rows.{answers_of, works_of}
 
 module _ (clerk : ℕ) where
   -- in some rows and then others
@@ -36,3 +38,20 @@ module _ (clerk : ℕ) where
   -- those of a row and then of others
   pub works_count : (row : Row) (rows : List Row) → length (works_of clerk (row ∷ rows)) ≡ length (works_of clerk (row ∷ [])) + length (works_of clerk rows)
   works_count row rows = ap length (works_append (row ∷ []) rows) ∙ length-append (works_of clerk (row ∷ [])) (works_of clerk rows)
+
+  -- those of one row more
+  pub works_taken : (rows : List Row) (count : ℕ) (row : Row) → count < length rows → row ≡ get_or rows count row → length (works_of clerk (take (count + 1) rows)) ≡ length (works_of clerk (take count rows)) + length (works_of clerk (row ∷ []))
+  works_taken rows count row lt at =
+      let more : take (count + 1) rows ≡ take count rows ++ row ∷ [] = take_more rows count row lt ∙ ap (λ (r : Row). take count rows ++ r ∷ []) (sym at) in
+      ap (λ (rs : List Row). length (works_of clerk rs)) more ∙ (ap length (works_append (take count rows) (row ∷ [])) ∙ length-append (works_of clerk (take count rows)) (works_of clerk (row ∷ [])))
+
+  -- the answers at a row of the clerk's and behind it, and at one of another's
+  pub answers_own : (row : Row) (rows : List Row) (answer : RowAnswer) (answers : List RowAnswer) → row.clerk ≡ clerk → answers_of clerk (row ∷ rows) (answer ∷ answers) ≡ answer ∷ answers_of clerk rows answers
+  answers_own row rows answer answers own = let is : (row.clerk == clerk) ≡ true = (Decides-eqb row.clerk clerk).1 own in rw is
+
+  pub answers_other : (row : Row) (rows : List Row) (answer : RowAnswer) (answers : List RowAnswer) → (row.clerk ≡ clerk → ⊥) → answers_of clerk (row ∷ rows) (answer ∷ answers) ≡ answers_of clerk rows answers
+  answers_other row rows answer answers other =
+      (elim (row.clerk == clerk) as (λ b. (row.clerk == clerk) ≡ b → (if b then answer ∷ answers_of clerk rows answers else answers_of clerk rows answers) ≡ answers_of clerk rows answers) [
+        | true ↦ λ is. absurd (other ((Decides-eqb row.clerk clerk).0 is))
+        | false ↦ λ is. refl
+      ]) refl

@@ -2,8 +2,6 @@
 use Rattle.std.proofs.Common.{◌≡◌, ℕ, ◌≤◌, List, [], ◌∷◌, ◌++◌, length, All, refl, ap, sym, ◌∙◌, append_assoc, append-nil, subst, arith}
 use Rattle.std.specs.declared.result.Result.{Result}
 use Rattle.std.specs.declared.result.Result.TheVariants.{Ok, Err}
-
-use mathlib.Core.List.{IsPrefix}
 use Rattle.docket_rows.specs.Words.{Bench}
 use Rattle.published_docket.proofs.CallerLemmas.{prefix_self, prefix_trans}
 use Rattle.office_seats.specs.Words.{SeatView, Goes}

@@ -1,15 +1,11 @@
 -- What a clerk's work does to a seat.
-use Rattle.std.specs.Prelude.{◌≡◌, ℕ, Bool, true, false, List, [], ◌++◌}
-use Rattle.std.specs.declared.result.Result.{Result}
-use Rattle.std.specs.declared.result.Result.TheVariants.{Ok, Err}
+use Rattle.std.specs.Prelude.{◌≡◌, List, [], ◌++◌}
 use mathlib.Core.List.{IsPrefix}
 use Rattle.docket_rows.specs.Words.{Bench}
 use Rattle.office_seats.specs.Words.{SeatView, TallyView}
-use Rattle.office_rows.specs.declared.row.Row.{Row}
 use Rattle.office_rows.specs.declared.row.Work.{Work}
 use Rattle.clerk_workers.specs.declared.answer.RowAnswer.{RowAnswer}
 use Rattle.clerk_workers.specs.Answered.{AreAnswered, places_told}
-use Rattle.clerk_workers.specs.Rows.{works_of}
 
 -- what the seat would leave now
 abbrev pub tally_of : SeatView → TallyView

@@ -2,8 +2,19 @@
 #![tactic(auto)]
 
 mod answer;
+mod desk;
+mod desks;
+mod duty;
 mod gate;
+mod hired;
+mod merge;
+mod outcome;
+mod run;
+mod state;
 mod worker;
+mod workers;
 
 pub use answer::RowAnswer;
 pub use gate::Gate;
+pub use outcome::{Ran, RunFault};
+pub use run::run_clerks;

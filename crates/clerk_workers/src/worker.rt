@@ -84,11 +84,7 @@ fn finish<L: Names, R: Wait, G: Gate>(
 
 // Shows what a query asks for.
 // A body that always found no memory would meet this contract, and no test of this crate refuses it yet.
-fn view<L: Names>(
-    alloc: Global,
-    seat: &mut Seat<L>,
-    query: &Query,
-) -> Result<RowAnswer, AllocError>
+fn view<L: Names>(alloc: Global, seat: &mut Seat<L>, query: &Query) -> Result<RowAnswer, AllocError>
     ensures { Answers L.bench seat.old (work.Query query.now) result seat.new }
 {
     match seat.show(alloc, query) {

@@ -1,4 +1,4 @@
-use Rattle.std.proofs.Common.{◌≡◌, ◌+◌, ◌∙◌, ◌++◌, ◌∷◌, [], List, length, take, drop, ap, sym, subst, refl, arith}
+use Rattle.std.proofs.Common.{◌≡◌, ◌+◌, ◌∙◌, ◌++◌, ◌∷◌, [], List, length, take, drop, ap, sym, subst, arith}
 use Rattle.std.proofs.lemmas.List.{at_drop_more, take_more}
 use Rattle.office_rows.specs.declared.row.Row.{Row}
 use Rattle.clerk_workers.specs.Rows.{works_of}

@@ -1,6 +1,4 @@
-use Rattle.std.proofs.Common.{◌≡◌, ◌∷◌, ◌++◌, ◌∙◌, [], List, sym, subst, arith}
-use Rattle.office_rows.specs.declared.row.Row.{Row}
-use Rattle.office_seats.specs.Words.{SeatView}
+use Rattle.std.proofs.Common.{◌∷◌, ◌++◌, ◌∙◌, [], List, sym, subst, arith}
 use Rattle.clerk_workers.specs.declared.answer.RowAnswer.{RowAnswer}
 use Rattle.clerk_workers.specs.Steps.{FinishesNothing, IsAfter, IsDone}
 use Rattle.clerk_workers.proofs.WorkLemmas.{after_nothing, after_other, after_row}
