@@ -4,13 +4,11 @@ use Rattle.std.specs.Prelude.{⊤}
 use Rattle.std.proofs.Math.Seq.{get_or-append_seam}
 use Rattle.std.proofs.lemmas.Bool.Decides.{Decides-eqb}
 use Rattle.std.proofs.lemmas.List.Elements.{All-nil, All-cons, All-head, All-tail, All-weaker}
-use mathlib.Core.List.{IsPrefix}
 use Rattle.docket_rows.specs.declared.answer.Answer.{Answer}
 use Rattle.docket_rows.specs.declared.command.Command.{Command}
 use Rattle.versioned_steps.specs.declared.entry.Entry.{Entry}
-use Rattle.published_docket.proofs.CallerLemmas.{prefix_shorter}
-use Rattle.office_seats.specs.Words.{places_after, places_of}
-use Rattle.clerk_workers.specs.Answered.{History, StandsAt}
+use Rattle.office_seats.specs.Words.{places_after}
+use Rattle.clerk_workers.specs.Words.{History, StandsAt}
 use Rattle.shared_run.specs.Calls.{Call, calls_by}
 
 -- what stands at one place is one entry

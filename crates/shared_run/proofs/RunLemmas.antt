@@ -1,25 +1,23 @@
 -- What all clerks did, and the journal that the closed office gave, make one run.
-use Rattle.std.proofs.Common.{◌≡◌, ℕ, ◌+◌, ◌<◌, ◌≤◌, List, [], ◌∷◌, ◌++◌, length, All, Contains, refl, ap, sym, ◌∙◌, append_assoc, append-nil, arith, length-append, subst}
-use Rattle.std.proofs.lemmas.List.Elements.{All-nil, All-cons, All-append, All-contains, All-weaker}
+use Rattle.std.proofs.Common.{◌≡◌, ℕ, ◌+◌, ◌<◌, ◌≤◌, List, [], ◌∷◌, ◌++◌, length, All, Contains, refl, ap, sym, ◌∙◌, append_assoc, arith, length-append, subst}
+use Rattle.std.proofs.lemmas.List.Elements.{All-nil, All-cons, All-contains, All-weaker}
 use mathlib.Core.List.{IsPrefix}
 use Rattle.docket_rows.specs.declared.answer.Answer.{Answer}
 use Rattle.docket_rows.specs.declared.command.Command.{Command}
 use Rattle.docket_rows.specs.Words.{Bench}
 use Rattle.versioned_steps.specs.declared.entry.Entry.{Entry}
 use Rattle.published_docket.proofs.CallerLemmas.{prefix_shorter}
-use Rattle.office_seats.specs.Words.{TallyView, IsClosed, numbers_of, open_seat, places_after, places_of}
+use Rattle.office_seats.specs.Words.{TallyView, IsClosed, open_seat, places_after, places_of}
 use Rattle.office_seats.proofs.CallerLemmas.{places_append}
 use Rattle.office_rows.specs.declared.row.Row.{Row}
 use Rattle.office_rows.specs.declared.row.Work.{Work}
 use Rattle.office_rows.specs.declared.row.Work.TheVariants as work
 use Rattle.clerk_workers.specs.declared.answer.RowAnswer.{RowAnswer}
 use Rattle.clerk_workers.specs.declared.answer.RowAnswer.TheVariants.{Made, JournalFull, Viewed}
-use Rattle.clerk_workers.specs.Answered.{History, IsViewed, AreAnswered, IsAnswered, place_told, places_told}
-use Rattle.clerk_workers.specs.Rows.{works_of, answers_of}
-use Rattle.clerk_workers.specs.Worked.{HasWorked}
+use Rattle.clerk_workers.specs.Words.{AreAnswered, HasWorked, History, IsAnswered, answers_of, place_told, places_told, works_of}
 use Rattle.clerk_workers.proofs.CallerLemmas.{are_answered_later}
 use Rattle.shared_run.specs.Calls.{Call, calls_by, call_told, calls_told}
-use Rattle.shared_run.specs.Run.{IsShownAt, IsGiven, AreGiven, IsTold, IsSharedRun}
+use Rattle.shared_run.specs.Run.{IsGiven, AreGiven, IsTold, IsSharedRun}
 use Rattle.shared_run.proofs.CallLemmas.{AllStand, calls_stand, calls_append, as_many_places, places_later, no_more, few_entries}
 
 module _ (bench : Bench) (limit clerk : ℕ) (journal : History) where

@@ -6,7 +6,7 @@ use Rattle.office_rows.specs.declared.row.Work.{Work}
 use Rattle.office_rows.specs.declared.row.Work.TheVariants as work
 use Rattle.clerk_workers.specs.declared.answer.RowAnswer.{RowAnswer}
 use Rattle.clerk_workers.specs.declared.answer.RowAnswer.TheVariants.{Made, JournalFull, Viewed}
-use Rattle.clerk_workers.specs.Answered.{History}
+use Rattle.clerk_workers.specs.Words.{History}
 
 -- a finished call: what was asked for, and how it was answered
 pub record Call : Type 0 where

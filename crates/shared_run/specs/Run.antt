@@ -14,8 +14,7 @@ use Rattle.office_rows.specs.declared.row.Work.{Work}
 use Rattle.office_rows.specs.declared.row.Work.TheVariants as work
 use Rattle.clerk_workers.specs.declared.answer.RowAnswer.{RowAnswer}
 use Rattle.clerk_workers.specs.declared.answer.RowAnswer.TheVariants.{Made, JournalFull, Viewed}
-use Rattle.clerk_workers.specs.Answered.{History}
-use Rattle.clerk_workers.specs.Rows.{works_of, answers_of}
+use Rattle.clerk_workers.specs.Words.{History, answers_of, works_of}
 use Rattle.shared_run.specs.Calls.{Call, calls_by, call_told, calls_told}
 
 module _ (bench : Bench) (limit : ℕ) (journal : History) (clerk : ℕ) where

@@ -8,7 +8,7 @@ use Rattle.office_texts.specs.Words.{answer_text, view_lines}
 use Rattle.office_run.specs.Words.{row_numbers, closing_text}
 use Rattle.clerk_workers.specs.declared.answer.RowAnswer.{RowAnswer}
 use Rattle.clerk_workers.specs.declared.answer.RowAnswer.TheVariants.{Made, JournalFull, Viewed}
-use Rattle.clerk_workers.specs.Answered.{History}
+use Rattle.clerk_workers.specs.Words.{History}
 use Rattle.shared_run.specs.Run.{IsSharedRun}
 
 -- the text of an answer, with the ends of its lines

@@ -1,4 +1,4 @@
-use Rattle.std.proofs.Common.{◌≡◌, ◌+◌, ◌<◌, ◌≤◌, ◌++◌, ◌∙◌, drop, get_or, length, string_bytes, append_assoc, append-nil, sym, ap, arith}
+use Rattle.std.proofs.Common.{◌+◌, ◌<◌, ◌≤◌, ◌++◌, ◌∙◌, drop, get_or, length, string_bytes, append_assoc, append-nil, sym, ap, arith}
 use Rattle.shared_run.specs.Text.{answer_line, answer_lines}
 use Rattle.shared_run.proofs.LineLemmas.{lines_more, lines_over}
 use Rattle.shared_run.proofs.text.push_answers.Goals as goal
