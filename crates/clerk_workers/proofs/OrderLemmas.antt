@@ -11,7 +11,7 @@ numbered_push : (first : ℕ) (seats : List SeatView) (seat : SeatView) → AreN
 numbered_push first [] seat are next = (omega (arith, next), tt)
 numbered_push first (s ∷ seats) seat are next = (are.0, numbered_push (first + 1) seats seat are.1 (omega (arith, next)))
 
-open_long : (limit count : ℕ) → length (open_seats limit count) ≡ count
+pub open_long : (limit count : ℕ) → length (open_seats limit count) ≡ count
 open_long limit zero = refl
 open_long limit (suc count) = length-append (open_seats limit count) (open_seat limit (count + 1) ∷ []) ∙ omega (arith, open_long limit count)
 

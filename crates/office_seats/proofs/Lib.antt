@@ -1,4 +1,5 @@
 pub mod BookLemmas
+pub mod CallerLemmas
 pub mod ClosingLemmas
 pub mod CountLemmas
 pub mod JournalLemmas
