@@ -16,7 +16,14 @@ fn main(rt: HostRuntime) -> ExitCode {
     let mut reader = Watched::new(rt.stdin());
     let mut writer = Watched::new(io::writer(&rt));
     let mut errors = rt.stderr();
-    ExitCode::from(run_program(rt.alloc(), words, &mut reader, &mut writer, &mut errors))
+    ExitCode::from(run_program(
+        &rt,
+        rt.alloc(),
+        words,
+        &mut reader,
+        &mut writer,
+        &mut errors,
+    ))
 }
 
 /// The words of the command line, of which the first is the program's name.
