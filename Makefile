@@ -5,9 +5,10 @@ CRATE    := crates/clerk_office
 PROGRAM  := $(CRATE)/out/clerk_office
 BOOKINGS := crates/measure_bookings
 STEPS    := crates/stored_steps
+MEMO     := crates/deadline_memo
 EXAMPLE  := examples/smallest.txt
 
-.PHONY: build run test bench refuse check-program runs compare steps commands courts help
+.PHONY: build memo run test bench refuse check-program runs compare derivations steps commands courts help
 
 # `rt run` proves the program and the libraries below it, builds it at $(PROGRAM), and runs it, here on the smallest
 # example. Where nothing has changed since the last time it proves nothing anew.
@@ -16,6 +17,10 @@ build:
 
 run: build
 	@$(PROGRAM) < $(EXAMPLE)
+
+# The program that gives reasons, proved and built at crates/deadline_memo/out/deadline_memo.
+memo:
+	@cd $(MEMO) && rt run < ../../$(EXAMPLE) > /dev/null
 
 # Everything from nothing: proofs, edits that the prover must refuse, tests, and the program's stored run.
 test:
@@ -45,6 +50,11 @@ COUNT := 600
 compare: build
 	@python3 checks/office_compare.py $(PROGRAM) $(SEED) $(COUNT)
 
+# Beside the gate: the reasons of deadlines that are made at random, each line checked by the one before it, in plain
+# Python that computes no deadline; and reasons that are spoiled, which it must refuse.
+derivations: memo
+	@python3 checks/derivations_check.py $(MEMO)/out/deadline_memo $(SEED)
+
 # Beside the gate: the steps of clerks who share a docket, and a replay of them in plain Python, on every list of five
 # steps behind some beginnings, and on longer ones that are made at random.
 steps:
@@ -52,7 +62,7 @@ steps:
 	@python3 checks/steps_compare.py $(STEPS)/out/stored_steps $(SEED)
 
 # Beside the gate: the examples, and the commands that the documents show, and what they print.
-commands: build
+commands: build memo
 	@python3 checks/docs_check.py
 
 # Beside the gate: the courts' files of examples/courts, as they are written and as the program answers them.
@@ -68,6 +78,8 @@ help:
 	@echo "make check-program  runs the program for every status, 0 to 5, and looks at all that it writes"
 	@echo "make runs    runs the program on the whole runs of runs/, and compares all that it writes"
 	@echo "make compare compares the program with its reference on inputs made at random (SEED=1 COUNT=600)"
+	@echo "make memo    proves and builds the program that gives reasons, which is then $(MEMO)/out/deadline_memo"
+	@echo "make derivations checks the reasons of ten thousand deadlines made at random, and refuses spoiled ones (SEED=1)"
 	@echo "make steps   compares the steps of clerks who share a docket with a replay, on every short list of them (SEED=1)"
 	@echo "make commands runs the examples and the commands that the documents show, and compares what they print"
 	@echo "make courts  checks the courts' files of examples/courts, and runs the program on each"

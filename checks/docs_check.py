@@ -3,12 +3,12 @@
 
     docs_check.py
 
-Each examples/NAME.txt must be answered as examples/NAME.out.
+Each examples/NAME.txt must be answered as examples/NAME.out, and with reasons as examples/NAME.memo.
 
 In README.md, docs/, examples/ and runs/ a line of an indented block that begins with `$ ` is a command, run in a shell
 at the top of the repository; the lines below it, up to the next command or the end of the block, are what it must
 print. The rows and answers in docs/A_DAY.md must be those of examples/a_day.txt and examples/a_day.out, each once and
-in their order. The program must be built (`make`). It needs Python 3.8 or later; the status is 0 where all is as is
+in their order. The programs must be built (`make`, `make memo`). It needs Python 3.8 or later; the status is 0 where all is as is
 written.
 """
 import pathlib
@@ -17,7 +17,7 @@ import subprocess
 import sys
 
 TOP = pathlib.Path(__file__).resolve().parent.parent
-PROGRAM = "crates/clerk_office/out/clerk_office"
+PROGRAMS = {".out": "crates/clerk_office/out/clerk_office", ".memo": "crates/deadline_memo/out/deadline_memo"}
 DIVIDER = "%%\n"
 
 
@@ -46,11 +46,12 @@ def prints(command, wanted):
     return ran.stdout.decode() == wanted
 
 
-def is_answered(example):
+def is_answered(example, kind):
     """Whether the program writes what stands beside the example."""
     with open(example, "rb") as rows:
-        ran = subprocess.run([TOP / PROGRAM], stdin=rows, stdout=subprocess.PIPE, stderr=subprocess.STDOUT, check=False)
-    return (ran.returncode, ran.stdout) == (0, example.with_suffix(".out").read_bytes())
+        ran = subprocess.run([TOP / PROGRAMS[kind]], stdin=rows, stdout=subprocess.PIPE, stderr=subprocess.STDOUT,
+                             check=False)
+    return (ran.returncode, ran.stdout) == (0, example.with_suffix(kind).read_bytes())
 
 
 def is_told(page, example):
@@ -72,10 +73,10 @@ def main():
     told = is_told((TOP / "docs" / "A_DAY.md").read_text(), TOP / "examples" / "a_day")
     if not told:
         print("docs/A_DAY.md: not the rows and answers of examples/a_day")
-    examples = sorted((TOP / "examples").glob("*.txt"))
-    unanswered = [path for path in examples if not is_answered(path)]
-    for path in unanswered:
-        print("{}: answered otherwise".format(path.relative_to(TOP)))
+    examples = [(path, kind) for path in sorted((TOP / "examples").glob("*.txt")) for kind in PROGRAMS]
+    unanswered = [(path, kind) for path, kind in examples if not is_answered(path, kind)]
+    for path, kind in unanswered:
+        print("{}: answered otherwise".format(path.with_suffix(kind).relative_to(TOP)))
     failed = len(wrong) + len(unanswered) + (0 if told else 1)
     print("{} passed, {} failed".format(len(shown) + len(examples) + 1 - failed, failed))
     sys.exit(0 if shown and examples and failed == 0 else 1)

@@ -5,10 +5,11 @@
 mod program;
 mod words;
 
+use office_options::words_of;
 use office_streams::Watched;
 use program::run_program;
+use std::io;
 use std::process::ExitCode;
-use std::{env, io};
 
 /// Runs the program on the process's own streams and words, and ends with its status.
 fn main(rt: HostRuntime) -> ExitCode {
@@ -24,9 +25,4 @@ fn main(rt: HostRuntime) -> ExitCode {
         &mut writer,
         &mut errors,
     ))
-}
-
-/// The words of the command line, of which the first is the program's name.
-fn words_of(rt: &HostRuntime) -> io::Result<Vec<String>> {
-    Ok(env::args(rt)?.collect(rt.alloc())?)
 }

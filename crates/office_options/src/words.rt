@@ -5,6 +5,15 @@ ghost use Rattle.clap.specs.Walk.{texts};
 ghost use Rattle.office_options.specs.Named.{words_behind};
 
 use std::alloc::{AllocError, Global};
+use std::{env, io};
+
+// A body that gave no words, or an error, would do as well: no contract says what a process is called with. The stored
+// runs of both programs are called with none.
+
+/// The words that the process is called with, of which the first is the program's name.
+pub fn words_of(rt: &HostRuntime) -> io::Result<Vec<String>> {
+    Ok(env::args(rt)?.collect(rt.alloc())?)
+}
 
 /// The texts of the words behind the program's name, which is the first. `Err` says that memory ran out.
 pub fn texts_behind(alloc: Global, words: &[String]) -> Result<Vec<&str>, AllocError>

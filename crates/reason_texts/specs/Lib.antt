@@ -1,4 +1,5 @@
 pub mod Course
+pub mod Names
 pub mod Times
 pub mod Day
 pub mod What

@@ -1,7 +1,9 @@
 -- What happened, in words.
-use Rattle.std.specs.Prelude.{ℕ, ◌/◌, ℤ, pos, int_lt, unsigned_abs, List, [], ◌++◌, codes, if◌then◌else◌}
+use Rattle.std.specs.Prelude.{ℕ, ◌/◌, ℤ, pos, int_lt, unsigned_abs, List, [], ◌++◌, Option, None, unwrap_or, codes, if◌then◌else◌}
 use Rattle.std.specs.Fmt.{decimal}
 use Rattle.std.specs.Ordering.{int_eq}
+use Rattle.court_days.specs.declared.direction.Direction.{Direction}
+use Rattle.court_days.specs.declared.direction.Direction.TheVariants.{After, Before}
 use Rattle.court_days.specs.Words.{ClockView, OutageView, civil_of}
 use Rattle.rule_periods.specs.declared.grant.Grant.{Grant}
 use Rattle.rule_periods.specs.declared.grant.Grant.TheVariants.{ByDays, ByHours, Until}
@@ -11,6 +13,7 @@ use Rattle.deadline_reasons.specs.declared.reason.Cause.{Cause}
 use Rattle.deadline_reasons.specs.declared.reason.Cause.TheVariants as cause
 use Rattle.deadline_reasons.specs.declared.reason.Reason.{Reason}
 use Rattle.deadline_reasons.specs.declared.reason.Reason.TheVariants as reason
+use Rattle.reason_texts.specs.Names.{NamedDay, name_on}
 use Rattle.reason_texts.specs.Times.{minute_time, time_of_civil}
 
 abbrev pub cause_text : Cause → List ℕ
@@ -19,6 +22,16 @@ cause_text cause.Sunday = codes "Sunday"
 cause_text cause.FederalHoliday = codes "legal holiday"
 cause_text cause.StateHoliday = codes "legal holiday of the state"
 cause_text cause.Inaccessible = codes "inaccessible"
+
+-- the name of a holiday, where it has one; other causes have none
+abbrev pub name_of_cause : List NamedDay → ℤ → Cause → Option (List ℕ)
+name_of_cause names day cause.FederalHoliday = name_on names day
+name_of_cause names day cause.StateHoliday = name_on names day
+name_of_cause names day cause = None
+
+-- a cause by its name, or by its kind
+abbrev pub cause_shown : List NamedDay → ℤ → Cause → List ℕ
+cause_shown names day cause = unwrap_or (name_of_cause names day cause) (cause_text cause)
 
 -- how a paper was served, by the paragraphs of Rule 5(b)(2)
 abbrev pub kind_text : ServiceKind → List ℕ
@@ -35,19 +48,21 @@ grant_text (ByDays n) = codes "by " ++ decimal n ++ codes " days"
 grant_text (ByHours h) = codes "by " ++ decimal h ++ codes " hours"
 grant_text (Until day) = codes "to this day"
 
--- that the clocks were set forward or back
-abbrev pub change_words : ℤ → List ℕ
-change_words forward = if int_lt (pos 0) forward then codes ", clocks forward " else codes ", clocks back "
+-- That the clocks were set forward or back meanwhile, where the clock is so many seconds further ahead at the end of the
+-- hours than where they begin. Hours before an event end earlier than they begin.
+abbrev pub change_words : Direction → ℤ → List ℕ
+change_words After forward = if int_lt (pos 0) forward then codes ", clocks forward " else codes ", clocks back "
+change_words Before forward = if int_lt (pos 0) forward then codes ", clocks back " else codes ", clocks forward "
 
 -- by how many whole minutes the clocks were changed, of so many seconds
-abbrev pub change_text : ℤ → List ℕ
-change_text forward =
-    if int_eq forward (pos 0) then [] else change_words forward ++ decimal (unsigned_abs forward / 60) ++ codes " min"
+abbrev pub change_text : Direction → ℤ → List ℕ
+change_text direction forward =
+    if int_eq forward (pos 0) then [] else change_words direction forward ++ decimal (unsigned_abs forward / 60) ++ codes " min"
 
 -- `72, at 09:23:00, clocks back 60 min`
-abbrev pub hours_text : ClockView → (hours : ℕ) → (end forward : ℤ) → List ℕ
-hours_text clock hours end forward =
-    decimal hours ++ codes ", at " ++ time_of_civil (civil_of clock.zone end) ++ change_text forward
+abbrev pub hours_text : ClockView → Direction → (hours : ℕ) → (end forward : ℤ) → List ℕ
+hours_text clock direction hours end forward =
+    decimal hours ++ codes ", at " ++ time_of_civil (civil_of clock.zone end) ++ change_text direction forward
 
 -- the first minute of an outage, and the first one after it
 abbrev pub outage_text : OutageView → List ℕ
@@ -76,20 +91,20 @@ first_words reason.NotCovered = codes "a day that is needed isn't covered"
 first_words reason.Beyond = codes "beyond the days covered"
 
 -- what it says of itself: how many days, which cause, what time
-abbrev pub detail_text : ClockView → Reason → List ℕ
-detail_text clock (reason.Counted n day) = decimal n
-detail_text clock (reason.PassedOver day cause) = cause_text cause
-detail_text clock (reason.ThreeAdded kind) = kind_text kind
-detail_text clock (reason.Extended grant) = grant_text grant
-detail_text clock (reason.NotExtended grant) = grant_text grant
-detail_text clock (reason.HoursFrom instant) = time_of_civil (civil_of clock.zone instant)
-detail_text clock (reason.HoursCounted h instant forward) = hours_text clock h instant forward
-detail_text clock (reason.SameTime day instant) = time_of_civil (civil_of clock.zone instant)
-detail_text clock (reason.Inaccessible outage) = outage_text outage
-detail_text clock (reason.LastHour outage day second) = outage_text outage
-detail_text clock (reason.UntilClosing day minute) = minute_time minute
-detail_text clock (reason.UntilInstant instant) = time_of_civil (civil_of clock.zone instant)
-detail_text clock r = []
+abbrev pub detail_text : ClockView → List NamedDay → Direction → Reason → List ℕ
+detail_text clock names direction (reason.Counted n day) = decimal n
+detail_text clock names direction (reason.PassedOver day cause) = cause_shown names day cause
+detail_text clock names direction (reason.ThreeAdded kind) = kind_text kind
+detail_text clock names direction (reason.Extended grant) = grant_text grant
+detail_text clock names direction (reason.NotExtended grant) = grant_text grant
+detail_text clock names direction (reason.HoursFrom instant) = time_of_civil (civil_of clock.zone instant)
+detail_text clock names direction (reason.HoursCounted h instant forward) = hours_text clock direction h instant forward
+detail_text clock names direction (reason.SameTime day instant) = time_of_civil (civil_of clock.zone instant)
+detail_text clock names direction (reason.Inaccessible outage) = outage_text outage
+detail_text clock names direction (reason.LastHour outage day second) = outage_text outage
+detail_text clock names direction (reason.UntilClosing day minute) = minute_time minute
+detail_text clock names direction (reason.UntilInstant instant) = time_of_civil (civil_of clock.zone instant)
+detail_text clock names direction r = []
 
 -- the words that it ends with
 abbrev pub last_words : Reason → List ℕ
@@ -99,5 +114,6 @@ last_words (reason.PassedOver day cause) = codes ", passed over"
 last_words (reason.UntilClosing day minute) = codes ", e-filing to midnight"
 last_words r = []
 
-unfoldable pub what_text : ClockView → Reason → List ℕ
-what_text clock r = first_words r ++ detail_text clock r ++ last_words r
+-- what happened, where the days of holidays have these names and hours are counted in this direction
+unfoldable pub what_text : ClockView → List NamedDay → Direction → Reason → List ℕ
+what_text clock names direction r = first_words r ++ detail_text clock names direction r ++ last_words r

@@ -1,5 +1,6 @@
 -- The words of clauses and definitions, for the crates above, from one place.
 pub use Rattle.reason_texts.specs.Course.{course_of, course_after}
+pub use Rattle.reason_texts.specs.Names.{NamedDay, name_on}
 pub use Rattle.reason_texts.specs.Times.{time_of_civil}
 unfoldable pub use Rattle.reason_texts.specs.Times.{two_digits, second_time, minute_time}
 pub use Rattle.reason_texts.specs.Day.{day_shown, day_column}

@@ -4,6 +4,7 @@
 mod course;
 mod day;
 mod line;
+mod names;
 mod section;
 mod spaces;
 mod times;
@@ -11,3 +12,4 @@ mod what;
 
 pub use course::{Course, Search};
 pub use line::{push_reason, push_reasons};
+pub use names::HolidayName;

@@ -8,29 +8,31 @@ ghost use Rattle.reason_texts.specs.What.{what_text};
 
 use crate::course::Course;
 use crate::day::{day_shown, push_day};
+use crate::names::HolidayName;
 use crate::section::push_section;
 use crate::spaces::push_spaces;
 use crate::what::push_what;
-use court_days::Clock;
+use court_days::{Clock, Direction};
 use deadline_reasons::Reason;
 use std::alloc::AllocError;
 
 // How wide what happened is, with the spaces behind it.
-const WIDTH: usize = 42;
+const WIDTH: usize = 50;
 
-/// Adds a line for each reason, in their order, from the course before the first of them on. `Err` says that memory ran
-/// out.
+/// Adds a line for each reason, in their order, from the course before the first of them on. A holiday is called by the
+/// first of these names that its day has, if it has one. `Err` says that memory ran out.
 pub fn push_reasons(
     text: &mut String,
     clock: &Clock,
+    names: &[HolidayName],
     course: Course,
     reasons: &[Reason],
 ) -> Result<(), AllocError>
-    ensures { OnOk result (string_bytes text.new ≡ string_bytes text.old ++ reason_lines clock.now course reasons.now) }
+    ensures { OnOk result (string_bytes text.new ≡ string_bytes text.old ++ reason_lines clock.now names.now course reasons.now) }
 {
     let mut here = course;
     for reason in reasons {
-        push_reason(text, clock, here, reason)?;
+        push_reason(text, clock, names, here, reason)?;
         here = here.after(reason);
     }
     Ok(())
@@ -43,25 +45,32 @@ pub fn push_reasons(
 pub fn push_reason(
     text: &mut String,
     clock: &Clock,
+    names: &[HolidayName],
     course: Course,
     reason: &Reason,
 ) -> Result<(), AllocError>
-    ensures { OnOk result (string_bytes text.new ≡ string_bytes text.old ++ reason_line clock.now course reason.now) }
+    ensures { OnOk result (string_bytes text.new ≡ string_bytes text.old ++ reason_line clock.now names.now course reason.now) }
 {
     text.push_str("  ")?;
     push_day(text, day_shown(clock, reason))?;
     text.push_str("  ")?;
-    push_padded(text, clock, reason)?;
+    push_padded(text, clock, names, course.direction, reason)?;
     push_end(text, course, reason)
 }
 
 /// Adds what happened, and spaces up to the next column.
 #[tactic(auto, using(crate::proofs::SpacesLemmas::length_behind))]
-fn push_padded(text: &mut String, clock: &Clock, reason: &Reason) -> Result<(), AllocError>
-    ensures { OnOk result (string_bytes text.new ≡ string_bytes text.old ++ padded (what_text clock.now reason.now)) }
+fn push_padded(
+    text: &mut String,
+    clock: &Clock,
+    names: &[HolidayName],
+    direction: Direction,
+    reason: &Reason,
+) -> Result<(), AllocError>
+    ensures { OnOk result (string_bytes text.new ≡ string_bytes text.old ++ padded (what_text clock.now names.now direction reason.now)) }
 {
     let before = text.len();
-    push_what(text, clock, reason)?;
+    push_what(text, clock, names, direction, reason)?;
     let wide = text.len() - before;
     push_spaces(text, WIDTH.saturating_sub(wide))
 }

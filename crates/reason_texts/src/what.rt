@@ -1,10 +1,11 @@
 //! What happened, in words.
 
-ghost use Rattle.std.specs.Prelude.{◌≡◌, ◌++◌, OnOk, string_bytes};
-ghost use Rattle.reason_texts.specs.What.{cause_text, change_text, change_words, detail_text, first_words, grant_text, hours_text, kind_text, last_words, outage_text, what_text};
+ghost use Rattle.std.specs.Prelude.{◌≡◌, ◌++◌, OnOk, option_copied, string_bytes};
+ghost use Rattle.reason_texts.specs.What.{cause_shown, cause_text, change_text, change_words, detail_text, first_words, grant_text, hours_text, kind_text, last_words, name_of_cause, outage_text, what_text};
 
+use crate::names::{HolidayName, name_on};
 use crate::times::{push_minute, push_time_at};
-use court_days::{Clock, Instant, Outage};
+use court_days::{Clock, Day, Direction, Instant, Outage};
 use deadline_reasons::{Cause, Reason};
 use rule_periods::Grant;
 use rule6::ServiceKind;
@@ -13,11 +14,17 @@ use std::fmt::Write;
 
 /// Adds what happened.
 #[tactic(auto, unfolding(crate::specs::What::what_text))]
-pub(crate) fn push_what(text: &mut String, clock: &Clock, reason: &Reason) -> Result<(), AllocError>
-    ensures { OnOk result (string_bytes text.new ≡ string_bytes text.old ++ what_text clock.now reason.now) }
+pub(crate) fn push_what(
+    text: &mut String,
+    clock: &Clock,
+    names: &[HolidayName],
+    direction: Direction,
+    reason: &Reason,
+) -> Result<(), AllocError>
+    ensures { OnOk result (string_bytes text.new ≡ string_bytes text.old ++ what_text clock.now names.now direction reason.now) }
 {
     text.push_str(first_words(reason))?;
-    push_detail(text, clock, reason)?;
+    push_detail(text, clock, names, direction, reason)?;
     text.push_str(last_words(reason))
 }
 
@@ -48,17 +55,25 @@ fn first_words(reason: &Reason) -> &'static str
 }
 
 /// Adds what a reason says of itself.
-fn push_detail(text: &mut String, clock: &Clock, reason: &Reason) -> Result<(), AllocError>
-    ensures { OnOk result (string_bytes text.new ≡ string_bytes text.old ++ detail_text clock.now reason.now) }
+fn push_detail(
+    text: &mut String,
+    clock: &Clock,
+    names: &[HolidayName],
+    direction: Direction,
+    reason: &Reason,
+) -> Result<(), AllocError>
+    ensures { OnOk result (string_bytes text.new ≡ string_bytes text.old ++ detail_text clock.now names.now direction reason.now) }
 {
     match *reason {
         Reason::Counted(n, _) => write!(text, "{n}"),
-        Reason::PassedOver(_, cause) => text.push_str(cause_word(cause)),
+        Reason::PassedOver(day, cause) => text.push_str(cause_shown(names, day, cause)),
         Reason::ThreeAdded(kind) => text.push_str(kind_words(kind)),
         Reason::Extended(grant) | Reason::NotExtended(grant) => push_grant(text, grant),
         Reason::HoursFrom(instant) | Reason::SameTime(_, instant) | Reason::UntilInstant(instant) =>
             push_time_at(text, clock, instant),
-        Reason::HoursCounted(h, instant, forward) => push_hours(text, clock, h, instant, forward),
+        Reason::HoursCounted(h, instant, forward) => push_hours(
+            text, clock, direction, h, instant, forward,
+        ),
         Reason::Inaccessible(outage) | Reason::LastHour(outage, _, _) => push_outage(text, outage),
         Reason::UntilClosing(_, minute) => push_minute(text, minute),
         _ => Ok(()),
@@ -81,37 +96,40 @@ fn last_words(reason: &Reason) -> &'static str
 fn push_hours(
     text: &mut String,
     clock: &Clock,
+    direction: Direction,
     hours: u32,
     end: Instant,
     forward: i32,
 ) -> Result<(), AllocError>
-    ensures { OnOk result (string_bytes text.new ≡ string_bytes text.old ++ hours_text clock.now hours end forward) }
+    ensures { OnOk result (string_bytes text.new ≡ string_bytes text.old ++ hours_text clock.now direction hours end forward) }
 {
     write!(text, "{hours}, at ")?;
     push_time_at(text, clock, end)?;
-    push_change(text, forward)
+    push_change(text, direction, forward)
 }
 
 /// Adds by how many minutes the clocks were changed.
-fn push_change(text: &mut String, forward: i32) -> Result<(), AllocError>
-    ensures { OnOk result (string_bytes text.new ≡ string_bytes text.old ++ change_text forward) }
+fn push_change(text: &mut String, direction: Direction, forward: i32) -> Result<(), AllocError>
+    ensures { OnOk result (string_bytes text.new ≡ string_bytes text.old ++ change_text direction forward) }
 {
     if forward == 0 {
         return Ok(());
     }
-    text.push_str(change_words(forward))?;
+    text.push_str(change_words(direction, forward))?;
     let minutes = forward.unsigned_abs() / 60;
     write!(text, "{minutes} min")
 }
 
-/// That the clocks were set forward or back.
-fn change_words(forward: i32) -> &'static str
-    ensures { result.now ≡ change_words forward }
+/// That the clocks were set forward or back, where the clock is so many seconds further ahead at the end of the hours than
+/// where they begin. Hours before an event end earlier than they begin.
+fn change_words(direction: Direction, forward: i32) -> &'static str
+    ensures { result.now ≡ change_words direction forward }
 {
-    if forward > 0 {
-        ", clocks forward "
-    } else {
-        ", clocks back "
+    match direction {
+        Direction::After if forward > 0 => ", clocks forward ",
+        Direction::After => ", clocks back ",
+        Direction::Before if forward > 0 => ", clocks back ",
+        Direction::Before => ", clocks forward ",
     }
 }
 
@@ -132,6 +150,26 @@ fn push_grant(text: &mut String, grant: Grant) -> Result<(), AllocError>
         Grant::ByDays(n) => write!(text, "by {n} days"),
         Grant::ByHours(h) => write!(text, "by {h} hours"),
         Grant::Until(_) => text.push_str("to this day"),
+    }
+}
+
+/// A cause by its name, where it is a holiday that has one, or by its kind.
+fn cause_shown(names: &[HolidayName], day: Day, cause: Cause) -> &str
+    ensures { result.now ≡ cause_shown names.now day cause }
+{
+    match name_of_cause(names, day, cause) {
+        Some(name) => name,
+        None => cause_word(cause),
+    }
+}
+
+/// The name of a holiday, where it has one; other causes have none.
+fn name_of_cause(names: &[HolidayName], day: Day, cause: Cause) -> Option<&str>
+    ensures { option_copied result ≡ name_of_cause names.now day cause }
+{
+    match cause {
+        Cause::FederalHoliday | Cause::StateHoliday => name_on(names, day),
+        _ => None,
     }
 }
 

@@ -1,0 +1,305 @@
+#!/usr/bin/env python3
+"""Checks the reasons that deadline_memo prints, each line by the one before it.
+
+    derivations_check.py PROGRAM [SEED] [COUNT]
+
+Rows are made at random from SEED (by default 1) until COUNT deadlines (by default 10000) were shown: ends that are
+computed, and deadlines that are started and extended, with holidays and outages that are entered meanwhile. Every
+deadline that an answer or a sheet shows must have reasons that lead to what is shown, by the steps of derivation_steps.py
+alone, which computes no deadline. So must those of the examples and of the stored run. Then reasons of every shape are
+spoiled in every way below and must be refused. The status is 0 where all of this is so. It needs Python 3.8 or later.
+"""
+import pathlib
+import random
+import re
+import subprocess
+import sys
+from collections import Counter
+
+from derivation_steps import AFTER, COLUMN, WEEKDAYS, Calendar, Deadline, Wrong, checked, line_of
+from made_inputs import CODES, HOLIDAYS, ZONES, listed, quoted
+from reference.civil import day_of_text, day_text, minute_of_text, weekday
+from reference.court_file import court_of, split, table_of
+
+TOP = pathlib.Path(__file__).resolve().parent.parent
+
+# Of the periods of the Rules the number of days, the act, and whether they run from service under Rule 5(b)(2).
+RULES = {"4m": (90, "service", False), "12a1Ai": (21, "service", False), "12a1Aii-us": (60, "service", False),
+         "12a1Aii-abroad": (90, "service", False), "12a1B": (21, "service", True), "12a1C": (21, "service", True),
+         "12a2": (60, "service", False), "12a3": (60, "service", False), "59b": (28, "filing", False),
+         "59e": (28, "filing", False)}
+
+
+# What an input and its answers say
+
+
+def deadline_of(period, date, time, second, kind):
+    """The deadline that the last five fields of `start` and `compute` say."""
+    if period in RULES:
+        days, act, served = RULES[period]
+        length, direction = ("d", days), AFTER
+    else:
+        entered, direction, act, start, _ = period.split("/")
+        length, served = (entered[-1], int(entered[:-1])), start == "served"
+    return Deadline(length, direction, act, served, kind or None, day_of_text(date), minute_of_text(time or "00:00"),
+                    day_of_text(second) if second else None, period == "4m", [])
+
+
+def calendar_of(file):
+    """The calendar of a court's file."""
+    court = court_of(file)
+    days = court.days
+    return Calendar(court.clock, days.first, days.last, list(days.federal), list(days.state), [], names_of(file))
+
+
+def names_of(file):
+    """The names that a court's file gives to holidays."""
+    table = table_of(file).get("holiday_names", {})
+    return {day_of_text(date): name for date, name in table.items() if day_of_text(date) is not None}
+
+
+def enter(calendar, fields):
+    """A holiday or an outage that was entered."""
+    if fields[0] == "holiday":
+        getattr(calendar, fields[2]).append(day_of_text(fields[1]))
+    else:
+        outage = (day_of_text(fields[1]), minute_of_text(fields[2]), minute_of_text(fields[3], "24:00"))
+        calendar.outages.append(outage)
+
+
+def derivations(data, output):
+    """Each deadline that is shown: the calendar as it was then, the deadline, its lines, and what is shown."""
+    file, rows = split(data)
+    calendar, started = calendar_of(file), {}
+    rows = [row.split(",") for row in rows.decode().splitlines() if row]
+    lines = output.decode().split("\n")[:-1]
+    at, number, case = 0, 0, None
+
+    def told():
+        nonlocal at
+        first = at
+        while at < len(lines) and lines[at].startswith("  "):
+            at += 1
+        return lines[first:at]
+
+    def copy():
+        return calendar._replace(federal=list(calendar.federal), state=list(calendar.state),
+                                 outages=list(calendar.outages))
+
+    while at < len(lines):
+        line = lines[at]
+        at += 1
+        answer = re.fullmatch(r"(\d+) 1 (.*)", line)
+        if answer and int(answer[1]) == number + 1 and number < len(rows):
+            fields, text = rows[number][1:], answer[2]
+            number += 1
+            shown = re.fullmatch(r"(?:deadline (\d+) |extended )?((?:last|until|beyond).*)", text)
+            if shown and fields[0] in ("compute", "start", "extend"):
+                if fields[0] == "compute":
+                    deadline = deadline_of(*fields[1:])
+                elif fields[0] == "start":
+                    deadline = started[fields[1], shown[1]] = deadline_of(*fields[2:])
+                else:
+                    deadline = started[fields[1], fields[2]]
+                    deadline.grants.append(fields[3])
+                yield copy(), deadline._replace(grants=list(deadline.grants)), told(), shown[2]
+            elif text in ("holiday entered", "outage entered"):
+                enter(calendar, fields)
+            continue
+        found = re.fullmatch(r"case (\d+) filed .*", line)
+        if found:
+            case = found[1]
+            continue
+        found = re.fullmatch(r"deadline (\d+) \S+ ((?:last \S+|until \S+ \S+|beyond)) .*", line)
+        if found:
+            deadline = started[case, found[1]]
+            yield copy(), deadline._replace(grants=list(deadline.grants)), told(), found[2]
+            continue
+        if line.startswith("  "):
+            raise Wrong("reasons under an answer that shows no deadline: " + line)
+
+
+def wrong_with(calendar, deadline, texts, shown):
+    """Why these lines aren't reasons for what is shown, or None."""
+    try:
+        checked(calendar, deadline, [line_of(text) for text in texts], shown)
+    except Wrong as wrong:
+        return str(wrong)
+    return None
+
+
+# Rows that are made
+
+
+def a_date(chance):
+    first = day_of_text(chance.choice(["2007-10-25", "2016-11-15", "2025-02-20", "2025-08-20", "2025-10-20"]))
+    return day_text(first + chance.randrange(40))
+
+
+def a_time(chance):
+    return "{:02}:{:02}".format(chance.choice([0, 1, 2, 3, 8, 9, 12, 14, 15, 17, 23]), chance.choice([0, 15, 30, 59]))
+
+
+def a_period(chance):
+    """The last five fields of `start` and `compute`."""
+    kind = ""
+    if chance.random() < 0.3:
+        period = chance.choice(CODES)
+        served = RULES[period][2]
+    else:
+        served = chance.random() < 0.25
+        hours = not served and chance.random() < 0.4
+        length = chance.choice(["1h", "24h", "36h", "72h", "200h"] if hours else ["1d", "3d", "7d", "14d", "21d", "28d"])
+        if chance.random() < 0.02:
+            length = "8760h" if hours else "3650d"
+        direction = "after" if served else chance.choice(["after", "before"])
+        period = "/".join([length, direction, chance.choice(["filing", "filing", "service"]),
+                           "served" if served else "event", "plain"])
+    if served:
+        kind = chance.choice("ABCDEF")
+    second = a_date(chance) if period == "12a3" else ""
+    return ",".join([period, a_date(chance), chance.choice(["", a_time(chance)]), second, kind])
+
+
+def a_row(chance):
+    word = chance.choices(["compute", "start", "extend", "holiday", "inaccessible", "sheet"],
+                          [60, 6, 12, 3, 4, 1])[0]
+    if word == "compute":
+        return "1,compute," + a_period(chance)
+    if word == "start":
+        return "1,start,1," + a_period(chance)
+    if word == "extend":
+        grant = chance.choice(["+1d", "+7d", "+30d", "+24h", "+5h", a_date(chance), "2026-06-06"])
+        return "1,extend,1,{},{},2007-01-02,09:00,yes,yes,yes".format(chance.randrange(1, 12), grant)
+    if word == "holiday":
+        return "1,holiday,{},{}".format(a_date(chance), chance.choice(["federal", "state"]))
+    if word == "inaccessible":
+        start = chance.choice(["00:00", "09:00", "14:30", "16:00"])
+        return "1,inaccessible,{},{},{}".format(a_date(chance), start, chance.choice(["16:30", "17:00", "24:00"]))
+    return "1,sheet,1"
+
+
+def an_input(chance):
+    first, last = chance.choice([("2007-01-01", "2026-12-31")] * 4 + [("2007-10-20", "2025-11-20")])
+    federal, state = chance.sample(HOLIDAYS, 6), chance.sample(HOLIDAYS, 3)
+    court = ["zone = " + quoted(chance.choice(ZONES)), 'opens = "08:30"',
+             "closes = " + quoted(chance.choice(["16:30", "17:00"])), "from = " + quoted(first), "to = " + quoted(last),
+             "federal = " + listed(federal), "state = " + listed(state), "judges = []", "rooms = []"]
+    if chance.random() < 0.5:
+        names = ["Labor Day", "Independence Day", "Christmas Day", "Columbus Day"]
+        court += ["[holiday_names]"] + ["{} = {}".format(date, quoted(chance.choice(names)))
+                                        for date in chance.sample(HOLIDAYS, 5)]
+    rows = ["1,open,1,2007-01-02"] + [a_row(chance) for _ in range(400)]
+    return ("\n".join(court) + "\n%%\n" + "".join(row + "\n" for row in rows)).encode()
+
+
+# Reasons that are spoiled
+
+
+def other_day(text, days):
+    """The line with a day that lies so many days later, and its weekday."""
+    day = day_of_text(text[6:16])
+    if day is None:
+        return None
+    return "  {} {}".format(WEEKDAYS[weekday(day + days)], day_text(day + days)) + text[16:]
+
+
+def swapped(text, old, new):
+    """The line with another word, in columns that still stand in line."""
+    if old not in text:
+        return None
+    return text[:18] + text[18:18 + COLUMN].rstrip().replace(old, new).ljust(COLUMN) + text[18 + COLUMN:]
+
+
+def lines_spoiled(texts):
+    """Each way to spoil the lines, by its name."""
+    for place, text in enumerate(texts):
+        before, behind = texts[:place], texts[place + 1:]
+        yield "a line left out", before + behind
+        yield "a line twice", before + [text, text] + behind
+        if behind and behind[0] != text:
+            yield "two lines exchanged", before + [behind[0], text] + behind[1:]
+        for name, line in line_spoiled(text):
+            if line is not None and line != text:
+                yield name, before + [line] + behind
+    yield "an end left out", texts[:-1]
+    yield "nothing at all", []
+
+
+def line_spoiled(text):
+    yield "a day too late", other_day(text, 1)
+    yield "a day too early", other_day(text, -1)
+    yield "a week too late", other_day(text, 7)
+    if text[2:5].strip():
+        yield "a wrong weekday", "  " + ("Mon" if text[2:5] != "Mon" else "Tue") + text[5:]
+    section = text[20 + COLUMN:]
+    for other in ["6(a)(1)(A)", "6(a)(1)(B)", "6(a)(1)(C)", "6(a)(1)(C), 6(a)(5)", "6(a)(2)(C)", "6(a)(3)(A)",
+                  "6(a)(3)(B)", "6(a)(4)", "6(a)(5)", "6(b)", "4(m)", "6(d)", "ours", section + ", 6(a)(6)",
+                  section.replace(", 6(a)(6)(C)", "").replace(", 6(a)(6)", ""), section.replace(", 6(a)(5)", "")]:
+        if other != section:
+            yield "the section " + other, text[:20 + COLUMN] + other
+    yield "a Sunday for a Saturday", swapped(text, "Saturday", "Sunday")
+    yield "a Saturday for a Sunday", swapped(text, "Sunday", "Saturday")
+    yield "a holiday for a Saturday", swapped(text, "Saturday", "legal holiday")
+    found = re.match(r"day (\d+),", text[18:])
+    if found:
+        yield "a day too many", swapped(text, found[0], "day {},".format(int(found[1]) + 1))
+    yield "another service", swapped(text, "by mail", "by hand")
+    yield "service by hand", swapped(text, "on the clerk", "by hand")
+    yield "filing for service", swapped(text, "last day, to midnight", "last day, to 17:00, e-filing to midnight")
+    yield "service for filing", swapped(text, ", e-filing to midnight", "")
+    yield "the clocks left out", re.sub(r", clocks (forward|back) \d+ min", lambda found: " " * len(found[0]), text)
+    yield "the clocks set back for forward", swapped(text, "clocks forward", "clocks back")
+    yield "the clocks set forward for back", swapped(text, "clocks back", "clocks forward")
+    yield "an open day passed over", swapped(text, "the time runs to this day", "Saturday, passed over")
+    yield "a closed day taken", swapped(text, "Saturday, passed over", "the time runs to this day")
+    yield "a holiday taken", swapped(text, "legal holiday, passed over", "the time runs to this day")
+    yield "hours not continued", swapped(text, "the hours end, and are continued", "the hours end on this day")
+    yield "an extension left out", swapped(text, "extended by", "not extended by")
+    yield "a column moved", text[:18 + COLUMN] + " " + text[18 + COLUMN:]
+
+
+def shape(texts):
+    """What the lines say, without days and numbers."""
+    return tuple(re.sub(r"\d+", "", text[18:]) for text in texts)
+
+
+def main(words):
+    program = words[0]
+    seed, count = (int(word) for word in (words[1:] + ["1", "10000"][len(words) - 1:]))
+    chance = random.Random(seed)
+    shown, wrong, shapes = 0, 0, {}
+    inputs = [path.read_bytes() for path in sorted((TOP / "examples").glob("*.txt"))]
+    inputs.append((TOP / "crates" / "deadline_memo" / "stdin").read_bytes())
+    while shown < count or inputs:
+        data = inputs.pop() if inputs else an_input(chance)
+        ran = subprocess.run([program], input=data, stdout=subprocess.PIPE, stderr=subprocess.PIPE)
+        if ran.returncode:
+            sys.exit("status {}: {}".format(ran.returncode, ran.stderr.decode()))
+        for derivation in derivations(data, ran.stdout):
+            why = wrong_with(*derivation)
+            shown += 1
+            shapes.setdefault(shape(derivation[2]), derivation)
+            if why:
+                wrong += 1
+                if wrong <= 5:
+                    print("refused, since {}: {}".format(why, derivation[3]))
+                    print("\n".join(derivation[2]))
+    print("{} deadlines, of whose reasons {} were refused; {} shapes of reasons".format(shown, wrong, len(shapes)))
+    taken, refused = Counter(), Counter()
+    for calendar, deadline, texts, answer in shapes.values():
+        for name, spoiled in lines_spoiled(texts):
+            if wrong_with(calendar, deadline, spoiled, answer):
+                refused[name] += 1
+            else:
+                taken[name] += 1
+                if sum(taken.values()) <= 5:
+                    print("taken, though spoiled ({}): {}".format(name, answer))
+                    print("\n".join(spoiled))
+    print("{} spoiled in {} ways, of which {} were taken".format(sum(refused.values()) + sum(taken.values()),
+                                                                len(refused), sum(taken.values())))
+    sys.exit(1 if wrong or taken else 0)
+
+
+if __name__ == "__main__":
+    main(sys.argv[1:])

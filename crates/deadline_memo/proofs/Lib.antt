@@ -1,0 +1,4 @@
+pub mod DocketLemmas
+pub mod MemoLemmas
+pub mod ReplyLemmas
+pub mod TextLemmas

@@ -1,0 +1,16 @@
+use Rattle.std.proofs.Common.{string_bytes}
+use Rattle.docket_rows.specs.Words.{bench_of}
+use Rattle.office_run.specs.Words.{docketed_then, reply_to, row_numbers}
+use Rattle.deadline_memo.specs.Replies.{IsReply}
+use Rattle.deadline_memo.specs.Texts.{Is}
+use Rattle.deadline_memo.proofs.TextLemmas.{adds_text, adds_then, on_ok}
+use Rattle.deadline_memo.proofs.replies.push_row.Goals as goal
+
+pub returns-clause-text : goal.returns-clause-text
+returns-clause-text c docketed holds =
+    let court = c.args.court.now in
+    let bench = bench_of court in
+    let row = c.args.row.now in
+    let numbers = row_numbers c.args.number row.clerk in
+    let replied = c.in_ok-reply.ensures bench docketed holds in
+    on_ok c.push_explained.result (λ added. adds_then (Is numbers) (IsReply court c.args.names.now (docketed_then bench docketed row.work) row.work (reply_to bench docketed row.work)) (string_bytes c.args.text.now) _ (string_bytes c.push_explained.new.text) (adds_text numbers _ _ c.in_ok-push_numbers.ensures) (rw replied.0 at added)) (c.push_explained.ensures docketed replied.0 replied.1)

@@ -1,0 +1,71 @@
+//! The program, over the words and the streams that it is given.
+
+ghost use Rattle.std.specs.Prelude.{◌≡◌, ◌≢◌, ◌≤◌, ◌⊎◌, true, false, map, string_bytes, IfErr, IfOk, IfSome};
+ghost use Rattle.std.specs.IoError.{error_kind};
+ghost use Rattle.clap.specs.Words.{takes};
+ghost use Rattle.office_options.specs.Words.{HasMistake, IsRefused, words_behind};
+ghost use Rattle.office_streams.specs.Words.{WasCutShort, has_ended, has_failed, watched};
+ghost use Rattle.deadline_memo.specs.CommandLine.{command_line};
+ghost use Rattle.deadline_memo.specs.Program.{IsEnding, faults_in};
+
+use crate::command::check_words;
+use crate::run::run_memo;
+use office_options::OptionsFault;
+use office_streams::{BAD_WORDS, OfficeFault, Watched, ended_by, helped, unread};
+use std::alloc::Global;
+use std::io;
+use std::io::{ErrorKind, Read, Write};
+
+/// Runs the program with these words, of which the first is its name. The status is 0 where every row was answered, and
+/// where help or the version was asked for and is written instead; 1 where a word is no text or the words are not of the
+/// command line; and else that of the fault, of which one line goes to `errors`, as does what is wrong with the words. A
+/// line that can't be written there is lost.
+pub fn run_program<R: Read, W: Write, E: Write>(
+    alloc: Global,
+    words: io::Result<Vec<String>>,
+    reader: &mut Watched<R>,
+    writer: &mut Watched<W>,
+    errors: &mut E,
+) -> u8
+    requires reader_works { has_failed reader.old ≡ false }
+    requires not_ended { has_ended reader.old ≡ false }
+    requires writer_works { has_failed writer.old ≡ false }
+
+    // Words that can't be read.
+    ensures memory { IfErr words (λ e. error_kind e ≡ ErrorKind.OutOfMemory → result ≡ 5) }
+    ensures no_text { IfErr words (λ e. error_kind e ≢ ErrorKind.OutOfMemory → result ≡ 1) }
+
+    // Words that are refused: only those that have a mistake, and where they ask for no help nothing else can happen to
+    // them but that memory runs out.
+    ensures mistaken { IfOk words (λ all. result ≡ 1 → HasMistake (faults_in (words_behind (map string_bytes all.items)))) }
+    ensures refused { IfOk words (λ all. IsRefused (faults_in (words_behind (map string_bytes all.items))) → (result ≡ 1) ⊎ (result ≡ 5)) }
+    ensures taken { IfOk words (λ all. takes command_line (words_behind (map string_bytes all.items)) ≡ true → result ≢ 1) }
+    ensures nothing_written { result ≢ 0 → result ≢ 4 → writer.new ≡ writer.old }
+
+    // What the statuses 0, 2 and 3 say of the words, and of what was read and written.
+    ensures ending { IfOk words (λ all. IfSome (R.remaining (watched reader.old)) (λ input.
+        IsEnding (words_behind (map string_bytes all.items)) (W.contents (watched writer.old)) (W.contents (watched writer.new)) result input)) }
+    ensures worked { result ≡ 0 → has_failed writer.new ≡ false }
+    ensures failed { result ≡ 4 → WasCutShort reader.old reader.new ⊎ (has_failed writer.new ≡ true) }
+    ensures known { result ≤ 5 }
+{
+    let all = match words {
+        Ok(all) => all,
+        Err(error) => return unread(alloc, errors, &error),
+    };
+    match check_words(alloc, all.as_slice()) {
+        Ok(()) => {}
+        Err(OptionsFault::Help(text)) => return helped(alloc, writer, errors, text.as_str()),
+        Err(OptionsFault::BadWords(text)) => {
+            let _ = errors.write_all(text.as_bytes());
+            return BAD_WORDS;
+        }
+        Err(OptionsFault::OutOfMemory) => {
+            return ended_by(alloc, errors, &OfficeFault::OutOfMemory);
+        }
+    }
+    match run_memo(alloc, reader, writer) {
+        Ok(()) => 0,
+        Err(fault) => ended_by(alloc, errors, &fault),
+    }
+}

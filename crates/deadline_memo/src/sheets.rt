@@ -1,0 +1,101 @@
+//! Sheets with the reasons of their deadlines.
+
+ghost use Rattle.std.specs.Prelude.{◌≡◌, ◌+◌, ◌≤◌, string_bytes, OnOk};
+ghost use Rattle.docket_rows.specs.Words.{Rows, bench_of};
+ghost use Rattle.office_run.specs.Words.{Holds};
+ghost use Rattle.deadline_memo.specs.Memo.{AreSheets};
+ghost use Rattle.deadline_memo.specs.Sheets.{IsDeadline, IsSheet, IsSheetShown};
+ghost use Rattle.deadline_memo.specs.Texts.{Adds, Each};
+
+use crate::reasons::push_deadline_reasons;
+use court_days::{Court, Days};
+use docket_core::Docket;
+use docket_rows::{Query, Sheet, SheetDeadline, View};
+use office_texts::{push_case, push_deadline, push_motions};
+use reason_texts::HolidayName;
+use std::alloc::{AllocError, Global};
+
+/// Adds the lines of a sheet, with the reasons of each deadline behind its line. `Err` says that memory ran out.
+pub(crate) fn push_sheet(
+    alloc: Global,
+    text: &mut String,
+    court: &Court,
+    names: &[HolidayName],
+    days: &Days,
+    sheet: &Sheet,
+) -> Result<(), AllocError>
+    ensures { OnOk result (Adds (IsSheet court.now names.now days.now sheet.now) (string_bytes text.old) (string_bytes text.new)) }
+{
+    push_case(text, sheet)?;
+    push_deadlines(alloc, text, court, names, days, sheet.deadlines.as_slice())?;
+    push_motions(text, court, sheet.motions.as_slice())
+}
+
+/// Adds the line of each deadline and its reasons.
+fn push_deadlines(
+    alloc: Global,
+    text: &mut String,
+    court: &Court,
+    names: &[HolidayName],
+    days: &Days,
+    deadlines: &[SheetDeadline],
+) -> Result<(), AllocError>
+    ensures { OnOk result (Adds (Each (IsDeadline court.now names.now days.now) deadlines.now) (string_bytes text.old) (string_bytes text.new)) }
+{
+    for deadline in deadlines {
+        push_explained(alloc, text, court, names, days, deadline)?;
+    }
+    Ok(())
+}
+
+/// Adds the line of a deadline and its reasons.
+fn push_explained(
+    alloc: Global,
+    text: &mut String,
+    court: &Court,
+    names: &[HolidayName],
+    days: &Days,
+    deadline: &SheetDeadline,
+) -> Result<(), AllocError>
+    ensures { OnOk result (Adds (IsDeadline court.now names.now days.now deadline.now) (string_bytes text.old) (string_bytes text.new)) }
+{
+    push_deadline(text, court.clock(), deadline)?;
+    push_deadline_reasons(alloc, text, court, names, days, &deadline.row)
+}
+
+/// Adds the sheets of the open ones of so many cases, from the first number on.
+pub(crate) fn push_sheets(
+    alloc: Global,
+    text: &mut String,
+    court: &Court,
+    names: &[HolidayName],
+    docket: &Docket,
+    first: u32,
+    count: u32,
+) -> Result<(), AllocError>
+    requires numbers { first + count ≤ 5_000 }
+    ensures { (docketed : Rows) → Holds (bench_of court.now) docket.now docketed → OnOk result (Adds (AreSheets court.now names.now docketed first count) (string_bytes text.old) (string_bytes text.new)) }
+{
+    for case in first..first + count {
+        let view = docket.show(alloc, &Query::Sheet(case))?;
+        push_sheet_shown(alloc, text, court, names, docket.days(), &view)?;
+    }
+    Ok(())
+}
+
+/// Adds the lines of a sheet and the reasons of its deadlines, where the view is one.
+fn push_sheet_shown(
+    alloc: Global,
+    text: &mut String,
+    court: &Court,
+    names: &[HolidayName],
+    days: &Days,
+    view: &View,
+) -> Result<(), AllocError>
+    ensures { OnOk result (Adds (IsSheetShown court.now names.now days.now view.now) (string_bytes text.old) (string_bytes text.new)) }
+{
+    match view {
+        View::Sheet(sheet) => push_sheet(alloc, text, court, names, days, sheet),
+        _ => Ok(()),
+    }
+}
