@@ -6,6 +6,8 @@ use std::alloc::{AllocError, Global};
 use std::sync::Wait;
 use std::thread::Threads;
 
+// No clause says how a line is cut into words; what is stored to be written shows it.
+
 /// Adds the run of that input whose line is `NAME WORD WORD ..`: the words behind the name are those of the command line,
 /// each behind a space. Where these give no options, the text that says so stands in the place of what a run writes.
 /// `Err` says that memory ran out.
