@@ -31,6 +31,9 @@ LINE = b"1 1 last 2025-09-02\n"
 JUDGE = b"judge Ames\n"
 ROWS = COURT + b"%%\n" + ROW
 
+OPEN = b"%%\n64,open,1,2025-03-03\n"
+OPENED = b"1 1 opened\ncase 1 filed 2025-03-03\n"
+
 NO_TEXT = b"error: a word of the command line is no text\n"
 MOST_BYTES = 16777216
 MEGABYTE = 1000000
@@ -69,7 +72,10 @@ RUNS = [
     ("a request for the version", ["--version"], ROWS, 0, b"clerk_office 0.1.0\n", b""),
     ("an argument", ["x"], ROWS, 1, b"", usage(b"unexpected argument 'x' found\n")),
     ("an empty argument", [""], ROWS, 1, b"", usage(b"unexpected argument ''")),
-    ("a clerk too many to count", ["--clerks", "2"], ROWS, 1, b"", usage(b"invalid value '2' for '--clerks <N>'")),
+    ("two clerks", ["--clerks", "2"], ROWS + b"2" + ROW[1:], 0, LINE + b"2 2" + LINE[3:] + JUDGE, b""),
+    ("64 clerks and no journal", ["--clerks=64", "--journal=0"], COURT + OPEN, 0, b"1 64 journal full\n" + JUDGE, b""),
+    ("one clerk and no journal", ["--journal=0"], COURT + OPEN.replace(b"64", b"1"), 0, OPENED + JUDGE, b""),
+    ("more clerks than there may be", ["--clerks", "65"], ROWS, 1, b"", usage(b"invalid value '65' for '--clerks <N>'")),
     ("another option", ["--rooms", "2"], ROWS, 1, b"", usage(b"unexpected argument '--rooms' found\n")),
     ("an option twice", ["--clerks=1", "--clerks=1"], ROWS, 1, b"", Has(b"cannot be used multiple times")),
     ("an argument that is no text", [b"\xff"], ROWS, 1, b"", NO_TEXT),
@@ -79,6 +85,7 @@ RUNS = [
     ("no TOML", [], b"zone = \n%%\n" + ROW, 2, b"", b"court fault 1 NotToml\n"),
     ("a name twice", [], ROWS.replace(b'"R1"', b'"R1", "R1"'), 2, b"", b"court fault 9 TwiceNamed R1\n"),
     ("a clerk too many", [], ROWS + b"2" + ROW[1:], 3, b"", b"row 2 fault 1 BadClerk\n"),
+    ("a clerk too many of two", ["--clerks=2"], ROWS + b"3" + ROW[1:], 3, b"", b"row 2 fault 1 BadClerk\n"),
     ("the clerk 64", [], COURT + b"%%\n64" + ROW[1:], 3, b"", b"row 1 fault 1 BadClerk\n"),
     ("another command", [], COURT + b"%%\n1,fly,1,\"1\"\n", 3, b"", b"row 1 fault 2 UnknownCommand\n"),
     ("a field that is no text", [], COURT + b"%%\n1,\xff\n", 3, b"", b"row 1 fault 5 NotText\n"),

@@ -3,7 +3,9 @@
 
     docs_check.py
 
-Each examples/NAME.txt must be answered as examples/NAME.out, and with reasons as examples/NAME.memo.
+Each examples/NAME.txt must be answered as examples/NAME.out, and with reasons as examples/NAME.memo. Where there is a
+NAME.words, the clerk's program alone answers it, called with the words of that line, and NAME.other is another text that it
+may come to.
 
 In README.md, docs/, examples/ and runs/ a line of an indented block that begins with `$ ` is a command, run in a shell
 at the top of the repository; the lines below it, up to the next command or the end of the block, are what it must
@@ -46,12 +48,19 @@ def prints(command, wanted):
     return ran.stdout.decode() == wanted
 
 
+def words_of(example):
+    """The words with which the program is called."""
+    line = example.with_suffix(".words")
+    return line.read_text().split() if line.exists() else []
+
+
 def is_answered(example, kind):
-    """Whether the program writes what stands beside the example."""
+    """Whether the program writes what stands beside the example, or one of two texts where two stand there."""
     with open(example, "rb") as rows:
-        ran = subprocess.run([TOP / PROGRAMS[kind]], stdin=rows, stdout=subprocess.PIPE, stderr=subprocess.STDOUT,
-                             check=False)
-    return (ran.returncode, ran.stdout) == (0, example.with_suffix(kind).read_bytes())
+        ran = subprocess.run([TOP / PROGRAMS[kind], *words_of(example)], stdin=rows, stdout=subprocess.PIPE,
+                             stderr=subprocess.STDOUT, check=False)
+    texts = [path.read_bytes() for path in (example.with_suffix(kind), example.with_suffix(".other")) if path.exists()]
+    return ran.returncode == 0 and ran.stdout in texts
 
 
 def is_told(page, example):
@@ -73,7 +82,8 @@ def main():
     told = is_told((TOP / "docs" / "A_DAY.md").read_text(), TOP / "examples" / "a_day")
     if not told:
         print("docs/A_DAY.md: not the rows and answers of examples/a_day")
-    examples = [(path, kind) for path in sorted((TOP / "examples").glob("*.txt")) for kind in PROGRAMS]
+    examples = [(path, kind) for path in sorted((TOP / "examples").glob("*.txt")) for kind in PROGRAMS
+                if kind == ".out" or not words_of(path)]
     unanswered = [(path, kind) for path, kind in examples if not is_answered(path, kind)]
     for path, kind in unanswered:
         print("{}: answered otherwise".format(path.with_suffix(kind).relative_to(TOP)))

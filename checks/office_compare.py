@@ -4,8 +4,9 @@
     office_compare.py PROGRAM [SEED] [COUNT]
 
 COUNT inputs (by default 600) are made from SEED (by default 1): courts of few judges and rooms, and rows of all
-commands over few cases, days and slots, so that they meet and are refused in every way; some of them have a fault. One
-input, a whole run, is also cut after each of its bytes. Status, standard output and standard error must be the same of
+commands over few cases, days and slots, so that they meet and are refused in every way; some of them have a fault. In
+some there are several clerks, of whom the first has all rows, since what several with rows are answered may differ from
+run to run. One input, a whole run, is also cut after each of its bytes. Status, standard output and standard error must be the same of
 both. An input that differs is made smaller while it does, and the smallest is printed. The last lines say how often
 each refusal and each fault came up; the status is 0 where nothing differs and each came up at least once, for which
 fewer than 600 inputs may not be enough. With `-` for PROGRAM the reference answers alone, so that it shows what comes
@@ -29,14 +30,14 @@ NOT_MADE = {"TooManyRows"} | (set() if tomllib else {"NotToml"})
 MOST_DIFFERING = 5
 
 
-def differs(program, data):
+def differs(program, words, data):
     try:
-        return ended_program(program, data) != ended(data)
+        return ended_program(program, data, words) != ended(data, words)
     except CannotTell:
         return False
 
 
-def smaller(program, data):
+def smaller(program, words, data):
     """An input that differs too, and from which no row and no stretch of rows can be left out."""
     court, rows = data.split(b"%%\n", 1)
     rows = rows.splitlines(True)
@@ -45,7 +46,7 @@ def smaller(program, data):
         at = 0
         while at < len(rows):
             left = rows[:at] + rows[at + length:]
-            if differs(program, court + b"%%\n" + b"".join(left)):
+            if differs(program, words, court + b"%%\n" + b"".join(left)):
                 rows = left
             else:
                 at += length
@@ -54,19 +55,29 @@ def smaller(program, data):
 
 
 def inputs(seed, count):
-    """The whole run cut after each byte, and the inputs that are made."""
+    """The whole run cut after each byte, and the inputs that are made, each behind the words of its command line."""
     whole = (RUNS / "docket" / "from_filing_to_hearing.in").read_bytes()
     for length in range(len(whole)):
-        yield whole[:length]
-    chance = random.Random(seed)
+        yield [], whole[:length]
+    chance, of_words = random.Random(seed), random.Random(-seed)
     for number in range(count):
-        yield made_input(chance, INPUTS[number % len(INPUTS)])
+        name = INPUTS[number % len(INPUTS)]
+        yield made_words(of_words, name), made_input(chance, name)
 
 
-def told(program, data):
+def made_words(chance, name):
+    """One clerk, or several; a row at fault may be that of a second clerk, so then there is but one."""
+    if name == "row_faults" or chance.random() < 0.7:
+        return []
+    clerks, entries = chance.choice([2, 3, 8, 64]), chance.choice([0, 3, 10, 30, 100, 1000000])
+    return ["--clerks", str(clerks), "--journal", str(entries)]
+
+
+def told(program, words, data):
     """What is printed of an input on which the two differ."""
+    print(" ".join(words))
     print(data.decode("utf-8", "backslashreplace"))
-    for name, result in (("program", ended_program(program, data)), ("reference", ended(data))):
+    for name, result in (("program", ended_program(program, data, words)), ("reference", ended(data, words))):
         status, text, fault = result
         print("-- {}: status {}".format(name, status))
         print((text + fault).decode("utf-8", "backslashreplace"), end="")
@@ -91,20 +102,21 @@ def never(seen):
 
 def main(program, seed=1, count=600):
     seen, differing, asked, skipped = Counter(), [], 0, 0
-    for data in inputs(seed, count):
+    for words, data in inputs(seed, count):
         try:
-            wanted = ended(data)
+            wanted = ended(data, words)
         except CannotTell:
             skipped += 1
             continue
         asked += 1
         counted(wanted, seen)
-        if program != "-" and ended_program(program, data) != wanted:
-            differing.append(data)
+        if program != "-" and ended_program(program, data, words) != wanted:
+            differing.append((words, data))
             if len(differing) == MOST_DIFFERING:
                 break
     if differing:
-        told(program, min((smaller(program, data) if b"%%\n" in data else data for data in differing), key=len))
+        least = [(words, smaller(program, words, data) if b"%%\n" in data else data) for words, data in differing]
+        told(program, *min(least, key=lambda pair: len(pair[1])))
     missing = never(seen)
     for name in missing:
         print(name + " never came up")

@@ -1,13 +1,15 @@
 #!/usr/bin/env python3
-"""The whole program for one clerk in plain Python, to compare the built program with.
+"""The whole program in plain Python, to compare the built program with.
 
-    office_reference.py < INPUT
+    office_reference.py [--clerks N] [--journal N] < INPUT
 
 It reads what the program reads and writes what the program has to write: the text to standard output, the line of a
-fault to standard error, and it ends with the program's status. The files of `reference/` are its parts. It needs Python
-3.8 or later. What it doesn't read, though the program may, ends it with CannotTell and status 9: quotes in the middle
+fault to standard error, and it ends with the program's status. Rows of several clerks are done in the order in which
+they stand, which is one of the orders that the program may come to. The files of `reference/` are its parts. It needs
+Python 3.8 or later. What it doesn't read, though the program may, ends it with CannotTell and status 9: quotes in the middle
 of a field, zones whose rules name days of the year and, before Python 3.11, other TOML than plain lines.
 """
+import argparse
 import sys
 
 from reference.civil import CannotTell
@@ -19,29 +21,42 @@ from reference.text_out import answer_lines, closing_lines
 MOST_BYTES = 16777216
 
 
-def ended(data, told=None):
+def options_in(words):
+    """How many clerks there are, and how many entries the journal takes, by the words of a command line."""
+    parser = argparse.ArgumentParser()
+    parser.add_argument("--clerks", type=int, default=1)
+    parser.add_argument("--journal", type=int, default=100000)
+    return parser.parse_args(words)
+
+
+def ended(data, words=(), told=None):
     """The status, the text and the line of the fault, as bytes. `told` is called with each answer."""
+    options = options_in(words)
     if len(data) > MOST_BYTES:
         return 4, b"", b"read fault\n"
     of_court, of_rows = split(data)
     try:
         court = court_of(of_court)
-        rows = rows_of(of_rows, 1, court)
+        rows = rows_of(of_rows, options.clerks, court)
     except CourtFault as fault:
         return 2, b"", (fault.line() + "\n").encode()
     except RowFault as fault:
         return 3, b"", (fault.line() + "\n").encode()
-    return 0, "".join(line + "\n" for line in lines_of(court, rows, told)).encode(), b""
+    limit = None if options.clerks == 1 else options.journal
+    return 0, "".join(line + "\n" for line in lines_of(court, rows, limit, told)).encode(), b""
 
 
-def lines_of(court, rows, told):
-    docket = opening(court)
+def lines_of(court, rows, limit, told):
+    docket, entries = opening(court), 0
     lines = []
     for number, row in enumerate(rows, 1):
-        if row.work[0] in STEPS:
-            docket, answer = step(court, docket, row.work)
-        else:
+        if row.work[0] not in STEPS:
             answer = view(court, docket, row.work)
+        elif entries == limit:
+            answer = ("journal full",)
+        else:
+            docket, answer = step(court, docket, row.work)
+            entries += 1
         if told is not None:
             told(row.work[0], answer)
         first, *more = answer_lines(court, docket, answer)
@@ -52,7 +67,7 @@ def lines_of(court, rows, told):
 
 def main():
     try:
-        status, text, fault = ended(sys.stdin.buffer.read())
+        status, text, fault = ended(sys.stdin.buffer.read(), sys.argv[1:])
     except CannotTell as why:
         print("the reference can't tell:", why, file=sys.stderr)
         sys.exit(9)

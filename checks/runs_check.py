@@ -6,7 +6,8 @@
 
 For each runs/FOLDER/NAME.in the program must end with status 0, write NAME.out to standard output and nothing to
 standard error; where there is a NAME.fault instead, it must write nothing, and end with the status that stands in its
-first line and with the rest of it on standard error. Four runs are too large to be kept and are made here. Each run
+first line and with the rest of it on standard error. Where there is a NAME.words, it is called with the words of that
+line. Four runs are too large to be kept and are made here. Each run
 must stand in runs/README.md. With --reference the reference of this folder is asked in place of a program. It needs
 Python 3.8 or later; the status is 0 where each run ends as it must.
 """
@@ -21,35 +22,37 @@ RUNS = pathlib.Path(__file__).resolve().parent.parent / "runs"
 MOST_ROWS = 100000
 
 
-def ended_program(program, data):
+def ended_program(program, data, words=()):
     """The status of the program, and what it wrote to standard output and to standard error."""
-    ran = subprocess.run([program], input=data, stdout=subprocess.PIPE, stderr=subprocess.PIPE, check=False)
+    ran = subprocess.run([program, *words], input=data, stdout=subprocess.PIPE, stderr=subprocess.PIPE, check=False)
     return ran.returncode, ran.stdout, ran.stderr
 
 
 def kept_runs():
-    """Each run by its name, what it reads, and how it must end."""
+    """Each run by its name, the words of its command line, what it reads, and how it must end."""
     for path in sorted(RUNS.glob("*/*.in")):
         name = str(path.relative_to(RUNS).with_suffix(""))
+        line = path.with_suffix(".words")
+        words = line.read_text().split() if line.exists() else []
         faults = path.with_suffix(".fault")
         if faults.exists():
             status, fault = faults.read_bytes().split(b"\n", 1)
-            yield name, path.read_bytes(), (int(status), b"", fault)
+            yield name, words, path.read_bytes(), (int(status), b"", fault)
         else:
-            yield name, path.read_bytes(), (0, path.with_suffix(".out").read_bytes(), b"")
+            yield name, words, path.read_bytes(), (0, path.with_suffix(".out").read_bytes(), b"")
 
 
 def made_runs():
     court = (RUNS / "input" / "no_rows.in").read_bytes()
     lines = "".join("{} 1 refused 1 NoSuchCase\n".format(row) for row in range(1, MOST_ROWS + 1))
     closing = (RUNS / "input" / "no_rows.out").read_bytes()
-    yield "limits/as_many_rows_as_are_taken", court + b"1,sheet,1\n" * MOST_ROWS, (0, lines.encode() + closing, b"")
+    yield "limits/as_many_rows_as_are_taken", [], court + b"1,sheet,1\n" * MOST_ROWS, (0, lines.encode() + closing, b"")
     for name, row in (("a_row_too_many", b"1,sheet,1\n"), ("a_row_too_many_that_is_none", b"0\n")):
         rows = b"1,sheet,1\n" * MOST_ROWS + row
-        yield "limits/" + name, court + rows, (3, b"", b"row 100001 fault 6 TooManyRows\n")
+        yield "limits/" + name, [], court + rows, (3, b"", b"row 100001 fault 6 TooManyRows\n")
     name = b"x" * 1000000
     named = court.replace(b'rooms = ["', b'rooms = ["' + name + b'", "')
-    yield "court_faults/name_of_a_million_bytes", named, (2, b"", b"court fault 8 BadName " + name + b"\n")
+    yield "court_faults/name_of_a_million_bytes", [], named, (2, b"", b"court fault 8 BadName " + name + b"\n")
 
 
 def unnamed(names):
@@ -72,10 +75,10 @@ def main(words):
         sys.exit("usage: runs_check.py PROGRAM | --reference")
     passed = failed = 0
     names = set()
-    for name, data, wanted in list(kept_runs()) + list(made_runs()):
+    for name, called, data, wanted in list(kept_runs()) + list(made_runs()):
         names.add(name)
         try:
-            got = ended(data) if words[0] == "--reference" else ended_program(words[0], data)
+            got = ended(data, called) if words[0] == "--reference" else ended_program(words[0], data, called)
         except CannotTell as why:
             print("{}: the reference can't tell: {}".format(name, why))
             continue

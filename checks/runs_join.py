@@ -3,10 +3,11 @@
 
     runs_join.py [--check]
 
-Each runs/FOLDER/NAME.in that is text stands in crates/stored_runs/stdin behind a line `%%%% FOLDER/NAME`, and in
-crates/stored_runs/stdout stands the same line and then NAME.out or the fault's line of NAME.fault. A line end stands
-behind each input, so that one that ends within a line can be told from one that doesn't. With --check nothing is
-written, and the status is 1 where the two files aren't these. It needs Python 3.8 or later.
+Each runs/FOLDER/NAME.in that is text stands in crates/stored_runs/stdin behind a line `%%%% FOLDER/NAME`, in which the
+words of NAME.words stand behind the name where there is one, and in crates/stored_runs/stdout stands the same line and
+then NAME.out or the fault's line of NAME.fault. A line end stands behind each input, so that one that ends within a
+line can be told from one that doesn't. With --check nothing is written, and the status is 1 where the two files aren't
+these. It needs Python 3.8 or later.
 """
 import pathlib
 import sys
@@ -28,12 +29,12 @@ def is_text(data):
 def joined():
     """The input of stored_runs and what it has to write."""
     inputs, outputs = b"", b""
-    for name, data, (_, text, fault) in kept_runs():
+    for name, words, data, (_, text, fault) in kept_runs():
         if not is_text(data):
             continue
         if MARK in data:
             sys.exit("{}: a line of it begins as the lines that part runs do".format(name))
-        line = name.encode() + b"\n"
+        line = " ".join([name] + words).encode() + b"\n"
         inputs += MARK + line + data
         outputs += MARK[1:] + line + text + fault
     return inputs, outputs

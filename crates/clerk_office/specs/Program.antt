@@ -27,17 +27,17 @@ pub record AnswersWords (words : List Text) (answer : Result Options OptionsFaul
   pub faults : IsAnswerFor (faults_in words) answer
   pub taken : takes command_line words ≡ true → IfErr answer (λ fault. fault ≡ OutOfMemory)
 
--- the words give a number of clerks, and this is so with as many
-pub record WithClerks (words : List Text) (IsSo : ℕ → Type 0) : Type 0 where
+-- the words give a number of clerks and one of the journal's entries, and this is so with as many
+pub record WithOptions (words : List Text) (IsSo : (clerks journal : ℕ) → Type 0) : Type 0 where
   pub clerks : ℕ
   pub journal : ℕ
   pub given : Give words clerks journal
-  pub is_so : IsSo clerks
+  pub is_so : IsSo clerks journal
 
 -- 0 says that help was asked for or all rows were answered, 2 that the court's file has a fault, 3 that a row has one, and 4 that
 -- nothing was written, or that writing stopped within what was to be written
 pub record IsEnding (words : List Text) (old new : Option (List ℕ)) (status : ℕ) (input : List ℕ) : Type 0 where
-  pub answered : status ≡ 0 → AsksForHelp (faults_in words) ⊎ WithClerks words (λ clerks. IsRun old new (Ok tt) (input_of clerks input))
-  pub court : status ≡ 2 → WithClerks words (λ clerks. HasCourtFault (input_of clerks input))
-  pub row : status ≡ 3 → WithClerks words (λ clerks. HasRowFault (input_of clerks input))
-  pub cut : status ≡ 4 → AsksForHelp (faults_in words) ⊎ ((new ≡ old) ⊎ WithClerks words (λ clerks. IsRun old new (Err WriteFault) (input_of clerks input)))
+  pub answered : status ≡ 0 → AsksForHelp (faults_in words) ⊎ WithOptions words (λ clerks journal. IsRun clerks journal old new (Ok tt) (input_of clerks input))
+  pub court : status ≡ 2 → WithOptions words (λ clerks journal. HasCourtFault (input_of clerks input))
+  pub row : status ≡ 3 → WithOptions words (λ clerks journal. HasRowFault (input_of clerks input))
+  pub cut : status ≡ 4 → AsksForHelp (faults_in words) ⊎ ((new ≡ old) ⊎ WithOptions words (λ clerks journal. IsRun clerks journal old new (Err WriteFault) (input_of clerks input)))

@@ -17,5 +17,12 @@ fn main(rt: HostRuntime) -> ExitCode {
     let mut reader = Watched::new(rt.stdin());
     let mut writer = Watched::new(io::writer(&rt));
     let mut errors = rt.stderr();
-    ExitCode::from(run_program(rt.alloc(), words, &mut reader, &mut writer, &mut errors))
+    ExitCode::from(run_program(
+        &rt,
+        rt.alloc(),
+        words,
+        &mut reader,
+        &mut writer,
+        &mut errors,
+    ))
 }

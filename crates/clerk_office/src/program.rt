@@ -9,16 +9,21 @@ ghost use Rattle.clerk_office.specs.Program.{IsEnding, faults_in};
 
 use crate::words::options_behind;
 use office_options::OptionsFault;
-use office_streams::{BAD_WORDS, OfficeFault, Watched, ended_by, helped, run_office, unread};
+use office_streams::{
+    BAD_WORDS, OfficeFault, OpenGate, Watched, ended_by, helped, run_office, unread,
+};
 use std::alloc::Global;
 use std::io;
 use std::io::{ErrorKind, Read, Write};
+use std::sync::Wait;
+use std::thread::Threads;
 
 /// Runs the office with the options that the words give, of which the first is the program's name. The status is 0 where
 /// every row was answered, and where help or the version was asked for and is written instead; 1 where a word is no text
 /// or the words are not of the command line; and else that of the fault, of which one line goes to `errors`, as does
 /// what is wrong with the words. A line that can't be written there is lost.
-pub fn run_program<R: Read, W: Write, E: Write>(
+pub fn run_program<H: Threads + Wait + Sync, R: Read, W: Write, E: Write>(
+    rt: &H,
     alloc: Global,
     words: io::Result<Vec<String>>,
     reader: &mut Watched<R>,
@@ -62,7 +67,7 @@ pub fn run_program<R: Read, W: Write, E: Write>(
             return ended_by(alloc, errors, &OfficeFault::OutOfMemory);
         }
     };
-    match run_office(alloc, reader, writer, options) {
+    match run_office(rt, alloc, reader, writer, options, &OpenGate) {
         Ok(()) => 0,
         Err(fault) => ended_by(alloc, errors, &fault),
     }

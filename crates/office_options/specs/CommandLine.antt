@@ -7,9 +7,9 @@ use Rattle.clap.specs.declared.builder.value_parser.ValueParser.TheVariants.{Sig
 
 -- the most clerks that there may be
 abbrev pub most_clerks : ℕ
-most_clerks = 1
+most_clerks = 64
 
--- `--clerks N`, once at most: how many clerks there are, 1 where the words don't say
+-- `--clerks N`, once at most: how many clerks there are, at most 64, and 1 where the words don't say
 abbrev pub clerks_rule : Rule
 clerks_rule = record (new_rule (codes "clerks")) {
   long = Some (codes "clerks");

@@ -8,7 +8,7 @@ use clap::{Arg, ArgAction, Command};
 use std::alloc::{AllocError, Global};
 
 // The most clerks that there may be: `most_clerks` of specs/.
-const MOST_CLERKS: i64 = 1;
+const MOST_CLERKS: i64 = 64;
 
 // The most entries that the journal may take.
 const MOST_ENTRIES: i64 = 1_000_000;
@@ -28,6 +28,12 @@ calendar.
 
     clerk_office < day.txt
 
+Several clerks share one docket, each in a thread of its own. A clerk's rows are
+done in the order in which they stand; between clerks that order doesn't count,
+so that answers may differ from run to run. The journal has an entry for each
+command that was finished; once it is full, the others aren't done. One clerk
+alone needs no journal.
+
 docs/FORMATS.md describes the court's file, the rows, the answers and what a run
 ends with.";
 
@@ -41,7 +47,7 @@ fn clerks_argument<'a>(alloc: Global) -> Arg<'a>
         .value_name("N")
         .default_value("1")
         .value_parser(clap::value_parser!(u8).range(1..=MOST_CLERKS))
-        .help("How many clerks there are")
+        .help("How many clerks there are, at most 64")
 }
 
 fn journal_argument<'a>(alloc: Global) -> Arg<'a>
@@ -54,7 +60,7 @@ fn journal_argument<'a>(alloc: Global) -> Arg<'a>
         .value_name("N")
         .default_value("100000")
         .value_parser(clap::value_parser!(u32).range(0..=MOST_ENTRIES))
-        .help("How many entries the journal takes")
+        .help("How many entries the journal takes, at most 1000000")
 }
 
 /// The command line's definition, for one reading of words.

@@ -41,6 +41,8 @@ fn takes_numbers(rt: HostRuntime) -> Result<(), Fail> {
         ("--journal=+7", (1, 7)),
         ("--journal 007", (1, 7)),
         ("--journal 1000000 --clerks 1", (1, 1_000_000)),
+        ("--clerks 2 --journal 5", (2, 5)),
+        ("--clerks=64", (64, 100_000)),
     ] {
         assert_eq!(rt; taken(rt.alloc(), line)?, Some(numbers), "{line}");
     }
@@ -59,15 +61,15 @@ fn says_what_is_wrong(rt: HostRuntime) -> Result<(), Fail> {
     for (line, wrong) in [
         (
             "--clerks 65",
-            "invalid value '65' for '--clerks <N>': 65 is not in 1..=",
+            "invalid value '65' for '--clerks <N>': 65 is not in 1..=64",
         ),
         (
             "--clerks 0",
-            "invalid value '0' for '--clerks <N>': 0 is not in 1..=",
+            "invalid value '0' for '--clerks <N>': 0 is not in 1..=64",
         ),
         (
             "--clerks=-1",
-            "invalid value '-1' for '--clerks <N>': -1 is not in 1..=",
+            "invalid value '-1' for '--clerks <N>': -1 is not in 1..=64",
         ),
         ("--clerks -1", "unexpected argument '-1'"),
         (
@@ -91,7 +93,8 @@ fn says_what_is_wrong(rt: HostRuntime) -> Result<(), Fail> {
         ("--größe 1", "unexpected argument '--größe'"),
         ("-- --clerks 1", "unexpected argument '--clerks'"),
         ("--clerk 1", "a similar argument exists: '--clerks'"),
-        ("--clerks 99 --help", "99 is not in 1..="),
+        ("--clerks 256", "256 is not in 1..=64"),
+        ("--clerks 99 --help", "99 is not in 1..=64"),
     ] {
         let text = bad_words(rt.alloc(), line)?.ok_or("bad words")?;
         assert!(rt; text.as_str().contains(wrong), "{line}: {text}");

@@ -1,5 +1,5 @@
 -- Two texts of one input are equal, since their courts are one.
-use Rattle.std.proofs.Common.{◌≡◌, ◌∙◌, ℕ, List, Result, Ok, Err, sym, ap}
+use Rattle.std.proofs.Common.{◌≡◌, ◌∙◌, ℕ, List, Result, Ok, Err, refl, sym, ap}
 use Rattle.court_days.specs.declared.fault.CourtFault.{CourtFault}
 use Rattle.court_days.specs.Words.{CourtFile, TextsNameClocks, court_in}
 use Rattle.office_rows.specs.declared.fault.RowCause.{RowCause}
@@ -33,6 +33,6 @@ read_file clerks bytes input e = by (court_in (court_part bytes)) (λ file. rows
     by (Ok file) reads e = ap Ok (of_rows file (reads file) e)
 
 pub texts_are_unique_lem : TextsNameClocks → TextsAreUnique
-texts_are_unique_lem clocks clerks bytes input first second said one other =
-    let same = same_court clocks (court_part bytes) input.file (read_file clerks bytes input said) one.court other.court one.is_court other.is_court in
-    one.is_text ∙ run_text_alike one.court other.court input.rows same ∙ sym other.is_text
+texts_are_unique_lem clocks journal another bytes input first second said one other =
+    let same = same_court clocks (court_part bytes) input.file (read_file 1 bytes input said) one.court other.court one.is_court other.is_court in
+    one.is_text.by_one refl ∙ run_text_alike one.court other.court input.rows same ∙ sym (other.is_text.by_one refl)

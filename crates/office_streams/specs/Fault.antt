@@ -1,7 +1,6 @@
 -- The lines and the statuses that tell of faults.
 use Rattle.std.specs.Prelude.{ℕ, List, ◌++◌, codes}
 use Rattle.std.specs.Fmt.{decimal}
-use Rattle.court_days.specs.declared.fault.CourtFault.{CourtFault}
 use Rattle.court_days.specs.Words.{court_fault_text}
 use Rattle.court_days.specs.declared.fault.CourtFault.TheVariants as court
 use Rattle.office_rows.specs.Words.{cause_text}

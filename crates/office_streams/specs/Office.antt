@@ -8,6 +8,7 @@ use Rattle.office_rows.specs.declared.fault.RowCause.{RowCause}
 use Rattle.office_rows.specs.declared.row.Row.{Row as RowOf}
 use Rattle.office_rows.specs.Words.{Names, rows_of}
 use Rattle.office_run.specs.Words.{run_text}
+use Rattle.shared_run.specs.Words.{IsSharedText}
 use Rattle.office_streams.specs.declared.checking.CheckedInput.{CheckedInput}
 use Rattle.office_streams.specs.declared.fault.OfficeFault.{OfficeFault}
 use Rattle.office_streams.specs.declared.fault.OfficeFault.TheVariants.{Court, Row, ReadFault, WriteFault, OutOfMemory}
@@ -42,12 +43,18 @@ input_of clerks bytes = do
   rows ← by_office (λ fault. Row fault.0 fault.1) (rows_of clerks (names_in file) (rows_part bytes))
   Ok (record { file = file; rows = rows })
 
+-- the text of a run of rows: one clerk does them one after another, and several share an office whose journal takes so
+-- many entries
+pub record IsTextBy (clerks journal : ℕ) (court : CourtView) (rows : List RowOf) (text : List ℕ) : Type 0 where
+  pub by_one : clerks ≡ 1 → text ≡ run_text court rows
+  pub by_several : clerks ≢ 1 → IsSharedText court clerks journal rows text
+
 -- The text of the run of an input, in the court whose file it has. The file names the court's zone, and all values
 -- of a zone that it may stand for have the same offsets.
-pub record IsTextOf (input : Input) (text : List ℕ) : Type 0 where
+pub record IsTextOf (clerks journal : ℕ) (input : Input) (text : List ℕ) : Type 0 where
   pub court : CourtView
   pub is_court : file_of court ≡ input.file
-  pub is_text : text ≡ run_text court input.rows
+  pub is_text : IsTextBy clerks journal court input.rows text
 
 -- what reading the court's file answers: the court or the fault that is defined, unless memory ran out
 abbrev pub AnswersCourt : {X : Type 0} → (X → CourtFile) → Result X OfficeFault → Result CourtFile CourtFault → Type 0
@@ -95,9 +102,10 @@ IsRunBy IsText old new (Err (Row number cause)) said = said ≡ Err (Row number 
 IsRunBy IsText old new (Err ReadFault) said = ⊤
 IsRunBy IsText old new (Err OutOfMemory) said = ⊤
 
--- the run of the office: its text is that of the replies, sheets and calendars
-abbrev pub IsRun : Option (List ℕ) → Option (List ℕ) → Result (Unit {0}) OfficeFault → Result Input OfficeFault → Type 0
-IsRun old new result said = IsRunBy IsTextOf old new result said
+-- the run of an office of so many clerks, whose journal takes so many entries: its text is that of the answers, sheets
+-- and calendars
+abbrev pub IsRun : (clerks journal : ℕ) → Option (List ℕ) → Option (List ℕ) → Result (Unit {0}) OfficeFault → Result Input OfficeFault → Type 0
+IsRun clerks journal old new result said = IsRunBy (IsTextOf clerks journal) old new result said
 
 -- the answer rests on the whole input
 abbrev pub rests_on_input : Result (Unit {0}) OfficeFault → Bool

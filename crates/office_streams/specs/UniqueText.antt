@@ -1,7 +1,8 @@
--- What the text of a run means: the input determines it, whichever value the court's zone is kept as.
+-- What the text of a run of one clerk means: the input determines it, whichever value the court's zone is kept as, and
+-- however many entries the journal takes.
 use Rattle.std.specs.Prelude.{◌≡◌, ℕ, List, Ok}
 use Rattle.office_streams.specs.Office.{Input, IsTextOf, input_of}
 
 abbrev pub TextsAreUnique : Type 0
-TextsAreUnique = (clerks : ℕ) (bytes : List ℕ) (input : Input) (first second : List ℕ) →
-    input_of clerks bytes ≡ Ok input → IsTextOf input first → IsTextOf input second → first ≡ second
+TextsAreUnique = (journal other : ℕ) (bytes : List ℕ) (input : Input) (first second : List ℕ) →
+    input_of 1 bytes ≡ Ok input → IsTextOf 1 journal input first → IsTextOf 1 other input second → first ≡ second

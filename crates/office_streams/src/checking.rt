@@ -1,14 +1,14 @@
 //! An input checked: the court whose file it begins with, and its rows.
 
-ghost use Rattle.std.specs.Prelude.{◌≡◌};
+ghost use Rattle.std.specs.Prelude.{◌≡◌, All, IfOk};
 ghost use Rattle.court_days.specs.Words.{court_in, file_of};
-ghost use Rattle.office_rows.specs.Words.{names_of, rows_of};
+ghost use Rattle.office_rows.specs.Words.{IsOfClerk, names_of, rows_of};
 ghost use Rattle.office_streams.specs.Office.{AnswersCourt, AnswersInput, AnswersRowsOf, IsChecked, input_of};
 
 use crate::division::divide;
 use crate::fault::OfficeFault;
 use court_days::{Court, CourtFault};
-use office_rows::{Row, RowError, read_rows};
+use office_rows::{Row, RowError, read_rows, rows_are_bounded};
 use std::alloc::Global;
 
 /// What an input holds that has no fault.
@@ -24,7 +24,8 @@ pub struct CheckedInput {
 /// one. There are so many clerks. `OutOfMemory` alone comes where memory ran out.
 #[tactic(auto, unfolding(crate::specs::Office::input_of))]
 pub fn check_input(alloc: Global, input: &[u8], clerks: u8) -> Result<CheckedInput, OfficeFault>
-    ensures { AnswersInput IsChecked result (input_of clerks input.now) }
+    ensures said { AnswersInput IsChecked result (input_of clerks input.now) }
+    ensures clerks { IfOk result (λ checked. All (IsOfClerk clerks) checked.rows.items) }
 {
     let (file, rows) = divide(input);
     let court = court_of(alloc, file)?;
@@ -50,8 +51,10 @@ fn rows_behind(
     clerks: u8,
     court: &Court,
 ) -> Result<Vec<Row>, OfficeFault>
-    ensures { AnswersRowsOf (λ rows. rows.items) result (rows_of clerks (names_of court.now) bytes.now) }
+    ensures rows { AnswersRowsOf (λ rows. rows.items) result (rows_of clerks (names_of court.now) bytes.now) }
+    ensures clerks { IfOk result (λ rows. All (IsOfClerk clerks) rows.items) }
 {
+    rows_are_bounded();
     match read_rows(alloc, bytes, clerks, court) {
         Ok(rows) => Ok(rows),
         Err(RowError::Fault(number, cause)) => Err(OfficeFault::Row(number, cause)),

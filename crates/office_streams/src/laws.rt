@@ -11,8 +11,9 @@ pub fn first_divider_divides()
     ensures { FirstDividerDivides }
 {}
 
-/// All texts that a run may write for one input are equal. The court's file names its zone, and the text can't
-/// differ between values of that zone, by the law of `court_days` that they are one clock.
+/// All texts that a run of one clerk may write for one input are equal, however many entries the journal takes. The
+/// court's file names its zone, and the text can't differ between values of that zone, by the law of `court_days` that
+/// they are one clock.
 pub fn texts_are_unique()
     ensures { TextsAreUnique }
 {

@@ -6,12 +6,14 @@ mod division;
 mod endings;
 mod fault;
 mod fault_lines;
+mod gate;
 mod input;
 mod laws;
 mod office;
 mod output;
 #[cfg(test)]
 mod tests;
+mod text;
 mod watched;
 
 pub use checking::{CheckedInput, check_input};
@@ -19,6 +21,7 @@ pub use division::divide;
 pub use endings::{BAD_WORDS, ended_by, helped, unread};
 pub use fault::OfficeFault;
 pub use fault_lines::{fault_line, status_of};
+pub use gate::OpenGate;
 pub use input::{MAX_INPUT_BYTES, MAX_READ_CALLS, read_all};
 pub use laws::{first_divider_divides, texts_are_unique};
 pub use office::run_office;

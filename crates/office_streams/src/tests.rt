@@ -1,12 +1,16 @@
 //! What no whole run shows: readers that give their bytes in pieces, and reads and writes that fail.
 
-use crate::{OfficeFault, Watched, fault_line, run_office, status_of};
+mod clerks;
+
+use crate::{OfficeFault, OpenGate, Watched, fault_line, run_office, status_of};
 use office_options::Options;
 use sample_court::file;
 use std::alloc::{AllocError, Global};
 use std::io;
 use std::io::{Read, Write};
+use std::sync::Wait;
 use std::test::Fail;
+use std::thread::Threads;
 
 const ROW: &str = "1,compute,28d/after/filing/event/plain,2025-08-04,,,\n";
 
@@ -68,7 +72,8 @@ fn input_of(alloc: Global, bytes: usize) -> Result<String, AllocError> {
 }
 
 // A run whose reads give so many bytes, and of whose reads so many succeed; its writer, and whether its input ended.
-fn run(
+fn run<H: Threads + Wait + Sync>(
+    rt: &H,
     alloc: Global,
     input: &str,
     most: usize,
@@ -83,7 +88,7 @@ fn run(
     });
     let mut writer = Watched::new(page);
     let options = Options::new(1, 100_000).unwrap();
-    let result = run_office(alloc, &mut reader, &mut writer, options);
+    let result = run_office(rt, alloc, &mut reader, &mut writer, options, &OpenGate);
     (result, writer, reader.ended())
 }
 
@@ -98,7 +103,7 @@ fn takes_two_megabytes_in_any_pieces(rt: HostRuntime) -> Result<(), Fail> {
     let input = input_of(alloc, 2_000_000)?;
     for (most, at_once) in [(1, 1), (7, 3)] {
         let page = make_page(alloc, at_once, usize::MAX);
-        let (result, writer, ended) = run(alloc, input.as_str(), most, u64::MAX, page);
+        let (result, writer, ended) = run(&rt, alloc, input.as_str(), most, u64::MAX, page);
         result?;
         assert!(rt; ended && !writer.failed());
         assert_eq!(rt; writer.inner().text.as_slice(), TEXT.as_bytes());
@@ -113,7 +118,7 @@ fn stops_at_each_read_that_fails(rt: HostRuntime) -> Result<(), Fail> {
     // With 7 bytes a read, this many reads come before the one that tells of the end.
     for reads_left in 0..=(input.len() as u64).div_ceil(7) {
         let page = make_page(alloc, 1, usize::MAX);
-        let (result, writer, ended) = run(alloc, input.as_str(), 7, reads_left, page);
+        let (result, writer, ended) = run(&rt, alloc, input.as_str(), 7, reads_left, page);
         let fault = result.err().ok_or("no fault")?;
         assert_eq!(rt; fault_line(alloc, &fault)?.as_str(), "read fault");
         assert_eq!(rt; status_of(&fault), 4);
@@ -129,7 +134,7 @@ fn leaves_the_beginning_that_a_failing_writer_took(rt: HostRuntime) -> Result<()
     for room in 0..TEXT.len() {
         for most in [1, 100] {
             let page = make_page(alloc, most, room);
-            let (result, writer, _ended) = run(alloc, input.as_str(), 100, u64::MAX, page);
+            let (result, writer, _ended) = run(&rt, alloc, input.as_str(), 100, u64::MAX, page);
             let fault = result.err().ok_or("no fault")?;
             assert_eq!(rt; fault_line(alloc, &fault)?.as_str(), "write fault");
             assert_eq!(rt; status_of(&fault), 4);

@@ -12,9 +12,10 @@ abbrev pub told : (written : List ℕ) → Result (Unit {0}) OfficeFault → Lis
 told written (Ok done) = written
 told written (Err fault) = written ++ fault_text fault ++ 10 ∷ []
 
--- The line with the run's name is added, and what a run of one clerk's office writes and answers for that input.
-pub record AppendsRun (old new name input : List ℕ) : Type 0 where
+-- The line with the run's name is added, and what a run of an office of so many clerks, whose journal takes so many
+-- entries, writes and answers for that input.
+pub record AppendsRun (clerks journal : ℕ) (old new name input : List ℕ) : Type 0 where
   pub answer : Result (Unit {0}) OfficeFault
   pub written : List ℕ
-  pub is_run : IsRun (Some []) (Some written) answer (input_of 1 input)
+  pub is_run : IsRun clerks journal (Some []) (Some written) answer (input_of clerks input)
   pub appended : new ≡ old ++ name_line name ++ told written answer

@@ -1,21 +1,22 @@
 //! Runs of the office, many in one input, for a check that runs each program once.
 #![tactic(auto)]
 
+mod named;
 mod stored;
 
+use named::push_named;
 use std::io;
 use std::io::Write;
-use stored::push_run;
 
-/// Does each run that standard input holds: behind a line `%%%% NAME` a whole input, whose last line end is that before
-/// the next such line. For each it writes that line, and then what the run writes or the line of its fault. What stands
-/// before the first such line is passed over.
+/// Does each run that standard input holds: behind a line `%%%% NAME`, and the words of its command line behind the name, a
+/// whole input, whose last line end is that before the next such line. For each it writes that line, and then what the
+/// run writes or the line of its fault. What stands before the first such line is passed over.
 fn main(rt: HostRuntime) -> io::Result<()> {
     let input = io::read_to_string(rt.alloc(), rt.stdin())?;
     let mut output = Vec::new(rt.alloc());
     for run in input.as_str().split("\n%%%% ").skip(1) {
-        if let Some((name, input)) = run.split_once('\n') {
-            push_run(rt.alloc(), &mut output, name, input.as_bytes())?;
+        if let Some((line, input)) = run.split_once('\n') {
+            push_named(&rt, rt.alloc(), &mut output, line, input.as_bytes())?;
         }
     }
     io::writer(&rt).write_all(output.as_slice())

@@ -5,24 +5,27 @@ ghost use Rattle.office_streams.specs.Words.{fault_text};
 ghost use Rattle.stored_runs.specs.Stored.{AppendsRun, name_line};
 
 use office_options::Options;
-use office_streams::{OfficeFault, Watched, fault_line, run_office};
+use office_streams::{OfficeFault, OpenGate, Watched, fault_line, run_office};
 use std::alloc::{AllocError, Global};
+use std::sync::Wait;
+use std::thread::Threads;
 
-/// Adds the line `%%%% NAME`, and then what a run of one clerk's office writes for that input and, where it ends with a
-/// fault, the fault's line. `Err` says that memory ran out.
-pub fn push_run(
+/// Adds the line `%%%% NAME`, and then what a run of the office with these options writes for that input and, where it
+/// ends with a fault, the fault's line. `Err` says that memory ran out.
+pub fn push_run<H: Threads + Wait + Sync>(
+    rt: &H,
     alloc: Global,
     output: &mut Vec<u8>,
     name: &str,
+    options: Options,
     input: &[u8],
 ) -> Result<(), AllocError>
-    ensures { OnOk result (AppendsRun output.old.items output.new.items name.now input.now) }
+    ensures { OnOk result (AppendsRun options.clerks options.journal output.old.items output.new.items name.now input.now) }
 {
     push_name(output, name)?;
     let mut reader = Watched::new(input);
     let mut writer = Watched::new(Vec::new(alloc));
-    let options = Options::new(1, 100_000).unwrap();
-    let answer = run_office(alloc, &mut reader, &mut writer, options);
+    let answer = run_office(rt, alloc, &mut reader, &mut writer, options, &OpenGate);
     output.extend_from_slice(writer.inner().as_slice())?;
     match answer {
         Ok(()) => Ok(()),
@@ -32,7 +35,7 @@ pub fn push_run(
 }
 
 /// Adds the line with the run's name.
-fn push_name(output: &mut Vec<u8>, name: &str) -> Result<(), AllocError>
+pub fn push_name(output: &mut Vec<u8>, name: &str) -> Result<(), AllocError>
     ensures { OnOk result (output.new.items ≡ output.old.items ++ name_line name.now) }
 {
     output.extend_from_slice(b"%%%% ")?;

@@ -30,7 +30,7 @@ unwrap-requires c =
     let holds = holds_options c.in_ok-command.command c.in_ok-command.ensures c.in-Ok.matches words c.in-Ok.ensures.parsed c.in-Ok.ensures.matches in
     let clerks = clerks_are words c.in-Ok.matches c.get_one.result c.unwrap-clerks.result holds c.get_one.ensures.value c.unwrap-clerks.ensures in
     let journal = journal_is words c.in-Ok.matches c.get_one-in-Ok.result c.unwrap-journal.result holds c.get_one-in-Ok.ensures.value c.unwrap-journal.ensures in
-    c.new.ensures.within.1 (clerks.0, omega (arith, clerks.1), journal.1)
+    c.new.ensures.within.1 (clerks.0, clerks.1, journal.1)
 
 pub returns-in-Ok-clause-held : goal.returns-in-Ok-clause-held
 returns-in-Ok-clause-held c =

@@ -1,0 +1,9 @@
+-- What is made of an input from what was made of it before.
+use Rattle.std.proofs.Common.{Result, Ok, Err}
+use Rattle.office_streams.specs.declared.fault.OfficeFault.{OfficeFault}
+use Rattle.office_streams.specs.Office.{AnswersInput, Input}
+
+pub made_further : {X Y : Type 0} (Fits : Input → X → Type 0) (FitsNow : Input → Y → Type 0) (x : X) (y : Y) (said : Result Input OfficeFault)
+    → ((input : Input) → Fits input x → FitsNow input y) → AnswersInput Fits (Ok x) said → AnswersInput FitsNow (Ok y) said
+made_further Fits FitsNow x y (Ok input) further fits = further input fits
+made_further Fits FitsNow x y (Err fault) further none = none

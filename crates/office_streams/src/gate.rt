@@ -1,0 +1,13 @@
+//! The gate of an office that nobody holds.
+
+use clerk_workers::Gate;
+
+/// A gate that holds no clerk.
+#[derive(Clone, Copy, Debug)]
+pub struct OpenGate;
+
+impl Gate for OpenGate {
+    fn before_commit(&self, _clerk: u8, _row: u32) {}
+
+    fn after_answer(&self, _clerk: u8, _row: u32) {}
+}

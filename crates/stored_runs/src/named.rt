@@ -1,0 +1,30 @@
+//! A stored run by the line that names it.
+
+use crate::stored::{push_name, push_run};
+use office_options::{OptionsFault, options_of};
+use std::alloc::{AllocError, Global};
+use std::sync::Wait;
+use std::thread::Threads;
+
+// No clause says how a line is cut into words; what is stored to be written shows it.
+
+/// Adds the run of that input whose line is `NAME WORD WORD ..`: the words behind the name are those of the command line,
+/// each behind a space. Where these give no options, the text that says so stands in the place of what a run writes.
+/// `Err` says that memory ran out.
+pub fn push_named<H: Threads + Wait + Sync>(
+    rt: &H,
+    alloc: Global,
+    output: &mut Vec<u8>,
+    line: &str,
+    input: &[u8],
+) -> Result<(), AllocError> {
+    let words: Vec<&str> = line.split(' ').skip(1).collect(alloc)?;
+    match options_of(alloc, words.as_slice()) {
+        Ok(options) => push_run(rt, alloc, output, line, options, input),
+        Err(OptionsFault::BadWords(text) | OptionsFault::Help(text)) => {
+            push_name(output, line)?;
+            output.extend_from_slice(text.as_bytes())
+        }
+        Err(OptionsFault::OutOfMemory) => Err(AllocError),
+    }
+}
