@@ -121,7 +121,7 @@ module _ (c : DaysView) (clock : ClockView) (row : DeadlineRowView) where
   pub looks_keeps : (d : ℤ) (look : Look) (aim : Aim) (r : Reason) (next : Standing) → Looks c clock d look aim r next → answer_from c clock row next ≡ reached c clock row aim (found_by c look d)
   looks_keeps d look aim (reason.PassedOver day cause) next h =
       ap (answer_from c clock row) h.3
-      ∙ ap (reached c clock row aim) (found_skips c look.going (is_open c look.holidays look.accessible) d h.1 (cause_closes c look d cause h.2))
+      ∙ ap (reached c clock row aim) (found_skips c look.going (is_open c look.holidays look.accessible) d h.1 (cause_closes c look d cause h.2.0))
   looks_keeps d look aim reason.NotCovered next h =
       ap (answer_from c clock row) h.1
       ∙ none_reached aim
@@ -137,7 +137,7 @@ module _ (c : DaysView) (clock : ClockView) (row : DeadlineRowView) where
   pub passes : (test : OutageView → Bool) (outage : OutageView) → Contains c.outages outage → test outage ≡ true → list_any test c.outages ≡ true
   passes test outage among h = list_any-from_Any test c.outages (among.0, outage, among.1, among.2, h)
 
-  outage_lies_on : (outage : OutageView) (d : ℤ) → Contains c.outages outage → outage.day ≡ d → has_outage c d ≡ true
+  pub outage_lies_on : (outage : OutageView) (d : ℤ) → Contains c.outages outage → outage.day ≡ d → has_outage c d ≡ true
   outage_lies_on outage d among same =
       passes (λ o. int_eq o.day d) outage among ((Decides-int_eq outage.day d).1 same)
 
@@ -176,7 +176,7 @@ module _ (c : DaysView) (clock : ClockView) (row : DeadlineRowView) where
       ap (answer_from c clock row) h.2
       ∙ and_then_extended None (Some (OnDay last)) g grants (not_extended_is (is_in_hours row.period) (Some (OnDay last)) g h.1)
   goes_on_keeps last false [] (reason.Inaccessible outage) next h =
-      ap (answer_from c clock row) h.3 ∙ shut last h.0 (outage_lies_on outage last h.1 h.2)
+      ap (answer_from c clock row) h.3 ∙ shut last h.0 (outage_lies_on outage last h.1.0 h.2)
   goes_on_keeps last false [] r next h = closes_keeps (act_of row.period) last r next h.1 ∙ not_shut last h.0
   goes_on_keeps last three grants r next h = absurd h
 

@@ -30,11 +30,11 @@ module _ (c : DaysView) (clock : ClockView) (row : DeadlineRowView) where
 
   pub counts_hours_keeps : (from : ℤ) (n : ℕ) (direction : Direction) (grants : List Grant) (r : Reason) (next : Standing) → CountsHours clock from n direction grants r next → answer_from c clock row next ≡ with_grants c clock row (option_map AtInstant (end_of_hours_from c clock from n direction)) grants
   counts_hours_keeps from n direction grants (reason.HoursCounted hours instant forward) next h =
-      ap (answer_from c clock row) h.3
+      ap (answer_from c clock row) h.4
       ∙ ap (λ o. with_grants c clock row (option_map AtInstant o) grants) (ap (hours_end direction) h.1 ∙ end_is from n direction)
   counts_hours_keeps from n direction grants reason.NotCovered next h =
-      ap (answer_from c clock row) h.1
-      ∙ ap (λ o. with_grants c clock row (option_map AtInstant o) grants) (ap (option_and_then (continued c clock direction (hours_from from n direction))) (sym h.0) ∙ end_is from n direction)
+      ap (answer_from c clock row) h.2
+      ∙ ap (λ o. with_grants c clock row (option_map AtInstant o) grants) (ap (option_and_then (continued c clock direction (hours_from from n direction))) (sym h.1) ∙ end_is from n direction)
   counts_hours_keeps from n direction grants r next h = absurd h
 
   abbrev time_at : ℤ → ℕ → CivilTime
@@ -58,7 +58,7 @@ module _ (c : DaysView) (clock : ClockView) (row : DeadlineRowView) where
       ∙ ap (λ o. with_grants c clock row (option_map AtInstant (option_and_then (continued c clock direction end) o)) grants) (sym h.0)
   ends_hours_keeps end direction grants r next h = absurd h
 
-  outage_meets : (end : ℤ) (outage : OutageView) → Contains c.outages outage → meets_last_hour clock end outage ≡ true → list_any (meets_last_hour clock end) c.outages ≡ true
+  pub outage_meets : (end : ℤ) (outage : OutageView) → Contains c.outages outage → meets_last_hour clock end outage ≡ true → list_any (meets_last_hour clock end) c.outages ≡ true
   outage_meets end outage among meets = passes c clock row (meets_last_hour clock end) outage among meets
 
   shut : (end day : ℤ) (second : ℕ) → needs_access row ≡ true → list_any (meets_last_hour clock end) c.outages ≡ true → civil_of clock.zone end ≡ Some (time_at day second) → reached c clock row (AccessibleHour second) (found_by c (for_access (access_holidays row)) (day_later c day)) ≡ with_grants c clock row (Some (AtInstant end)) []
@@ -90,7 +90,7 @@ module _ (c : DaysView) (clock : ClockView) (row : DeadlineRowView) where
       ap (answer_from c clock row) h.2
       ∙ and_then_extended c clock row None (Some (AtInstant end)) g grants (not_extended_is c clock row (is_in_hours row.period) (Some (AtInstant end)) g h.1)
   goes_on_until_keeps end [] (reason.LastHour outage day second) next h =
-      ap (answer_from c clock row) h.4 ∙ shut end day second h.0 (outage_meets end outage h.1 h.2) h.3
+      ap (answer_from c clock row) h.4 ∙ shut end day second h.0 (outage_meets end outage h.1.0 h.2) h.3
   goes_on_until_keeps end [] reason.NotCovered next h = ap (answer_from c clock row) h.2 ∙ shut_beyond end h.0 h.1
   goes_on_until_keeps end [] (reason.UntilInstant instant) next h = ap (answer_from c clock row) h.2 ∙ not_shut end h.0
   goes_on_until_keeps end grants r next h = absurd h

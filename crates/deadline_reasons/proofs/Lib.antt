@@ -3,3 +3,4 @@ pub mod Answer
 pub mod AnswerLemmas
 pub mod HourLemmas
 pub mod DerivationLemmas
+pub mod OneDerivation

@@ -19,3 +19,7 @@ IsDerivation c clock row reasons shown = Lead c clock row Unstarted reasons (End
 -- Whatever derivation a deadline has, it ends in what is shown of the deadline.
 abbrev pub DerivationsEndInWhatIsShown : Type 0
 DerivationsEndInWhatIsShown = (c : DaysView) (clock : ClockView) (row : DeadlineRowView) (reasons : List Reason) (shown : Shown) → IsDerivation c clock row reasons shown → shown ≡ shown_of c clock row
+
+-- A deadline has one derivation.
+abbrev pub DeadlinesHaveOneDerivation : Type 0
+DeadlinesHaveOneDerivation = (c : DaysView) (clock : ClockView) (row : DeadlineRowView) (reasons others : List Reason) (shown other : Shown) → IsDerivation c clock row reasons shown → IsDerivation c clock row others other → reasons ≡ others

@@ -1,10 +1,11 @@
 -- What may be said next, and how far it leads: one step of a derivation, by the rule that it names. Each definition
 -- here speaks of one standing; what it doesn't name can't follow there.
-use Rattle.std.specs.Prelude.{◌≡◌, ℕ, ◌*◌, ℤ, ◌+ℤ◌, Bool, true, false, ◌&&◌, Contains, List, [], ◌∷◌, Some, None}
+use Rattle.std.specs.Prelude.{◌≡◌, ℕ, ◌*◌, ℤ, ◌+ℤ◌, Bool, true, false, ◌&&◌, List, [], ◌∷◌, Some, None}
 use Rattle.std.specs.List.{list_any}
+use Rattle.std.specs.Ordering.{int_eq}
 use Rattle.court_days.specs.declared.direction.Direction.{Direction}
 use Rattle.court_days.specs.declared.direction.Direction.TheVariants.{After}
-use Rattle.court_days.specs.Words.{DaysView, ClockView, counted_from, is_covered, is_open, is_permitted, has_outage, civil_of, instant_of, offset_seconds}
+use Rattle.court_days.specs.Words.{DaysView, ClockView, IsInstantSecond, counted_from, is_covered, is_open, is_permitted, has_outage, civil_of, instant_of, offset_seconds}
 use Rattle.rule6.specs.declared.timeliness.Act.{Act}
 use Rattle.rule6.specs.declared.timeliness.Act.TheVariants as act
 use Rattle.rule6.specs.declared.timeliness.Shown.TheVariants as shown
@@ -17,7 +18,7 @@ use Rattle.rule_periods.specs.Words.{DeadlineRowView, act_of, direction_of, gran
 use Rattle.deadline_reasons.specs.declared.look.Look.{Look}
 use Rattle.deadline_reasons.specs.declared.reason.Reason.{Reason}
 use Rattle.deadline_reasons.specs.declared.reason.Reason.TheVariants as reason
-use Rattle.deadline_reasons.specs.Passing.{IsCause, away_from_event, for_access, day_later}
+use Rattle.deadline_reasons.specs.Passing.{IsFirstCause, IsFirstOutage, away_from_event, for_access, day_later}
 use Rattle.deadline_reasons.specs.Row.{length_of, event_day, adds_three, needs_access, access_holidays}
 use Rattle.deadline_reasons.specs.Standing.{ToCome, Aim, LastDay, Hour, AccessibleDay, AccessibleHour, Standing, Unstarted, Counting, Looking, Runs, CountingHours, HoursEnd, RunsUntil, Moved, MovedUntil, Nowhere, Ended, grants_behind}
 
@@ -48,11 +49,11 @@ Finds clock d (AccessibleHour second) (reason.SameTime day instant) next =
     (day ≡ d) × (instant ≡ instant_of clock.zone d second) × (next ≡ MovedUntil instant)
 Finds clock d aim r next = ⊥
 
--- A covered day is passed over where there is a cause, and the next one is looked at; a day that is open is the one
--- that was looked for (6(a)(1)(C), 6(a)(2)(C), 6(a)(3)).
+-- A covered day is passed over where there is a cause, of which the first is told, and the next one is looked at; a day
+-- that is open is the one that was looked for (6(a)(1)(C), 6(a)(2)(C), 6(a)(3)).
 abbrev pub Looks : DaysView → ClockView → ℤ → Look → Aim → Reason → Standing → Type 0
 Looks c clock d look aim (reason.PassedOver day cause) next =
-    (day ≡ d) × (is_covered c d ≡ true) × IsCause c look d cause × (next ≡ Looking (next_day look.going d) look aim)
+    (day ≡ d) × (is_covered c d ≡ true) × IsFirstCause c look d cause × (next ≡ Looking (next_day look.going d) look aim)
 Looks c clock d look aim reason.NotCovered next = (is_covered c d ≡ false) × (next ≡ Nowhere (grants_behind aim))
 Looks c clock d look aim r next = (is_open c look.holidays look.accessible d ≡ true) × Finds clock d aim r next
 
@@ -65,7 +66,8 @@ Closes clock act.Filing last (reason.UntilClosing day minute) next =
 Closes clock a last r next = ⊥
 
 -- From a last day first three days are counted where the service adds them (6(d)), then each extension in turn (6(b),
--- 4(m)). Then, for filing, an outage on the last day moves the time (6(a)(3)(A)); without one the time ends.
+-- 4(m)). Then, for filing, an outage on the last day moves the time (6(a)(3)(A)), of which the first is told; without one
+-- the time ends.
 abbrev pub GoesOn : DaysView → ClockView → DeadlineRowView → ℤ → Bool → List Grant → Reason → Standing → Type 0
 GoesOn c clock row last true grants (reason.ThreeAdded kind) next =
     (row.service ≡ Some kind) × (next ≡ Counting last 3 After (record { three = false; grants = grants }))
@@ -76,17 +78,18 @@ GoesOn c clock row last false (Until d ∷ grants) (reason.Extended grant) next 
 GoesOn c clock row last false (g ∷ grants) (reason.NotExtended grant) next =
     (grant ≡ g) × (grant_fits (is_in_hours row.period) g ≡ false) × (next ≡ Nowhere grants)
 GoesOn c clock row last false [] (reason.Inaccessible outage) next =
-    (needs_access row ≡ true) × Contains c.outages outage × (outage.day ≡ last) × (next ≡ Looking (day_later c last) (for_access (access_holidays row)) AccessibleDay)
+    (needs_access row ≡ true) × IsFirstOutage (λ o. int_eq o.day last) c.outages outage × (outage.day ≡ last) × (next ≡ Looking (day_later c last) (for_access (access_holidays row)) AccessibleDay)
 GoesOn c clock row last false [] r next =
     ((needs_access row && has_outage c last) ≡ false) × Closes clock (act_of row.period) last r next
 GoesOn c clock row last three grants r next = ⊥
 
--- Every hour counts, also over a change of the clocks (6(a)(2)(B)). No day is covered where the clock shows no `Day`.
+-- Every hour counts, also over a change of the clocks (6(a)(2)(B)). No day is covered where the clock shows no `Day`, so
+-- none is where no instant lies so far on.
 abbrev pub CountsHours : ClockView → ℤ → ℕ → Direction → List Grant → Reason → Standing → Type 0
 CountsHours clock from h direction grants (reason.HoursCounted hours instant forward) next =
-    (hours ≡ h) × (instant ≡ hours_from from h direction) × (offset_seconds clock.zone instant ≡ offset_seconds clock.zone from +ℤ forward) × (next ≡ HoursEnd instant direction grants)
+    (hours ≡ h) × (instant ≡ hours_from from h direction) × (offset_seconds clock.zone instant ≡ offset_seconds clock.zone from +ℤ forward) × IsInstantSecond instant × (next ≡ HoursEnd instant direction grants)
 CountsHours clock from h direction grants reason.NotCovered next =
-    (civil_of clock.zone (hours_from from h direction) ≡ None) × (next ≡ Nowhere grants)
+    (IsInstantSecond (hours_from from h direction) → ⊥) × (civil_of clock.zone (hours_from from h direction) ≡ None) × (next ≡ Nowhere grants)
 CountsHours clock from h direction grants r next = ⊥
 
 -- Hours that end on an open day end there; from another day they are continued to the same time on the next one
@@ -100,14 +103,14 @@ EndsHours c clock end direction grants reason.NotCovered next = (civil_of clock.
 EndsHours c clock end direction grants r next = ⊥
 
 -- From an instant each extension goes on in turn (6(b)). Then, for filing, an outage in the last hour moves the time
--- (6(a)(3)(B)); without one the time ends.
+-- (6(a)(3)(B)), of which the first is told; without one the time ends.
 abbrev pub GoesOnUntil : DaysView → ClockView → DeadlineRowView → ℤ → List Grant → Reason → Standing → Type 0
 GoesOnUntil c clock row end (ByHours h ∷ grants) (reason.Extended grant) next =
     (grant ≡ ByHours h) × (is_in_hours row.period ≡ true) × (next ≡ CountingHours end h After grants)
 GoesOnUntil c clock row end (g ∷ grants) (reason.NotExtended grant) next =
     (grant ≡ g) × (grant_fits (is_in_hours row.period) g ≡ false) × (next ≡ Nowhere grants)
 GoesOnUntil c clock row end [] (reason.LastHour outage day second) next =
-    (needs_access row ≡ true) × Contains c.outages outage × (meets_last_hour clock end outage ≡ true) × (civil_of clock.zone end ≡ Some (record { day = day; second = second })) × (next ≡ Looking (day_later c day) (for_access (access_holidays row)) (AccessibleHour second))
+    (needs_access row ≡ true) × IsFirstOutage (meets_last_hour clock end) c.outages outage × (meets_last_hour clock end outage ≡ true) × (civil_of clock.zone end ≡ Some (record { day = day; second = second })) × (next ≡ Looking (day_later c day) (for_access (access_holidays row)) (AccessibleHour second))
 GoesOnUntil c clock row end [] reason.NotCovered next =
     ((needs_access row && list_any (meets_last_hour clock end) c.outages) ≡ true) × (civil_of clock.zone end ≡ None) × (next ≡ Nowhere [])
 GoesOnUntil c clock row end [] (reason.UntilInstant instant) next =

@@ -1,10 +1,12 @@
 //! The end of a deadline: the last day of its period, or a later day where the clerk's office was inaccessible.
 
-ghost use Rattle.std.specs.Prelude.{◌≡◌, ◌&&◌, true, false, Contains, [], IfSome, IfNone, IfOk};
+ghost use Rattle.std.specs.Prelude.{◌≡◌, ◌&&◌, true, false, [], IfSome, IfNone, IfOk};
+ghost use Rattle.std.specs.Ordering.{int_eq};
 ghost use Rattle.court_days.specs.Words.{has_outage};
 ghost use Rattle.rule6.specs.declared.timeliness.Shown.{Shown};
 ghost use Rattle.rule6.specs.declared.timeliness.Shown.TheVariants as shown;
 ghost use Rattle.deadline_reasons.specs.Follows.{Closes};
+ghost use Rattle.deadline_reasons.specs.Passing.{IsFirstOutage};
 ghost use Rattle.deadline_reasons.specs.Row.{needs_access};
 ghost use Rattle.deadline_reasons.specs.Standing.{Runs, Ended};
 ghost use Rattle.deadline_reasons.specs.Leading.{LeadsOn, with_day};
@@ -48,7 +50,7 @@ fn close_later(
     outage: Outage,
 ) -> Result<(), AllocError>
     requires access { needs_access row.now ≡ true }
-    requires outage { Contains days.now.outages outage }
+    requires outage { IsFirstOutage (λ o. int_eq o.day last) days.now.outages outage }
     requires day { outage.day ≡ last }
     ensures { IfOk result (λ _. (shown : Shown) × LeadsOn days.now clock.now row.now reasons.old.items reasons.new.items (Runs last (record { three = false; grants = [] })) (Ended shown)) }
 {
@@ -77,7 +79,7 @@ fn closing(clock: &Clock, act: Act, day: Day) -> Reason
 /// The outage that moves the time from its last day, if one does.
 fn shutting_outage(days: &Days, row: &DeadlineRow, last: Day) -> Option<Outage>
     ensures access { IfSome result (λ _. needs_access row.now ≡ true) }
-    ensures some { IfSome result (λ outage. Contains days.now.outages outage × (outage.day ≡ last)) }
+    ensures some { IfSome result (λ outage. IsFirstOutage (λ o. int_eq o.day last) days.now.outages outage × (outage.day ≡ last)) }
     ensures none { IfNone result ((needs_access row.now && has_outage days.now last) ≡ false) }
 {
     if !needs_access(row) {
@@ -88,7 +90,7 @@ fn shutting_outage(days: &Days, row: &DeadlineRow, last: Day) -> Option<Outage>
 
 /// The first outage that lies on the day, if one does.
 fn outage_on(days: &Days, day: Day) -> Option<Outage>
-    ensures some { IfSome result (λ outage. Contains days.now.outages outage × (outage.day ≡ day)) }
+    ensures some { IfSome result (λ outage. IsFirstOutage (λ o. int_eq o.day day) days.now.outages outage × (outage.day ≡ day)) }
     ensures none { IfNone result (has_outage days.now day ≡ false) }
 {
     for outage in days.outages() {

@@ -1,6 +1,6 @@
 //! The reasons of a period that is stated in hours.
 
-ghost use Rattle.std.specs.Prelude.{◌≡◌, ◌<◌, ◌≤◌, ◌+ℤ◌, ◌&&◌, true, false, Contains, [], ◌∷◌, List, IfSome, IfNone, IfOk};
+ghost use Rattle.std.specs.Prelude.{◌≡◌, ◌<◌, ◌≤◌, ◌+ℤ◌, ◌&&◌, true, false, [], ◌∷◌, List, IfSome, IfNone, IfOk};
 ghost use Rattle.std.specs.List.{list_any};
 ghost use Rattle.court_days.specs.Words.{IsInstantSecond, offset_seconds};
 ghost use Rattle.rule6.specs.declared.timeliness.Shown.{Shown};
@@ -8,7 +8,7 @@ ghost use Rattle.rule6.specs.Words.{hours_from, meets_last_hour};
 ghost use Rattle.rule_periods.specs.declared.grant.Grant.{Grant as GrantData};
 ghost use Rattle.rule_periods.specs.declared.period.Length.TheVariants as stated;
 ghost use Rattle.rule_periods.specs.Words.{DeadlineRowView, is_grant_length, is_in_hours};
-ghost use Rattle.deadline_reasons.specs.Passing.{away_from_event, day_later, for_access};
+ghost use Rattle.deadline_reasons.specs.Passing.{IsFirstOutage, away_from_event, day_later, for_access};
 ghost use Rattle.deadline_reasons.specs.Row.{length_of, needs_access, access_holidays};
 ghost use Rattle.deadline_reasons.specs.Standing.{Aim, Hour, AccessibleHour, Unstarted, CountingHours, HoursEnd, Looking, RunsUntil, MovedUntil, Nowhere, Ended};
 ghost use Rattle.deadline_reasons.specs.Leading.{LeadsOn, with_instant, moved_to};
@@ -215,7 +215,7 @@ fn close_later(
     outage: Outage,
 ) -> Result<(), AllocError>
     requires access { needs_access row.now ≡ true }
-    requires outage { Contains days.now.outages outage }
+    requires outage { IsFirstOutage (meets_last_hour clock.now end) days.now.outages outage }
     requires meets { meets_last_hour clock.now end outage ≡ true }
     requires met { list_any (meets_last_hour clock.now end) days.now.outages ≡ true }
     ensures { IfOk result (λ _. (shown : Shown) × LeadsOn days.now clock.now row.now reasons.old.items reasons.new.items (RunsUntil end []) (Ended shown)) }
@@ -240,7 +240,7 @@ fn close_later(
 /// The outage that moves the time from an instant, if one does.
 fn shutting_outage(days: &Days, clock: &Clock, row: &DeadlineRow, end: Instant) -> Option<Outage>
     ensures access { IfSome result (λ _. needs_access row.now ≡ true) }
-    ensures some { IfSome result (λ outage. Contains days.now.outages outage × (meets_last_hour clock.now end outage ≡ true)) }
+    ensures some { IfSome result (λ outage. IsFirstOutage (meets_last_hour clock.now end) days.now.outages outage × (meets_last_hour clock.now end outage ≡ true)) }
     ensures met { IfSome result (λ _. list_any (meets_last_hour clock.now end) days.now.outages ≡ true) }
     ensures none { IfNone result ((needs_access row.now && list_any (meets_last_hour clock.now end) days.now.outages) ≡ false) }
 {
@@ -252,7 +252,7 @@ fn shutting_outage(days: &Days, clock: &Clock, row: &DeadlineRow, end: Instant) 
 
 /// The first outage that meets the last hour before the instant, if one does.
 fn outage_in_last_hour(days: &Days, clock: &Clock, end: Instant) -> Option<Outage>
-    ensures some { IfSome result (λ outage. Contains days.now.outages outage × (meets_last_hour clock.now end outage ≡ true)) }
+    ensures some { IfSome result (λ outage. IsFirstOutage (meets_last_hour clock.now end) days.now.outages outage × (meets_last_hour clock.now end outage ≡ true)) }
     ensures met { IfSome result (λ _. list_any (meets_last_hour clock.now end) days.now.outages ≡ true) }
     ensures none { IfNone result (list_any (meets_last_hour clock.now end) days.now.outages ≡ false) }
 {

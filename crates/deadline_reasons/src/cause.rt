@@ -1,8 +1,9 @@
 //! Days that are passed over.
 
-ghost use Rattle.std.specs.Prelude.{◌≡◌, true, false, IfSome, IfNone};
+ghost use Rattle.std.specs.Prelude.{◌≡◌, true, false, if◌then◌else◌, IfSome, IfNone};
 ghost use Rattle.court_days.specs.Words.{is_covered, is_open, is_holiday, is_among};
-ghost use Rattle.deadline_reasons.specs.Passing.{IsCause};
+ghost use Rattle.deadline_reasons.specs.declared.reason.Cause.TheVariants.{FederalHoliday, StateHoliday};
+ghost use Rattle.deadline_reasons.specs.Passing.{IsCause, IsFirstCause};
 
 use crate::look::Look;
 use crate::reason::Cause;
@@ -13,7 +14,7 @@ use court_days::{Day, Days, Direction, HolidayList};
 #[tactic(auto, unfolding(court_days::specs::Words::is_permitted))]
 pub(crate) fn cause_of(days: &Days, day: Day, look: Look) -> Option<Cause>
     requires { is_covered days.now day ≡ true }
-    ensures some { IfSome result (λ cause. IsCause days.now look day cause) }
+    ensures some { IfSome result (λ cause. IsFirstCause days.now look day cause) }
     ensures none { IfNone result (is_open days.now look.holidays look.accessible day ≡ true) }
 {
     match day.weekday() {
@@ -33,6 +34,8 @@ pub(crate) fn cause_of(days: &Days, day: Day, look: Look) -> Option<Cause>
 /// The holiday that the day is, if it is one.
 fn holiday_cause(days: &Days, day: Day, look: Look) -> Option<Cause>
     ensures some { IfSome result (λ cause. IsCause days.now look day cause) }
+    ensures first { IfSome result (λ cause. (if is_among days.now.federal day then FederalHoliday else StateHoliday) ≡ cause) }
+    ensures holiday { IfSome result (λ _. is_holiday days.now look.holidays day ≡ true) }
     ensures none { IfNone result (is_holiday days.now look.holidays day ≡ false) }
 {
     if days.in_list(HolidayList::Federal, day) {
