@@ -14,9 +14,9 @@ use published_docket::Publisher;
 use std::alloc::Global;
 use std::marker::Brand;
 use std::process::Abort;
+use std::sync::Wait;
 use std::sync::atomic::{AtomicU64, Ordering};
 use std::sync::ledger::Blank;
-use std::sync::Wait;
 use std::test::Fail;
 use std::thread::{Threads, yield_now};
 
@@ -134,9 +134,9 @@ fn answers_to<R: Threads + Wait + Sync + Abort, G: Gate>(
     for _try in 0..8 {
         let publisher = Publisher::new(alloc, &court)?;
         let blank = Blank::new(64);
-        if let Some(answers) =
-            answers_in::<Brand, R, G>(rt, alloc, blank, publisher, &court, rows, gate)
-        {
+        if let Some(answers) = answers_in::<Brand, R, G>(
+            rt, alloc, blank, publisher, &court, rows, gate,
+        ) {
             return Ok(answers);
         }
     }
@@ -177,7 +177,10 @@ fn the_clerk_who_is_held_goes_stale(rt: HostRuntime) -> Result<(), Fail> {
     };
     let rows = [open(&rt, 1), open(&rt, 2)];
     let answers = answers_to(&rt, rt.alloc(), &rows, &gate)?;
-    assert!(rt; gate.signs.in_vain.load(Ordering::SeqCst) == 0, "the clerks weren't at work together");
+    assert!(rt;
+        gate.signs.in_vain.load(Ordering::SeqCst) == 0,
+        "the clerks weren't at work together"
+    );
     match answers.as_slice() {
         [first, second] => {
             is_made(&rt, first, 2, Answer::Refused(Refusal::CaseIsOpen));
@@ -195,7 +198,10 @@ fn a_clerk_sees_what_the_other_finished(rt: HostRuntime) -> Result<(), Fail> {
     };
     let rows = [open(&rt, 1), sheet(2), sheet(2)];
     let answers = answers_to(&rt, rt.alloc(), &rows, &gate)?;
-    assert!(rt; gate.signs.in_vain.load(Ordering::SeqCst) == 0, "the clerks weren't at work together");
+    assert!(rt;
+        gate.signs.in_vain.load(Ordering::SeqCst) == 0,
+        "the clerks weren't at work together"
+    );
     match answers.as_slice() {
         [
             first,
