@@ -37,10 +37,10 @@ impl Signs {
         }
     }
 
-    /// Waits for a sign, for so many turns at most.
-    fn wait_for(&self, sign: &AtomicU64) {
+    /// Waits until the sign is no less than this, for so many turns at most.
+    fn wait_for(&self, sign: &AtomicU64, least: u64) {
         for _turn in 0..10_000_000u32 {
-            if sign.load(Ordering::SeqCst) == 1 {
+            if least <= sign.load(Ordering::SeqCst) {
                 return;
             }
             yield_now();
@@ -59,9 +59,9 @@ impl Gate for SecondFirst {
     fn before_commit(&self, clerk: u8, _row: u32) {
         if clerk == 1 {
             self.signs.first.store(1, Ordering::SeqCst);
-            self.signs.wait_for(&self.signs.second);
+            self.signs.wait_for(&self.signs.second, 1);
         } else {
-            self.signs.wait_for(&self.signs.first);
+            self.signs.wait_for(&self.signs.first, 1);
         }
     }
 
@@ -80,7 +80,7 @@ struct LookedBetween {
 
 impl Gate for LookedBetween {
     fn before_commit(&self, _clerk: u8, _row: u32) {
-        self.signs.wait_for(&self.signs.second);
+        self.signs.wait_for(&self.signs.second, 1);
     }
 
     fn after_answer(&self, _clerk: u8, row: u32) {
@@ -89,12 +89,22 @@ impl Gate for LookedBetween {
         }
         if row == 2 {
             self.signs.second.store(1, Ordering::SeqCst);
-            self.signs.wait_for(&self.signs.first);
+            self.signs.wait_for(&self.signs.first, 1);
         }
     }
 }
 
-/// The answers of a new office of two clerks to these rows.
+/// Holds nobody.
+#[derive(Drop)]
+struct HoldsNobody;
+
+impl Gate for HoldsNobody {
+    fn before_commit(&self, _clerk: u8, _row: u32) {}
+
+    fn after_answer(&self, _clerk: u8, _row: u32) {}
+}
+
+/// The answers of a new office of two clerks to these rows, with a journal that takes so many entries.
 #[tactic(auto, using(clerk_workers::proofs::CallerLemmas::open_in_order))]
 fn answers_in<L: Names + Send + Sync, R: Threads + Wait + Sync + Abort, G: Gate>(
     rt: &R,
@@ -102,6 +112,7 @@ fn answers_in<L: Names + Send + Sync, R: Threads + Wait + Sync + Abort, G: Gate>
     blank: Blank,
     publisher: Publisher,
     court: &Court,
+    limit: u32,
     rows: &[Row],
     gate: &G,
 ) -> Option<Vec<RowAnswer>>
@@ -112,7 +123,7 @@ fn answers_in<L: Names + Send + Sync, R: Threads + Wait + Sync + Abort, G: Gate>
     requires court { L.bench ≡ bench_of court.now }
     requires clerks { AreOfClerks 2 rows.now }
 {
-    let Ok((_office, seats)) = Office::<L>::new(rt, alloc, blank, publisher, court, 2, 100) else {
+    let Ok((_office, seats)) = Office::<L>::new(rt, alloc, blank, publisher, court, 2, limit) else {
         return None;
     };
     match run_clerks(rt, alloc, seats, rows, gate) {
@@ -125,6 +136,7 @@ fn answers_in<L: Names + Send + Sync, R: Threads + Wait + Sync + Abort, G: Gate>
 fn answers_to<R: Threads + Wait + Sync + Abort, G: Gate>(
     rt: &R,
     alloc: Global,
+    limit: u32,
     rows: &[Row],
     gate: &G,
 ) -> Result<Vec<RowAnswer>, Fail>
@@ -135,7 +147,7 @@ fn answers_to<R: Threads + Wait + Sync + Abort, G: Gate>(
         let publisher = Publisher::new(alloc, &court)?;
         let blank = Blank::new(64);
         if let Some(answers) = answers_in::<Brand, R, G>(
-            rt, alloc, blank, publisher, &court, rows, gate,
+            rt, alloc, blank, publisher, &court, limit, rows, gate,
         ) {
             return Ok(answers);
         }
@@ -143,13 +155,13 @@ fn answers_to<R: Threads + Wait + Sync + Abort, G: Gate>(
     panic!(rt; "no run was started in eight tries")
 }
 
-fn open(rt: &impl Abort, clerk: u8) -> Row
+fn open(rt: &impl Abort, clerk: u8, case: u32) -> Row
     ensures { result.clerk ≡ clerk }
 {
     let filed = Day::from_text("2025-03-03").expect(rt, "a day");
     Row {
         clerk,
-        work: Work::Command(Command::OpenCase { case: 1, filed }),
+        work: Work::Command(Command::OpenCase { case, filed }),
     }
 }
 
@@ -175,8 +187,8 @@ fn the_clerk_who_is_held_goes_stale(rt: HostRuntime) -> Result<(), Fail> {
     let gate = SecondFirst {
         signs: Signs::new(),
     };
-    let rows = [open(&rt, 1), open(&rt, 2)];
-    let answers = answers_to(&rt, rt.alloc(), &rows, &gate)?;
+    let rows = [open(&rt, 1, 1), open(&rt, 2, 1)];
+    let answers = answers_to(&rt, rt.alloc(), 100, &rows, &gate)?;
     assert!(rt;
         gate.signs.in_vain.load(Ordering::SeqCst) == 0,
         "the clerks weren't at work together"
@@ -196,8 +208,8 @@ fn a_clerk_sees_what_the_other_finished(rt: HostRuntime) -> Result<(), Fail> {
     let gate = LookedBetween {
         signs: Signs::new(),
     };
-    let rows = [open(&rt, 1), sheet(2), sheet(2)];
-    let answers = answers_to(&rt, rt.alloc(), &rows, &gate)?;
+    let rows = [open(&rt, 1, 1), sheet(2), sheet(2)];
+    let answers = answers_to(&rt, rt.alloc(), 100, &rows, &gate)?;
     assert!(rt;
         gate.signs.in_vain.load(Ordering::SeqCst) == 0,
         "the clerks weren't at work together"
@@ -209,6 +221,23 @@ fn a_clerk_sees_what_the_other_finished(rt: HostRuntime) -> Result<(), Fail> {
             RowAnswer::Viewed(View::Sheet(_)),
         ] => is_made(&rt, first, 1, Answer::Opened),
         _ => panic!(rt; "the sheet was shown before its case was opened, or not behind it"),
+    }
+    Ok(())
+}
+
+#[test]
+fn a_full_journal_is_an_answer(rt: HostRuntime) -> Result<(), Fail> {
+    let rows = [open(&rt, 1, 1), open(&rt, 1, 2), sheet(1)];
+    let answers = answers_to(&rt, rt.alloc(), 1, &rows, &HoldsNobody)?;
+    match answers.as_slice() {
+        [
+            first,
+            RowAnswer::JournalFull,
+            RowAnswer::Viewed(View::Sheet(_)),
+        ] => is_made(&rt, first, 1, Answer::Opened),
+        _ => panic!(rt;
+            "the second case finds the journal full, and the sheet is shown all the same"
+        ),
     }
     Ok(())
 }
