@@ -15,7 +15,7 @@ use Rattle.office_rows.specs.declared.row.Row.{Row}
 use Rattle.office_rows.specs.declared.row.Work.TheVariants.{Command}
 use Rattle.office_run.specs.declared.reply.Reply.TheVariants.{Made}
 use Rattle.office_run.specs.Replies.{Holds, docketed_after, docketed_then, reply_to}
-use Rattle.office_run.specs.Text.{calendars_from, lines_from, run_text, sheet_shown, sheets_from}
+use Rattle.office_run.specs.Text.{calendars_from, closing_text, lines_from, run_text, sheet_shown, sheets_from}
 
 -- a command that was carried out is answered as the step is, and the docket holds what is docketed after it
 pub made : (bench : Bench) (docketed : Rows) (before after : DocketView) (command : CommandOf) (answer : Answer) → Holds bench before docketed → after.bench ≡ before.bench → ((rows : Rows) → AreSound before.bench rows → StandsFor before rows → (answer ≡ (step before.bench rows command).1) × StandsFor after (step before.bench rows command).0) → (Made answer ≡ reply_to bench docketed (Command command)) × Holds bench after (docketed_then bench docketed (Command command))
@@ -64,15 +64,19 @@ calendars_same court p q same first zero = refl
 calendars_same court p q same first (suc n) =
     rw ((hold_same p q same).judge first) (ap (λ s. calendar_lines court first (q.judge first) ++ s) (calendars_same court p q same (first + 1) n))
 
--- the text that was made piece by piece
-pub run_text_made : (court : CourtView) (rows : List Row) (d : DocketView) (empty replies sheets whole : List ℕ) (judges : ℕ) → empty ≡ [] → replies ≡ empty ++ lines_from court (opening_rows (bench_of court)) 1 rows → sheets ≡ replies ++ sheets_from court (parts_held d) 1 4096 → whole ≡ sheets ++ calendars_from court (parts_held d) 0 judges → judges ≡ length court.judges → Holds (bench_of court) d (docketed_after (bench_of court) (opening_rows (bench_of court)) rows) → whole ≡ run_text court rows
-unfolding run_text
-run_text_made court rows d empty replies sheets whole judges is_empty replied with_sheets with_calendars all holds =
-    let docketed = parts_of (docketed_after (bench_of court) (opening_rows (bench_of court)) rows) in
-    let lines = lines_from court (opening_rows (bench_of court)) 1 rows in
-    let first : replies ≡ lines = replied ∙ ap (λ t. t ++ lines) is_empty in
+-- the sheets and then the calendars, of a docket that stands for what is docketed
+pub closing_made : (court : CourtView) (d : DocketView) (before sheets whole : List ℕ) (judges : ℕ) → sheets ≡ before ++ sheets_from court (parts_held d) 1 4096 → whole ≡ sheets ++ calendars_from court (parts_held d) 0 judges → judges ≡ length court.judges → (docketed : Rows) → StandsFor d docketed → whole ≡ before ++ closing_text court (parts_of docketed)
+closing_made court d before sheets whole judges with_sheets with_calendars all docketed stands =
+    let parts = parts_of docketed in
     with_calendars
-    ∙ ap (λ t. t ++ calendars_from court (parts_held d) 0 judges) (with_sheets ∙ ap (λ t. t ++ sheets_from court (parts_held d) 1 4096) first)
-    ∙ append_assoc lines (sheets_from court (parts_held d) 1 4096) (calendars_from court (parts_held d) 0 judges)
-    ∙ ap (λ s. lines ++ (s ++ calendars_from court (parts_held d) 0 judges)) (sheets_same court (parts_held d) docketed holds.stands 1 4096)
-    ∙ ap (λ s. lines ++ (sheets_from court docketed 1 4096 ++ s)) (calendars_same court (parts_held d) docketed holds.stands 0 judges ∙ ap (calendars_from court docketed 0) all)
+    ∙ ap (λ t. t ++ calendars_from court (parts_held d) 0 judges) with_sheets
+    ∙ append_assoc before (sheets_from court (parts_held d) 1 4096) (calendars_from court (parts_held d) 0 judges)
+    ∙ ap (λ s. before ++ (s ++ calendars_from court (parts_held d) 0 judges)) (sheets_same court (parts_held d) parts stands 1 4096)
+    ∙ ap (λ s. before ++ (sheets_from court parts 1 4096 ++ s)) (calendars_same court (parts_held d) parts stands 0 judges ∙ ap (calendars_from court parts 0) all)
+
+-- the text that was made piece by piece
+pub run_text_made : (court : CourtView) (rows : List Row) (d : DocketView) (empty replies whole : List ℕ) → empty ≡ [] → replies ≡ empty ++ lines_from court (opening_rows (bench_of court)) 1 rows → Holds (bench_of court) d (docketed_after (bench_of court) (opening_rows (bench_of court)) rows) → ((docketed : Rows) → StandsFor d docketed → whole ≡ replies ++ closing_text court (parts_of docketed)) → whole ≡ run_text court rows
+unfolding run_text
+run_text_made court rows d empty replies whole is_empty replied holds closed =
+    let docketed = docketed_after (bench_of court) (opening_rows (bench_of court)) rows in
+    closed docketed holds.stands ∙ ap (λ t. t ++ closing_text court (parts_of docketed)) (replied ∙ ap (λ t. t ++ lines_from court (opening_rows (bench_of court)) 1 rows) is_empty)

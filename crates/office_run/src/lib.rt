@@ -5,4 +5,4 @@ mod reply;
 mod text;
 
 pub use reply::{Reply, reply_to};
-pub use text::{push_calendars, push_numbers, push_reply, run_text};
+pub use text::{push_calendars, push_closing, push_numbers, push_reply, run_text};

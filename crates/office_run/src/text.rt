@@ -1,11 +1,11 @@
 //! The text of a run.
 
 ghost use Rattle.std.specs.Prelude.{◌≡◌, ◌+◌, ◌++◌, ◌<◌, ◌≤◌, length, IfOk, OnOk, string_bytes};
-ghost use Rattle.docket_rows.specs.Words.{bench_of, opening_rows};
-ghost use Rattle.docket_core.specs.Words.{parts_held};
+ghost use Rattle.docket_rows.specs.Words.{Rows, bench_of, opening_rows, parts_of};
+ghost use Rattle.docket_core.specs.Words.{StandsFor, parts_held};
 ghost use Rattle.office_texts.specs.Words.{calendar_lines};
 ghost use Rattle.office_run.specs.Replies.{Holds, docketed_after};
-ghost use Rattle.office_run.specs.Text.{calendars_from, line_of, lines_from, reply_text, row_numbers, run_text, sheet_shown, sheets_from};
+ghost use Rattle.office_run.specs.Text.{calendars_from, closing_text, line_of, lines_from, reply_text, row_numbers, run_text, sheet_shown, sheets_from};
 
 use crate::reply::{Reply, reply_to};
 use court_days::Court;
@@ -24,8 +24,7 @@ pub fn run_text(alloc: Global, court: &Court, rows: &[Row]) -> Result<String, Al
     let mut docket = Docket::new(alloc, court)?;
     let mut text = String::new(alloc);
     push_replies(alloc, &mut text, court, &mut docket, rows)?;
-    push_sheets(alloc, &mut text, court, &docket, 1, 4_096)?;
-    push_calendars(&mut text, court, &docket, 0, court.judges())?;
+    push_closing(alloc, &mut text, court, &docket)?;
     Ok(text)
 }
 
@@ -87,6 +86,21 @@ pub fn push_reply(text: &mut String, court: &Court, reply: &Reply) -> Result<(),
         }
         Reply::Viewed(view) => push_view(text, court, view),
     }
+}
+
+/// Adds the sheets of all open cases and the calendars of all judges. `Err` says that memory ran out.
+pub fn push_closing(
+    alloc: Global,
+    text: &mut String,
+    court: &Court,
+    docket: &Docket,
+) -> Result<(), AllocError>
+    requires court { docket.now.bench ≡ bench_of court.now }
+    ensures { (docketed : Rows) → StandsFor docket.now docketed → OnOk result (string_bytes text.new ≡ string_bytes text.old ++ closing_text court.now (parts_of docketed)) }
+{
+    push_sheets(alloc, text, court, docket, 1, 4_096)?;
+    push_calendars(text, court, docket, 0, court.judges())?;
+    Ok(())
 }
 
 /// Adds the sheets of the open ones of so many cases, from the first number on.

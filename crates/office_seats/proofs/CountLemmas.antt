@@ -1,5 +1,5 @@
--- Counting: seats whose calls make up the whole journal have all its entries, and the tallies of all seats are as many as these.
-use Rattle.std.proofs.Common.{◌≡◌, ℕ, zero, suc, ◌+◌, ◌<◌, ◌≤◌, ◌==◌, if◌then◌else◌, true, false, nat_eq, List, [], ◌∷◌, length, All, Contains, refl, sym, ◌∙◌, arith}
+-- Counting: seats whose calls make up the whole journal have all its entries.
+use Rattle.std.proofs.Common.{◌≡◌, ℕ, suc, ◌+◌, ◌<◌, ◌≤◌, ◌==◌, if◌then◌else◌, true, false, nat_eq, List, [], ◌∷◌, length, All, Contains, refl, sym, arith}
 use Rattle.std.specs.List.{IsDistinct, AllByRecursion}
 use Rattle.std.proofs.lemmas.List.Elements.{All-nil, All-cons, All-head, All-tail}
 use Rattle.std.proofs.lemmas.List.Sums.{sum_by-cons}
@@ -113,33 +113,3 @@ module _ (journal : List (Entry Command Answer)) where
         mine = calls_whole ts some (omega (arith, all, total_most 0 (numbers_of ts) journal apart));
         no_other = none_other 0 (numbers_of ts) journal apart (omega (arith, all, calls_most ts some));
       }
-
--- a list without one of its numbers is shorter, and has the others still
-record Without (k : ℕ) (xs ys : List ℕ) : Type 0 where
-  shorter : length xs ≡ length ys + 1
-  others : (j : ℕ) → (j ≡ k → ⊥) → Contains xs j → Contains ys j
-
-behind : (x j : ℕ) (xs : List ℕ) → (x ≡ j → ⊥) → Contains (x ∷ xs) j → Contains xs j
-behind x j xs differs (zero, within, is) = absurd (differs is)
-behind x j xs differs (suc i, within, is) = (i, omega (arith, within), is)
-
-ahead : (x j : ℕ) (xs ys : List ℕ) → (Contains xs j → Contains ys j) → Contains (x ∷ xs) j → Contains (x ∷ ys) j
-ahead x j xs ys keeps (zero, within, is) = (0, omega arith, is)
-ahead x j xs ys keeps (suc i, within, is) =
-    let rest = keeps (i, omega (arith, within), is) in
-    (suc rest.0, omega (arith, rest.1), rest.2)
-
-without : (k : ℕ) (xs : List ℕ) → Contains xs k → (ys : List ℕ) × Without k xs ys
-without k [] has = absurd (omega (arith, has.1))
-without k (x ∷ xs) (zero, within, is) =
-    (xs, record { shorter = omega arith; others = λ j differs among. behind x j xs (λ same. differs (sym same ∙ is)) among })
-without k (x ∷ xs) (suc i, within, is) =
-    let rest = without k xs (i, omega (arith, within), is) in
-    (x ∷ rest.0, record { shorter = omega (arith, rest.1.shorter); others = λ j differs among. ahead x j xs rest.0 (rest.1.others j differs) among })
-
--- a list that has all numbers from 1 to n is no shorter than n
-pub has_all : (n : ℕ) (xs : List ℕ) → ((k : ℕ) → 0 < k → k ≤ n → Contains xs k) → n ≤ length xs
-has_all zero xs has = omega arith
-has_all (suc n) xs has =
-    let rest = without (suc n) xs (has (suc n) (omega arith) (omega arith)) in
-    omega (arith, rest.1.shorter, has_all n rest.0 (λ k above within. rest.1.others k (λ same. omega (arith, same, within)) (has k above (omega (arith, within)))))

@@ -1,6 +1,9 @@
 pub mod BookLemmas
+pub mod CallerLemmas
+pub mod ClosingLemmas
 pub mod CountLemmas
 pub mod JournalLemmas
+pub mod NumberLemmas
 pub mod OpenedLemmas
 pub mod PlaceLemmas
 pub mod SeatLemmas

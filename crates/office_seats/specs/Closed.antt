@@ -8,6 +8,8 @@ use Rattle.docket_rows.specs.Words.{Bench}
 use Rattle.versioned_steps.specs.declared.entry.Entry.{Entry}
 use Rattle.versioned_steps.specs.Words.{is_legal}
 use Rattle.shared_docket.specs.Words.{docket_rules}
+use Rattle.office_seats.specs.declared.fault.CloseError.{CloseError}
+use Rattle.office_seats.specs.declared.fault.CloseError.TheVariants.{MissingTally, OutOfMemory}
 use Rattle.office_seats.specs.Places.{places_of}
 
 -- what contracts see of a tally: the number of its seat, what that had seen of the history, and the places of the calls that it finished
@@ -27,12 +29,25 @@ calls_of tallies = sum_by (λ (t : TallyView). length t.mine) tallies
 abbrev pub AreApart : List TallyView → Type 0
 AreApart tallies = IsDistinct nat_eq (numbers_of tallies)
 
+-- each seat has left one; seats are numbered from 1
+abbrev pub HasTallies : (seats : ℕ) → List TallyView → Type 0
+HasTallies seats tallies = (number : ℕ) → 0 < number → number ≤ seats → Contains (numbers_of tallies) number
+
+-- each is of a seat
+abbrev pub AreOfSeats : (seats : ℕ) → List TallyView → Type 0
+AreOfSeats seats tallies = (number : ℕ) → Contains (numbers_of tallies) number → (0 < number) × (number ≤ seats)
+
 -- the least number, from 1 to that of the last seat, of which there is no tally
 pub record IsFirstMissing (seats : ℕ) (tallies : List TallyView) (number : ℕ) : Type 0 where
   pub from_one : 0 < number
   pub of_a_seat : number ≤ seats
   pub missing : Contains (numbers_of tallies) number → ⊥
   pub least : (lesser : ℕ) → 0 < lesser → lesser < number → Contains (numbers_of tallies) lesser
+
+-- why an office wasn't closed
+abbrev pub StaysOpen : (seats : ℕ) → List TallyView → CloseError → Type 0
+StaysOpen seats tallies (MissingTally number) = IsFirstMissing seats tallies number
+StaysOpen seats tallies OutOfMemory = HasTallies seats tallies
 
 -- the journal is legal; what each seat had seen is a beginning of it; the calls of each seat are its entries; and it has no others
 pub record IsClosed (bench : Bench) (tallies : List TallyView) (journal : List (Entry Command Answer)) : Type 0 where

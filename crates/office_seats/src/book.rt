@@ -1,18 +1,22 @@
 //! The one book of an office, which its clerks share under a lock.
 
-ghost use Rattle.std.specs.Prelude.{◌≡◌, ◌+◌, ◌<◌, [], IfNone, IfOk, IfSome, IsSome, Some, option_map};
+ghost use Rattle.std.specs.Prelude.{◌≡◌, ℕ, ◌+◌, ◌<◌, ◌≤◌, [], IfNone, IfOk, IfSome, IsSome, OnErr, OnOk, Some, length, option_map};
 ghost use Rattle.left_right.specs.Sides.{view};
 ghost use Rattle.docket_rows.specs.Words.{bench_of};
 ghost use Rattle.versioned_steps.specs.Words.{IsPrepared};
 ghost use Rattle.shared_docket.specs.Words.{docket_rules};
 ghost use Rattle.published_docket.specs.Words.{past};
 ghost use Rattle.office_seats.specs.Books.{entries_of};
+ghost use Rattle.office_seats.specs.Closed.{HasTallies, IsClosed};
 ghost use Rattle.office_seats.specs.Finished.{Commits, Makes, MakesNow, Settles};
 ghost use Rattle.office_seats.specs.Seen.{KnowsOf};
 
+use crate::closing::{all_seen, copy_entries, merge_all};
 use crate::done::Done;
 use crate::fault::{CommitError, PerformError};
+use crate::journal::Journal;
 use crate::names::Names;
+use crate::tally::Tally;
 use court_days::Court;
 use docket_rows::{Answer, Command, PartId, PartValue};
 use published_docket::{DocketReader, Publisher, Trail};
@@ -242,5 +246,49 @@ impl<L: Names> Book<L> {
         let result = self.make(rt, alloc, share, clerk, command, limit);
         *seen = self.publisher.trail().again();
         Some(result)
+    }
+
+    /// The journal, and the tallies of all seats are spent: as the ledger shows, their calls make it up. `Err` says that
+    /// memory ran out; all is then as it was. None where a tally has seen more than this book has, which never happens.
+    // A body that always found no memory would meet this contract, and no test of this crate refuses it yet.
+    pub(crate) fn close(
+        &mut self,
+        alloc: Global,
+        rest: &mut Share<L>,
+        tallies: &mut Vec<Tally<L>>,
+    ) -> Option<Result<Journal, AllocError>>
+        requires all { L.parts ≡ 64 }
+        requires whole { (seats : ℕ) → rest.old.parts + seats ≡ 64 → HasTallies seats tallies.old.items }
+        requires parts { rest.old.parts ≤ 64 }
+        requires amount { rest.old.amount ≡ 0 }
+        ensures closed { IfSome result (λ r. IfOk r (IsClosed L.bench tallies.old.items)) }
+        ensures few { IfSome result (λ r. OnOk r (rest.old.parts + length tallies.old.items ≤ 64)) }
+        ensures tallies { IfSome result (λ r. OnErr r (tallies.new.items ≡ tallies.old.items)) }
+        ensures rest { IfSome result (λ r. OnErr r (rest.new.parts ≡ rest.old.parts)) }
+        ensures amount { IfSome result (λ r. OnErr r (rest.new.amount ≡ rest.old.amount)) }
+        ensures unseen { IfNone result (tallies.new.items ≡ tallies.old.items) }
+        ensures unseen_rest { IfNone result (rest.new.parts ≡ rest.old.parts) }
+        ensures unseen_amount { IfNone result (rest.new.amount ≡ rest.old.amount) }
+    {
+        if !all_seen(tallies, self.publisher.trail()) {
+            return None;
+        }
+        let Ok(entries) = copy_entries(alloc, &self.journal) else {
+            return Some(Err(AllocError));
+        };
+        merge_all(rest, tallies);
+        self.counted.audit(rest);
+        Some(Ok(Journal::new(entries)))
+    }
+
+    /// Waits for the readers, and gives back all memory.
+    pub(crate) fn end<R: Wait>(self, rt: &R) {
+        let Book {
+            publisher,
+            journal: _,
+            store: _,
+            counted: _,
+        } = self;
+        publisher.end(rt);
     }
 }

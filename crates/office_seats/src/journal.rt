@@ -30,6 +30,13 @@ impl Model for Journal {
 }
 
 impl Journal {
+    /// The journal of these entries.
+    pub(crate) fn new(entries: Vec<Entry<Command, Answer>>) -> Journal
+        ensures { result ≡ entries.items }
+    {
+        Journal { entries }
+    }
+
     /// The entries, in the order in which they were finished.
     pub fn entries(&self) -> &[Entry<Command, Answer>]
         ensures { result.now ≡ self.now }

@@ -2,6 +2,7 @@
 #![tactic(auto)]
 
 mod book;
+mod closing;
 mod done;
 mod fault;
 mod journal;
@@ -16,6 +17,6 @@ pub use done::Done;
 pub use fault::{CloseError, CommitError, OfficeError, PerformError};
 pub use journal::Journal;
 pub use names::Names;
-pub use office::Office;
+pub use office::{CloseRefused, Office};
 pub use seat::Seat;
 pub use tally::Tally;

@@ -3,12 +3,16 @@
 ghost use Rattle.std.specs.Prelude.{◌≡◌, ◌+◌, ◌≤◌, [], IfErr, IfOk, MatchResult, OnOk};
 ghost use Rattle.docket_rows.specs.Words.{bench_of};
 ghost use Rattle.published_docket.specs.Words.{past};
+ghost use Rattle.office_seats.specs.Closed.{AreApart, AreOfSeats, HasTallies, IsClosed, StaysOpen};
 ghost use Rattle.office_seats.specs.Opened.{IsLate, IsOpened, IsRefused, open_seats};
 
 use crate::book::Book;
-use crate::fault::OfficeError;
+use crate::closing::{closed, first_missing};
+use crate::fault::{CloseError, OfficeError};
+use crate::journal::Journal;
 use crate::names::Names;
 use crate::seat::Seat;
+use crate::tally::Tally;
 use court_days::Court;
 use published_docket::{Publisher, Trail};
 use std::alloc::{AllocError, Global};
@@ -26,6 +30,7 @@ pub struct Office<L: Names> {
 
 impl<L: Names> Model for Office<L> {
     ghost use Rattle.std.specs.Prelude.{ℕ};
+    ghost use Rattle.office_seats.specs.Closed.{AreApart, AreOfSeats, HasTallies, IsClosed, StaysOpen};
     ghost use Rattle.office_seats.specs.Opened.{IsOffice};
 
     ghost Value = { ℕ };
@@ -35,9 +40,27 @@ impl<L: Names> Model for Office<L> {
     ghost invariant = { λ o. IsOffice o.seats o.rest.parts o.rest.amount };
 }
 
+/// An office that wasn't closed, with all that it was to be closed with.
+#[derive(Drop)]
+pub struct CloseRefused<L: Names> {
+    /// Why it wasn't.
+    pub cause: CloseError,
+    /// The office, as it was.
+    pub office: Office<L>,
+    /// The tallies, as they were.
+    pub tallies: Vec<Tally<L>>,
+}
+
 // Puts the book under a lock that seats share.
 fn locked<L: Names>(alloc: Global, book: Book<L>) -> Result<Arc<Mutex<Book<L>>>, AllocError> {
     Ok(Arc::new(alloc, Mutex::new(book))?)
+}
+
+// Gives back the memory of the book where nobody else shares it, as all seats were left.
+fn end_book<L: Names, R: Wait>(rt: &R, book: Arc<Mutex<Book<L>>>) {
+    if let Ok(lock) = Arc::try_unwrap(book) {
+        lock.into_inner().end(rt);
+    }
 }
 
 // So many seats, numbered from 1. Each takes one part of the rest of the ledger.
@@ -118,6 +141,52 @@ impl<L: Names> Office<L> {
         match opened {
             Ok(opened) => Ok((Office { book, seats, rest }, opened)),
             Err(error) => Err(error),
+        }
+    }
+
+    /// Closes the office, once all its seats were left, and gives the journal of all that their clerks finished: each
+    /// tally's calls are its entries of that number, and it has no others. `Err` gives back the office and the tallies; it
+    /// is `MissingTally` of the least number without a tally, or else `OutOfMemory`. Condition: no two tallies are of one
+    /// seat. They are of seats of this office, since `L` names it.
+    // A body that always found no memory would meet this contract, and no test of this crate refuses it yet.
+    pub fn close<R: Wait>(
+        self,
+        rt: &R,
+        alloc: Global,
+        tallies: Vec<Tally<L>>,
+    ) -> Result<Journal, CloseRefused<L>>
+        requires all { L.parts ≡ 64 }
+        requires apart { AreApart tallies.items }
+        ensures closed { IfOk result (λ journal. IsClosed L.bench tallies.items journal) }
+        ensures whole { OnOk result (HasTallies self tallies.items) }
+        ensures seats { OnOk result (AreOfSeats self tallies.items) }
+        ensures cause { IfErr result (λ r. StaysOpen self tallies.items r.cause) }
+        ensures office { IfErr result (λ r. r.office ≡ self) }
+        ensures tallies { IfErr result (λ r. r.tallies.items ≡ tallies.items) }
+    {
+        let Office {
+            book,
+            seats,
+            mut rest,
+        } = self;
+        let mut tallies = tallies;
+        if let Some(number) = first_missing(seats, &tallies) {
+            return Err(CloseRefused {
+                cause: CloseError::MissingTally(number),
+                office: Office { book, seats, rest },
+                tallies,
+            });
+        }
+        match closed::<L, R>(rt, alloc, &book, &mut rest, &mut tallies) {
+            Ok(journal) => {
+                end_book(rt, book);
+                Ok(journal)
+            }
+            Err(AllocError) => Err(CloseRefused {
+                cause: CloseError::OutOfMemory,
+                office: Office { book, seats, rest },
+                tallies,
+            }),
         }
     }
 }

@@ -1,5 +1,9 @@
 //! What is left of a seat once its clerk is done.
 
+ghost use Rattle.std.specs.Prelude.{◌≡◌, true, length};
+ghost use mathlib.Core.List.{IsPrefix};
+ghost use Rattle.office_seats.specs.Places.{Within, places_of};
+
 use crate::names::Names;
 use published_docket::Trail;
 use std::marker::Model;
@@ -23,4 +27,37 @@ impl<L: Names> Model for Tally<L> {
     ghost view = { λ t. record { number = t.number; seen = t.trail.log; mine = t.mine.items } };
 
     ghost invariant = { λ t. IsTally L.history L.bench t.trail t.share.parts t.share.amount t.number t.mine.items };
+}
+
+impl<L: Names> Tally<L> {
+    /// The number of the seat, from 1.
+    pub fn number(&self) -> u8
+        ensures { result ≡ self.now.number }
+    {
+        self.number
+    }
+
+    /// Whether all that the seat had seen is a beginning of this history. Its calls are then entries of that.
+    #[tactic(auto, using(crate::proofs::PlaceLemmas::within_longer))]
+    pub(crate) fn is_seen(&self, now: &Trail) -> bool
+        requires { now.now.book ≡ L.history }
+        ensures seen { result ≡ true → IsPrefix self.now.seen now.now.log }
+        ensures mine { result ≡ true → Within self.now.mine (places_of self.now.number now.now.log) }
+    {
+        self.trail.begins(now)
+    }
+
+    /// The part of the ledger that the seat had, in which its calls are counted.
+    pub(crate) fn into_share(self) -> Share<L>
+        ensures parts { result.parts ≡ 1 }
+        ensures amount { result.amount ≡ length self.mine }
+    {
+        let Tally {
+            number: _,
+            trail: _,
+            share,
+            mine: _,
+        } = self;
+        share
+    }
 }

@@ -3,4 +3,4 @@ use Rattle.office_run.proofs.text.run_text.Goals as goal
 
 pub returns : goal.returns
 returns c =
-    run_text_made c.args.court.now c.args.rows.now c.push_replies.new.docket _ _ _ _ c.judges.result c.new-text.ensures.bytes c.in_ok-push_replies.ensures.text c.in_ok-push_sheets.ensures c.in_ok-push_calendars.ensures c.judges.ensures.value c.in_ok-push_replies.ensures.docket
+    run_text_made c.args.court.now c.args.rows.now c.push_replies.new.docket _ _ _ c.new-text.ensures.bytes c.in_ok-push_replies.ensures.text c.in_ok-push_replies.ensures.docket c.in_ok-push_closing.ensures

@@ -1,0 +1,75 @@
+-- Desks in a row, as their clerks begin and end.
+use Rattle.std.proofs.Common.{◌≡◌, List, [], ◌∷◌, ◌++◌, length, map, reverse, All, refl, ap, sym, ◌∙◌, append_assoc, append-nil, subst, arith}
+use Rattle.std.proofs.lemmas.List.{map-append, reverse-append}
+use Rattle.std.proofs.lemmas.List.Elements.{All-nil, All-cons, All-head, All-tail}
+use Rattle.docket_rows.specs.Words.{Bench}
+use Rattle.office_rows.specs.declared.row.Row.{Row}
+use Rattle.clerk_workers.specs.declared.state.State.{State}
+use Rattle.clerk_workers.specs.Desks.{AreUnderWay, AreWorked, DeskView, HiredView, IsIn, IsReady, IsWorked, begun_at}
+
+-- what is taken from a list one after another, the last first, and put behind others
+pub turned_more : {X Y : Type 0} (f : X → Y) (others : List Y) (xs : List X) (x : X) → others ++ reverse (map f (xs ++ x ∷ [])) ≡ (others ++ f x ∷ []) ++ reverse (map f xs)
+turned_more f others xs x =
+    ap (λ ys. others ++ ys) (ap reverse (map-append f xs (x ∷ [])) ∙ reverse-append (map f xs) (f x ∷ [])) ∙ sym (append_assoc others (f x ∷ []) (reverse (map f xs)))
+
+-- desks, and behind them those of hired clerks, one more of whom is hired
+pub begun_more : (others : List DeskView) (hired : List HiredView) (clerk : HiredView) → others ++ begun_at (hired ++ clerk ∷ []) ≡ (others ++ clerk.desk ∷ []) ++ begun_at hired
+begun_more others hired clerk = turned_more (λ (h : HiredView). h.desk) others hired clerk
+
+module _ (bench : Bench) (rows : List Row) where
+  -- one more desk
+  pub worked_push : (old new : List DeskView) (o n : DeskView) → AreWorked bench rows old new → IsWorked bench rows o n → AreWorked bench rows (old ++ o ∷ []) (new ++ n ∷ [])
+  worked_push [] [] o n are is = (is, tt)
+  worked_push [] (d ∷ new) o n are is = absurd are
+  worked_push (d ∷ old) [] o n are is = absurd are
+  worked_push (d ∷ old) (e ∷ new) o n are is = (are.0, worked_push old new o n are.1 is)
+
+  -- desks whose clerks haven't begun
+  pub worked_ready : (desks : List DeskView) → All (IsReady rows) desks → AreWorked bench rows desks desks
+  worked_ready [] ready = tt
+  worked_ready (d ∷ desks) ready =
+      let first : IsReady rows d = All-head (IsReady rows) d desks ready in
+      let P : State → Type 0 = λ s. IsIn bench rows s d.seat d.seat d.answers in
+      (subst P (sym first.waiting) refl, worked_ready desks (All-tail (IsReady rows) d desks ready))
+
+-- what holds of all holds of one more, and of all but the last, and of the last
+pub all_push : {X : Type 0} (P : X → Type 0) (xs : List X) (x : X) → All P xs → P x → All P (xs ++ x ∷ [])
+all_push P [] x all one = All-cons P x [] one (All-nil P)
+all_push P (y ∷ xs) x all one = All-cons P y (xs ++ x ∷ []) (All-head P y xs all) (all_push P xs x (All-tail P y xs all) one)
+
+pub all_but_last : {X : Type 0} (P : X → Type 0) (xs : List X) (x : X) → All P (xs ++ x ∷ []) → All P xs × P x
+all_but_last P [] x all = (All-nil P, All-head P x [] all)
+all_but_last P (y ∷ xs) x all =
+    let rest = all_but_last P xs x (All-tail P y (xs ++ x ∷ []) all) in
+    (All-cons P y xs (All-head P y (xs ++ x ∷ []) all) rest.0, rest.1)
+
+pub all_first : {X : Type 0} (P : X → Type 0) (xs ys : List X) → All P (xs ++ ys) → All P xs
+all_first P [] ys all = All-nil P
+all_first P (x ∷ xs) ys all = All-cons P x xs (All-head P x (xs ++ ys) all) (all_first P xs ys (All-tail P x (xs ++ ys) all))
+
+pub others_ready : (rows : List Row) (all others : List DeskView) (desk : DeskView) → all ≡ others ++ desk ∷ [] → All (IsReady rows) all → All (IsReady rows) others
+others_ready rows all others desk same ready = (all_but_last (IsReady rows) others desk (subst (All (IsReady rows)) same ready)).0
+
+pub last_ready : (rows : List Row) (all others : List DeskView) (desk : DeskView) → all ≡ others ++ desk ∷ [] → All (IsReady rows) all → IsReady rows desk
+last_ready rows all others desk same ready = (all_but_last (IsReady rows) others desk (subst (All (IsReady rows)) same ready)).1
+
+module _ (bench : Bench) (rows : List Row) (old : List DeskView) where
+  -- the clerk who was hired last is done
+  pub way_joined : (now next : List DeskView) (hired left : List HiredView) (clerk : HiredView) (desk : DeskView) → hired ≡ left ++ clerk ∷ [] → next ≡ now ++ desk ∷ [] → IsWorked bench clerk.rows clerk.desk desk → AreUnderWay bench rows old now hired → AreUnderWay bench rows old next left
+  way_joined now next hired left clerk desk popped pushed is way =
+      let each = all_but_last (λ (h : HiredView). h.rows ≡ rows) left clerk (subst (All (λ (h : HiredView). h.rows ≡ rows)) popped way.same_rows) in
+      let P : List Row → Type 0 = λ rs. IsWorked bench rs clerk.desk desk in
+      let Q : List DeskView → Type 0 = λ ds. AreWorked bench rows (way.others ++ clerk.desk ∷ []) ds in
+      record {
+        others = way.others ++ clerk.desk ∷ [];
+        worked = subst Q (sym pushed) (worked_push bench rows way.others now clerk.desk desk way.worked (subst P each.1 is));
+        all = way.all ∙ (ap (λ (hs : List HiredView). way.others ++ begun_at hs) popped ∙ begun_more way.others left clerk);
+        same_rows = each.0;
+      }
+
+  -- all are done
+  pub way_done : (now : List DeskView) (hired : List HiredView) → length hired ≡ 0 → AreUnderWay bench rows old now hired → AreWorked bench rows old now
+  way_done now [] none way =
+      let P : List DeskView → Type 0 = λ ds. AreWorked bench rows ds now in
+      subst P (sym (way.all ∙ append-nil way.others)) way.worked
+  way_done now (clerk ∷ hired) none way = absurd (omega (arith, none))

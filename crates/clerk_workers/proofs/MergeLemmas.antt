@@ -1,0 +1,130 @@
+-- Answers that are taken from the clerks' lists, from the last row on.
+use Rattle.std.proofs.Common.{◌≡◌, ℕ, ◌+◌, ◌<◌, ◌==◌, true, false, List, [], ◌∷◌, ◌++◌, length, map, reverse, All, refl, ap, sym, ◌∙◌, append_assoc, append-nil, subst, arith, length-append, true≢false, get_or, set}
+use Rattle.std.proofs.lemmas.Bool.Decides.{Decides-eqb}
+use Rattle.std.proofs.lemmas.List.{get_or-map, get_or-set_other, get_or-set_same, length-map, length-set, map-set, reverse-append}
+use Rattle.office_rows.specs.declared.row.Row.{Row}
+use Rattle.clerk_workers.specs.declared.answer.RowAnswer.{RowAnswer}
+use Rattle.clerk_workers.specs.Merged.{AreAsMany, AreFromTheLast, AreMerged, IsTaken, list_at}
+use Rattle.clerk_workers.specs.Rows.{AreOfClerks, IsOfClerk, answers_of, works_of}
+use Rattle.clerk_workers.proofs.DeskLemmas.{all_but_last, all_first}
+use Rattle.clerk_workers.proofs.RowLemmas.{answers_other, answers_own, works_append, works_other, works_own}
+
+-- a list with one answer fewer is put back
+pub taken : {V : Type 0} (f : V → List RowAnswer) (lists : List V) (place : ℕ) (old new : V) (answer : RowAnswer) → place < length lists → old ≡ get_or lists place old → f old ≡ f new ++ answer ∷ [] → IsTaken (map f lists) (map f (set lists place new)) place answer
+taken f lists place old new answer lt at popped =
+    let put : map f (set lists place new) ≡ set (map f lists) place (f new) = map-set f lists place new in
+    let short : place < length (map f lists) = omega (arith, lt, length-map lists f) in
+    let now : list_at place (map f (set lists place new)) ≡ f new = ap (list_at place) put ∙ get_or-set_same (map f lists) place (f new) [] short in
+    record {
+      as_long = length-map (set lists place new) f ∙ (length-set lists place new ∙ sym (length-map lists f));
+      here = get_or-map f lists place old [] lt ∙ (ap f (sym at) ∙ (popped ∙ ap (λ (others : List RowAnswer). others ++ answer ∷ []) (sym now)));
+      elsewhere = λ other differs. sym (ap (list_at other) put ∙ get_or-set_other (map f lists) place other (f new) [] differs);
+    }
+
+-- nothing is taken yet
+pub from_none : (rows : List Row) (lists : List (List RowAnswer)) → AreAsMany rows lists → AreFromTheLast rows rows lists lists []
+from_none rows lists many = record {
+  later = [];
+  all_is = sym (append-nil rows);
+  as_long = refl;
+  as_many = many;
+  lists = λ place lt. sym (append-nil (list_at place lists));
+  answered = refl;
+}
+
+module _ (all rest before : List Row) (row : Row) (first now : List (List RowAnswer)) (taken : List RowAnswer) (last : rest ≡ before ++ row ∷ []) (way : AreFromTheLast all rest first now taken) where
+  -- the next row is of one of the clerks
+  pub next_clerk : (clerks : ℕ) → AreOfClerks clerks all → IsOfClerk clerks row
+  next_clerk clerks each =
+      let here : AreOfClerks clerks rest = all_first (IsOfClerk clerks) rest way.later (subst (All (IsOfClerk clerks)) way.all_is each) in
+      (all_but_last (IsOfClerk clerks) before row (subst (All (IsOfClerk clerks)) last here)).1
+
+  -- as many of each clerk's rows are left as before the next row, and it
+  rows_left : (clerk : ℕ) → length (works_of clerk rest) ≡ length (works_of clerk before) + length (works_of clerk (row ∷ []))
+  rows_left clerk =
+      ap (λ (rs : List Row). length (works_of clerk rs)) last ∙ (ap length (works_append clerk before (row ∷ [])) ∙ length-append (works_of clerk before) (works_of clerk (row ∷ [])))
+
+  -- so its clerk has an answer left
+  pub next_answer : (place : ℕ) → place < length first → row.clerk ≡ place + 1 → 0 < length (list_at place now)
+  next_answer place lt own =
+      let one : length (works_of (place + 1) (row ∷ [])) ≡ 1 = ap length (works_own (place + 1) row own) in
+      let many = way.as_many place (omega (arith, lt, way.as_long)) in
+      omega (arith, many, one, rows_left (place + 1))
+
+  module _ (place : ℕ) (own : row.clerk ≡ place + 1) (new : List (List RowAnswer)) (answer : RowAnswer) (took : IsTaken now new place answer) where
+    as_many_here : place < length new → length (list_at place new) ≡ length (works_of (place + 1) before)
+    as_many_here lt =
+        let one : length (works_of (place + 1) (row ∷ [])) ≡ 1 = ap length (works_own (place + 1) row own) in
+        let many = way.as_many place (omega (arith, lt, took.as_long)) in
+        let long : length (list_at place now) ≡ length (list_at place new) + 1 = ap length took.here ∙ length-append (list_at place new) (answer ∷ []) in
+        omega (arith, many, one, long, rows_left (place + 1))
+
+    as_many_elsewhere : (other : ℕ) → (other ≡ place → ⊥) → other < length new → length (list_at other new) ≡ length (works_of (other + 1) before)
+    as_many_elsewhere other differs lt =
+        let none : length (works_of (other + 1) (row ∷ [])) ≡ 0 = ap length (works_other (other + 1) row (λ is. differs (omega (arith, is, own)))) in
+        let many = way.as_many other (omega (arith, lt, took.as_long)) in
+        let long : length (list_at other now) ≡ length (list_at other new) = ap length (took.elsewhere other differs) in
+        omega (arith, many, none, long, rows_left (other + 1))
+
+    abbrev told : List RowAnswer
+    told = reverse (taken ++ answer ∷ [])
+
+    turned : told ≡ answer ∷ reverse taken
+    turned = reverse-append taken (answer ∷ [])
+
+    lists_here : place < length first → list_at place first ≡ list_at place new ++ answers_of (place + 1) (row ∷ way.later) told
+    lists_here lt =
+        let later = answers_of (place + 1) way.later (reverse taken) in
+        let mine : answers_of (place + 1) (row ∷ way.later) told ≡ answer ∷ later =
+        ap (answers_of (place + 1) (row ∷ way.later)) turned ∙ answers_own (place + 1) row way.later answer (reverse taken) own in
+        way.lists place lt ∙ (ap (λ (others : List RowAnswer). others ++ later) took.here ∙ (append_assoc (list_at place new) (answer ∷ []) later ∙ ap (λ (others : List RowAnswer). list_at place new ++ others) (sym mine)))
+
+    lists_elsewhere : (other : ℕ) → (other ≡ place → ⊥) → other < length first → list_at other first ≡ list_at other new ++ answers_of (other + 1) (row ∷ way.later) told
+    lists_elsewhere other differs lt =
+        let later = answers_of (other + 1) way.later (reverse taken) in
+        let none : answers_of (other + 1) (row ∷ way.later) told ≡ later =
+        ap (answers_of (other + 1) (row ∷ way.later)) turned ∙ answers_other (other + 1) row way.later answer (reverse taken) (λ is. differs (omega (arith, is, own))) in
+        way.lists other lt ∙ (ap (λ (others : List RowAnswer). others ++ later) (took.elsewhere other differs) ∙ ap (λ (others : List RowAnswer). list_at other new ++ others) (sym none))
+
+    -- the answer to the next row is taken
+    pub from_more : AreFromTheLast all before first new (taken ++ answer ∷ [])
+    from_more = record {
+      later = row ∷ way.later;
+      all_is = way.all_is ∙ (ap (λ (rs : List Row). rs ++ way.later) last ∙ append_assoc before (row ∷ []) way.later);
+      as_long = took.as_long ∙ way.as_long;
+      as_many = λ other lt.
+          (elim (other == place) as (λ b. (other == place) ≡ b → length (list_at other new) ≡ length (works_of (other + 1) before)) [
+            | true ↦ λ is.
+                let same : other ≡ place = (Decides-eqb other place).0 is in
+                let P : ℕ → Type 0 = λ n. length (list_at n new) ≡ length (works_of (n + 1) before) in
+                subst P (sym same) (as_many_here (omega (arith, same, lt)))
+            | false ↦ λ is. as_many_elsewhere other (λ same. true≢false (sym ((Decides-eqb other place).1 same) ∙ is)) lt
+          ]) refl;
+      lists = λ other lt.
+          (elim (other == place) as (λ b. (other == place) ≡ b → list_at other first ≡ list_at other new ++ answers_of (other + 1) (row ∷ way.later) told) [
+            | true ↦ λ is.
+                let same : other ≡ place = (Decides-eqb other place).0 is in
+                let P : ℕ → Type 0 = λ n. list_at n first ≡ list_at n new ++ answers_of (n + 1) (row ∷ way.later) told in
+                subst P (sym same) (lists_here (omega (arith, same, lt)))
+            | false ↦ λ is. lists_elsewhere other (λ same. true≢false (sym ((Decides-eqb other place).1 same) ∙ is)) lt
+          ]) refl;
+      answered = length-append taken (answer ∷ []) ∙ omega (arith, way.answered);
+    }
+
+-- a list of no length is empty
+no_length : {X : Type 0} (xs : List X) → length xs ≡ 0 → xs ≡ []
+no_length [] none = refl
+no_length (x ∷ xs) none = absurd (omega (arith, none))
+
+-- all are taken
+pub from_all : (all rest : List Row) (first now : List (List RowAnswer)) (taken answers : List RowAnswer) → length rest ≡ 0 → AreFromTheLast all rest first now taken → answers ≡ reverse taken → AreMerged all first answers
+from_all all [] first now taken answers none way turned = λ place lt.
+    let empty : list_at place now ≡ [] = no_length (list_at place now) (way.as_many place (omega (arith, lt, way.as_long))) in
+    way.lists place lt ∙ (ap (λ (others : List RowAnswer). others ++ answers_of (place + 1) way.later (reverse taken)) empty ∙ (ap (λ (rs : List Row). answers_of (place + 1) rs (reverse taken)) (sym way.all_is) ∙ ap (answers_of (place + 1) all) (sym turned)))
+from_all all (row ∷ rest) first now taken answers none way turned = absurd (omega (arith, none))
+
+-- as many answers as rows
+pub from_all_many : (all rest : List Row) (first now : List (List RowAnswer)) (taken : List RowAnswer) → length rest ≡ 0 → AreFromTheLast all rest first now taken → length taken ≡ length all
+from_all_many all rest first now taken none way =
+    let long : length all ≡ length rest + length way.later = ap length way.all_is ∙ length-append rest way.later in
+    omega (arith, long, none, way.answered)

@@ -1,0 +1,34 @@
+-- What one row does to a seat.
+use Rattle.std.specs.Prelude.{◌≡◌, ℕ, ◌≤◌, List, ◌++◌, length, All}
+use Rattle.std.specs.declared.result.Result.{Result}
+use Rattle.std.specs.declared.result.Result.TheVariants.{Ok, Err}
+use Rattle.docket_rows.specs.Words.{Bench}
+use Rattle.office_seats.specs.Words.{SeatView, Goes}
+use Rattle.office_rows.specs.declared.row.Row.{Row}
+use Rattle.office_rows.specs.declared.row.Work.{Work}
+use Rattle.clerk_workers.specs.declared.answer.RowAnswer.{RowAnswer}
+use Rattle.clerk_workers.specs.Answered.{IsAnswered, place_told}
+use Rattle.clerk_workers.specs.Rows.{works_of}
+use Rattle.clerk_workers.specs.Worked.{HasWorked, tally_of}
+
+-- the seat finished no call; it may have seen more
+pub record FinishesNothing (old new : SeatView) : Type 0 where
+  pub goes : Goes old new
+  pub mine : new.mine ≡ old.mine
+
+module _ (bench : Bench) where
+  -- the row was answered so, by a clerk whose earlier calls stand anywhere in what it had seen
+  pub record IsDone (old : SeatView) (w : Work) (answer : RowAnswer) (new : SeatView) : Type 0 where
+    pub goes : Goes old new
+    pub mine : new.mine ≡ old.mine ++ place_told answer
+    pub answered : (earlier : List ℕ) → All (λ place. place ≤ length old.seen) earlier → IsAnswered bench old.limit old.number new.seen earlier w answer
+
+  -- what this result of answering a row says
+  abbrev pub Answers : {E : Type 0} → (old : SeatView) → Work → Result RowAnswer E → (new : SeatView) → Type 0
+  Answers old w (Ok answer) new = IsDone old w answer new
+  Answers old w (Err e) new = FinishesNothing old new
+
+  -- the clerk began at the first seat, has done its rows among these, with these answers, and sits at the second seat
+  pub record IsAfter (start : SeatView) (rows : List Row) (answers : List RowAnswer) (seat : SeatView) : Type 0 where
+    pub limit : seat.limit ≡ start.limit
+    pub worked : HasWorked bench start (works_of start.number rows) answers (tally_of seat)

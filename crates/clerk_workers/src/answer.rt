@@ -1,0 +1,15 @@
+//! What a row is answered.
+
+use docket_rows::View;
+use office_seats::Done;
+
+/// What a row of a clerk is answered.
+#[derive(Debug, Drop)]
+pub enum RowAnswer {
+    /// The command was finished; its answer may be a refusal by the docket.
+    Made(Done),
+    /// The journal has as many entries as it takes, so the command wasn't finished.
+    JournalFull,
+    /// What the query shows.
+    Viewed(View),
+}

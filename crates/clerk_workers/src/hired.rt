@@ -1,0 +1,77 @@
+//! A clerk in a thread of its own.
+
+ghost use Rattle.std.specs.Prelude.{◌≡◌, IfErr, IfOk};
+ghost use Rattle.clerk_workers.specs.Desks.{IsReady, IsWorked};
+
+use crate::desk::Desk;
+use crate::duty::Duty;
+use crate::gate::Gate;
+use office_rows::Row;
+use office_seats::Names;
+use std::alloc::Global;
+use std::marker::Model;
+use std::snapshot::Snapshot;
+use std::sync::{OnceLock, Wait};
+use std::thread::{PromisedHandle, Scope, Threads};
+
+/// The thread of a clerk.
+#[derive(Drop)]
+pub(crate) struct Hired<'e, L: Names> {
+    handle: PromisedHandle<Desk<L>, Duty<'e, L>>,
+}
+
+impl<'e, L: Names> Model for Hired<'e, L> {
+    ghost use Rattle.clerk_workers.specs.Desks.{HiredView};
+
+    ghost Value = { HiredView };
+
+    ghost view = { λ h. record { desk = h.handle.promise.desk.value; rows = h.handle.promise.rows.now } };
+}
+
+impl<'e, L: Names> Hired<'e, L> {
+    /// Waits until the clerk is done, and gives its desk.
+    pub(crate) fn join<R: Threads>(self, rt: &R) -> Desk<L>
+        ensures { IsWorked L.bench self.entry.rows self.entry.desk result }
+    {
+        let Hired { handle } = self;
+        handle.join(rt)
+    }
+}
+
+/// Starts a thread in which the clerk of the desk does its rows once it gets the word. Where no thread can be made the
+/// word is no, and the desk comes back.
+pub(crate) fn hire<
+    's,
+    'e: 's,
+    L: Names + Send + Sync + 'e,
+    R: Threads + Wait + Sync + 'e,
+    G: Gate + 'e,
+>(
+    scope: &'s Scope<'s, &'e ()>,
+    rt: &'e R,
+    alloc: Global,
+    desk: Desk<L>,
+    rows: &'e [Row],
+    gate: &'e G,
+    start: &'e OnceLock<bool>,
+) -> Result<Hired<'e, L>, Desk<L>>
+    requires { IsReady rows.now desk }
+    ensures hired { IfOk result (λ h. h ≡ record { desk = desk; rows = rows.now }) }
+    ensures refused { IfErr result (λ d. IsWorked L.bench rows.now desk d) }
+{
+    let duty = Duty {
+        desk: Snapshot::of(&desk),
+        rows,
+    };
+    let job = move || -> Desk<L>
+        requires { IsReady rows.now desk }
+        ensures { IsWorked L.bench rows.entry.now desk result }
+    { desk.work(rt, alloc, rows, gate, start) };
+    match scope.spawn_with(duty, job) {
+        Ok(handle) => Ok(Hired { handle }),
+        Err(refused) => {
+            let _word = start.set(rt, false);
+            Err((refused.value)())
+        }
+    }
+}

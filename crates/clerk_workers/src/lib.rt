@@ -1,0 +1,20 @@
+//! Clerks at work in threads of their own, each of whom takes its rows in order.
+#![tactic(auto)]
+
+mod answer;
+mod desk;
+mod desks;
+mod duty;
+mod gate;
+mod hired;
+mod merge;
+mod outcome;
+mod run;
+mod state;
+mod worker;
+mod workers;
+
+pub use answer::RowAnswer;
+pub use gate::Gate;
+pub use outcome::{Ran, RunFault};
+pub use run::run_clerks;

@@ -1,0 +1,29 @@
+//! What a run of several clerks comes to.
+
+use crate::answer::RowAnswer;
+use office_seats::{Names, Seat, Tally};
+
+/// A run in which all rows were answered.
+#[derive(Drop)]
+pub struct Ran<L: Names> {
+    /// The answers, in the order of the rows.
+    pub answers: Vec<RowAnswer>,
+    /// The tallies of the seats, in their order.
+    pub tallies: Vec<Tally<L>>,
+}
+
+/// Why not all rows were answered.
+#[derive(Drop)]
+pub enum RunFault<L: Names> {
+    /// 1: memory ran out, or a thread couldn't be made, before any row was done. The seats are as they were.
+    NotStarted {
+        /// The seats, in their order.
+        seats: Vec<Seat<L>>,
+    },
+    /// 2: a clerk found no memory. Each clerk's rows are done from its first one up to some row, those of the others to the
+    /// last one where they found memory.
+    Stopped {
+        /// The tallies of the seats, in their order.
+        tallies: Vec<Tally<L>>,
+    },
+}

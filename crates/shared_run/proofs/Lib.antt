@@ -1,0 +1,4 @@
+pub mod CallLemmas
+pub mod LineLemmas
+pub mod OpenedLemmas
+pub mod RunLemmas

@@ -1,0 +1,83 @@
+-- The seats of an office that was opened, and what their clerks leave.
+use Rattle.std.proofs.Common.{◌≡◌, ℕ, zero, suc, ◌+◌, ◌<◌, ◌≤◌, List, [], ◌∷◌, length, get_or, Contains, inl, inr, refl, ap, sym, ◌∙◌, subst, arith, add-one}
+use Rattle.std.proofs.Math.Seq.{get_or-append_seam}
+use Rattle.std.proofs.Math.ListN.{get_or-append}
+use Rattle.std.proofs.lemmas.Bool.{cases_lt}
+use Rattle.std.proofs.lemmas.List.{length-map}
+use Rattle.std.proofs.lemmas.List.Elements.{All-weaker}
+use Rattle.docket_rows.specs.declared.answer.Answer.{Answer}
+use Rattle.docket_rows.specs.declared.command.Command.{Command}
+use Rattle.docket_rows.specs.Words.{Bench}
+use Rattle.versioned_steps.specs.declared.entry.Entry.{Entry}
+use Rattle.office_seats.specs.Words.{AreApart, AreOfSeats, HasTallies, IsClosed, IsOpened, SeatView, TallyView, numbers_of, open_seat, open_seats}
+use Rattle.office_seats.proofs.CallerLemmas.{each_once}
+use Rattle.office_rows.specs.declared.row.Row.{Row}
+use Rattle.clerk_workers.specs.declared.answer.RowAnswer.{RowAnswer}
+use Rattle.clerk_workers.proofs.CallerLemmas.{open_long, worked_numbers}
+use Rattle.clerk_workers.specs.Words.{AllWorked, HasRun, HasWorked, History, answers_of, works_of}
+use Rattle.shared_run.specs.Run.{IsSharedRun}
+use Rattle.shared_run.proofs.RunLemmas.{HaveWorked, shared_run}
+
+-- the seat at each place of an office has the next number
+open_at : (limit count i : ℕ) (d : SeatView) → i < count → get_or (open_seats limit count) i d ≡ open_seat limit (i + 1)
+open_at limit zero i d within = absurd (omega (arith, within))
+open_at limit (suc count) i d within =
+    let long = open_long limit count in
+    let last = open_seat limit (count + 1) in
+    elim (cases_lt i count) as (λ _. get_or (open_seats limit (suc count)) i d ≡ open_seat limit (i + 1)) [
+      | inl before ↦
+          let inside : i < length (open_seats limit count) = omega (arith, before, long) in
+          get_or-append (open_seats limit count) (last ∷ []) d i inside ∙ open_at limit count i d before
+      | inr beyond ↦
+          let here : length (open_seats limit count) ≡ i = omega (arith, beyond, within, long) in
+          let same : count ≡ i = omega (arith, beyond, within) in
+          ap (λ n. get_or (open_seats limit (suc count)) n d) (sym here) ∙ get_or-append_seam (open_seats limit count) last [] d ∙ ap (λ n. open_seat limit (n + 1)) same
+    ]
+
+-- the number of a tally among these is among their numbers
+numbered : (tallies : List TallyView) (t : TallyView) (number : ℕ) → Contains tallies t → t.number ≡ number → Contains (numbers_of tallies) number
+numbered [] t number has is = absurd (omega (arith, has.1))
+numbered (x ∷ xs) t number (zero, within, here) is = (0, omega arith, ap (λ (y : TallyView). y.number) here ∙ is)
+numbered (x ∷ xs) t number (suc i, within, here) is =
+    let rest = numbered xs t number (i, omega (arith, within), here) is in
+    (suc rest.0, omega (arith, rest.1), rest.2)
+
+module _ (bench : Bench) (rows : List Row) (answers : List RowAnswer) where
+  -- the tally that the seat at a place has left
+  one_worked : (seats : List SeatView) (tallies : List TallyView) → AllWorked bench rows answers seats tallies → (i : ℕ) (d : SeatView) → i < length seats → (t : TallyView) × Contains tallies t × HasWorked bench (get_or seats i d) (works_of (get_or seats i d).number rows) (answers_of (get_or seats i d).number rows answers) t
+  one_worked [] tallies all i d within = absurd (omega (arith, within))
+  one_worked (s ∷ ss) [] all i d within = absurd all
+  one_worked (s ∷ ss) (t ∷ ts) all zero d within = (t, (0, omega arith, refl), all.0)
+  one_worked (s ∷ ss) (t ∷ ts) all (suc i) d within =
+      let rest = one_worked ss ts all.1 i d (omega (arith, within)) in
+      (rest.0, (suc rest.1.0, omega (arith, rest.1.1), rest.1.2), rest.2)
+
+  module _ (clerks limit : ℕ) (tallies : List TallyView) (all : AllWorked bench rows answers (open_seats limit clerks) tallies) where
+    have_worked : HaveWorked bench clerks limit rows answers tallies
+    have_worked zero first last = absurd (omega (arith, first))
+    have_worked (suc i) first last =
+        let within : i < length (open_seats limit clerks) = omega (arith, last, open_long limit clerks) in
+        let seat : get_or (open_seats limit clerks) i (open_seat limit 0) ≡ open_seat limit (suc i) = open_at limit clerks i (open_seat limit 0) (omega (arith, last)) ∙ ap (open_seat limit) (add-one i) in
+        let Left : SeatView → Type 0 = λ s. (t : TallyView) × Contains tallies t × HasWorked bench s (works_of s.number rows) (answers_of s.number rows answers) t in
+        subst Left seat (one_worked (open_seats limit clerks) tallies all i (open_seat limit 0) within)
+
+    has_tallies : HasTallies clerks tallies
+    has_tallies number first last =
+        let left = have_worked number first last in
+        numbered tallies left.0 number left.1 left.2.number
+
+    -- no two of them are of one seat
+    pub are_apart : AreApart tallies
+    are_apart =
+        let many : length (numbers_of tallies) ≡ length (open_seats limit clerks) = ap length (worked_numbers bench rows answers (open_seats limit clerks) tallies all) ∙ length-map (open_seats limit clerks) (λ (s : SeatView). s.number) in
+        each_once clerks (numbers_of tallies) has_tallies (omega (arith, many, open_long limit clerks))
+
+-- the run of an office that was opened, at whose seats all rows were answered, and that was closed
+pub run_made : (bench : Bench) (clerks limit office : ℕ) (seats : List SeatView) (rows : List Row) (answers : List RowAnswer) (tallies : List TallyView) (journal : History) → IsOpened clerks limit office seats → HasRun bench rows seats answers tallies → IsClosed bench tallies journal → AreOfSeats office tallies → IsSharedRun bench clerks limit rows answers journal
+run_made bench clerks limit office seats rows answers tallies journal opened ran closed of_seats =
+    let P : List SeatView → Type 0 = λ ss. AllWorked bench rows answers ss tallies in
+    let worked = have_worked bench rows answers clerks limit tallies (subst P opened.seats_are ran.worked) in
+    let IsTallied : Entry Command Answer → Type 0 = λ (e : Entry Command Answer). Contains (numbers_of tallies) e.clerk in
+    let IsTheirs : Entry Command Answer → Type 0 = λ (e : Entry Command Answer). (0 < e.clerk) × (e.clerk ≤ clerks) in
+    shared_run bench clerks limit rows answers tallies journal worked closed ran.as_many
+    (All-weaker IsTallied IsTheirs (λ e has. let seat = of_seats e.clerk has in (seat.0, omega (arith, seat.1, opened.office_is))) journal closed.no_other)

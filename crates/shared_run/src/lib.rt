@@ -1,0 +1,8 @@
+//! A run of an office that several clerks share: rows in, and the text of all answers, sheets and calendars out.
+#![tactic(auto)]
+
+mod attempt;
+mod run;
+mod text;
+
+pub use run::run_shared;
