@@ -50,9 +50,6 @@ all_first P (x ∷ xs) ys all = All-cons P x xs (All-head P x (xs ++ ys) all) (a
 pub others_ready : (rows : List Row) (all others : List DeskView) (desk : DeskView) → all ≡ others ++ desk ∷ [] → All (IsReady rows) all → All (IsReady rows) others
 others_ready rows all others desk same ready = (all_but_last (IsReady rows) others desk (subst (All (IsReady rows)) same ready)).0
 
-pub last_ready : (rows : List Row) (all others : List DeskView) (desk : DeskView) → all ≡ others ++ desk ∷ [] → All (IsReady rows) all → IsReady rows desk
-last_ready rows all others desk same ready = (all_but_last (IsReady rows) others desk (subst (All (IsReady rows)) same ready)).1
-
 module _ (bench : Bench) (rows : List Row) (old : List DeskView) where
   -- the clerk who was hired last is done
   pub way_joined : (now next : List DeskView) (hired left : List HiredView) (clerk : HiredView) (desk : DeskView) → hired ≡ left ++ clerk ∷ [] → next ≡ now ++ desk ∷ [] → IsWorked bench clerk.rows clerk.desk desk → AreUnderWay bench rows old now hired → AreUnderWay bench rows old next left

@@ -21,17 +21,6 @@ taken f lists place old new answer lt at popped =
       elsewhere = λ other differs. sym (ap (list_at other) put ∙ get_or-set_other (map f lists) place other (f new) [] differs);
     }
 
--- nothing is taken yet
-pub from_none : (rows : List Row) (lists : List (List RowAnswer)) → AreAsMany rows lists → AreFromTheLast rows rows lists lists []
-from_none rows lists many = record {
-  later = [];
-  all_is = sym (append-nil rows);
-  as_long = refl;
-  as_many = many;
-  lists = λ place lt. sym (append-nil (list_at place lists));
-  answered = refl;
-}
-
 module _ (all rest before : List Row) (row : Row) (first now : List (List RowAnswer)) (taken : List RowAnswer) (last : rest ≡ before ++ row ∷ []) (way : AreFromTheLast all rest first now taken) where
   -- the next row is of one of the clerks
   pub next_clerk : (clerks : ℕ) → AreOfClerks clerks all → IsOfClerk clerks row
@@ -110,21 +99,3 @@ module _ (all rest before : List Row) (row : Row) (first now : List (List RowAns
           ]) refl;
       answered = length-append taken (answer ∷ []) ∙ omega (arith, way.answered);
     }
-
--- a list of no length is empty
-no_length : {X : Type 0} (xs : List X) → length xs ≡ 0 → xs ≡ []
-no_length [] none = refl
-no_length (x ∷ xs) none = absurd (omega (arith, none))
-
--- all are taken
-pub from_all : (all rest : List Row) (first now : List (List RowAnswer)) (taken answers : List RowAnswer) → length rest ≡ 0 → AreFromTheLast all rest first now taken → answers ≡ reverse taken → AreMerged all first answers
-from_all all [] first now taken answers none way turned = λ place lt.
-    let empty : list_at place now ≡ [] = no_length (list_at place now) (way.as_many place (omega (arith, lt, way.as_long))) in
-    way.lists place lt ∙ (ap (λ (others : List RowAnswer). others ++ answers_of (place + 1) way.later (reverse taken)) empty ∙ (ap (λ (rs : List Row). answers_of (place + 1) rs (reverse taken)) (sym way.all_is) ∙ ap (answers_of (place + 1) all) (sym turned)))
-from_all all (row ∷ rest) first now taken answers none way turned = absurd (omega (arith, none))
-
--- as many answers as rows
-pub from_all_many : (all rest : List Row) (first now : List (List RowAnswer)) (taken : List RowAnswer) → length rest ≡ 0 → AreFromTheLast all rest first now taken → length taken ≡ length all
-from_all_many all rest first now taken none way =
-    let long : length all ≡ length rest + length way.later = ap length way.all_is ∙ length-append rest way.later in
-    omega (arith, long, none, way.answered)

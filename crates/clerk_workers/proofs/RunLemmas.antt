@@ -29,10 +29,7 @@ all_turned P [] all = All-nil P
 all_turned P (x ∷ xs) all =
     subst (All P) (sym (reverse-cons x xs)) (all_push P (reverse xs) x (all_turned P xs (All-tail P x xs all)) (All-head P x xs all))
 
--- as many seats as desks, and as many lists of answers
-pub seats_long : (desks : List DeskView) → length (seats_at desks) ≡ length desks
-seats_long desks = length-reverse (map (λ (d : DeskView). d.seat) desks) ∙ length-map desks (λ (d : DeskView). d.seat)
-
+-- as many lists of answers as desks
 pub answers_long : (desks : List DeskView) → length (answers_at desks) ≡ length desks
 answers_long desks = length-reverse (map (λ (d : DeskView). d.answers) desks) ∙ length-map desks (λ (d : DeskView). d.answers)
 

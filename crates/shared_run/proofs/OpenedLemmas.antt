@@ -3,17 +3,15 @@ use Rattle.std.proofs.Common.{◌≡◌, ℕ, zero, suc, ◌+◌, ◌<◌, ◌�
 use Rattle.std.proofs.Math.Seq.{get_or-append_seam}
 use Rattle.std.proofs.Math.ListN.{get_or-append}
 use Rattle.std.proofs.lemmas.Bool.{cases_lt}
-use Rattle.std.proofs.lemmas.List.{length-map}
 use Rattle.std.proofs.lemmas.List.Elements.{All-weaker}
 use Rattle.docket_rows.specs.declared.answer.Answer.{Answer}
 use Rattle.docket_rows.specs.declared.command.Command.{Command}
 use Rattle.docket_rows.specs.Words.{Bench}
 use Rattle.versioned_steps.specs.declared.entry.Entry.{Entry}
-use Rattle.office_seats.specs.Words.{AreApart, AreOfSeats, HasTallies, IsClosed, IsOpened, SeatView, TallyView, numbers_of, open_seat, open_seats}
-use Rattle.office_seats.proofs.CallerLemmas.{each_once}
+use Rattle.office_seats.specs.Words.{AreOfSeats, IsClosed, IsOpened, SeatView, TallyView, numbers_of, open_seat, open_seats}
 use Rattle.office_rows.specs.declared.row.Row.{Row}
 use Rattle.clerk_workers.specs.declared.answer.RowAnswer.{RowAnswer}
-use Rattle.clerk_workers.proofs.CallerLemmas.{open_long, worked_numbers}
+use Rattle.clerk_workers.proofs.CallerLemmas.{open_long}
 use Rattle.clerk_workers.specs.Words.{AllWorked, HasRun, HasWorked, History, answers_of, works_of}
 use Rattle.shared_run.specs.Run.{IsSharedRun}
 use Rattle.shared_run.proofs.RunLemmas.{HaveWorked, shared_run}
@@ -34,14 +32,6 @@ open_at limit (suc count) i d within =
           ap (λ n. get_or (open_seats limit (suc count)) n d) (sym here) ∙ get_or-append_seam (open_seats limit count) last [] d ∙ ap (λ n. open_seat limit (n + 1)) same
     ]
 
--- the number of a tally among these is among their numbers
-numbered : (tallies : List TallyView) (t : TallyView) (number : ℕ) → Contains tallies t → t.number ≡ number → Contains (numbers_of tallies) number
-numbered [] t number has is = absurd (omega (arith, has.1))
-numbered (x ∷ xs) t number (zero, within, here) is = (0, omega arith, ap (λ (y : TallyView). y.number) here ∙ is)
-numbered (x ∷ xs) t number (suc i, within, here) is =
-    let rest = numbered xs t number (i, omega (arith, within), here) is in
-    (suc rest.0, omega (arith, rest.1), rest.2)
-
 module _ (bench : Bench) (rows : List Row) (answers : List RowAnswer) where
   -- the tally that the seat at a place has left
   one_worked : (seats : List SeatView) (tallies : List TallyView) → AllWorked bench rows answers seats tallies → (i : ℕ) (d : SeatView) → i < length seats → (t : TallyView) × Contains tallies t × HasWorked bench (get_or seats i d) (works_of (get_or seats i d).number rows) (answers_of (get_or seats i d).number rows answers) t
@@ -60,17 +50,6 @@ module _ (bench : Bench) (rows : List Row) (answers : List RowAnswer) where
         let seat : get_or (open_seats limit clerks) i (open_seat limit 0) ≡ open_seat limit (suc i) = open_at limit clerks i (open_seat limit 0) (omega (arith, last)) ∙ ap (open_seat limit) (add-one i) in
         let Left : SeatView → Type 0 = λ s. (t : TallyView) × Contains tallies t × HasWorked bench s (works_of s.number rows) (answers_of s.number rows answers) t in
         subst Left seat (one_worked (open_seats limit clerks) tallies all i (open_seat limit 0) within)
-
-    has_tallies : HasTallies clerks tallies
-    has_tallies number first last =
-        let left = have_worked number first last in
-        numbered tallies left.0 number left.1 left.2.number
-
-    -- no two of them are of one seat
-    pub are_apart : AreApart tallies
-    are_apart =
-        let many : length (numbers_of tallies) ≡ length (open_seats limit clerks) = ap length (worked_numbers bench rows answers (open_seats limit clerks) tallies all) ∙ length-map (open_seats limit clerks) (λ (s : SeatView). s.number) in
-        each_once clerks (numbers_of tallies) has_tallies (omega (arith, many, open_long limit clerks))
 
 -- the run of an office that was opened, at whose seats all rows were answered, and that was closed
 pub run_made : (bench : Bench) (clerks limit office : ℕ) (seats : List SeatView) (rows : List Row) (answers : List RowAnswer) (tallies : List TallyView) (journal : History) → IsOpened clerks limit office seats → HasRun bench rows seats answers tallies → IsClosed bench tallies journal → AreOfSeats office tallies → IsSharedRun bench clerks limit rows answers journal

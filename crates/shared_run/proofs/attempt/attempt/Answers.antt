@@ -1,10 +1,9 @@
-use Rattle.std.proofs.Common.{◌≡◌, ℕ, List, length, ap, sym, ◌∙◌, subst}
+use Rattle.std.proofs.Common.{◌≡◌, ℕ, length, ap, sym, ◌∙◌, subst}
 use Rattle.docket_rows.specs.Words.{Bench}
-use Rattle.office_seats.specs.Words.{SeatView}
-use Rattle.clerk_workers.specs.Words.{AllWorked, AreInOrder, AreOfClerks}
+use Rattle.clerk_workers.specs.Words.{AreInOrder, AreOfClerks}
 use Rattle.clerk_workers.proofs.CallerLemmas.{open_in_order, open_long}
 use Rattle.shared_run.specs.Run.{IsSharedRun}
-use Rattle.shared_run.proofs.OpenedLemmas.{are_apart, run_made}
+use Rattle.shared_run.proofs.OpenedLemmas.{run_made}
 use Rattle.shared_run.proofs.attempt.attempt.Goals as goal
 
 pub run_clerks-requires-clause-in_order : goal.run_clerks-requires-clause-in_order
@@ -18,12 +17,6 @@ run_clerks-requires-clause-clerks g c κs within =
     let clerks : length c.in-Some.seats.items ≡ c.args.clerks = ap length opened.seats_are ∙ open_long c.args.journal_limit c.args.clerks in
     let P : ℕ → Type 0 = λ n. AreOfClerks n c.args.rows.now in
     subst P (sym clerks) c.requires.rows
-
-pub close-requires-clause-apart : goal.close-requires-clause-apart
-close-requires-clause-apart g c =
-    let opened = rw c.in-Some.is at c.in_ok-office.ensures in
-    let P : List SeatView → Type 0 = λ seats. AllWorked g.L.Names.bench c.args.rows.now c.in-Ok.ran.answers.items seats c.in-Ok.ran.tallies.items in
-    are_apart g.L.Names.bench c.args.rows.now c.in-Ok.ran.answers.items c.args.clerks c.args.journal_limit c.in-Ok.ran.tallies.items (subst P opened.seats_are c.in-Ok.ensures.worked)
 
 pub returns : goal.returns
 returns g c =
