@@ -37,7 +37,7 @@ bench: build
 # who share a docket, and of the calls of an office's seats.
 refuse: build
 	@python3 checks/refuse_memory.py $(PROGRAM) examples/smallest.txt examples/days.txt examples/deadlines.txt \
-		runs/docket/sheets_and_calendars_at_the_end.in
+		runs/docket/sheets_and_calendars_at_the_end.in runs/clerks/hearings_side_by_side.in
 	@cd $(STEPS) && rt run < stdin > /dev/null
 	@python3 checks/refuse_steps.py $(STEPS)/out/stored_steps $(STEPS)/stdin $(SEED)
 	@cd $(OFFICES) && rt run < stdin > /dev/null

@@ -15,8 +15,8 @@ table compares them. Others are the example with 1 or 32 judges and rooms. Each 
 rows are dealt to 1, 2 and 4 clerks in turn; 'of one' is the time as a part of that which one clerk takes. 'disjoint' has
 hearings in cases and before judges of each clerk's own, 'contended' the hearings of all before one judge, and 'mostly
 reading' asks for sheets and the ends of periods, with one command in 20 rows. Seconds are by the wall clock, with about
-a millisecond for the start of a shell; a megabyte is 1,000,000 bytes. For a run that doesn't end with status 0, the first line that it wrote to
-standard error is shown and no rows per second. Nothing is asserted and no time is limited. It needs Linux.
+a millisecond for the start of a shell; a megabyte is 1,000,000 bytes. For a run that doesn't end with status 0, the first
+line that it wrote to standard error is shown and no rows per second. Nothing is asserted and no time is limited. It needs Linux.
 """
 import ctypes
 import datetime
