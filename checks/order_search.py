@@ -19,7 +19,7 @@ Item = namedtuple("Item", "row work lines reads writes")
 Moment = namedtuple("Moment", "docket places waiting order")
 
 FULL = ["journal full"]
-MOST_MOMENTS = 2000
+MOST_MOMENTS = 4000
 
 
 class NoOrder(Exception):
