@@ -10,7 +10,7 @@ OFFICES  := crates/stored_office
 MEMO     := crates/deadline_memo
 EXAMPLE  := examples/smallest.txt
 
-.PHONY: build memo run test bench refuse check-program runs compare derivations steps commands courts help
+.PHONY: build memo run test bench refuse check-program runs compare races derivations steps commands courts help
 
 # `rt run` proves the program and the libraries below it, builds it at $(PROGRAM), and runs it, here on the smallest
 # example. Where nothing has changed since the last time it proves nothing anew.
@@ -37,7 +37,7 @@ bench: build
 # who share a docket, and of the calls of an office's seats.
 refuse: build
 	@python3 checks/refuse_memory.py $(PROGRAM) examples/smallest.txt examples/days.txt examples/deadlines.txt \
-		runs/docket/sheets_and_calendars_at_the_end.in
+		runs/docket/sheets_and_calendars_at_the_end.in runs/clerks/hearings_side_by_side.in
 	@cd $(STEPS) && rt run < stdin > /dev/null
 	@python3 checks/refuse_steps.py $(STEPS)/out/stored_steps $(STEPS)/stdin $(SEED)
 	@cd $(OFFICES) && rt run < stdin > /dev/null
@@ -57,6 +57,12 @@ SEED  := 1
 COUNT := 600
 compare: build
 	@python3 checks/office_compare.py $(PROGRAM) $(SEED) $(COUNT)
+
+# Beside the gate: runs of several clerks, each of which must be explained by some order of all commands; and texts that
+# are spoiled, which none explains.
+races: COUNT := 20
+races: build
+	@python3 checks/races_check.py $(PROGRAM) $(SEED) $(COUNT)
 
 # Beside the gate: the reasons of deadlines that are made at random, each line checked by the one before it, in plain
 # Python that computes no deadline; and reasons that are spoiled, which it must refuse.
@@ -86,6 +92,7 @@ help:
 	@echo "make check-program  runs the program for every status, 0 to 5, and looks at all that it writes"
 	@echo "make runs    runs the program on the whole runs of runs/, and compares all that it writes"
 	@echo "make compare compares the program with its reference on inputs made at random (SEED=1 COUNT=600)"
+	@echo "make races   runs the program with 2 to 64 clerks, and looks for an order of their rows that explains each run (SEED=1 COUNT=20)"
 	@echo "make memo    proves and builds the program that gives reasons, which is then $(MEMO)/out/deadline_memo"
 	@echo "make derivations checks the reasons of ten thousand deadlines made at random, and refuses spoiled ones (SEED=1)"
 	@echo "make steps   compares the steps of clerks who share a docket with a replay, on every short list of them (SEED=1)"

@@ -11,10 +11,12 @@ input of the office is a court's file, a line '%%', and rows of one kind, drawn 
 the benchmark measure the same inputs. 'example' is the court of examples/district.toml. 'full' is one with all that a
 court's file may have: 100 years, and 4,096 dates in each list of holidays, which make 8,192 closed days in a row, so
 that most of the rows' last days are moved over many years. Both courts get the same rows, and the last line of their
-table compares them. Others are the example with 1 or 32 judges and rooms. Each input is run once. Seconds are by the
-wall clock, with about a millisecond for the start of
-a shell; a megabyte is 1,000,000 bytes. For a run that doesn't end with status 0, the first line that it wrote to
-standard error is shown and no rows per second. Nothing is asserted and no time is limited. It needs Linux.
+table compares them. Others are the example with 1 or 32 judges and rooms. Each input is run once. Then 100,000
+rows are dealt to 1, 2 and 4 clerks in turn; 'of one' is the time as a part of that which one clerk takes. 'disjoint' has
+hearings in cases and before judges of each clerk's own, 'contended' the hearings of all before one judge, and 'mostly
+reading' asks for sheets and the ends of periods, with one command in 20 rows. Seconds are by the wall clock, with about
+a millisecond for the start of a shell; a megabyte is 1,000,000 bytes. For a run that doesn't end with status 0, the first
+line that it wrote to standard error is shown and no rows per second. Nothing is asserted and no time is limited. It needs Linux.
 """
 import ctypes
 import datetime
@@ -50,6 +52,7 @@ SIZES = (1000, 10000, 100000)
 SEED = 20250902
 
 LINE = "{:<14}{:<9}{:>9}{:>10}{:>13}{:>9}  {}"
+CLERKS_LINE = "{:<16}{:>7}{:>9}{:>10}{:>8}{:>13}{:>9}  {}"
 BOOKINGS_LINE = "{:<23}{:>9}{:>10}"
 SEATS_LINE = "{:<28}{:>9}{:>13}"
 
@@ -164,6 +167,55 @@ def sheets(draw, count):
     return opened + ["1,sheet,{}".format(1 + number % 32) for number in range(count - len(opened))]
 
 
+def of_clerks(kind, draw, clerks):
+    """Rows of clerks, dealt to them in turn."""
+    # the rows of each of four lists are the same for any number of clerks, so that all have the same work
+    lists = [CLERK_KINDS[kind](draw, part) for part in range(PARTS)]
+    for number in range(max(SIZES)):
+        part = number % PARTS
+        yield "{},{}".format(1 + part % clerks, next(lists[part]))
+
+
+def hearings_of(draw, part, judge):
+    """Hearings that are set, moved and cancelled before a judge, in a quarter of the cases."""
+    source, room = draw.source, draw.rooms[part]
+    cases = range(part + 1, CASES + 1, PARTS)
+    for motion, case in itertools.product(range(1, 65), cases):
+        if motion == 1:
+            yield "open,{},{}".format(case, FIRST_DAY)
+        yield "motion,{},{},exparte".format(case, FIRST_DAY)
+        for word in ("book", "move"):
+            place = judge, room, draw.day(), source.choice(HALF_HOURS), source.choice(("1", "2", "3q"))
+            yield "{},{},{},{},{},{},{},{},{}".format(word, case, motion, *place, FIRST_DAY)
+        yield "cancel,{},{}".format(case, motion)
+
+
+def disjoint(draw, part):
+    return hearings_of(draw, part, draw.judges[part])
+
+
+def contended(draw, part):
+    return hearings_of(draw, part, draw.judges[0])
+
+
+def mostly_reading(draw, part):
+    """Sheets of a clerk's own cases and ends of periods, and a command in every 20 rows."""
+    for number in itertools.count():
+        case = part + 1 + PARTS * (number // 20 % 64)
+        if number % 20 == 0:
+            yield "open,{},{}".format(case, FIRST_DAY) if number < 20 * 64 else "motion,{},{},14".format(case, draw.day())
+        elif number % 2 == 0:
+            yield "sheet,{}".format(case)
+        else:
+            yield "compute,{}".format(draw.rule_period_with_its_days_and_kind())
+
+
+# Rows of several clerks: of how many, and of how many parts of the docket.
+CLERKS = (1, 2, 4)
+PARTS = 4
+CLERK_KINDS = {"disjoint": disjoint, "contended": contended, "mostly reading": mostly_reading}
+
+
 def names_in(court, key):
     """The names in a list of a court's file, which stands in one line."""
     return re.findall('"([^"]*)"', re.search("^" + key + " = .*", court, re.MULTILINE).group())
@@ -268,6 +320,26 @@ def measure_rows(program, folder):
     print("{:,} {} rows: the full court takes {:.2f} times the example's time".format(most, MIXED, ratio), flush=True)
 
 
+def measure_clerks(program, folder):
+    """Runs each kind of rows of clerks with each number of them."""
+    court = court_of(PARTS)
+    rows, errors = os.path.join(folder, "rows"), os.path.join(folder, "errors")
+    print(CLERKS_LINE.format("kind", "clerks", "rows", "seconds", "of one", "rows/second", "peak MB", "status"))
+    for kind in CLERK_KINDS:
+        alone = None
+        for clerks in CLERKS:
+            with open(rows, "w") as file:
+                file.write(court + "%%\n")
+                file.writelines(row + "\n" for row in of_clerks(kind, Draw(random.Random(SEED), court), clerks))
+            status, seconds, peak = measure([program, "--clerks", str(clerks), "--journal", "1000000"], rows, errors)
+            alone = alone or seconds
+            rate = "{:,.0f}".format(max(SIZES) / seconds) if status == 0 else "-"
+            with open(errors, errors="replace") as file:
+                ending = "{} {}".format(status, file.readline()).strip()
+            print(CLERKS_LINE.format(kind, clerks, "{:,}".format(max(SIZES)), "%.3f" % seconds, "%.2f" % (seconds / alone),
+                                     rate, "%.1f" % peak, ending), flush=True)
+
+
 def measure_bookings(program):
     """Runs the other program, each line of which is a kind of change, the bookings in its calendar, and the seconds."""
     ran = subprocess.run([program, "measure"], stdout=subprocess.PIPE, check=False)
@@ -294,6 +366,7 @@ def main(program, bookings, seats):
     adopt_orphans()
     with tempfile.TemporaryDirectory() as folder:
         measure_rows(os.path.abspath(program), folder)
+        measure_clerks(os.path.abspath(program), folder)
     measure_bookings(os.path.abspath(bookings))
     measure_seats(os.path.abspath(seats))
 

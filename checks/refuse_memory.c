@@ -13,7 +13,7 @@ static int refuses(void)
         const char *number = getenv("REFUSE");
         refused = number ? strtoul(number, NULL, 10) : 0;
     }
-    if (++asked != refused)
+    if (__atomic_add_fetch(&asked, 1, __ATOMIC_RELAXED) != refused)
         return 0;
     close(open(getenv("REFUSED"), O_CREAT | O_WRONLY, 0600));
     return 1;

@@ -6,7 +6,9 @@
 For each input the first growth is refused, then the second, and so on, until a run ends without a refusal. A run in
 which one is refused must end with status 5, write nothing to standard output and `out of memory` to standard error; or
 it could do without that growth, and writes what it would have written with it. The last run must write what the file
-INPUT's neighbour with the ending `.out` has. The status is 0 where all of that is so. It needs Linux and a C compiler,
+INPUT's neighbour with the ending `.out` has; where there is one with the ending `.words`, the program is called with the
+words of that line. Clerks in threads of their own don't ask for memory in the same order in each run, so that in one of
+several clerks it is chance whose growth is refused. The status is 0 where all of that is so. It needs Linux and a C compiler,
 `cc` or the one that CC names.
 """
 import os
@@ -28,22 +30,23 @@ def built_library(folder):
     return library
 
 
-def run(program, text, library, number):
+def run(program, text, library, number, words=()):
     """Whether that growth was refused, and a run's status and what it wrote to standard output and to standard error."""
     mark = library.with_name("refused")
     mark.unlink(missing_ok=True)
     surroundings = dict(os.environ, LD_PRELOAD=str(library), REFUSE=str(number), REFUSED=str(mark))
-    ran = subprocess.run([program], input=text, capture_output=True, env=surroundings, check=False)
+    ran = subprocess.run([program, *words], input=text, capture_output=True, env=surroundings, check=False)
     return mark.exists(), (ran.returncode, ran.stdout, ran.stderr)
 
 
 def refuse_each(program, path, library):
     """Whether each run with that input ended as it must."""
-    text = path.read_bytes()
+    text, line = path.read_bytes(), path.with_suffix(".words")
+    words = line.read_text().split() if line.exists() else []
     wanted = (0, path.with_suffix(".out").read_bytes(), b"")
     number, ends = 1, 0
     while True:
-        refused, ended = run(program, text, library, number)
+        refused, ended = run(program, text, library, number, words)
         if refused and ended == REFUSED:
             ends += 1
         elif ended != wanted or not (refused or ends):
