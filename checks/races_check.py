@@ -9,8 +9,9 @@ prints of one clerk who gives all commands in some order that keeps each clerk's
 query shows some moment behind its clerk's rows before it. Then texts of short inputs are spoiled in every way below, and must
 be refused. The lines tell of each input how many different texts were printed and how many different orders explain
 them, in how many runs commands were answered otherwise than in the order of the rows, and in how many a clerk numbered a
-motion or a deadline of a case between two of another clerk, so that they really met. With `-` for PROGRAM orders that are drawn at random stand for runs. The
-status is 0 where each run is explained and each spoiled text is refused. It needs Python 3.8 or later.
+motion or a deadline of a case between two of another clerk. Where both are so, clerks met: neither one of them after the
+other nor one thread with all rows prints that. With `-` for PROGRAM orders that are drawn at random stand for runs. The
+status is 0 where each run is explained, clerks met in some, and each spoiled text is refused. It needs Python 3.8 or later.
 """
 import random
 import re
@@ -43,7 +44,7 @@ class Race:
         self.words = ["--clerks", str(made.clerks), "--journal", str(made.limit)]
         self.texts, self.orders = {}, set()
         self.in_order = self.commands_in(lines_of(self.court, self.rows, made.limit, None))
-        self.runs = self.out_of_order = self.by_turns = 0
+        self.runs = self.out_of_order = self.by_turns = self.met = 0
 
     def explained(self, text):
         return explained(self.court, self.rows, self.made.clerks, self.made.limit, text)
@@ -60,10 +61,12 @@ class Race:
         order = self.texts[text][0]
         self.runs += 1
         self.orders.add(tuple(order))
-        self.out_of_order += self.commands_in(text.splitlines()) != self.in_order
-        self.by_turns += self.meets(text)
+        changed, turns = self.commands_in(text.splitlines()) != self.in_order, self.is_by_turns(text)
+        self.out_of_order += changed
+        self.by_turns += turns
+        self.met += changed and turns
 
-    def meets(self, text):
+    def is_by_turns(self, text):
         """Whether a clerk numbered a motion or a deadline of a case between two of another clerk."""
         numbered = {}
         for row, lines in zip(self.rows, replies(self.rows, text.splitlines())[0]):
@@ -255,7 +258,7 @@ def main(program, seed=1, count=20):
     for line in wrong:
         print("spoiled, and not refused: " + line)
     runs = sum(race.runs for race in races)
-    met = sum(race.by_turns for race in races)
+    met = sum(race.met for race in races)
     print("{} runs of seed {}, {} not explained; in {} clerks met; {} spoiled texts were refused, {} not".format(
         runs + failed, seed, failed, met, count, len(wrong)))
     sys.exit(1 if failed or wrong or not met else 0)
