@@ -269,7 +269,8 @@ def main(words):
     seed, count = (int(word) for word in (words[1:] + ["1", "10000"][len(words) - 1:]))
     chance = random.Random(seed)
     shown, wrong, shapes = 0, 0, {}
-    inputs = [path.read_bytes() for path in sorted((TOP / "examples").glob("*.txt"))]
+    # (deadline_memo serves one clerk, so it can't read the examples of several, whose words stand beside them)
+    inputs = [path.read_bytes() for path in sorted((TOP / "examples").glob("*.txt")) if not path.with_suffix(".words").exists()]
     inputs.append((TOP / "crates" / "deadline_memo" / "stdin").read_bytes())
     while shown < count or inputs:
         data = inputs.pop() if inputs else an_input(chance)
