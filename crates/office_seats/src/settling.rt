@@ -10,13 +10,27 @@ use crate::book::Book;
 use crate::done::Done;
 use crate::fault::{CommitError, PerformError};
 use crate::names::Names;
+use crossbeam_utils::Backoff;
 use docket_rows::Command;
 use published_docket::Trail;
 use shared_docket::DocketParts;
 use std::alloc::Global;
 use std::sync::ledger::Share;
-use std::sync::{Mutex, Wait};
+use std::sync::{Mutex, MutexGuard, Wait};
 use versioned_steps::Draft;
+
+/// Takes the lock of the book. It is held for some microseconds at a time, so who waits for it looks again soon, and yields
+/// the processor in between: to sleep and to be woken would take longer than the wait.
+fn taken<'b, L: Names, R: Wait>(rt: &R, book: &'b Mutex<Book<L>>) -> MutexGuard<'b, Book<L>> {
+    let backoff = Backoff::new();
+    for _ in rt.forever() {
+        if let Some(guard) = book.try_lock() {
+            return guard;
+        }
+        backoff.snooze();
+    }
+    unreachable!()
+}
 
 /// Commits a seat's draft at the end of the journal, all of which the seat has then seen.
 // A body that always found no memory would meet this contract, and no test of this crate refuses it yet.
@@ -38,7 +52,8 @@ pub(crate) fn settled<L: Names, R: Wait>(
     ensures amount { share.new.amount ≡ share.old.amount + entries_of result }
 {
     for _ in rt.forever() {
-        if let Some(result) = book.lock(rt).settle(rt, alloc, seen, share, draft, limit) {
+        let mut book = taken(rt, book);
+        if let Some(result) = book.settle(rt, alloc, seen, share, draft, limit) {
             return result;
         }
     }
@@ -65,10 +80,8 @@ pub(crate) fn made<L: Names, R: Wait>(
     ensures amount { share.new.amount ≡ share.old.amount + entries_of result }
 {
     for _ in rt.forever() {
-        if let Some(result) = book
-            .lock(rt)
-            .settle_now(rt, alloc, seen, share, clerk, *command, limit)
-        {
+        let mut book = taken(rt, book);
+        if let Some(result) = book.settle_now(rt, alloc, seen, share, clerk, *command, limit) {
             return result;
         }
     }
