@@ -83,5 +83,5 @@ pub(crate) fn attempt<L: Names + Send + Sync, R: Threads + Wait + Sync, G: Gate>
     let Ok(journal) = office.close(rt, alloc, tallies) else {
         return Err(AllocError);
     };
-    Ok(Some(text_of(alloc, court, rows, &answers, &journal)?))
+    Ok(Some(text_of(rt, alloc, court, clerks, rows, &answers, &journal)?))
 }

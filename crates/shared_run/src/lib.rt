@@ -2,6 +2,8 @@
 #![tactic(auto)]
 
 mod attempt;
+mod lines;
+mod pieces;
 mod run;
 mod text;
 
