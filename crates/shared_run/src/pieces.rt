@@ -30,7 +30,10 @@ pub(crate) fn answers_text<R: Threads + Sync>(
     let made = |start: usize, part: &[Row]| -> Result<String, AllocError>
         requires { start + length part.now ≤ length answers.now }
         ensures { IfOk result (λ text. string_bytes text ≡ answer_lines court.entry.now (start + 1) part.entry.now (take (length part.entry.now) (drop start answers.entry.now))) }
-    { lines_of(alloc, court, start, part, &answers[start..start + part.len()]) };
+    {
+        let those = &answers[start..start + part.len()];
+        lines_of(alloc, court, start, part, those)
+    };
     let pieces = thread::map_chunks(rt, alloc, rows, size, &made)?;
     let mut text = String::with_capacity(alloc, whole_len(&pieces))?;
     for piece in pieces {

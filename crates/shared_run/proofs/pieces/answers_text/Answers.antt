@@ -1,4 +1,4 @@
-use Rattle.std.proofs.Common.{◌≡◌, ℕ, ◌+◌, ◌*◌, ◌/◌, ◌%◌, ◌≤◌, ◌++◌, ◌∙◌, min, List, [], ◌∷◌, IfOk, Result, String, Global, drop, length, string_bytes, take, append_assoc, append-nil, ap, refl, rules, subst, sym}
+use Rattle.std.proofs.Common.{◌≡◌, ◌+◌, ◌*◌, ◌/◌, ◌%◌, ◌≤◌, ◌++◌, ◌∙◌, min, List, [], ◌∷◌, IfOk, Result, String, Global, drop, length, string_bytes, take, append-nil, ap, rules, subst, sym}
 use Rattle.std.proofs.Math.Nat.{add-mul, one-mul}
 use Rattle.std.proofs.lemmas.Grind.{div_ceil_times}
 use Rattle.std.proofs.lemmas.Iterator.Adapters.{YieldsList-from_vec}
