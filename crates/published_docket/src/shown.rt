@@ -128,4 +128,12 @@ impl Absorb<Change> for Shown {
         }
         Ok(())
     }
+
+    fn absorb_second(&mut self, operation: Change, _other: &Shown) -> Result<(), Change> {
+        match operation {
+            Change::Put(number, version, value) => self.put(number, Slot { version, value }),
+            Change::Grow(trail) => self.trail = trail,
+        }
+        Ok(())
+    }
 }
