@@ -19,8 +19,11 @@ mod rebooking;
 mod rules;
 mod seen;
 mod sight;
+mod values;
 mod views;
 mod writes;
 
 pub use docket::Docket;
 pub use rules::DocketRules;
+pub use sight::Sight;
+pub use values::{calendar_of, case_of, days_of};

@@ -5,6 +5,7 @@ ghost use Rattle.docket_rows.specs.Words.{same_part, read_of, days_in, calendar_
 
 use crate::rules::DocketRules;
 use crate::sight::Sight;
+use crate::values::{calendar_of, case_of, days_of};
 use court_days::Days;
 use docket_rows::{CaseRecord, PartId, PartValue};
 use hearing_slots::Calendar;
@@ -105,39 +106,5 @@ fn calendar_read(reads: &[(PartId, PartValue)], part: PartId) -> Option<&Calenda
     match value_read(reads, part) {
         Some(value) => calendar_of(value),
         None => None,
-    }
-}
-
-/// The value as days.
-fn days_of(value: &PartValue) -> Option<&Days>
-    ensures { option_copied result ≡ days_in value.now }
-{
-    match value {
-        PartValue::Days(days) => Some(days),
-        PartValue::Calendar(_) => None,
-        PartValue::Case(_) => None,
-    }
-}
-
-/// The value as a calendar.
-fn calendar_of(value: &PartValue) -> Option<&Calendar>
-    ensures { option_copied result ≡ calendar_in value.now }
-{
-    match value {
-        PartValue::Calendar(calendar) => Some(calendar),
-        PartValue::Days(_) => None,
-        PartValue::Case(_) => None,
-    }
-}
-
-/// The value as a case.
-fn case_of(value: &PartValue) -> Option<&CaseRecord>
-    ensures { option_copied result ≡ case_in value.now }
-{
-    match value {
-        PartValue::Case(Some(case)) => Some(case.contents()),
-        PartValue::Case(None) => None,
-        PartValue::Days(_) => None,
-        PartValue::Calendar(_) => None,
     }
 }

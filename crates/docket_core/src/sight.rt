@@ -1,4 +1,4 @@
-//! Where the parts come from on which a command is judged.
+//! Where the parts come from on which a command is judged, or which a query shows.
 
 ghost use Rattle.std.specs.Prelude.{◌≡◌, [], option_copied, unwrap_or};
 ghost use Rattle.docket_rows.specs.Words.{Parts};
@@ -7,7 +7,8 @@ use court_days::Days;
 use docket_rows::CaseRecord;
 use hearing_slots::Calendar;
 
-/// What shows the parts of a docket: the docket itself, or the copies that were read of it. One judgement serves both.
+/// What shows the parts of a docket: the docket itself, the copies that were read of it, or what is published of it. One
+/// judgement serves all.
 pub trait Sight {
     ghost parts: { Self → Parts };
 

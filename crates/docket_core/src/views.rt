@@ -3,16 +3,15 @@ mod sheet;
 
 ghost use Rattle.std.specs.Prelude.{◌≡◌, [], unwrap_or, option_copied, IfOk};
 ghost use Rattle.hearing_slots.specs.Words.{on_day};
-ghost use Rattle.docket_rows.specs.Words.{parts_read, seen_by};
+ghost use Rattle.docket_rows.specs.Words.{seen_by};
 ghost use Rattle.docket_rows.specs.declared.query.Query.TheVariants as query;
 
 use crate::deadlines::{shown_at_start, start_refusal};
-use crate::reads::Seen;
 use crate::rules::DocketRules;
 use crate::seen::has_case;
 use crate::sight::Sight;
 use court_days::Day;
-use docket_rows::{PartId, PartValue, Query, Refusal, View};
+use docket_rows::{Query, Refusal, View};
 use hearing_slots::{Bookings, Calendar};
 use rule_periods::{Event, Period};
 use rule6::ServiceKind;
@@ -108,16 +107,10 @@ pub(crate) fn view_of<S: Sight>(
 }
 
 impl DocketRules {
-    /// What the query shows where these are the parts that were read, or why it is refused. `Err` says that memory ran
-    /// out.
-    pub fn show(
-        &self,
-        alloc: Global,
-        query: &Query,
-        reads: &[(PartId, PartValue)],
-    ) -> Result<View, AllocError>
-        ensures { IfOk result (λ v. v ≡ seen_by self.now (parts_read self.now reads.now) query.now) }
+    /// What the query shows of what is seen, or why it is refused. No part is copied. `Err` says that memory ran out.
+    pub fn show<S: Sight>(&self, alloc: Global, sight: &S, query: &Query) -> Result<View, AllocError>
+        ensures { IfOk result (λ v. v ≡ seen_by self.now (S.parts sight.now) query.now) }
     {
-        view_of(alloc, self, &Seen::of(self, reads), query)
+        view_of(alloc, self, sight, query)
     }
 }

@@ -1,7 +1,7 @@
-pub mod AskedLemmas
 pub mod CallerLemmas
 pub mod ChangeLemmas
 pub mod PublishedLemmas
 pub mod PublishingLemmas
+pub mod SightLemmas
 pub mod SlotLemmas
 pub mod TrailLemmas

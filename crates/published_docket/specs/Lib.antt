@@ -1,9 +1,9 @@
-pub mod Asked
 pub mod Boards
 pub mod Changes
 pub mod Counted
 pub mod Held
 pub mod Published
+pub mod Sights
 pub mod Slots
 pub mod Trails
 pub mod Words

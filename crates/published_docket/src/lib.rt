@@ -1,7 +1,6 @@
 //! The docket as it is published: clerks in threads of their own read it without waiting, and one of them at a time publishes.
 #![tactic(auto)]
 
-mod asked;
 mod change;
 mod held;
 mod known;
@@ -10,6 +9,7 @@ mod protocol;
 mod publisher;
 mod reading;
 mod shown;
+mod sight;
 mod slot;
 mod slots;
 mod trail;

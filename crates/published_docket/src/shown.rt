@@ -1,8 +1,8 @@
 //! What readers take.
 
-ghost use Rattle.std.specs.Prelude.{◌≡◌, IfOk, slice_set};
+ghost use Rattle.std.specs.Prelude.{◌≡◌, IfOk, option_copied, slice_get, slice_set};
 ghost use Rattle.published_docket.specs.Boards.{IsShown};
-ghost use Rattle.published_docket.specs.Slots.{HasSlot, opening_slots, slot_after};
+ghost use Rattle.published_docket.specs.Slots.{HasSlot, opening_slots, slot_after, slot_of};
 
 use crate::change::Change;
 use crate::slot::Slot;
@@ -60,13 +60,20 @@ impl Shown {
         &self.trail
     }
 
+    // The slot that has the number of a part, if there is one.
+    pub(crate) fn slot_at(&self, part: PartId) -> Option<&Slot>
+        ensures { option_copied result ≡ slice_get self.now.slots (slot_of part) }
+    {
+        self.slots.get(slot_of(part))
+    }
+
     // The slot of a part.
     fn slot(&self, part: PartId) -> &Slot
         requires shown { IsShown self.now }
         requires slot { HasSlot part }
         ensures { result.now ≡ slot_after self.now.parts self.now.trail.log part }
     {
-        match self.slots.get(slot_of(part)) {
+        match self.slot_at(part) {
             Some(slot) => slot,
             None => unreachable!(),
         }

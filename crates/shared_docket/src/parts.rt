@@ -1,10 +1,10 @@
 //! The docket of a court, as commands over parts.
 
 ghost use Rattle.std.specs.Prelude.{◌≡◌, ◌≤◌, IfOk};
-ghost use Rattle.docket_rows.specs.Words.{bench_of, parts_read, seen_by};
+ghost use Rattle.docket_rows.specs.Words.{bench_of, seen_by};
 
 use court_days::{Court, Days};
-use docket_core::DocketRules;
+use docket_core::{DocketRules, Sight};
 use docket_rows::{Answer, Command, Decision as Decided, PartId, PartValue, Query, View};
 use hearing_slots::Calendar;
 use std::alloc::{AllocError, Global};
@@ -52,17 +52,18 @@ impl DocketParts {
         })
     }
 
-    /// What the query shows where these are the parts that were read, or why it is refused. `Err` says that memory ran
-    /// out.
-    pub fn show(
-        &self,
-        alloc: Global,
-        query: &Query,
-        reads: &[(PartId, PartValue)],
-    ) -> Result<View, AllocError>
-        ensures { IfOk result (λ view. view ≡ seen_by self.now (parts_read self.now reads.now) query.now) }
+    /// The days of the court's file.
+    pub fn days(&self) -> &Days
+        ensures { result.now ≡ self.now.days }
     {
-        self.rules.show(alloc, query, reads)
+        &self.days
+    }
+
+    /// What the query shows of what is seen, or why it is refused. No part is copied. `Err` says that memory ran out.
+    pub fn show<S: Sight>(&self, alloc: Global, sight: &S, query: &Query) -> Result<View, AllocError>
+        ensures { IfOk result (λ view. view ≡ seen_by self.now (S.parts sight.now) query.now) }
+    {
+        self.rules.show(alloc, sight, query)
     }
 }
 

@@ -1,0 +1,68 @@
+//! The parts of what is published, where they stand: a query shows them without a copy.
+
+ghost use Rattle.std.specs.Prelude.{◌≡◌, option_copied};
+ghost use Rattle.published_docket.specs.Sights.{calendar_shown, days_shown, value_shown};
+
+use crate::shown::Shown;
+use court_days::Days;
+use docket_core::{Sight, calendar_of, case_of, days_of};
+use docket_rows::{CaseRecord, PartId, PartValue};
+use hearing_slots::Calendar;
+
+// The value in the slot of the part, if there is such a slot.
+fn value_shown(shown: &Shown, part: PartId) -> Option<&PartValue>
+    ensures { option_copied result ≡ value_shown shown.now part }
+{
+    match shown.slot_at(part) {
+        Some(slot) => Some(&slot.value),
+        None => None,
+    }
+}
+
+// The calendar in the slot of the part, if there is one.
+fn calendar_shown(shown: &Shown, part: PartId) -> Option<&Calendar>
+    ensures { option_copied result ≡ calendar_shown shown.now part }
+{
+    match value_shown(shown, part) {
+        Some(value) => calendar_of(value),
+        None => None,
+    }
+}
+
+impl Sight for Shown {
+    ghost use Rattle.published_docket.specs.Sights.{parts_shown};
+
+    ghost parts = { parts_shown };
+
+    fn days(&self) -> &Days {
+        match days_shown(self) {
+            Some(days) => days,
+            None => self.parts().days(),
+        }
+    }
+
+    fn case(&self, case: u32) -> Option<&CaseRecord> {
+        match value_shown(self, PartId::Case(case)) {
+            Some(value) => case_of(value),
+            None => None,
+        }
+    }
+
+    fn judge(&self, judge: u8) -> Option<&Calendar> {
+        calendar_shown(self, PartId::Judge(judge))
+    }
+
+    fn room(&self, room: u8) -> Option<&Calendar> {
+        calendar_shown(self, PartId::Room(room))
+    }
+}
+
+// The days in the slot of the court's days, if there are any.
+fn days_shown(shown: &Shown) -> Option<&Days>
+    ensures { option_copied result ≡ days_shown shown.now }
+{
+    match value_shown(shown, PartId::Court) {
+        Some(value) => days_of(value),
+        None => None,
+    }
+}
