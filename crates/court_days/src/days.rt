@@ -27,23 +27,30 @@ pub use outage::Outage;
 use outages::Outages;
 use table::{and_holiday, entry_day, table_of};
 
-/// The days of a court: the span that its file covers, its two holiday lists, and the outages entered so far. For
-/// each direction a table says how far each covered day lies from the day to which it rolls. All is shared, so that
-/// a copy takes no memory.
+/// The span that a court's file covers, its two holiday lists, and the outages entered so far. For each direction a
+/// table says how far each covered day lies from the day to which it rolls. The lists, the tables and the outages are
+/// shared, so that days that are made from others copy only what becomes another.
 #[derive(Debug, Drop)]
-pub struct Days {
+struct Held {
     holidays: Holidays,
     after: Arc<Vec<u16>>,
     before: Arc<Vec<u16>>,
     outages: Arc<Outages>,
 }
 
+/// The days of a court. Copies hold them together, so that a copy takes no memory and changes one counter, at which
+/// all threads meet.
+#[derive(Debug, Drop)]
+pub struct Days {
+    held: Arc<Held>,
+}
+
 impl Model for Days {
     ghost Value = { DaysView };
 
-    ghost view = { λ d. with_outages d.holidays (arc_value d.outages) };
+    ghost view = { λ d. with_outages (arc_value d.held).holidays (arc_value (arc_value d.held).outages) };
 
-    ghost invariant = { λ d. HasTables d.holidays (arc_value d.after).items (arc_value d.before).items };
+    ghost invariant = { λ d. HasTables (arc_value d.held).holidays (arc_value (arc_value d.held).after).items (arc_value (arc_value d.held).before).items };
 }
 
 impl Days {
@@ -55,11 +62,14 @@ impl Days {
         let after = table_of(alloc, &holidays, Direction::After)?;
         let before = table_of(alloc, &holidays, Direction::Before)?;
         let outages = Outages::empty(alloc, holidays.from(), holidays.to())?;
-        Ok(Days {
+        let held = Held {
             holidays,
             after: Arc::new(alloc, after)?,
             before: Arc::new(alloc, before)?,
             outages: Arc::new(alloc, outages)?,
+        };
+        Ok(Days {
+            held: Arc::new(alloc, held)?,
         })
     }
 
@@ -68,7 +78,7 @@ impl Days {
         ensures value { result ≡ self.now.from }
         ensures span { IsSpan self.now.from self.now.to }
     {
-        self.holidays.from()
+        self.held.holidays.from()
     }
 
     /// The last day that is covered.
@@ -76,7 +86,7 @@ impl Days {
         ensures value { result ≡ self.now.to }
         ensures span { IsSpan self.now.from self.now.to }
     {
-        self.holidays.to()
+        self.held.holidays.to()
     }
 
     /// Whether the day lies in the span, both ends included.
@@ -84,14 +94,14 @@ impl Days {
         ensures value { result ≡ is_covered self.now day }
         ensures span { IsSpan self.now.from self.now.to }
     {
-        self.holidays.covered(day)
+        self.held.holidays.covered(day)
     }
 
     /// Whether the day stands in the list.
     pub fn in_list(&self, list: HolidayList, day: Day) -> bool
         ensures { result ≡ is_among (dates_of self.now list) day }
     {
-        self.holidays.in_list(list, day)
+        self.held.holidays.in_list(list, day)
     }
 
     /// Whether the day is a legal holiday (Fed. R. Civ. P. 6(a)(6)): of the federal list, or, for a period
@@ -99,7 +109,7 @@ impl Days {
     pub fn is_holiday(&self, day: Day, direction: Direction) -> bool
         ensures { result ≡ is_holiday self.now direction day }
     {
-        self.holidays.is_holiday(day, direction)
+        self.held.holidays.is_holiday(day, direction)
     }
 
     /// Whether the day is covered and no Saturday, Sunday or legal holiday (Fed. R. Civ. P. 6(a)(1)(C)).
@@ -117,7 +127,7 @@ impl Days {
     pub fn has_outage(&self, day: Day) -> bool
         ensures { result ≡ has_outage self.now day }
     {
-        self.outages.lie_on(day)
+        self.held.outages.lie_on(day)
     }
 
     /// The covered day after this one, if there is one.
@@ -137,10 +147,10 @@ impl Days {
         ensures covered { IfSome result (λ _. is_covered self.now day ≡ true) }
         ensures none { IfNone result (is_covered self.now day ≡ false) }
     {
-        let place = self.holidays.place_of(day, direction)?;
+        let place = self.held.holidays.place_of(day, direction)?;
         let entry = match direction {
-            Direction::After => self.after[place],
-            Direction::Before => self.before[place],
+            Direction::After => self.held.after[place],
+            Direction::Before => self.held.before[place],
         };
         Some(entry)
     }
@@ -197,7 +207,7 @@ impl Days {
     pub fn outages(&self) -> &[Outage]
         ensures { result.now ≡ self.now.outages }
     {
-        self.outages.as_slice()
+        self.held.outages.as_slice()
     }
 
     /// How many different dates the list has.
@@ -205,7 +215,7 @@ impl Days {
         ensures value { result ≡ length (dates_of self.now list) }
         ensures distinct { IsDistinct int_eq (dates_of self.now list) }
     {
-        self.holidays.dates(list)
+        self.held.holidays.dates(list)
     }
 
     /// These days with one more date in a holiday list, which keeps a date that it has already once. This value
@@ -218,14 +228,31 @@ impl Days {
     ) -> Result<Days, AllocError>
         ensures { IfOk result (λ d. d ≡ add_holiday self.now list day) }
     {
-        let holidays = &self.holidays;
-        let after = and_holiday(alloc, &self.after, holidays, Direction::After, list, day)?;
-        let before = and_holiday(alloc, &self.before, holidays, Direction::Before, list, day)?;
-        Ok(Days {
+        let holidays = &self.held.holidays;
+        let after = and_holiday(
+            alloc,
+            &self.held.after,
+            holidays,
+            Direction::After,
+            list,
+            day,
+        )?;
+        let before = and_holiday(
+            alloc,
+            &self.held.before,
+            holidays,
+            Direction::Before,
+            list,
+            day,
+        )?;
+        let held = Held {
             holidays: holidays.with(alloc, list, day)?,
             after,
             before,
-            outages: self.outages.clone()?,
+            outages: self.held.outages.clone()?,
+        };
+        Ok(Days {
+            held: Arc::new(alloc, held)?,
         })
     }
 
@@ -234,24 +261,25 @@ impl Days {
     pub fn with_outage(&self, alloc: Global, outage: Outage) -> Result<Days, AllocError>
         ensures { IfOk result (λ d. d ≡ add_outage self.now outage) }
     {
-        let outages = self.outages.with(alloc, outage)?;
-        Ok(Days {
-            holidays: self.holidays.copy()?,
-            after: self.after.clone()?,
-            before: self.before.clone()?,
+        let outages = self.held.outages.with(alloc, outage)?;
+        let held = Held {
+            holidays: self.held.holidays.copy()?,
+            after: self.held.after.clone()?,
+            before: self.held.before.clone()?,
             outages: Arc::new(alloc, outages)?,
+        };
+        Ok(Days {
+            held: Arc::new(alloc, held)?,
         })
     }
 
-    /// The same days, which share everything with these: it costs the same however many dates and outages there are.
+    /// The same days, held once more: it costs the same however many dates and outages there are. It takes no memory;
+    /// `Err` says that there are as many copies as can be counted.
     pub fn copy(&self) -> Result<Days, AllocError>
         ensures { IfOk result (λ d. d ≡ self.now) }
     {
         Ok(Days {
-            holidays: self.holidays.copy()?,
-            after: self.after.clone()?,
-            before: self.before.clone()?,
-            outages: self.outages.clone()?,
+            held: self.held.clone()?,
         })
     }
 }

@@ -4,4 +4,5 @@ use Rattle.court_days.proofs.days.Days.with_holiday.Goals as goal
 
 pub returns : goal.returns
 returns c =
-    rw (c.in_ok-with.ensures, c.in_ok-clone.ensures.cases, ← c.self.view_is) (holiday-outages c.self.inside.holidays (arc_value c.self.inside.outages) c.args.list c.args.day)
+    let held = arc_value c.self.inside.held in
+    rw (c.in_ok-new.ensures.ok, c.in_ok-with.ensures, c.in_ok-clone.ensures.cases, c.deref.ensures, c.deref-4.ensures, ← c.self.view_is) (holiday-outages held.holidays (arc_value held.outages) c.args.list c.args.day)
