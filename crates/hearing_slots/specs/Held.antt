@@ -7,4 +7,4 @@ use Rattle.hearing_slots.specs.declared.calendar.Calendar.TheInside.{Inside}
 
 -- the bookings in order; there are none where nothing is held
 abbrev pub bookings_of : Inside → List Booking
-bookings_of c = elim c.held [ Empty ↦ [] | Own timetable ↦ timetable.bookings | Shared shared ↦ (arc_value shared).bookings ]
+bookings_of c = elim c.held [ Empty ↦ [] | Own boxed ↦ boxed.value.bookings | Shared shared ↦ (arc_value shared).bookings ]

@@ -5,12 +5,13 @@ ghost use Rattle.std.specs.Option.{option_copied};
 ghost use Rattle.std.specs.Arc.{arc_value};
 ghost use Rattle.hearing_slots.specs.Booking.{IsWithinDay};
 ghost use Rattle.hearing_slots.specs.Calendar.{IsCalendar, IsFree, IsLeastConflict, HoldsWith, HoldsWithout, HoldsDay, on_day, without_motion, with_booking, first_conflict};
+ghost use Rattle.hearing_slots.specs.Motions.{NotesBookings};
 ghost use Rattle.hearing_slots.specs.Timetable.{kept_in};
 
 use crate::booking::Booking;
 use crate::bookings::Bookings;
 use crate::indexed::Indexed;
-use crate::motions::noted_motions;
+use crate::motions::{Motions, noted_motions};
 use crate::open_calendar::OpenCalendar;
 use crate::timetable::Timetable;
 use court_days::Day;
@@ -31,8 +32,8 @@ pub struct Calendar {
 enum Held {
     // There are none, which takes no memory.
     Empty,
-    // This calendar alone, which changes them in place.
-    Own(Indexed),
+    // This calendar alone, which changes them in place. They lie in a box, so that a calendar is small to move.
+    Own(Box<Indexed>),
     // This calendar and its copies.
     Shared(Arc<Timetable>),
 }
@@ -153,8 +154,8 @@ impl Calendar {
         ensures err { IfErr result (λ calendar. (calendar ≡ self) × IsCalendar calendar) }
     {
         match self.held {
-            Held::Empty => match noted_motions(alloc, &[]) {
-                Ok(motions) => with_room(Indexed::of(Timetable::new(alloc), motions)),
+            Held::Empty => match no_bookings(alloc) {
+                Ok(indexed) => with_room(indexed),
                 Err(_) => Err(Calendar::empty()),
             },
             Held::Own(indexed) => with_room(indexed),
@@ -212,9 +213,9 @@ impl Calendar {
     }
 
     /// The calendar that holds these bookings alone.
-    pub(crate) fn own(indexed: Indexed) -> Calendar
-        requires { IsCalendar indexed.bookings }
-        ensures value { result ≡ indexed.bookings }
+    pub(crate) fn own(indexed: Box<Indexed>) -> Calendar
+        requires { IsCalendar indexed.value.bookings }
+        ensures value { result ≡ indexed.value.bookings }
         ensures calendar { IsCalendar result }
     {
         Calendar {
@@ -224,9 +225,9 @@ impl Calendar {
 }
 
 /// Makes room for one booking more.
-fn with_room(indexed: Indexed) -> Result<OpenCalendar, Calendar>
-    ensures ok { IfOk result (λ opened. (opened ≡ indexed.bookings) × IsCalendar opened) }
-    ensures err { IfErr result (λ calendar. (calendar ≡ indexed.bookings) × IsCalendar calendar) }
+fn with_room(indexed: Box<Indexed>) -> Result<OpenCalendar, Calendar>
+    ensures ok { IfOk result (λ opened. (opened ≡ indexed.value.bookings) × IsCalendar opened) }
+    ensures err { IfErr result (λ calendar. (calendar ≡ indexed.value.bookings) × IsCalendar calendar) }
 {
     let mut indexed = indexed;
     match indexed.make_room() {
@@ -235,22 +236,41 @@ fn with_room(indexed: Indexed) -> Result<OpenCalendar, Calendar>
     }
 }
 
-/// The shared bookings themselves where no copy shares them, and else a copy of them, with room for one more. The
-/// motions are noted first, so that the shared bookings can be given back where memory runs out.
+/// A box for bookings, which as yet has none.
+fn no_bookings(alloc: Global) -> Result<Box<Indexed>, AllocError>
+    ensures value { IfOk result (λ indexed. indexed.value.bookings ≡ []) }
+{
+    let motions = noted_motions(alloc, &[])?;
+    Ok(Box::new(alloc, Indexed::of(Timetable::new(alloc), motions))?)
+}
+
+/// The box with these bookings, in place of those that it had.
+fn refilled(indexed: Box<Indexed>, timetable: Timetable, motions: Motions) -> Box<Indexed>
+    requires calendar { IsCalendar timetable.bookings }
+    requires noted { NotesBookings timetable.bookings motions }
+    ensures { result.value.bookings ≡ timetable.bookings }
+{
+    let mut indexed = indexed;
+    let _before = Box::replace(&mut indexed, Indexed::of(timetable, motions));
+    indexed
+}
+
+/// The shared bookings themselves where no copy shares them, and else a copy of them, with room for one more. The box
+/// is made and the motions are noted first, so that the shared bookings can be given back where memory runs out.
 fn open_shared(alloc: Global, shared: Arc<Timetable>) -> Result<OpenCalendar, Calendar>
     requires { IsCalendar (arc_value shared).bookings }
     ensures ok { IfOk result (λ opened. (opened ≡ (arc_value shared).bookings) × IsCalendar opened) }
     ensures err { IfErr result (λ calendar. (calendar ≡ (arc_value shared).bookings) × IsCalendar calendar) }
 {
-    let Ok(motions) = noted_motions(alloc, shared.all()) else {
+    let (Ok(indexed), Ok(motions)) = (no_bookings(alloc), noted_motions(alloc, shared.all())) else {
         return Err(Calendar {
             held: Held::Shared(shared),
         });
     };
     match Arc::try_unwrap(shared) {
-        Ok(timetable) => with_room(Indexed::of(timetable, motions)),
+        Ok(timetable) => with_room(refilled(indexed, timetable, motions)),
         Err(shared) => match shared.duplicate(alloc) {
-            Ok(timetable) => with_room(Indexed::of(timetable, motions)),
+            Ok(timetable) => with_room(refilled(indexed, timetable, motions)),
             Err(_) => Err(Calendar {
                 held: Held::Shared(shared),
             }),

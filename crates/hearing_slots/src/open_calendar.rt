@@ -12,7 +12,7 @@ use std::marker::Model;
 /// A calendar that has room for one booking more, so that no change of it takes memory. `Calendar::open` makes it.
 #[derive(Debug, Drop)]
 pub struct OpenCalendar {
-    indexed: Indexed,
+    indexed: Box<Indexed>,
 }
 
 impl Model for OpenCalendar {
@@ -22,17 +22,17 @@ impl Model for OpenCalendar {
 
     ghost Value = { List Booking };
 
-    ghost view = { λ c. c.indexed.bookings };
+    ghost view = { λ c. c.indexed.value.bookings };
 
-    ghost invariant = { λ c. IsCalendar c.indexed.bookings × (1 ≤ c.indexed.room) };
+    ghost invariant = { λ c. IsCalendar c.indexed.value.bookings × (1 ≤ c.indexed.value.room) };
 }
 
 impl OpenCalendar {
     /// The calendar of these bookings.
-    pub(crate) fn of(indexed: Indexed) -> OpenCalendar
-        requires calendar { IsCalendar indexed.bookings }
-        requires room { 1 ≤ indexed.room }
-        ensures value { result ≡ indexed.bookings }
+    pub(crate) fn of(indexed: Box<Indexed>) -> OpenCalendar
+        requires calendar { IsCalendar indexed.value.bookings }
+        requires room { 1 ≤ indexed.value.room }
+        ensures value { result ≡ indexed.value.bookings }
         ensures calendar { IsCalendar result }
     {
         OpenCalendar { indexed }
