@@ -32,6 +32,11 @@ struct Share {
 /// How often an office is opened anew where one of its seats got no place to read from, which may come without cause.
 const TRIES: u32 = 8;
 
+/// How many seats there are, where so many threads are measured: beside those who look one more clerk writes.
+fn seats_for(kind: Kind, threads: u8) -> u8 {
+    threads.saturating_add(if kind == Kind::View { 1 } else { 0 })
+}
+
 /// Opens an office, has so many clerks each do so many of the kind in a thread of their own, and gives how many they did
 /// together.
 pub fn measured<R: Threads + Wait + Sync>(
@@ -43,7 +48,7 @@ pub fn measured<R: Threads + Wait + Sync>(
     each: u32,
 ) -> Result<u64> {
     for _try in 0..TRIES {
-        let publisher = Publisher::new(alloc, court)?;
+        let publisher = Publisher::new(alloc, court, seats_for(kind, threads))?;
         let blank = Blank::new(64);
         let done = done_by::<Brand, R>(rt, alloc, court, kind, threads, each, blank, publisher)?;
         if let Some(done) = done {
@@ -70,7 +75,7 @@ fn done_by<L: Names + Send + Sync, R: Threads + Wait + Sync>(
     requires publisher { publisher ≡ record { parts = L.bench; trail = past L.history [] } }
     requires court { L.bench ≡ bench_of court.now }
 {
-    let seats = threads.saturating_add(if kind == Kind::View { 1 } else { 0 });
+    let seats = seats_for(kind, threads);
     match Office::<L>::new(rt, alloc, blank, publisher, court, seats, 1_000_000) {
         Ok((_office, seats)) => {
             let seats = prepared(rt, alloc, kind, seats)?;

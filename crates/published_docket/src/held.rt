@@ -1,6 +1,6 @@
 //! The writer of what is published, with the changes that readers don't see yet.
 
-ghost use Rattle.std.specs.Prelude.{◌≡◌, ◌++◌, ◌∷◌, [], None, Some, fold, IfOk, MatchBool, MatchResult};
+ghost use Rattle.std.specs.Prelude.{◌≡◌, ◌<◌, ◌++◌, ◌∷◌, [], None, Some, fold, IfOk, MatchBool, MatchResult};
 ghost use Rattle.left_right.specs.Sides.{view};
 ghost use Rattle.published_docket.specs.Boards.{IsShown, known_of};
 ghost use Rattle.published_docket.specs.Changes.{applied_to, puts_of};
@@ -49,13 +49,19 @@ pub(crate) fn wait_forever<R: Wait>(rt: &R)
 }
 
 impl Held {
-    /// A writer for 64 readers. `Err` says that memory ran out.
-    pub(crate) fn new(alloc: Global, first: Shown, second: Shown) -> Result<Held, AllocError>
+    /// A writer for so many readers. `Err` says that memory ran out.
+    pub(crate) fn new(
+        alloc: Global,
+        first: Shown,
+        second: Shown,
+        readers: u8,
+    ) -> Result<Held, AllocError>
+        requires readers { 0 < readers }
         requires alike { second ≡ first }
         requires shown { IsShown first }
         ensures { IfOk result (λ h. h ≡ record { shown = first; pending = []; known = None }) }
     {
-        let writer = Writer::new(alloc, first, second, 64)?;
+        let writer = Writer::new(alloc, first, second, usize::from(readers))?;
         Ok(Held { writer })
     }
 

@@ -20,7 +20,7 @@ use std::marker::Model;
 use std::sync::Wait;
 use versioned_steps::Entry;
 
-/// Publishes the docket of one court for 64 readers, entry after entry.
+/// Publishes the docket of one court for its readers, entry after entry.
 #[derive(Drop)]
 pub struct Publisher {
     // It is there between two calls.
@@ -42,9 +42,10 @@ impl Model for Publisher {
 }
 
 impl Publisher {
-    /// Publishes the docket of the court before any entry. `Err` says that memory ran out.
+    /// Publishes the docket of the court before any entry, for so many readers, and for one at least. Each place for a reader
+    /// costs time with every entry. `Err` says that memory ran out.
     // A body that always found no memory would meet this contract, and no test of this crate refuses it yet.
-    pub fn new(alloc: Global, court: &Court) -> Result<Publisher, AllocError>
+    pub fn new(alloc: Global, court: &Court, readers: u8) -> Result<Publisher, AllocError>
         ensures parts { IfOk result (λ p. p.parts ≡ bench_of court.now) }
         ensures log { IfOk result (λ p. p.trail.log ≡ []) }
     {
@@ -52,7 +53,7 @@ impl Publisher {
         let (head, trail) = Trail::open();
         let first = Shown::open(alloc, &parts, &trail)?;
         let second = Shown::open(alloc, &parts, &trail)?;
-        let held = Held::new(alloc, first, second)?;
+        let held = Held::new(alloc, first, second, readers.max(1))?;
         Ok(Publisher {
             held: Some(held),
             head,

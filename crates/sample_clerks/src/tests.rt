@@ -144,7 +144,7 @@ fn answers_to<R: Threads + Wait + Sync + Abort, G: Gate>(
 {
     let court = Court::from_bytes(alloc, sample_court::file().as_bytes())?;
     for _try in 0..8 {
-        let publisher = Publisher::new(alloc, &court)?;
+        let publisher = Publisher::new(alloc, &court, 2)?;
         let blank = Blank::new(64);
         if let Some(answers) = answers_in::<Brand, R, G>(
             rt, alloc, blank, publisher, &court, limit, rows, gate,

@@ -36,7 +36,7 @@ pub fn run_shared<R: Threads + Wait + Sync, G: Gate>(
     ensures { IfOk result (λ text. IsSharedText court.now clerks journal_limit rows.now (string_bytes text)) }
 {
     for _try in 0..8 {
-        let publisher = Publisher::new(alloc, court)?;
+        let publisher = Publisher::new(alloc, court, clerks)?;
         let blank = Blank::new(64);
         let text = attempt::<Brand, R, G>(
             rt,

@@ -29,7 +29,7 @@ pub fn push_crowd<R: Threads + Wait + Eprint + Sync>(
     opening: Opening,
 ) -> Result<()> {
     for _try in 0..TRIES {
-        let publisher = Publisher::new(alloc, court)?;
+        let publisher = Publisher::new(alloc, court, opening.seats)?;
         if is_done::<Brand, R>(rt, alloc, text, court, opening, Blank::new(64), publisher)? {
             return Ok(());
         }

@@ -55,7 +55,7 @@ fn is_opened<R: Wait + Eprint>(
     opening: Opening,
     calls: &[Line],
 ) -> Result<bool> {
-    match Publisher::new(alloc, court) {
+    match Publisher::new(alloc, court, opening.seats) {
         Ok(publisher) => {
             let blank = Blank::new(64);
             is_done::<Brand, R>(rt, alloc, text, court, opening, blank, publisher, calls)
