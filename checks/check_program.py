@@ -90,6 +90,7 @@ RUNS = [
     ("another command", [], COURT + b"%%\n1,fly,1,\"1\"\n", 3, b"", b"row 1 fault 2 UnknownCommand\n"),
     ("a field that is no text", [], COURT + b"%%\n1,\xff\n", 3, b"", b"row 1 fault 5 NotText\n"),
     ("a byte too many", [], ROWS + b"\n" * (MOST_BYTES + 1 - len(ROWS)), 4, b"", b"read fault\n"),
+    ("a byte too many of four clerks", ["--clerks=4"], ROWS + b"\n" * (MOST_BYTES + 1 - len(ROWS)), 4, b"", b"read fault\n"),
 ]
 
 

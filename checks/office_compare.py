@@ -6,11 +6,11 @@
 COUNT inputs (by default 600) are made from SEED (by default 1): courts of few judges and rooms, and rows of all
 commands over few cases, days and slots, so that they meet and are refused in every way; some of them have a fault. In
 some there are several clerks, of whom the first has all rows, since what several with rows are answered may differ from
-run to run. One input, a whole run, is also cut after each of its bytes. Status, standard output and standard error must be the same of
-both. An input that differs is made smaller while it does, and the smallest is printed. The last lines say how often
-each refusal and each fault came up; the status is 0 where nothing differs and each came up at least once, for which
-fewer than 600 inputs may not be enough. With `-` for PROGRAM the reference answers alone, so that it shows what comes
-up. It needs Python 3.8 or later.
+run to run. One input, a whole run, is also cut after each of its bytes, with one clerk and with four. Status, standard
+output and standard error must be the same of both. An input that differs is made smaller while it does, and the smallest
+is printed. The last lines say how often each refusal and each fault came up; the status is 0 where nothing differs and
+each came up at least once, for which fewer than 600 inputs may not be enough. With `-` for PROGRAM the reference answers
+alone, so that it shows what comes up. It needs Python 3.8 or later.
 """
 import random
 import re
@@ -23,7 +23,7 @@ from reference.civil import CannotTell
 from reference.court_file import NUMBERS as COURT_FAULTS, tomllib
 from reference.rows_in import NUMBERS as ROW_FAULTS
 from reference.text_out import NAMES
-from runs_check import RUNS, ended_program
+from runs_check import FOUR_CLERKS, RUNS, ended_program
 
 # The first needs 100,001 rows, which are a run of their own; the second is seldom told without tomllib.
 NOT_MADE = {"TooManyRows"} | (set() if tomllib else {"NotToml"})
@@ -59,6 +59,7 @@ def inputs(seed, count):
     whole = (RUNS / "docket" / "from_filing_to_hearing.in").read_bytes()
     for length in range(len(whole)):
         yield [], whole[:length]
+        yield FOUR_CLERKS, whole[:length]
     chance, of_words = random.Random(seed), random.Random(-seed)
     for number in range(count):
         name = INPUTS[number % len(INPUTS)]

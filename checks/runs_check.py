@@ -7,7 +7,7 @@
 For each runs/FOLDER/NAME.in the program must end with status 0, write NAME.out to standard output and nothing to
 standard error; where there is a NAME.fault instead, it must write nothing, and end with the status that stands in its
 first line and with the rest of it on standard error. Where there is a NAME.words, it is called with the words of that
-line. Four runs are too large to be kept and are made here. Each run
+line, or once with those of each line where there are several. Some runs are too large to be kept and are made here. Each
 must stand in runs/README.md. With --reference the reference of this folder is asked in place of a program. It needs
 Python 3.8 or later; the status is 0 where each run ends as it must.
 """
@@ -20,6 +20,7 @@ from reference.civil import CannotTell
 
 RUNS = pathlib.Path(__file__).resolve().parent.parent / "runs"
 MOST_ROWS = 100000
+FOUR_CLERKS = ["--clerks", "4"]
 
 
 def ended_program(program, data, words=()):
@@ -32,24 +33,27 @@ def kept_runs():
     """Each run by its name, the words of its command line, what it reads, and how it must end."""
     for path in sorted(RUNS.glob("*/*.in")):
         name = str(path.relative_to(RUNS).with_suffix(""))
-        line = path.with_suffix(".words")
-        words = line.read_text().split() if line.exists() else []
+        of_words = path.with_suffix(".words")
         faults = path.with_suffix(".fault")
         if faults.exists():
             status, fault = faults.read_bytes().split(b"\n", 1)
-            yield name, words, path.read_bytes(), (int(status), b"", fault)
+            ends = int(status), b"", fault
         else:
-            yield name, words, path.read_bytes(), (0, path.with_suffix(".out").read_bytes(), b"")
+            ends = 0, path.with_suffix(".out").read_bytes(), b""
+        for line in of_words.read_text().splitlines() if of_words.exists() else [""]:
+            yield name, line.split(), path.read_bytes(), ends
 
 
 def made_runs():
     court = (RUNS / "input" / "no_rows.in").read_bytes()
-    lines = "".join("{} 1 refused 1 NoSuchCase\n".format(row) for row in range(1, MOST_ROWS + 1))
     closing = (RUNS / "input" / "no_rows.out").read_bytes()
-    yield "limits/as_many_rows_as_are_taken", [], court + b"1,sheet,1\n" * MOST_ROWS, (0, lines.encode() + closing, b"")
-    for name, row in (("a_row_too_many", b"1,sheet,1\n"), ("a_row_too_many_that_is_none", b"0\n")):
-        rows = b"1,sheet,1\n" * MOST_ROWS + row
-        yield "limits/" + name, [], court + rows, (3, b"", b"row 100001 fault 6 TooManyRows\n")
+    for words in ([], FOUR_CLERKS):
+        clerks = [1 + row % 4 if words else 1 for row in range(MOST_ROWS)]
+        rows = "".join("{},sheet,1\n".format(clerk) for clerk in clerks).encode()
+        lines = "".join("{} {} refused 1 NoSuchCase\n".format(*row) for row in enumerate(clerks, 1)).encode()
+        yield "limits/as_many_rows_as_are_taken", words, court + rows, (0, lines + closing, b"")
+        for name, row in (("a_row_too_many", b"1,sheet,1\n"), ("a_row_too_many_that_is_none", b"0\n")):
+            yield "limits/" + name, words, court + rows + row, (3, b"", b"row 100001 fault 6 TooManyRows\n")
     name = b"x" * 1000000
     named = court.replace(b'rooms = ["', b'rooms = ["' + name + b'", "')
     yield "court_faults/name_of_a_million_bytes", [], named, (2, b"", b"court fault 8 BadName " + name + b"\n")
@@ -86,7 +90,7 @@ def main(words):
             passed += 1
             continue
         failed += 1
-        print("{}: status {} and not {}, {}".format(name, got[0], wanted[0], got[2] or "nothing on standard error"))
+        print("{}: status {} and not {}, {}".format(" ".join([name] + called), got[0], wanted[0], got[2] or "nothing on standard error"))
         if got[1] != wanted[1]:
             print("    " + first_difference(got[1], wanted[1]))
     for name in unnamed(names):

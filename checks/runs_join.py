@@ -4,8 +4,8 @@
     runs_join.py [--check]
 
 Each runs/FOLDER/NAME.in that is text stands in crates/stored_runs/stdin behind a line `%%%% FOLDER/NAME`, in which the
-words of NAME.words stand behind the name where there is one, and in crates/stored_runs/stdout stands the same line and
-then NAME.out or the fault's line of NAME.fault. A line end stands behind each input, so that one that ends within a
+words of NAME.words stand behind the name where there is one (where it has several lines, the input stands there once for
+each), and in crates/stored_runs/stdout stands the same line and then NAME.out or the fault's line of NAME.fault. A line end stands behind each input, so that one that ends within a
 line can be told from one that doesn't. With --check nothing is written, and the status is 1 where the two files aren't
 these. It needs Python 3.8 or later.
 """

@@ -8,6 +8,7 @@ ghost use Rattle.clerk_workers.specs.Words.{AreOfClerks};
 use clerk_workers::{Gate, RowAnswer, run_clerks};
 use court_days::{Court, Day};
 use docket_rows::{Answer, Command, Query, Refusal, View};
+use hearing_slots::Need;
 use office_rows::{Row, Work};
 use office_seats::{Names, Office};
 use published_docket::Publisher;
@@ -94,6 +95,34 @@ impl Gate for LookedBetween {
     }
 }
 
+/// Holds each of clerk 1's tries until clerk 2 has finished one command more, and each of clerk 2's commands but the first
+/// until clerk 1 has come to one try more. The first sign is how often clerk 1 tried, the second the last row of clerk 2's
+/// that was answered.
+#[derive(Drop)]
+struct EachTryTooLate {
+    signs: Signs,
+}
+
+impl Gate for EachTryTooLate {
+    fn before_commit(&self, clerk: u8, row: u32) {
+        if clerk == 1 {
+            let tries = self.signs.first.load(Ordering::SeqCst).saturating_add(1);
+            self.signs.first.store(tries, Ordering::SeqCst);
+            self.signs
+                .wait_for(&self.signs.second, tries.saturating_add(1));
+        } else {
+            self.signs
+                .wait_for(&self.signs.first, u64::from(row).saturating_sub(1));
+        }
+    }
+
+    fn after_answer(&self, clerk: u8, row: u32) {
+        if clerk == 2 {
+            self.signs.second.store(u64::from(row), Ordering::SeqCst);
+        }
+    }
+}
+
 /// Holds nobody.
 #[derive(Drop)]
 struct HoldsNobody;
@@ -104,14 +133,14 @@ impl Gate for HoldsNobody {
     fn after_answer(&self, _clerk: u8, _row: u32) {}
 }
 
-/// The answers of a new office of two clerks to these rows, with a journal that takes so many entries.
-#[tactic(auto, using(clerk_workers::proofs::CallerLemmas::open_in_order))]
+/// The answers of a new office of so many clerks to these rows, with a journal that takes so many entries.
 fn answers_in<L: Names + Send + Sync, R: Threads + Wait + Sync + Abort, G: Gate>(
     rt: &R,
     alloc: Global,
     blank: Blank,
     publisher: Publisher,
     court: &Court,
+    seats: u8,
     limit: u32,
     rows: &[Row],
     gate: &G,
@@ -121,9 +150,10 @@ fn answers_in<L: Names + Send + Sync, R: Threads + Wait + Sync + Abort, G: Gate>
     requires all { L.parts ≡ 64 }
     requires publisher { publisher ≡ record { parts = L.bench; trail = past L.history [] } }
     requires court { L.bench ≡ bench_of court.now }
-    requires clerks { AreOfClerks 2 rows.now }
+    requires clerks { AreOfClerks seats rows.now }
 {
-    let Ok((_office, seats)) = Office::<L>::new(rt, alloc, blank, publisher, court, 2, limit) else {
+    let Ok((_office, seats)) = Office::<L>::new(rt, alloc, blank, publisher, court, seats, limit)
+    else {
         return None;
     };
     match run_clerks(rt, alloc, seats, rows, gate) {
@@ -136,18 +166,19 @@ fn answers_in<L: Names + Send + Sync, R: Threads + Wait + Sync + Abort, G: Gate>
 fn answers_to<R: Threads + Wait + Sync + Abort, G: Gate>(
     rt: &R,
     alloc: Global,
+    seats: u8,
     limit: u32,
     rows: &[Row],
     gate: &G,
 ) -> Result<Vec<RowAnswer>, Fail>
-    requires { AreOfClerks 2 rows.now }
+    requires { AreOfClerks seats rows.now }
 {
     let court = Court::from_bytes(alloc, sample_court::file().as_bytes())?;
     for _try in 0..8 {
-        let publisher = Publisher::new(alloc, &court, 2)?;
+        let publisher = Publisher::new(alloc, &court, seats)?;
         let blank = Blank::new(64);
         if let Some(answers) = answers_in::<Brand, R, G>(
-            rt, alloc, blank, publisher, &court, limit, rows, gate,
+            rt, alloc, blank, publisher, &court, seats, limit, rows, gate,
         ) {
             return Ok(answers);
         }
@@ -174,6 +205,20 @@ fn sheet(clerk: u8) -> Row
     }
 }
 
+fn motion(rt: &impl Abort, clerk: u8) -> Row
+    ensures { result.clerk ≡ clerk }
+{
+    let served = Day::from_text("2025-08-29").expect(rt, "a day");
+    Row {
+        clerk,
+        work: Work::Command(Command::Motion {
+            case: 1,
+            served,
+            need: Need::Days(14),
+        }),
+    }
+}
+
 /// Fails unless the answer is that of the entry at this place.
 fn is_made(rt: &impl Abort, given: &RowAnswer, place: u64, answer: Answer) {
     match given {
@@ -188,7 +233,7 @@ fn the_clerk_who_is_held_goes_stale(rt: HostRuntime) -> Result<(), Fail> {
         signs: Signs::new(),
     };
     let rows = [open(&rt, 1, 1), open(&rt, 2, 1)];
-    let answers = answers_to(&rt, rt.alloc(), 100, &rows, &gate)?;
+    let answers = answers_to(&rt, rt.alloc(), 2, 100, &rows, &gate)?;
     assert!(rt;
         gate.signs.in_vain.load(Ordering::SeqCst) == 0,
         "the clerks weren't at work together"
@@ -209,7 +254,7 @@ fn a_clerk_sees_what_the_other_finished(rt: HostRuntime) -> Result<(), Fail> {
         signs: Signs::new(),
     };
     let rows = [open(&rt, 1, 1), sheet(2), sheet(2)];
-    let answers = answers_to(&rt, rt.alloc(), 100, &rows, &gate)?;
+    let answers = answers_to(&rt, rt.alloc(), 2, 100, &rows, &gate)?;
     assert!(rt;
         gate.signs.in_vain.load(Ordering::SeqCst) == 0,
         "the clerks weren't at work together"
@@ -228,7 +273,7 @@ fn a_clerk_sees_what_the_other_finished(rt: HostRuntime) -> Result<(), Fail> {
 #[test]
 fn a_full_journal_is_an_answer(rt: HostRuntime) -> Result<(), Fail> {
     let rows = [open(&rt, 1, 1), open(&rt, 1, 2), sheet(1)];
-    let answers = answers_to(&rt, rt.alloc(), 1, &rows, &HoldsNobody)?;
+    let answers = answers_to(&rt, rt.alloc(), 1, 1, &rows, &HoldsNobody)?;
     match answers.as_slice() {
         [
             first,
@@ -238,6 +283,36 @@ fn a_full_journal_is_an_answer(rt: HostRuntime) -> Result<(), Fail> {
         _ => panic!(rt;
             "the second case finds the journal full, and the sheet is shown all the same"
         ),
+    }
+    Ok(())
+}
+
+#[test]
+fn a_clerk_whose_eight_tries_were_stale_is_answered(rt: HostRuntime) -> Result<(), Fail> {
+    let gate = EachTryTooLate {
+        signs: Signs::new(),
+    };
+    let rows = [
+        open(&rt, 2, 1),
+        motion(&rt, 2),
+        motion(&rt, 2),
+        motion(&rt, 2),
+        motion(&rt, 2),
+        motion(&rt, 2),
+        motion(&rt, 2),
+        motion(&rt, 2),
+        motion(&rt, 2),
+        motion(&rt, 1),
+    ];
+    let answers = answers_to(&rt, rt.alloc(), 2, 100, &rows, &gate)?;
+    assert!(rt;
+        gate.signs.in_vain.load(Ordering::SeqCst) == 0,
+        "the clerks weren't at work together"
+    );
+    assert_eq!(rt; gate.signs.first.load(Ordering::SeqCst), 8);
+    match answers.as_slice() {
+        [_, _, _, _, _, _, _, _, _, last] => is_made(&rt, last, 10, Answer::MotionEntered(9)),
+        _ => panic!(rt; "ten rows have ten answers"),
     }
     Ok(())
 }
