@@ -1,7 +1,7 @@
 //! The parts of a docket as they were read.
 
 ghost use Rattle.std.specs.Prelude.{◌≡◌, [], option_copied, option_and_then};
-ghost use Rattle.docket_rows.specs.Words.{same_part, read_of, days_in, calendar_in, case_in};
+ghost use Rattle.docket_rows.specs.Words.{same_part, read_of, days_in, calendar_in};
 
 use crate::rules::DocketRules;
 use crate::sight::Sight;

@@ -108,7 +108,12 @@ pub(crate) fn view_of<S: Sight>(
 
 impl DocketRules {
     /// What the query shows of what is seen, or why it is refused. No part is copied. `Err` says that memory ran out.
-    pub fn show<S: Sight>(&self, alloc: Global, sight: &S, query: &Query) -> Result<View, AllocError>
+    pub fn show<S: Sight>(
+        &self,
+        alloc: Global,
+        sight: &S,
+        query: &Query,
+    ) -> Result<View, AllocError>
         ensures { IfOk result (λ v. v ≡ seen_by self.now (S.parts sight.now) query.now) }
     {
         view_of(alloc, self, sight, query)

@@ -1,5 +1,5 @@
 -- What a query shows of what is published.
-use Rattle.std.proofs.Common.{◌≡◌, ℕ, ◌≤◌, ◌<◌, nat_lt, true, false, Option, Some, option_map, refl, ap, ◌∙◌, arith, inl, inr}
+use Rattle.std.proofs.Common.{◌≡◌, ℕ, ◌≤◌, ◌<◌, nat_lt, false, Some, option_map, refl, ap, ◌∙◌, arith, inl, inr}
 use Rattle.std.proofs.lemmas.Bool.{cases_Bool}
 use Rattle.std.proofs.lemmas.Bool.Decides.{nat_tests}
 use Rattle.docket_rows.specs.declared.part.PartId.{PartId}
@@ -12,7 +12,7 @@ use Rattle.shared_docket.proofs.CallerLemmas.{legal_values}
 use Rattle.published_docket.specs.declared.slot.Slot.{Slot}
 use Rattle.published_docket.specs.Boards.{Board, IsShown}
 use Rattle.published_docket.specs.Sights.{parts_shown, value_shown}
-use Rattle.published_docket.specs.Slots.{HasSlot, IsSmall, slot_of}
+use Rattle.published_docket.specs.Slots.{HasSlot, IsSmall}
 
 -- a query rests on the days, the cases that can be, and the calendars of the judges that can be
 same_seen : (bench : Bench) → IsSmall bench → (p q : Parts) → p.days ≡ q.days → ((case : ℕ) → HasSlot (Case case) → p.case case ≡ q.case case) → ((judge : ℕ) → HasSlot (Judge judge) → p.judge judge ≡ q.judge judge) → (query : Query) → seen_by bench p query ≡ seen_by bench q query

@@ -19,6 +19,16 @@ fn value_shown(shown: &Shown, part: PartId) -> Option<&PartValue>
     }
 }
 
+// The days in the slot of the court's days, if there are any.
+fn days_shown(shown: &Shown) -> Option<&Days>
+    ensures { option_copied result ≡ days_shown shown.now }
+{
+    match value_shown(shown, PartId::Court) {
+        Some(value) => days_of(value),
+        None => None,
+    }
+}
+
 // The calendar in the slot of the part, if there is one.
 fn calendar_shown(shown: &Shown, part: PartId) -> Option<&Calendar>
     ensures { option_copied result ≡ calendar_shown shown.now part }
@@ -54,15 +64,5 @@ impl Sight for Shown {
 
     fn room(&self, room: u8) -> Option<&Calendar> {
         calendar_shown(self, PartId::Room(room))
-    }
-}
-
-// The days in the slot of the court's days, if there are any.
-fn days_shown(shown: &Shown) -> Option<&Days>
-    ensures { option_copied result ≡ days_shown shown.now }
-{
-    match value_shown(shown, PartId::Court) {
-        Some(value) => days_of(value),
-        None => None,
     }
 }

@@ -60,7 +60,12 @@ impl DocketParts {
     }
 
     /// What the query shows of what is seen, or why it is refused. No part is copied. `Err` says that memory ran out.
-    pub fn show<S: Sight>(&self, alloc: Global, sight: &S, query: &Query) -> Result<View, AllocError>
+    pub fn show<S: Sight>(
+        &self,
+        alloc: Global,
+        sight: &S,
+        query: &Query,
+    ) -> Result<View, AllocError>
         ensures { IfOk result (λ view. view ≡ seen_by self.now (S.parts sight.now) query.now) }
     {
         self.rules.show(alloc, sight, query)
