@@ -38,8 +38,8 @@ struct Held {
     outages: Arc<Outages>,
 }
 
-/// The days of a court. Copies hold them together, so that a copy takes no memory and changes one counter, at which
-/// all threads meet.
+/// The days of a court. Copies hold one record of them together: a copy takes no memory and changes one counter, which
+/// matters since threads that change the same counter wait for each other.
 #[derive(Debug, Drop)]
 pub struct Days {
     held: Arc<Held>,
@@ -228,31 +228,18 @@ impl Days {
     ) -> Result<Days, AllocError>
         ensures { IfOk result (λ d. d ≡ add_holiday self.now list day) }
     {
-        let holidays = &self.held.holidays;
-        let after = and_holiday(
-            alloc,
-            &self.held.after,
-            holidays,
-            Direction::After,
-            list,
-            day,
-        )?;
-        let before = and_holiday(
-            alloc,
-            &self.held.before,
-            holidays,
-            Direction::Before,
-            list,
-            day,
-        )?;
-        let held = Held {
+        let held: &Held = &self.held;
+        let holidays = &held.holidays;
+        let after = and_holiday(alloc, &held.after, holidays, Direction::After, list, day)?;
+        let before = and_holiday(alloc, &held.before, holidays, Direction::Before, list, day)?;
+        let more = Held {
             holidays: holidays.with(alloc, list, day)?,
             after,
             before,
-            outages: self.held.outages.clone()?,
+            outages: held.outages.clone()?,
         };
         Ok(Days {
-            held: Arc::new(alloc, held)?,
+            held: Arc::new(alloc, more)?,
         })
     }
 
@@ -261,15 +248,16 @@ impl Days {
     pub fn with_outage(&self, alloc: Global, outage: Outage) -> Result<Days, AllocError>
         ensures { IfOk result (λ d. d ≡ add_outage self.now outage) }
     {
-        let outages = self.held.outages.with(alloc, outage)?;
-        let held = Held {
-            holidays: self.held.holidays.copy()?,
-            after: self.held.after.clone()?,
-            before: self.held.before.clone()?,
+        let held: &Held = &self.held;
+        let outages = held.outages.with(alloc, outage)?;
+        let more = Held {
+            holidays: held.holidays.copy()?,
+            after: held.after.clone()?,
+            before: held.before.clone()?,
             outages: Arc::new(alloc, outages)?,
         };
         Ok(Days {
-            held: Arc::new(alloc, held)?,
+            held: Arc::new(alloc, more)?,
         })
     }
 
