@@ -34,7 +34,7 @@ bench: build
 	@python3 bench/bench.py $(PROGRAM) $(BOOKINGS)/out/measure_bookings $(SEATS)/out/measure_seats
 
 # Beside the gate, since it needs a C compiler: each growth of memory refused in turn, of the program, of the steps of clerks
-# who share a docket, and of the calls of an office's seats.
+# who share a docket, and of the calls of an office's seats; and each thread of the program.
 refuse: build
 	@python3 checks/refuse_memory.py $(PROGRAM) examples/smallest.txt examples/days.txt examples/deadlines.txt \
 		runs/docket/sheets_and_calendars_at_the_end.in runs/clerks/hearings_side_by_side.in
@@ -88,7 +88,7 @@ help:
 	@echo "make         proves and builds the program, which is then $(PROGRAM)"
 	@echo "make run     that, and runs it on $(EXAMPLE)"
 	@echo "make test    proves and tests everything from nothing (rt ci)"
-	@echo "make refuse  runs the program, and the steps of clerks who share a docket, with each growth of memory refused in turn; it needs a C compiler (SEED=1)"
+	@echo "make refuse  runs the program, the steps of clerks who share a docket, and the calls of an office's seats, with each growth of memory refused in turn, and the program with each thread refused; it needs a C compiler (SEED=1)"
 	@echo "make check-program  runs the program for every status, 0 to 5, and looks at all that it writes"
 	@echo "make runs    runs the program on the whole runs of runs/, and compares all that it writes"
 	@echo "make compare compares the program with its reference on inputs made at random (SEED=1 COUNT=600)"

@@ -1,5 +1,5 @@
 #!/usr/bin/env python3
-"""Runs the program with each growth of its memory refused in turn.
+"""Runs the program with each growth of its memory, and each of its threads, refused in turn.
 
     refuse_memory.py PROGRAM INPUT..
 
@@ -8,8 +8,10 @@ which one is refused must end with status 5, write nothing to standard output an
 it could do without that growth, and writes what it would have written with it. The last run must write what the file
 INPUT's neighbour with the ending `.out` has; where there is one with the ending `.words`, the program is called with the
 words of that line. Clerks in threads of their own don't ask for memory in the same order in each run, so that in one of
-several clerks it is chance whose growth is refused. The status is 0 where all of that is so. It needs Linux and a C compiler,
-`cc` or the one that CC names.
+several clerks it is chance whose growth is refused. Then so with the first thread that the program starts, the second,
+and so on: a thread for a clerk that can't be had ends the run as a growth does, and those that write the answers it can do
+without. For these, rows are made with the court of the first INPUT. The status is 0 where all of that is so. It needs Linux
+and a C compiler, `cc` or the one that CC names.
 """
 import os
 import pathlib
@@ -20,6 +22,9 @@ import tempfile
 LIBRARY = pathlib.Path(__file__).with_suffix(".c")
 
 REFUSED = (5, b"", b"out of memory\n")
+# How many rows are made, and the words of their run.
+MANY = 2000
+FOUR_CLERKS = ["--clerks", "4"]
 
 
 def built_library(folder):
@@ -30,40 +35,61 @@ def built_library(folder):
     return library
 
 
-def run(program, text, library, number, words=()):
-    """Whether that growth was refused, and a run's status and what it wrote to standard output and to standard error."""
+def run(program, text, library, number, words=(), kind="growth"):
+    """Whether that growth, or thread, was refused, and a run's status and what it wrote to standard output and to standard error."""
     mark = library.with_name("refused")
     mark.unlink(missing_ok=True)
-    surroundings = dict(os.environ, LD_PRELOAD=str(library), REFUSE=str(number), REFUSED=str(mark))
+    surroundings = dict(os.environ, LD_PRELOAD=str(library), REFUSED=str(mark))
+    surroundings["REFUSE_" + kind.upper()] = str(number)
     ran = subprocess.run([program, *words], input=text, capture_output=True, env=surroundings, check=False)
     return mark.exists(), (ran.returncode, ran.stdout, ran.stderr)
 
 
-def refuse_each(program, path, library):
-    """Whether each run with that input ended as it must."""
-    text, line = path.read_bytes(), path.with_suffix(".words")
-    words = line.read_text().split() if line.exists() else []
-    wanted = (0, path.with_suffix(".out").read_bytes(), b"")
+def refuse_each(program, name, text, words, wanted, library, kind):
+    """Whether each run with that input ended as it must where one of that kind was refused."""
     number, ends = 1, 0
     while True:
-        refused, ended = run(program, text, library, number, words)
+        refused, ended = run(program, text, library, number, words, kind)
         if refused and ended == REFUSED:
             ends += 1
-        elif ended != wanted or not (refused or ends):
-            print(f"{path}: with growth {number} refused it ended so: {ended}")
+        elif ended != wanted or not (refused or ends or may_end_none(kind, words)):
+            print(f"{name}: with {kind} {number} refused it ended so: {ended}")
             return False
         elif not refused:
-            print(f"{path}: {number - 1} growths, each refused once: {ends} ended the run, {number - 1 - ends} it could do without")
+            print(f"{name}: {number - 1} {kind}s, each refused once: {ends} ended the run, {number - 1 - ends} it could do without")
             return True
         number += 1
+
+
+def may_end_none(kind, words):
+    """Whether no refusal of that kind has to end the run: one clerk has no thread."""
+    return kind == "thread" and not words
+
+
+def kept_input(path):
+    """The input of that file, the words of its run, and how it must end."""
+    line = path.with_suffix(".words")
+    words = line.read_text().split() if line.exists() else []
+    return path.read_bytes(), words, (0, path.with_suffix(".out").read_bytes(), b"")
+
+
+def many_rows(program, path):
+    """So many rows of four clerks, with the court of that file, that threads write their answers; and how they must end."""
+    court = path.read_bytes().split(b"%%")[0]
+    rows = "".join(f"{1 + row % 4},compute,28d/after/filing/event/plain,2025-08-04,,,\n" for row in range(MANY)).encode()
+    text = court + b"%%\n" + rows
+    ran = subprocess.run([program, *FOUR_CLERKS], input=text, capture_output=True, check=True)
+    return text, FOUR_CLERKS, (0, ran.stdout, b"")
 
 
 def main():
     program, *inputs = sys.argv[1:]
     with tempfile.TemporaryDirectory() as folder:
         library = built_library(folder)
-        ended = [refuse_each(program, pathlib.Path(path), library) for path in inputs]
-    sys.exit(0 if all(ended) and ended else 1)
+        ended = [refuse_each(program, path, *kept_input(pathlib.Path(path)), library, kind)
+                 for path in inputs for kind in ("growth", "thread")]
+        ended.append(refuse_each(program, f"{MANY} rows of four clerks", *many_rows(program, pathlib.Path(inputs[0])), library, "thread"))
+    sys.exit(0 if all(ended) else 1)
 
 
 if __name__ == "__main__":
