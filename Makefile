@@ -34,7 +34,7 @@ bench: build
 	@python3 bench/bench.py $(PROGRAM) $(BOOKINGS)/out/measure_bookings $(SEATS)/out/measure_seats
 
 # Beside the gate, since it needs a C compiler: each growth of memory refused in turn, of the program, of the steps of clerks
-# who share a docket, and of the calls of an office's seats.
+# who share a docket, of the calls of an office's seats, and of clerks at work in threads.
 refuse: build
 	@python3 checks/refuse_memory.py $(PROGRAM) examples/smallest.txt examples/days.txt examples/deadlines.txt \
 		runs/docket/sheets_and_calendars_at_the_end.in runs/clerks/hearings_side_by_side.in
@@ -42,6 +42,7 @@ refuse: build
 	@python3 checks/refuse_steps.py $(STEPS)/out/stored_steps $(STEPS)/stdin $(SEED)
 	@cd $(OFFICES) && rt run < stdin > /dev/null
 	@python3 checks/refuse_office.py $(OFFICES)/out/stored_office checks/refuse_office.txt
+	@python3 checks/refuse_clerks.py $(OFFICES)/out/stored_office checks/refuse_clerks.txt
 
 # Beside the gate, which runs the program once: every status with which it may end, and what it then writes.
 check-program: build
