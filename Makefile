@@ -34,7 +34,7 @@ bench: build
 	@python3 bench/bench.py $(PROGRAM) $(BOOKINGS)/out/measure_bookings $(SEATS)/out/measure_seats
 
 # Beside the gate, since it needs a C compiler: each growth of memory refused in turn, of the program, of the steps of clerks
-# who share a docket, and of the calls of an office's seats; and each thread of the program.
+# who share a docket, of the calls of an office's seats, and of clerks at work in threads; and each thread of the program.
 refuse: build
 	@python3 checks/refuse_memory.py $(PROGRAM) examples/smallest.txt examples/days.txt examples/deadlines.txt \
 		runs/docket/sheets_and_calendars_at_the_end.in runs/clerks/hearings_side_by_side.in
@@ -42,6 +42,7 @@ refuse: build
 	@python3 checks/refuse_steps.py $(STEPS)/out/stored_steps $(STEPS)/stdin $(SEED)
 	@cd $(OFFICES) && rt run < stdin > /dev/null
 	@python3 checks/refuse_office.py $(OFFICES)/out/stored_office checks/refuse_office.txt
+	@python3 checks/refuse_clerks.py $(OFFICES)/out/stored_office checks/refuse_clerks.txt
 
 # Beside the gate, which runs the program once: every status with which it may end, and what it then writes.
 check-program: build
@@ -88,7 +89,7 @@ help:
 	@echo "make         proves and builds the program, which is then $(PROGRAM)"
 	@echo "make run     that, and runs it on $(EXAMPLE)"
 	@echo "make test    proves and tests everything from nothing (rt ci)"
-	@echo "make refuse  runs the program, the steps of clerks who share a docket, and the calls of an office's seats, with each growth of memory refused in turn, and the program with each thread refused; it needs a C compiler (SEED=1)"
+	@echo "make refuse  runs the program, the steps of clerks who share a docket, the calls of an office's seats, and clerks at work, with each growth of memory refused in turn, and the program with each thread refused; it needs a C compiler (SEED=1)"
 	@echo "make check-program  runs the program for every status, 0 to 5, and looks at all that it writes"
 	@echo "make runs    runs the program on the whole runs of runs/, and compares all that it writes"
 	@echo "make compare compares the program with its reference on inputs made at random (SEED=1 COUNT=600)"

@@ -1,4 +1,5 @@
 //! All schedules of an input.
+use crate::clerks::push_clerks;
 use crate::crowd::push_crowd;
 use crate::offices::{Opening, push_office};
 use anyhow::{Context, Result, bail};
@@ -48,6 +49,7 @@ fn push_schedule<R: Threads + Wait + Eprint + Sync>(
     match kind {
         "office" => push_office(rt, alloc, text, court, opening, calls),
         "threads" => push_crowd(rt, alloc, text, court, opening),
+        "clerks" => push_clerks(rt, alloc, text, court, opening, calls),
         _ => bail!("no kind of schedule: {kind}"),
     }
 }

@@ -1,0 +1,8 @@
+use Rattle.stored_office.proofs.clerks.push_clerks.Given as goal
+
+-- the ledger is that of the blank, and names the history and the court that are published
+abbrev pub ghosts-is_done-L-Ledger : goal.ghosts-is_done-L-Ledger
+ghosts-is_done-L-Ledger g a = record { name = a.blank.name; parts = a.blank.parts }
+
+abbrev pub ghosts-is_done-L-Names : goal.ghosts-is_done-L-Names
+ghosts-is_done-L-Names g a = record { history = a.publisher.trail.book; bench = a.publisher.parts }

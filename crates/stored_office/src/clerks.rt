@@ -1,0 +1,175 @@
+//! An office of clerks who do rows, each in a thread of their own.
+
+ghost use Rattle.std.specs.Prelude.{◌≡◌, [], IfOk, length};
+ghost use Rattle.docket_rows.specs.Words.{bench_of};
+ghost use Rattle.published_docket.specs.Words.{past};
+ghost use Rattle.clerk_workers.specs.Words.{AreInOrder, AreOfClerks};
+
+use crate::beginnings::push_beginnings;
+use crate::offices::{Opening, TRIES};
+use anyhow::{Result, bail};
+use clerk_workers::{Gate, Ran, RunFault, run_clerks};
+use court_days::Court;
+use office_rows::{Row, RowError, read_rows, rows_are_bounded};
+use office_seats::{CloseError, CloseRefused, Names, Office, OfficeError, Seat, Tally};
+use published_docket::Publisher;
+use std::alloc::Global;
+use std::marker::Brand;
+use std::sync::Wait;
+use std::sync::ledger::Blank;
+use std::thread::Threads;
+
+/// Holds nobody.
+struct HoldsNobody;
+
+impl Gate for HoldsNobody {
+    fn before_commit(&self, _clerk: u8, _row: u32) {}
+
+    fn after_answer(&self, _clerk: u8, _row: u32) {}
+}
+
+/// Opens an office for this court, whose clerks do these rows, and closes it with the tallies that they leave, also where a
+/// clerk found no memory. It adds how the run came out, and of each clerk how many of its commands were finished, if these
+/// are its first ones. What finds no memory before a row is done, or behind the last one, is done once more.
+pub fn push_clerks<R: Threads + Wait + Eprint + Sync>(
+    rt: &R,
+    alloc: Global,
+    text: &mut String,
+    court: &Court,
+    opening: Opening,
+    lines: &str,
+) -> Result<()> {
+    let rows = rows_in(alloc, court, opening.seats, lines)?;
+    for _try in 0..TRIES {
+        let Ok(publisher) = Publisher::new(alloc, court, opening.seats) else {
+            text.push_str("out of memory\n")?;
+            continue;
+        };
+        let blank = Blank::new(64);
+        let rows = rows.as_slice();
+        if is_done::<Brand, R>(rt, alloc, text, court, opening, rows, blank, publisher)? {
+            return Ok(());
+        }
+    }
+    bail!("no office was opened in {TRIES} tries")
+}
+
+/// The rows of so many clerks.
+fn rows_in(alloc: Global, court: &Court, clerks: u8, lines: &str) -> Result<Vec<Row>>
+    ensures { IfOk result (λ rows. AreOfClerks clerks rows.items) }
+{
+    rows_are_bounded();
+    match read_rows(alloc, lines.as_bytes(), clerks, court) {
+        Ok(rows) => Ok(rows),
+        Err(RowError::Fault(number, cause)) => bail!("fault {cause} in row {number}"),
+        Err(RowError::OutOfMemory) => bail!("no memory is left"),
+    }
+}
+
+/// Opens the office and has its clerks do the rows. False where a seat got no place to read from, or no memory was left.
+fn is_done<L: Names + Send + Sync, R: Threads + Wait + Eprint + Sync>(
+    rt: &R,
+    alloc: Global,
+    text: &mut String,
+    court: &Court,
+    opening: Opening,
+    rows: &[Row],
+    blank: Blank,
+    publisher: Publisher,
+) -> Result<bool>
+    requires name { blank.name ≡ L.name }
+    requires parts { blank.parts ≡ L.parts }
+    requires all { L.parts ≡ 64 }
+    requires publisher { publisher ≡ record { parts = L.bench; trail = past L.history [] } }
+    requires court { L.bench ≡ bench_of court.now }
+    requires clerks { AreOfClerks opening.seats rows.now }
+{
+    let Opening { seats, number } = opening;
+    match Office::<L>::new(rt, alloc, blank, publisher, court, seats, number) {
+        Ok((office, seats)) => {
+            let tallies = tallies_of(rt, alloc, text, seats, rows)?;
+            push_closed(rt, alloc, text, office, tallies, opening, rows)?;
+            Ok(true)
+        }
+        Err(OfficeError::NoReader) => {
+            rt.eprintln("a seat got no place to read from")?;
+            Ok(false)
+        }
+        Err(OfficeError::OutOfMemory) => {
+            text.push_str("out of memory\n")?;
+            Ok(false)
+        }
+        Err(error) => bail!("{error}"),
+    }
+}
+
+/// What the seats' clerks leave once they have done the rows. Where no clerk began, the run is made again with the seats that
+/// came back.
+fn tallies_of<L: Names + Send + Sync, R: Threads + Wait + Sync>(
+    rt: &R,
+    alloc: Global,
+    text: &mut String,
+    seats: Vec<Seat<L>>,
+    rows: &[Row],
+) -> Result<Vec<Tally<L>>>
+    requires in_order { AreInOrder seats.items }
+    requires clerks { AreOfClerks (length seats.items) rows.now }
+{
+    let mut result = run_clerks(rt, alloc, seats, rows, &HoldsNobody);
+    if let Err(RunFault::NotStarted { seats }) = result {
+        text.push_str("not started\n")?;
+        result = run_clerks(rt, alloc, seats, rows, &HoldsNobody);
+    }
+    match result {
+        Ok(
+            Ran {
+                answers: _,
+                tallies,
+            },
+        ) => {
+            text.push_str("done\n")?;
+            Ok(tallies)
+        }
+        Err(RunFault::Stopped { tallies }) => {
+            text.push_str("stopped\n")?;
+            Ok(tallies)
+        }
+        Err(RunFault::NotStarted { seats: _ }) => bail!("no run was started in two tries"),
+    }
+}
+
+/// Closes the office, and adds what is found of its journal.
+fn push_closed<L: Names, R: Wait>(
+    rt: &R,
+    alloc: Global,
+    text: &mut String,
+    office: Office<L>,
+    tallies: Vec<Tally<L>>,
+    opening: Opening,
+    rows: &[Row],
+) -> Result<()>
+    requires all { L.parts ≡ 64 }
+{
+    let mut result = office.close(rt, alloc, tallies);
+    if let Err(
+        CloseRefused {
+            cause: CloseError::OutOfMemory,
+            office,
+            tallies,
+        },
+    ) = result
+    {
+        text.push_str("out of memory\n")?;
+        result = office.close(rt, alloc, tallies);
+    }
+    match result {
+        Ok(journal) => {
+            push_beginnings(text, opening.seats, journal.entries(), rows)?;
+            Ok(())
+        }
+        Err(refused) => {
+            let cause = refused.cause;
+            bail!("{cause}")
+        }
+    }
+}
