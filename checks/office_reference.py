@@ -7,7 +7,9 @@ It reads what the program reads and writes what the program has to write: the te
 fault to standard error, and it ends with the program's status. Rows of several clerks are done in the order in which
 they stand, which is one of the orders that the program may come to. The files of `reference/` are its parts. It needs
 Python 3.8 or later. What it doesn't read, though the program may, ends it with CannotTell and status 9: quotes in the middle
-of a field, zones whose rules name days of the year and, before Python 3.11, other TOML than plain lines.
+of a field, zones whose rules name days of the year and, before Python 3.11, other TOML than plain lines. From 3.11 on it
+reads TOML 1.0: what only 1.1 has, and a byte order mark before the court's file, it answers with NotToml, though the
+program reads it.
 """
 import argparse
 import sys
