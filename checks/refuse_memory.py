@@ -9,9 +9,8 @@ it could do without that growth, and writes what it would have written with it. 
 INPUT's neighbour with the ending `.out` has; where there is one with the ending `.words`, the program is called with the
 words of that line. Clerks in threads of their own don't ask for memory in the same order in each run, so that in one of
 several clerks it is chance whose growth is refused. Then so with the first thread that the program starts, the second,
-and so on: a thread for a clerk that can't be had ends the run as a growth does, and those that write the answers it can do
-without. For these, rows are made with the court of the first INPUT. The status is 0 where all of that is so. It needs Linux
-and a C compiler, `cc` or the one that CC names.
+and so on: a clerk's thread that can't be had ends the run as a growth does. The status is 0 where all of that is so. It
+needs Linux and a C compiler, `cc` or the one that CC names.
 """
 import os
 import pathlib
@@ -22,9 +21,6 @@ import tempfile
 LIBRARY = pathlib.Path(__file__).with_suffix(".c")
 
 REFUSED = (5, b"", b"out of memory\n")
-# How many rows are made, and the words of their run.
-MANY = 2000
-FOUR_CLERKS = ["--clerks", "4"]
 
 
 def built_library(folder):
@@ -73,22 +69,12 @@ def kept_input(path):
     return path.read_bytes(), words, (0, path.with_suffix(".out").read_bytes(), b"")
 
 
-def many_rows(program, path):
-    """So many rows of four clerks, with the court of that file, that threads write their answers; and how they must end."""
-    court = path.read_bytes().split(b"%%")[0]
-    rows = "".join(f"{1 + row % 4},compute,28d/after/filing/event/plain,2025-08-04,,,\n" for row in range(MANY)).encode()
-    text = court + b"%%\n" + rows
-    ran = subprocess.run([program, *FOUR_CLERKS], input=text, capture_output=True, check=True)
-    return text, FOUR_CLERKS, (0, ran.stdout, b"")
-
-
 def main():
     program, *inputs = sys.argv[1:]
     with tempfile.TemporaryDirectory() as folder:
         library = built_library(folder)
         ended = [refuse_each(program, path, *kept_input(pathlib.Path(path)), library, kind)
                  for path in inputs for kind in ("growth", "thread")]
-        ended.append(refuse_each(program, f"{MANY} rows of four clerks", *many_rows(program, pathlib.Path(inputs[0])), library, "thread"))
     sys.exit(0 if all(ended) else 1)
 
 

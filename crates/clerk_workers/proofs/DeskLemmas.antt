@@ -4,6 +4,7 @@ use Rattle.std.proofs.lemmas.List.{map-append, reverse-append}
 use Rattle.std.proofs.lemmas.List.Elements.{All-nil, All-cons, All-head, All-tail}
 use Rattle.docket_rows.specs.Words.{Bench}
 use Rattle.office_rows.specs.declared.row.Row.{Row}
+use Rattle.clerk_workers.specs.declared.answer.RowAnswer.{RowAnswer}
 use Rattle.clerk_workers.specs.declared.state.State.{State}
 use Rattle.clerk_workers.specs.Desks.{AreUnderWay, AreWorked, DeskView, HiredView, IsIn, IsReady, IsWorked, begun_at}
 
@@ -13,24 +14,24 @@ turned_more f others xs x =
     ap (λ ys. others ++ ys) (ap reverse (map-append f xs (x ∷ [])) ∙ reverse-append (map f xs) (f x ∷ [])) ∙ sym (append_assoc others (f x ∷ []) (reverse (map f xs)))
 
 -- desks, and behind them those of hired clerks, one more of whom is hired
-pub begun_more : (others : List DeskView) (hired : List HiredView) (clerk : HiredView) → others ++ begun_at (hired ++ clerk ∷ []) ≡ (others ++ clerk.desk ∷ []) ++ begun_at hired
-begun_more others hired clerk = turned_more (λ (h : HiredView). h.desk) others hired clerk
+pub begun_more : {K : Type 0} (others : List (DeskView K)) (hired : List (HiredView K)) (clerk : HiredView K) → others ++ begun_at (hired ++ clerk ∷ []) ≡ (others ++ clerk.desk ∷ []) ++ begun_at hired
+begun_more {K} others hired clerk = turned_more (λ (h : HiredView K). h.desk) others hired clerk
 
-module _ (bench : Bench) (rows : List Row) where
+module _ {K : Type 0} (hold : K → List RowAnswer → Type 0) (bench : Bench) (rows : List Row) where
   -- one more desk
-  pub worked_push : (old new : List DeskView) (o n : DeskView) → AreWorked bench rows old new → IsWorked bench rows o n → AreWorked bench rows (old ++ o ∷ []) (new ++ n ∷ [])
+  pub worked_push : (old new : List (DeskView K)) (o n : DeskView K) → AreWorked hold bench rows old new → IsWorked hold bench rows o n → AreWorked hold bench rows (old ++ o ∷ []) (new ++ n ∷ [])
   worked_push [] [] o n are is = (is, tt)
   worked_push [] (d ∷ new) o n are is = absurd are
   worked_push (d ∷ old) [] o n are is = absurd are
   worked_push (d ∷ old) (e ∷ new) o n are is = (are.0, worked_push old new o n are.1 is)
 
   -- desks whose clerks haven't begun
-  pub worked_ready : (desks : List DeskView) → All (IsReady rows) desks → AreWorked bench rows desks desks
+  pub worked_ready : (desks : List (DeskView K)) → All (IsReady hold) desks → AreWorked hold bench rows desks desks
   worked_ready [] ready = tt
   worked_ready (d ∷ desks) ready =
-      let first : IsReady rows d = All-head (IsReady rows) d desks ready in
-      let P : State → Type 0 = λ s. IsIn bench rows s d.seat d.seat d.answers in
-      (subst P (sym first.waiting) refl, worked_ready desks (All-tail (IsReady rows) d desks ready))
+      let first : IsReady hold d = All-head (IsReady hold) d desks ready in
+      let P : State → Type 0 = λ s. IsIn hold bench rows s d.seat d.seat d.notes in
+      (subst P (sym first.waiting) refl, worked_ready desks (All-tail (IsReady hold) d desks ready))
 
 -- what holds of all holds of one more, and of all but the last, and of the last
 pub all_push : {X : Type 0} (P : X → Type 0) (xs : List X) (x : X) → All P xs → P x → All P (xs ++ x ∷ [])
@@ -47,26 +48,26 @@ pub all_first : {X : Type 0} (P : X → Type 0) (xs ys : List X) → All P (xs +
 all_first P [] ys all = All-nil P
 all_first P (x ∷ xs) ys all = All-cons P x xs (All-head P x (xs ++ ys) all) (all_first P xs ys (All-tail P x (xs ++ ys) all))
 
-pub others_ready : (rows : List Row) (all others : List DeskView) (desk : DeskView) → all ≡ others ++ desk ∷ [] → All (IsReady rows) all → All (IsReady rows) others
-others_ready rows all others desk same ready = (all_but_last (IsReady rows) others desk (subst (All (IsReady rows)) same ready)).0
+pub others_ready : {K : Type 0} (hold : K → List RowAnswer → Type 0) (all others : List (DeskView K)) (desk : DeskView K) → all ≡ others ++ desk ∷ [] → All (IsReady hold) all → All (IsReady hold) others
+others_ready hold all others desk same ready = (all_but_last (IsReady hold) others desk (subst (All (IsReady hold)) same ready)).0
 
-module _ (bench : Bench) (rows : List Row) (old : List DeskView) where
+module _ {K : Type 0} (hold : K → List RowAnswer → Type 0) (bench : Bench) (rows : List Row) (old : List (DeskView K)) where
   -- the clerk who was hired last is done
-  pub way_joined : (now next : List DeskView) (hired left : List HiredView) (clerk : HiredView) (desk : DeskView) → hired ≡ left ++ clerk ∷ [] → next ≡ now ++ desk ∷ [] → IsWorked bench clerk.rows clerk.desk desk → AreUnderWay bench rows old now hired → AreUnderWay bench rows old next left
+  pub way_joined : (now next : List (DeskView K)) (hired left : List (HiredView K)) (clerk : HiredView K) (desk : DeskView K) → hired ≡ left ++ clerk ∷ [] → next ≡ now ++ desk ∷ [] → IsWorked hold bench clerk.rows clerk.desk desk → AreUnderWay hold bench rows old now hired → AreUnderWay hold bench rows old next left
   way_joined now next hired left clerk desk popped pushed is way =
-      let each = all_but_last (λ (h : HiredView). h.rows ≡ rows) left clerk (subst (All (λ (h : HiredView). h.rows ≡ rows)) popped way.same_rows) in
-      let P : List Row → Type 0 = λ rs. IsWorked bench rs clerk.desk desk in
-      let Q : List DeskView → Type 0 = λ ds. AreWorked bench rows (way.others ++ clerk.desk ∷ []) ds in
+      let each = all_but_last (λ (h : HiredView K). h.rows ≡ rows) left clerk (subst (All (λ (h : HiredView K). h.rows ≡ rows)) popped way.same_rows) in
+      let P : List Row → Type 0 = λ rs. IsWorked hold bench rs clerk.desk desk in
+      let Q : List (DeskView K) → Type 0 = λ ds. AreWorked hold bench rows (way.others ++ clerk.desk ∷ []) ds in
       record {
         others = way.others ++ clerk.desk ∷ [];
-        worked = subst Q (sym pushed) (worked_push bench rows way.others now clerk.desk desk way.worked (subst P each.1 is));
-        all = way.all ∙ (ap (λ (hs : List HiredView). way.others ++ begun_at hs) popped ∙ begun_more way.others left clerk);
+        worked = subst Q (sym pushed) (worked_push hold bench rows way.others now clerk.desk desk way.worked (subst P each.1 is));
+        all = way.all ∙ (ap (λ (hs : List (HiredView K)). way.others ++ begun_at hs) popped ∙ begun_more way.others left clerk);
         same_rows = each.0;
       }
 
   -- all are done
-  pub way_done : (now : List DeskView) (hired : List HiredView) → length hired ≡ 0 → AreUnderWay bench rows old now hired → AreWorked bench rows old now
+  pub way_done : (now : List (DeskView K)) (hired : List (HiredView K)) → length hired ≡ 0 → AreUnderWay hold bench rows old now hired → AreWorked hold bench rows old now
   way_done now [] none way =
-      let P : List DeskView → Type 0 = λ ds. AreWorked bench rows ds now in
+      let P : List (DeskView K) → Type 0 = λ ds. AreWorked hold bench rows ds now in
       subst P (sym (way.all ∙ append-nil way.others)) way.worked
   way_done now (clerk ∷ hired) none way = absurd (omega (arith, none))

@@ -2,6 +2,7 @@ pub mod AnsweredLemmas
 pub mod CallerLemmas
 pub mod DeskLemmas
 pub mod MergeLemmas
+pub mod NotedLemmas
 pub mod OrderLemmas
 pub mod RowLemmas
 pub mod RunLemmas

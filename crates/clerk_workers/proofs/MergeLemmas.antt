@@ -1,10 +1,10 @@
 -- Answers that are taken from the clerks' lists, from the last row on.
-use Rattle.std.proofs.Common.{◌≡◌, ℕ, ◌+◌, ◌<◌, ◌==◌, true, false, List, [], ◌∷◌, ◌++◌, length, map, reverse, All, refl, ap, sym, ◌∙◌, append_assoc, append-nil, subst, arith, length-append, true≢false, get_or, set}
+use Rattle.std.proofs.Common.{◌≡◌, ℕ, ◌+◌, ◌<◌, ◌==◌, true, false, List, [], ◌∷◌, ◌++◌, length, map, reverse, All, refl, ap, sym, ◌∙◌, append_assoc, subst, arith, length-append, true≢false, get_or, set}
 use Rattle.std.proofs.lemmas.Bool.Decides.{Decides-eqb}
 use Rattle.std.proofs.lemmas.List.{get_or-map, get_or-set_other, get_or-set_same, length-map, length-set, map-set, reverse-append}
 use Rattle.office_rows.specs.declared.row.Row.{Row}
 use Rattle.clerk_workers.specs.declared.answer.RowAnswer.{RowAnswer}
-use Rattle.clerk_workers.specs.Merged.{AreAsMany, AreFromTheLast, AreMerged, IsTaken, list_at}
+use Rattle.clerk_workers.specs.Merged.{AreFromTheLast, IsTaken, list_at}
 use Rattle.clerk_workers.specs.Rows.{AreOfClerks, IsOfClerk, answers_of, works_of}
 use Rattle.clerk_workers.proofs.DeskLemmas.{all_but_last, all_first}
 use Rattle.clerk_workers.proofs.RowLemmas.{answers_other, answers_own, works_append, works_other, works_own}

@@ -1,7 +1,6 @@
 -- The rows of one clerk among those of all.
-use Rattle.std.proofs.Common.{◌≡◌, ℕ, ◌+◌, ◌<◌, ◌==◌, get_or, if◌then◌else◌, true, false, List, [], ◌∷◌, ◌++◌, take, drop, length, refl, ap, sym, ◌∙◌, take-append-drop, length-append}
+use Rattle.std.proofs.Common.{◌≡◌, ℕ, ◌==◌, if◌then◌else◌, true, false, List, [], ◌∷◌, ◌++◌, refl, ap, sym, ◌∙◌}
 use Rattle.std.proofs.lemmas.Bool.Decides.{Decides-eqb}
-use Rattle.std.proofs.lemmas.List.{take_more}
 use mathlib.Core.List.{IsPrefix}
 use Rattle.office_rows.specs.declared.row.Row.{Row}
 use Rattle.office_rows.specs.declared.row.Work.{Work}
@@ -31,19 +30,8 @@ module _ (clerk : ℕ) where
       ]) refl
 
   -- those among the first rows come first
-  pub works_begin : (count : ℕ) (rows : List Row) → IsPrefix (works_of clerk (take count rows)) (works_of clerk rows)
-  works_begin count rows =
-      (works_of clerk (drop count rows), sym (works_append (take count rows) (drop count rows)) ∙ ap (works_of clerk) (take-append-drop count rows))
-
-  -- those of a row and then of others
-  pub works_count : (row : Row) (rows : List Row) → length (works_of clerk (row ∷ rows)) ≡ length (works_of clerk (row ∷ [])) + length (works_of clerk rows)
-  works_count row rows = ap length (works_append (row ∷ []) rows) ∙ length-append (works_of clerk (row ∷ [])) (works_of clerk rows)
-
-  -- those of one row more
-  pub works_taken : (rows : List Row) (count : ℕ) (row : Row) → count < length rows → row ≡ get_or rows count row → length (works_of clerk (take (count + 1) rows)) ≡ length (works_of clerk (take count rows)) + length (works_of clerk (row ∷ []))
-  works_taken rows count row lt at =
-      let more : take (count + 1) rows ≡ take count rows ++ row ∷ [] = take_more rows count row lt ∙ ap (λ (r : Row). take count rows ++ r ∷ []) (sym at) in
-      ap (λ (rs : List Row). length (works_of clerk rs)) more ∙ (ap length (works_append (take count rows) (row ∷ [])) ∙ length-append (works_of clerk (take count rows)) (works_of clerk (row ∷ [])))
+  pub works_begin : (first rows : List Row) → IsPrefix first rows → IsPrefix (works_of clerk first) (works_of clerk rows)
+  works_begin first rows begins = (works_of clerk begins.0, sym (works_append first begins.0) ∙ ap (works_of clerk) begins.1)
 
   -- the answers at a row of the clerk's and behind it, and at one of another's
   pub answers_own : (row : Row) (rows : List Row) (answer : RowAnswer) (answers : List RowAnswer) → row.clerk ≡ clerk → answers_of clerk (row ∷ rows) (answer ∷ answers) ≡ answer ∷ answers_of clerk rows answers

@@ -1,7 +1,8 @@
 -- A clerk at work: what is so after some rows stays so after the next.
-use Rattle.std.proofs.Common.{◌≡◌, ℕ, ◌≤◌, List, [], ◌∷◌, ◌++◌, length, All, refl, ap, sym, ◌∙◌, append_assoc, append-nil, subst, arith}
+use Rattle.std.proofs.Common.{◌≡◌, ℕ, ◌≤◌, List, [], ◌∷◌, ◌++◌, length, All, OnOk, refl, ap, sym, ◌∙◌, append_assoc, append-nil, subst, arith}
 use Rattle.std.specs.declared.result.Result.{Result}
 use Rattle.std.specs.declared.result.Result.TheVariants.{Ok, Err}
+use mathlib.Core.List.{IsPrefix}
 use Rattle.docket_rows.specs.Words.{Bench}
 use Rattle.published_docket.proofs.CallerLemmas.{prefix_self, prefix_trans}
 use Rattle.office_seats.specs.Words.{SeatView, Goes}
@@ -9,11 +10,12 @@ use Rattle.office_rows.specs.declared.row.Row.{Row}
 use Rattle.office_rows.specs.declared.row.Work.{Work}
 use Rattle.clerk_workers.specs.declared.answer.RowAnswer.{RowAnswer}
 use Rattle.clerk_workers.specs.Answered.{AreAnswered, IsAnswered, place_told, places_told}
+use Rattle.clerk_workers.specs.Noted.{HasNoted, IsNoted}
 use Rattle.clerk_workers.specs.Rows.{works_of}
-use Rattle.clerk_workers.specs.Steps.{Answers, FinishesNothing, IsAfter, IsDone}
-use Rattle.clerk_workers.specs.Worked.{HasWorked, tally_of}
+use Rattle.clerk_workers.specs.Steps.{Answers, FinishesNothing, HasLeft, IsAfter, IsDone}
+use Rattle.clerk_workers.specs.Worked.{HasStopped, HasWorked, tally_of}
 use Rattle.clerk_workers.proofs.AnsweredLemmas.{prefix_long, are_answered_later, are_answered_push, places_inside, places_push}
-use Rattle.clerk_workers.proofs.RowLemmas.{works_append, works_other, works_own}
+use Rattle.clerk_workers.proofs.RowLemmas.{works_append, works_begin, works_other, works_own}
 
 goes_on : (old mid new : SeatView) → Goes old mid → Goes mid new → Goes old new
 goes_on old mid new first then = record {
@@ -88,3 +90,42 @@ module _ (bench : Bench) where
     limit = refl;
     worked = record { number = refl; seen = prefix_self start.seen; mine = sym (append-nil start.mine); answered = tt };
   }
+
+module _ {K : Type 0} (hold : K → List RowAnswer → Type 0) (bench : Bench) (start : SeatView) where
+  -- nothing is noted yet
+  pub noted_none : (notes : K) → hold notes [] → IsNoted hold bench start [] notes start
+  noted_none notes empty = record { answers = []; held = empty; after = after_none bench start }
+
+  module _ (rows : List Row) (notes : K) (seat : SeatView) (was : IsNoted hold bench start rows notes seat) (row : Row) where
+    -- a row of another clerk's was passed over
+    pub noted_other : (row.clerk ≡ seat.number → ⊥) → IsNoted hold bench start (rows ++ row ∷ []) notes seat
+    noted_other other =
+        record { answers = was.answers; held = was.held; after = after_other bench start rows was.answers seat was.after row other }
+
+    -- the clerk's next row was answered, and the answer noted, or the clerk found no memory for it
+    pub noted_row : {E : Type 0} (answer : RowAnswer) (now : SeatView) (next : K) (result : Result (Unit {0}) E) → row.clerk ≡ seat.number → IsDone bench seat row.work answer now → ((answers : List RowAnswer) → hold notes answers → OnOk result (hold next (answers ++ answer ∷ []))) → OnOk result (IsNoted hold bench start (rows ++ row ∷ []) next now)
+    noted_row answer now next (Ok done) own is adds =
+        record { answers = was.answers ++ answer ∷ []; held = adds was.answers was.held; after = after_row bench start rows was.answers seat was.after row answer now own is }
+    noted_row answer now next (Err e) own is adds = tt
+
+    -- the clerk left before the row, or behind it
+    pub left_before : (now : SeatView) → FinishesNothing seat now → HasLeft bench start (rows ++ row ∷ []) now
+    left_before now nothing =
+        record { done = rows; answers = was.answers; beginning = (row ∷ [], refl); after = after_nothing bench start rows was.answers seat was.after now nothing }
+
+    pub left_behind : (answer : RowAnswer) (now : SeatView) → row.clerk ≡ seat.number → IsDone bench seat row.work answer now → HasLeft bench start (rows ++ row ∷ []) now
+    left_behind answer now own is =
+        record { done = rows ++ row ∷ []; answers = was.answers ++ answer ∷ []; beginning = prefix_self (rows ++ row ∷ []); after = after_row bench start rows was.answers seat was.after row answer now own is }
+
+  -- all rows are noted
+  pub noted_all : (rows : List Row) (notes : K) (seat : SeatView) → IsNoted hold bench start rows notes seat → HasNoted hold bench start (works_of start.number rows) notes (tally_of seat)
+  noted_all rows notes seat was = record { answers = was.answers; held = was.held; worked = was.after.worked }
+
+-- a clerk who left did its first rows
+pub left_first : (bench : Bench) (start : SeatView) (first rows : List Row) (seat : SeatView) → IsPrefix first rows → HasLeft bench start first seat → HasStopped bench start (works_of start.number rows) (tally_of seat)
+left_first bench start first rows seat begins left = record {
+  done = works_of start.number left.done;
+  answers = left.answers;
+  beginning = works_begin start.number left.done rows (prefix_trans left.done first rows left.beginning begins);
+  worked = left.after.worked;
+}

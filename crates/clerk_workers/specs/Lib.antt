@@ -1,6 +1,7 @@
 pub mod Answered
 pub mod Desks
 pub mod Merged
+pub mod Noted
 pub mod Rows
 pub mod Runs
 pub mod Steps

@@ -1,5 +1,6 @@
 -- What one row does to a seat.
 use Rattle.std.specs.Prelude.{◌≡◌, ℕ, ◌≤◌, List, ◌++◌, length, All}
+use mathlib.Core.List.{IsPrefix}
 use Rattle.std.specs.declared.result.Result.{Result}
 use Rattle.std.specs.declared.result.Result.TheVariants.{Ok, Err}
 use Rattle.docket_rows.specs.Words.{Bench}
@@ -32,3 +33,10 @@ module _ (bench : Bench) where
   pub record IsAfter (start : SeatView) (rows : List Row) (answers : List RowAnswer) (seat : SeatView) : Type 0 where
     pub limit : seat.limit ≡ start.limit
     pub worked : HasWorked bench start (works_of start.number rows) answers (tally_of seat)
+
+  -- so with some of the rows, from the first on
+  pub record HasLeft (start : SeatView) (rows : List Row) (seat : SeatView) : Type 0 where
+    pub done : List Row
+    pub answers : List RowAnswer
+    pub beginning : IsPrefix done rows
+    pub after : IsAfter start done answers seat

@@ -2,4 +2,6 @@
 pub use Rattle.clerk_workers.specs.Rows.{works_of, answers_of, IsOfClerk, AreOfClerks}
 pub use Rattle.clerk_workers.specs.Answered.{History, StandsAt, IsFinished, IsViewed, IsAnswered, AreAnswered, place_told, places_told}
 pub use Rattle.clerk_workers.specs.Worked.{tally_of, HasWorked, HasStopped}
+pub use Rattle.clerk_workers.specs.Merged.{AreAsMany, AreMerged, list_at}
+pub use Rattle.clerk_workers.specs.Noted.{AllHold, HasNoted, AllNoted, AreNoted, RunsNoting}
 pub use Rattle.clerk_workers.specs.Runs.{AreNumbered, AreInOrder, AllWorked, HasRun, AllStopped, Runs}

@@ -1,11 +1,10 @@
-//! The desk of a clerk: its seat, and what its rows were answered.
+//! The desk of a clerk: its seat, and what it noted of the answers to its rows.
 
-ghost use Rattle.std.specs.Prelude.{◌≡◌, ◌≤◌, [], length, vec_capacity};
+ghost use Rattle.std.specs.Prelude.{[]};
 ghost use Rattle.clerk_workers.specs.Desks.{IsIn, IsReady, IsWorked};
-ghost use Rattle.clerk_workers.specs.Rows.{works_of};
 
-use crate::answer::RowAnswer;
 use crate::gate::Gate;
+use crate::notes::Notes;
 use crate::state::State;
 use crate::worker::serve;
 use office_rows::Row;
@@ -14,24 +13,23 @@ use std::alloc::Global;
 use std::marker::Model;
 use std::sync::{OnceLock, Wait};
 
-/// A clerk's seat, and what its rows were answered so far.
+/// A clerk's seat, and what it noted of the answers to its rows so far.
 #[derive(Drop)]
-pub(crate) struct Desk<L: Names> {
+pub(crate) struct Desk<L: Names, K: Notes<L>> {
     pub(crate) seat: Seat<L>,
-    pub(crate) answers: Vec<RowAnswer>,
+    pub(crate) notes: K,
     pub(crate) state: State,
 }
 
-impl<L: Names> Model for Desk<L> {
-    ghost use Rattle.std.specs.Prelude.{vec_capacity};
+impl<L: Names, K: Notes<L>> Model for Desk<L, K> {
     ghost use Rattle.clerk_workers.specs.Desks.{DeskView};
 
-    ghost Value = { DeskView };
+    ghost Value = { DeskView K };
 
-    ghost view = { λ d. record { seat = d.seat; answers = d.answers.items; room = vec_capacity d.answers; state = d.state } };
+    ghost view = { λ d. record { seat = d.seat; notes = d.notes; state = d.state } };
 }
 
-impl<L: Names> Desk<L> {
+impl<L: Names, K: Notes<L>> Desk<L, K> {
     /// Waits for the word to start. Where that is no, the desk stays as it is; else the clerk does all its rows, as far as
     /// there is memory.
     pub(crate) fn work<R: Wait, G: Gate>(
@@ -41,44 +39,43 @@ impl<L: Names> Desk<L> {
         rows: &[Row],
         gate: &G,
         start: &OnceLock<bool>,
-    ) -> Desk<L>
-        requires { IsReady rows.now self }
-        ensures { IsWorked L.bench rows.now self result }
+    ) -> Desk<L, K>
+        requires { IsReady K.hold self }
+        ensures { IsWorked K.hold L.bench rows.now self result }
     {
         if !*start.wait(rt) {
             return self;
         }
         let Desk {
             seat,
-            answers,
+            notes,
             state: _,
         } = self;
-        worked(rt, alloc, seat, answers, rows, gate)
+        worked(rt, alloc, seat, notes, rows, gate)
     }
 }
 
 // The desk of a clerk after all its rows, or those before memory ran out.
-fn worked<L: Names, R: Wait, G: Gate>(
+fn worked<L: Names, K: Notes<L>, R: Wait, G: Gate>(
     rt: &R,
     alloc: Global,
     mut seat: Seat<L>,
-    mut answers: Vec<RowAnswer>,
+    mut notes: K,
     rows: &[Row],
     gate: &G,
-) -> Desk<L>
-    requires empty { answers.items ≡ [] }
-    requires room { length (works_of seat.number rows.now) ≤ vec_capacity answers }
-    ensures { IsIn L.bench rows.now result.state seat result.seat result.answers }
+) -> Desk<L, K>
+    requires { K.hold notes [] }
+    ensures { IsIn K.hold L.bench rows.now result.state seat result.seat result.notes }
 {
-    match serve(rt, alloc, &mut seat, &mut answers, rows, gate) {
+    match serve(rt, alloc, &mut seat, &mut notes, rows, gate) {
         Ok(()) => Desk {
             seat,
-            answers,
+            notes,
             state: State::Done,
         },
         Err(_) => Desk {
             seat,
-            answers,
+            notes,
             state: State::Stopped,
         },
     }

@@ -1,6 +1,7 @@
 //! What a clerk's thread promises to come to.
 
 use crate::desk::Desk;
+use crate::notes::Notes;
 use office_rows::Row;
 use office_seats::Names;
 use std::snapshot::Snapshot;
@@ -8,13 +9,13 @@ use std::thread::Promise;
 
 /// That a clerk who began at this desk has done its rows among these as far as its desk then says.
 #[derive(Drop)]
-pub(crate) struct Duty<'e, L: Names> {
-    pub(crate) desk: Snapshot<Desk<L>>,
+pub(crate) struct Duty<'e, L: Names, K: Notes<L>> {
+    pub(crate) desk: Snapshot<Desk<L, K>>,
     pub(crate) rows: &'e [Row],
 }
 
-impl<'e, L: Names> Promise<Desk<L>> for Duty<'e, L> {
+impl<'e, L: Names, K: Notes<L>> Promise<Desk<L, K>> for Duty<'e, L, K> {
     ghost use Rattle.clerk_workers.specs.Desks.{IsWorked};
 
-    ghost kept_by = { λ p d. IsWorked L.bench p.rows.now p.desk.value d };
+    ghost kept_by = { λ p d. IsWorked K.hold L.bench p.rows.now p.desk.value d };
 }

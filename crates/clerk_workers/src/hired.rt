@@ -6,6 +6,7 @@ ghost use Rattle.clerk_workers.specs.Desks.{IsReady, IsWorked};
 use crate::desk::Desk;
 use crate::duty::Duty;
 use crate::gate::Gate;
+use crate::notes::Notes;
 use office_rows::Row;
 use office_seats::Names;
 use std::alloc::Global;
@@ -16,22 +17,22 @@ use std::thread::{PromisedHandle, Scope, Threads};
 
 /// The thread of a clerk.
 #[derive(Drop)]
-pub(crate) struct Hired<'e, L: Names> {
-    handle: PromisedHandle<Desk<L>, Duty<'e, L>>,
+pub(crate) struct Hired<'e, L: Names, K: Notes<L>> {
+    handle: PromisedHandle<Desk<L, K>, Duty<'e, L, K>>,
 }
 
-impl<'e, L: Names> Model for Hired<'e, L> {
+impl<'e, L: Names, K: Notes<L>> Model for Hired<'e, L, K> {
     ghost use Rattle.clerk_workers.specs.Desks.{HiredView};
 
-    ghost Value = { HiredView };
+    ghost Value = { HiredView K };
 
     ghost view = { λ h. record { desk = h.handle.promise.desk.value; rows = h.handle.promise.rows.now } };
 }
 
-impl<'e, L: Names> Hired<'e, L> {
+impl<'e, L: Names, K: Notes<L>> Hired<'e, L, K> {
     /// Waits until the clerk is done, and gives its desk.
-    pub(crate) fn join<R: Threads>(self, rt: &R) -> Desk<L>
-        ensures { IsWorked L.bench self.entry.rows self.entry.desk result }
+    pub(crate) fn join<R: Threads>(self, rt: &R) -> Desk<L, K>
+        ensures { IsWorked K.hold L.bench self.entry.rows self.entry.desk result }
     {
         let Hired { handle } = self;
         handle.join(rt)
@@ -44,28 +45,29 @@ pub(crate) fn hire<
     's,
     'e: 's,
     L: Names + Send + Sync + 'e,
+    K: Notes<L> + 'e,
     R: Threads + Wait + Sync + 'e,
     G: Gate + 'e,
 >(
     scope: &'s Scope<'s, &'e ()>,
     rt: &'e R,
     alloc: Global,
-    desk: Desk<L>,
+    desk: Desk<L, K>,
     rows: &'e [Row],
     gate: &'e G,
     start: &'e OnceLock<bool>,
-) -> Result<Hired<'e, L>, Desk<L>>
-    requires { IsReady rows.now desk }
+) -> Result<Hired<'e, L, K>, Desk<L, K>>
+    requires { IsReady K.hold desk }
     ensures hired { IfOk result (λ h. h ≡ record { desk = desk; rows = rows.now }) }
-    ensures refused { IfErr result (λ d. IsWorked L.bench rows.now desk d) }
+    ensures refused { IfErr result (λ d. IsWorked K.hold L.bench rows.now desk d) }
 {
     let duty = Duty {
         desk: Snapshot::of(&desk),
         rows,
     };
-    let job = move || -> Desk<L>
-        requires { IsReady rows.now desk }
-        ensures { IsWorked L.bench rows.entry.now desk result }
+    let job = move || -> Desk<L, K>
+        requires { IsReady K.hold desk }
+        ensures { IsWorked K.hold L.bench rows.entry.now desk result }
     { desk.work(rt, alloc, rows, gate, start) };
     match scope.spawn_with(duty, job) {
         Ok(handle) => Ok(Hired { handle }),

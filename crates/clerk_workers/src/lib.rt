@@ -8,6 +8,8 @@ mod duty;
 mod gate;
 mod hired;
 mod merge;
+mod notes;
+mod noting;
 mod outcome;
 mod run;
 mod state;
@@ -16,5 +18,7 @@ mod workers;
 
 pub use answer::RowAnswer;
 pub use gate::Gate;
-pub use outcome::{Ran, RunFault};
+pub use notes::Notes;
+pub use noting::run_noting;
+pub use outcome::{Noted, Ran, RunFault};
 pub use run::run_clerks;

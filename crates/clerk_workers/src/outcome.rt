@@ -1,6 +1,7 @@
 //! What a run of several clerks comes to.
 
 use crate::answer::RowAnswer;
+use crate::notes::Notes;
 use office_seats::{Names, Seat, Tally};
 
 /// A run in which all rows were answered.
@@ -8,6 +9,15 @@ use office_seats::{Names, Seat, Tally};
 pub struct Ran<L: Names> {
     /// The answers, in the order of the rows.
     pub answers: Vec<RowAnswer>,
+    /// The tallies of the seats, in their order.
+    pub tallies: Vec<Tally<L>>,
+}
+
+/// A run in which all rows were answered, and what each clerk noted of the answers.
+#[derive(Drop)]
+pub struct Noted<L: Names, K: Notes<L>> {
+    /// The notes of the clerks, in the order of their seats.
+    pub notes: Vec<K>,
     /// The tallies of the seats, in their order.
     pub tallies: Vec<Tally<L>>,
 }

@@ -1,15 +1,17 @@
 //! One clerk, who does its rows in order, on its seat.
 
-ghost use Rattle.std.specs.Prelude.{◌≡◌, ◌+◌, ◌++◌, ◌∷◌, ◌≤◌, [], IfNone, IfSome, List, OnErr, OnOk, length, vec_capacity};
+ghost use Rattle.std.specs.Prelude.{◌≡◌, ◌++◌, ◌∷◌, [], IfNone, IfSome, List, OnErr, OnOk};
 ghost use Rattle.office_rows.specs.declared.row.Row.{Row};
 ghost use Rattle.office_rows.specs.declared.row.Work.TheVariants as work;
 ghost use Rattle.office_seats.specs.Words.{SeatView};
 ghost use Rattle.clerk_workers.specs.Rows.{works_of};
-ghost use Rattle.clerk_workers.specs.Steps.{Answers, FinishesNothing, IsAfter};
-ghost use Rattle.clerk_workers.specs.Worked.{HasStopped, HasWorked, tally_of};
+ghost use Rattle.clerk_workers.specs.Noted.{HasNoted, IsNoted};
+ghost use Rattle.clerk_workers.specs.Steps.{Answers, FinishesNothing, HasLeft};
+ghost use Rattle.clerk_workers.specs.Worked.{HasStopped, tally_of};
 
 use crate::answer::RowAnswer;
 use crate::gate::Gate;
+use crate::notes::Notes;
 use docket_rows::{Command, Query};
 use office_rows::{Row, Work};
 use office_seats::{CommitError, Names, PerformError, Seat};
@@ -111,23 +113,19 @@ fn answer<L: Names, R: Wait, G: Gate>(
     }
 }
 
-// Does the row if it is the clerk's; rows of others are passed over. The row's number counts from 1.
+// Does the row if it is the clerk's, and notes its answer; rows of others are passed over. The row's number counts from 1.
 // A body that always found no memory would meet this contract, and no test of this crate refuses it yet.
-fn take_row<L: Names, R: Wait, G: Gate>(
+fn take_row<L: Names, K: Notes<L>, R: Wait, G: Gate>(
     rt: &R,
     alloc: Global,
     seat: &mut Seat<L>,
-    answers: &mut Vec<RowAnswer>,
+    notes: &mut K,
     number: u32,
     row: &Row,
     gate: &G,
 ) -> Result<(), AllocError>
-    requires room { length answers.old.items + length (works_of seat.old.number (row.now ∷ [])) ≤ vec_capacity answers.old }
-    ensures after { (start : SeatView) (rows : List Row) → IsAfter L.bench start rows answers.old.items seat.old → OnOk result (IsAfter L.bench start (rows ++ row.now ∷ []) answers.new.items seat.new) }
-    ensures stopped { (start : SeatView) (rows : List Row) → IsAfter L.bench start rows answers.old.items seat.old → OnErr result (IsAfter L.bench start rows answers.new.items seat.new) }
-    ensures count { OnOk result (length answers.new.items ≡ length answers.old.items + length (works_of seat.old.number (row.now ∷ []))) }
-    ensures number { seat.new.number ≡ seat.old.number }
-    ensures capacity { vec_capacity answers.new ≡ vec_capacity answers.old }
+    ensures noted { (start : SeatView) (rows : List Row) → IsNoted K.hold L.bench start rows notes.old seat.old → OnOk result (IsNoted K.hold L.bench start (rows ++ row.now ∷ []) notes.new seat.new) }
+    ensures stopped { (start : SeatView) (rows : List Row) → IsNoted K.hold L.bench start rows notes.old seat.old → OnErr result (HasLeft L.bench start (rows ++ row.now ∷ []) seat.new) }
 {
     let clerk = seat.number();
     if row.clerk != clerk {
@@ -135,30 +133,28 @@ fn take_row<L: Names, R: Wait, G: Gate>(
     }
     let answer = answer(rt, alloc, seat, number, &row.work, gate)?;
     gate.after_answer(clerk, number);
-    answers.push_reserved(answer);
-    Ok(())
+    notes.add(answer)
 }
 
-/// Does all rows of the seat's clerk, in order, and puts their answers into the list. `Err` says that memory ran out; the
-/// rows that were answered are then the first ones of the clerk's.
+/// Does all rows of the seat's clerk, in order, and notes their answers. `Err` says that memory ran out; the rows that were
+/// done are then the first ones of the clerk's.
 // A body that always found no memory would meet this contract, and no test of this crate refuses it yet.
-pub(crate) fn serve<L: Names, R: Wait, G: Gate>(
+pub(crate) fn serve<L: Names, K: Notes<L>, R: Wait, G: Gate>(
     rt: &R,
     alloc: Global,
     seat: &mut Seat<L>,
-    answers: &mut Vec<RowAnswer>,
+    notes: &mut K,
     rows: &[Row],
     gate: &G,
 ) -> Result<(), AllocError>
-    requires empty { answers.old.items ≡ [] }
-    requires room { length (works_of seat.old.number rows.now) ≤ vec_capacity answers.old }
-    ensures served { OnOk result (HasWorked L.bench seat.old (works_of seat.old.number rows.now) answers.new.items (tally_of seat.new)) }
+    requires { K.hold notes.old [] }
+    ensures served { OnOk result (HasNoted K.hold L.bench seat.old (works_of seat.old.number rows.now) notes.new (tally_of seat.new)) }
     ensures stopped { OnErr result (HasStopped L.bench seat.old (works_of seat.old.number rows.now) (tally_of seat.new)) }
 {
     let mut number = 0u32;
     for row in rows {
         number = number.saturating_add(1);
-        take_row(rt, alloc, seat, answers, number, row, gate)?;
+        take_row(rt, alloc, seat, notes, number, row, gate)?;
     }
     Ok(())
 }

@@ -7,6 +7,7 @@ ghost use Rattle.clerk_workers.specs.Desks.{AreUnderWay, AreWorked, DeskView, Is
 use crate::desk::Desk;
 use crate::gate::Gate;
 use crate::hired::{Hired, hire};
+use crate::notes::Notes;
 use office_rows::Row;
 use office_seats::Names;
 use std::alloc::Global;
@@ -16,20 +17,27 @@ use std::thread::{Scope, Threads};
 
 // Starts a thread for each desk, the last desk first, and then gives the word to start. Where no thread can be made for
 // one, the word is no, and this desk and those before it stay.
-fn hire_all<'s, 'e: 's, L: Names + Send + Sync + 'e, R: Threads + Wait + Sync + 'e, G: Gate + 'e>(
+fn hire_all<
+    's,
+    'e: 's,
+    L: Names + Send + Sync + 'e,
+    K: Notes<L> + 'e,
+    R: Threads + Wait + Sync + 'e,
+    G: Gate + 'e,
+>(
     scope: &'s Scope<'s, &'e ()>,
     rt: &'e R,
     alloc: Global,
-    desks: &mut Vec<Desk<L>>,
-    hired: &mut Vec<Hired<'e, L>>,
+    desks: &mut Vec<Desk<L, K>>,
+    hired: &mut Vec<Hired<'e, L, K>>,
     rows: &'e [Row],
     gate: &'e G,
     start: &'e OnceLock<bool>,
 )
-    requires ready { All (IsReady rows.now) desks.old.items }
+    requires ready { All (IsReady K.hold) desks.old.items }
     requires none { hired.old.items ≡ [] }
     requires room { length desks.old.items ≤ vec_capacity hired.old }
-    ensures way { AreUnderWay L.bench rows.now desks.old.items desks.new.items hired.new.items }
+    ensures way { AreUnderWay K.hold L.bench rows.now desks.old.items desks.new.items hired.new.items }
     ensures room { length desks.new.items + length hired.new.items ≤ vec_capacity desks.new }
 {
     while let Some(desk) = desks.pop() {
@@ -45,13 +53,13 @@ fn hire_all<'s, 'e: 's, L: Names + Send + Sync + 'e, R: Threads + Wait + Sync + 
 }
 
 // Waits until all hired clerks are done, and puts their desks behind the others, in the order in which they stood.
-fn join_all<'e, L: Names, R: Threads>(
+fn join_all<'e, L: Names, K: Notes<L>, R: Threads>(
     rt: &R,
-    desks: &mut Vec<Desk<L>>,
-    hired: &mut Vec<Hired<'e, L>>,
+    desks: &mut Vec<Desk<L, K>>,
+    hired: &mut Vec<Hired<'e, L, K>>,
 )
     requires room { length desks.old.items + length hired.old.items ≤ vec_capacity desks.old }
-    ensures { (rows : List Row) (start : List DeskView) → AreUnderWay L.bench rows start desks.old.items hired.old.items → AreWorked L.bench rows start desks.new.items }
+    ensures { (rows : List Row) (start : List (DeskView K)) → AreUnderWay K.hold L.bench rows start desks.old.items hired.old.items → AreWorked K.hold L.bench rows start desks.new.items }
 {
     while let Some(clerk) = hired.pop() {
         desks.push_reserved(clerk.join(rt));
@@ -59,17 +67,24 @@ fn join_all<'e, L: Names, R: Threads>(
 }
 
 // Starts all clerks in this scope, and waits for them. Where there is no memory to note who was hired, none begins.
-fn in_scope<'s, 'e: 's, L: Names + Send + Sync + 'e, R: Threads + Wait + Sync + 'e, G: Gate + 'e>(
+fn in_scope<
+    's,
+    'e: 's,
+    L: Names + Send + Sync + 'e,
+    K: Notes<L> + 'e,
+    R: Threads + Wait + Sync + 'e,
+    G: Gate + 'e,
+>(
     scope: &'s Scope<'s, &'e ()>,
     rt: &'e R,
     alloc: Global,
-    desks: Vec<Desk<L>>,
+    desks: Vec<Desk<L, K>>,
     rows: &'e [Row],
     gate: &'e G,
     start: &'e OnceLock<bool>,
-) -> Vec<Desk<L>>
-    requires { All (IsReady rows.now) desks.items }
-    ensures { AreWorked L.bench rows.now desks.items result.items }
+) -> Vec<Desk<L, K>>
+    requires { All (IsReady K.hold) desks.items }
+    ensures { AreWorked K.hold L.bench rows.now desks.items result.items }
 {
     let Ok(mut hired) = Vec::with_capacity(alloc, desks.len()) else {
         return desks;
@@ -82,24 +97,24 @@ fn in_scope<'s, 'e: 's, L: Names + Send + Sync + 'e, R: Threads + Wait + Sync + 
 
 /// Lets the clerks of all desks do their rows, each in a thread of its own, and gives the desks back in the same order.
 /// Where a thread can't be made for each of them, none of the clerks begins.
-pub(crate) fn at_work<L: Names + Send + Sync, R: Threads + Wait + Sync, G: Gate>(
+pub(crate) fn at_work<L: Names + Send + Sync, K: Notes<L>, R: Threads + Wait + Sync, G: Gate>(
     rt: &R,
     alloc: Global,
-    desks: Vec<Desk<L>>,
+    desks: Vec<Desk<L, K>>,
     rows: &[Row],
     gate: &G,
-) -> Vec<Desk<L>>
-    requires { All (IsReady rows.now) desks.items }
-    ensures { AreWorked L.bench rows.now desks.items result.items }
+) -> Vec<Desk<L, K>>
+    requires { All (IsReady K.hold) desks.items }
+    ensures { AreWorked K.hold L.bench rows.now desks.items result.items }
 {
     let word = OnceLock::new();
     let start = &word;
     thread::scope(
         thread::scope_env(),
         rt,
-        move |scope| -> Vec<Desk<L>>
-            requires { All (IsReady rows.now) desks.items }
-            ensures { AreWorked L.bench rows.entry.now desks.items result.items }
+        move |scope| -> Vec<Desk<L, K>>
+            requires { All (IsReady K.hold) desks.items }
+            ensures { AreWorked K.hold L.bench rows.entry.now desks.items result.items }
         { in_scope(scope, rt, alloc, desks, rows, gate, start) },
     )
 }

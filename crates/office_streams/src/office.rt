@@ -52,5 +52,5 @@ pub fn run_office<H: Threads + Wait + Sync, R: Read, W: Write, G: Gate>(
 {
     let input = read_all(alloc, reader)?;
     let text = answers_to(rt, alloc, input.as_slice(), options, gate)?;
-    write_all(writer, text.as_bytes())
+    write_all(writer, text.as_slice())
 }

@@ -1,6 +1,6 @@
 //! The text of a run, of one clerk or of several.
 
-ghost use Rattle.std.specs.Prelude.{All, IfOk, string_bytes};
+ghost use Rattle.std.specs.Prelude.{All, IfOk};
 ghost use Rattle.office_rows.specs.Words.{IsOfClerk};
 ghost use Rattle.office_streams.specs.Office.{AnswersInput, IsTextBy, IsTextOf, input_of};
 
@@ -14,38 +14,38 @@ use std::alloc::{AllocError, Global};
 use std::sync::Wait;
 use std::thread::Threads;
 
-// The text of the run of an input.
+// The bytes of the text of the run of an input.
 pub(crate) fn answers_to<H: Threads + Wait + Sync, G: Gate>(
     rt: &H,
     alloc: Global,
     input: &[u8],
     options: Options,
     gate: &G,
-) -> Result<String, OfficeFault>
-    ensures { AnswersInput (λ said text. IsTextOf options.clerks options.journal said (string_bytes text)) result (input_of options.clerks input.now) }
+) -> Result<Vec<u8>, OfficeFault>
+    ensures { AnswersInput (λ said text. IsTextOf options.clerks options.journal said text.items) result (input_of options.clerks input.now) }
 {
     let checked = check_input(alloc, input, options.clerks)?;
-    match text_of(rt, alloc, &checked, options, gate) {
+    match text_of(rt, alloc, checked, options, gate) {
         Ok(text) => Ok(text),
         Err(_) => Err(OfficeFault::OutOfMemory),
     }
 }
 
-// The text of the run of these rows in this court, by so many clerks.
+// The bytes of the text of the run of these rows in this court, by so many clerks.
 fn text_of<H: Threads + Wait + Sync, G: Gate>(
     rt: &H,
     alloc: Global,
-    checked: &CheckedInput,
+    checked: CheckedInput,
     options: Options,
     gate: &G,
-) -> Result<String, AllocError>
-    requires { All (IsOfClerk options.clerks) checked.now.rows.items }
-    ensures { IfOk result (λ text. IsTextBy options.clerks options.journal checked.now.court checked.now.rows.items (string_bytes text)) }
+) -> Result<Vec<u8>, AllocError>
+    requires { All (IsOfClerk options.clerks) checked.rows.items }
+    ensures { IfOk result (λ text. IsTextBy options.clerks options.journal checked.court checked.rows.items text.items) }
 {
-    let (court, rows) = (&checked.court, checked.rows.as_slice());
+    let CheckedInput { court, rows } = checked;
     let Options { clerks, journal } = options;
     if clerks == 1 {
-        return run_text(alloc, court, rows);
+        return Ok(run_text(alloc, &court, &rows)?.into_bytes());
     }
-    run_shared(rt, alloc, court, clerks, journal, rows, gate)
+    run_shared(rt, alloc, court, clerks, journal, &rows, gate)
 }

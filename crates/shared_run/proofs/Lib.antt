@@ -1,4 +1,7 @@
 pub mod CallLemmas
+pub mod HoldLemmas
 pub mod LineLemmas
+pub mod MergedLemmas
+pub mod MergedTextLemmas
 pub mod OpenedLemmas
 pub mod RunLemmas

@@ -11,8 +11,8 @@ use Rattle.versioned_steps.specs.declared.entry.Entry.{Entry}
 use Rattle.office_seats.specs.Words.{AreOfSeats, IsClosed, IsOpened, SeatView, TallyView, numbers_of, open_seat, open_seats}
 use Rattle.office_rows.specs.declared.row.Row.{Row}
 use Rattle.clerk_workers.specs.declared.answer.RowAnswer.{RowAnswer}
-use Rattle.clerk_workers.proofs.CallerLemmas.{open_long}
-use Rattle.clerk_workers.specs.Words.{AllWorked, HasRun, HasWorked, History, answers_of, works_of}
+use Rattle.clerk_workers.specs.Words.{AllNoted, AllWorked, AreInOrder, AreNoted, HasRun, HasWorked, History, answers_of, works_of}
+use Rattle.clerk_workers.proofs.CallerLemmas.{are_noted, noted_long, open_in_order, open_long}
 use Rattle.shared_run.specs.Run.{IsSharedRun}
 use Rattle.shared_run.proofs.RunLemmas.{HaveWorked, shared_run}
 
@@ -50,6 +50,15 @@ module _ (bench : Bench) (rows : List Row) (answers : List RowAnswer) where
         let seat : get_or (open_seats limit clerks) i (open_seat limit 0) ≡ open_seat limit (suc i) = open_at limit clerks i (open_seat limit 0) (omega (arith, last)) ∙ ap (open_seat limit) (add-one i) in
         let Left : SeatView → Type 0 = λ s. (t : TallyView) × Contains tallies t × HasWorked bench s (works_of s.number rows) (answers_of s.number rows answers) t in
         subst Left seat (one_worked (open_seats limit clerks) tallies all i (open_seat limit 0) within)
+
+module _ {K : Type 0} (hold : K → List RowAnswer → Type 0) (bench : Bench) (rows : List Row) (clerks limit office : ℕ) (seats : List SeatView) (notes : List K) (tallies : List TallyView) (opened : IsOpened clerks limit office seats) (noted : AllNoted hold bench rows seats notes tallies) where
+  -- the notes of the clerks who worked at the seats of an office that was opened
+  pub notes_long : length notes ≡ clerks
+  notes_long = noted_long hold bench rows seats notes tallies noted ∙ (ap length opened.seats_are ∙ open_long limit clerks)
+
+  pub notes_made : AreNoted hold bench rows seats notes tallies
+  notes_made =
+      are_noted hold bench rows seats notes tallies noted (subst AreInOrder (sym opened.seats_are) (open_in_order limit clerks))
 
 -- the run of an office that was opened, at whose seats all rows were answered, and that was closed
 pub run_made : (bench : Bench) (clerks limit office : ℕ) (seats : List SeatView) (rows : List Row) (answers : List RowAnswer) (tallies : List TallyView) (journal : History) → IsOpened clerks limit office seats → HasRun bench rows seats answers tallies → IsClosed bench tallies journal → AreOfSeats office tallies → IsSharedRun bench clerks limit rows answers journal

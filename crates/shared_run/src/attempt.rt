@@ -1,21 +1,24 @@
 //! One office, from its opening to the text of its run.
 
-ghost use Rattle.std.specs.Prelude.{◌≡◌, [], IfOk, IfSome, string_bytes};
+ghost use Rattle.std.specs.Prelude.{◌≡◌, [], IfOk, IfSome};
+ghost use Rattle.std.specs.Arc.{arc_value};
 ghost use Rattle.docket_rows.specs.Words.{bench_of};
 ghost use Rattle.published_docket.specs.Words.{past};
 ghost use Rattle.office_seats.specs.Words.{AreSeats, IsLimit, IsOpened};
 ghost use Rattle.clerk_workers.specs.Words.{AreOfClerks};
 ghost use Rattle.shared_run.specs.Text.{IsSharedText};
 
+use crate::lines::{Lines, lines_for};
+use crate::named::NamesCourt;
 use crate::text::text_of;
-use clerk_workers::{Gate, Ran, run_clerks};
+use clerk_workers::{Gate, Noted, run_noting};
 use court_days::Court;
 use office_rows::Row;
 use office_seats::{Names, Office, OfficeError, Seat};
 use published_docket::Publisher;
 use std::alloc::{AllocError, Global};
-use std::sync::Wait;
 use std::sync::ledger::Blank;
+use std::sync::{Arc, Wait};
 use std::thread::Threads;
 
 // Opens an office. None where one of its seats got no place to read from.
@@ -47,41 +50,46 @@ fn opened<L: Names, R: Wait>(
     }
 }
 
-/// Opens an office, lets its clerks do all rows, closes it, and gives the text of the run. None where one of its seats got
-/// no place to read from; no row is done then. Conditions: the blank and the publisher are those that `L` names, of this
-/// court, and the rest as for a run.
+/// Opens an office, lets its clerks do all rows, closes it, and gives the bytes of the text of the run. None where one of its
+/// seats got no place to read from; no row is done then. Conditions: the blank and the publisher are those that `L` names, of
+/// this court, and the rest as for a run.
 // A body that always found no memory would meet this contract, and no test of this crate refuses it yet.
-pub(crate) fn attempt<L: Names + Send + Sync, R: Threads + Wait + Sync, G: Gate>(
+pub(crate) fn attempt<L: Names + NamesCourt + Send + Sync, R: Threads + Wait + Sync, G: Gate>(
     rt: &R,
     alloc: Global,
     blank: Blank,
     publisher: Publisher,
-    court: &Court,
+    court: &Arc<Court>,
     clerks: u8,
     journal_limit: u32,
     rows: &[Row],
     gate: &G,
-) -> Result<Option<String>, AllocError>
+) -> Result<Option<Vec<u8>>, AllocError>
     requires name { blank.name ≡ L.name }
     requires parts { blank.parts ≡ L.parts }
     requires all { L.parts ≡ 64 }
     requires publisher { publisher ≡ record { parts = L.bench; trail = past L.history [] } }
-    requires court { L.bench ≡ bench_of court.now }
+    requires bench { L.bench ≡ bench_of (arc_value court.now) }
+    requires court { arc_value court.now ≡ L.court }
     requires clerks { AreSeats clerks }
     requires limit { IsLimit journal_limit }
     requires rows { AreOfClerks clerks rows.now }
-    ensures { IfOk result (λ t. IfSome t (λ text. IsSharedText court.now clerks journal_limit rows.now (string_bytes text))) }
+    ensures { IfOk result (λ t. IfSome t (λ text. IsSharedText (arc_value court.now) clerks journal_limit rows.now text.items)) }
 {
     let office = opened::<L, R>(rt, alloc, blank, publisher, court, clerks, journal_limit)?;
     let Some((office, seats)) = office else {
         return Ok(None);
     };
-    let Ok(ran) = run_clerks(rt, alloc, seats, rows, gate) else {
+    let blank_lines = lines_for(alloc, court, clerks)?;
+    let Ok(noted) = run_noting::<L, Lines, R, G>(rt, alloc, seats, blank_lines, rows, gate) else {
         return Err(AllocError);
     };
-    let Ran { answers, tallies } = ran;
+    let Noted {
+        notes: lines,
+        tallies,
+    } = noted;
     let Ok(journal) = office.close(rt, alloc, tallies) else {
         return Err(AllocError);
     };
-    Ok(Some(text_of(rt, alloc, court, clerks, rows, &answers, &journal)?))
+    Ok(Some(text_of(alloc, court, rows, &lines, &journal)?))
 }

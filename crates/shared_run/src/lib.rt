@@ -3,7 +3,9 @@
 
 mod attempt;
 mod lines;
-mod pieces;
+mod merged;
+mod named;
+mod rest;
 mod run;
 mod text;
 

@@ -1,50 +1,94 @@
-//! The lines of the answers to rows.
+//! The text of a clerk's answers.
 
-ghost use Rattle.std.specs.Prelude.{◌≡◌, ◌+◌, ◌<◌, ◌^◌, ◌++◌, IfOk, OnOk, length, string_bytes};
-ghost use Rattle.shared_run.specs.Text.{answer_line, answer_lines, row_text};
+ghost use Rattle.std.specs.Prelude.{◌≡◌, ◌++◌, [], All, IfOk, OnOk, length, string_bytes};
+ghost use Rattle.std.specs.Arc.{arc_value};
+ghost use Rattle.shared_run.specs.Lines.{HoldLines};
+ghost use Rattle.shared_run.specs.Text.{row_text};
 
-use clerk_workers::RowAnswer;
+use crate::named::NamesCourt;
+use crate::rest::Rest;
+use clerk_workers::{Notes, RowAnswer};
 use court_days::Court;
-use office_rows::Row;
-use office_run::push_numbers;
+use office_seats::Names;
 use office_texts::{push_answer, push_view};
 use std::alloc::{AllocError, Global};
+use std::marker::Model;
+use std::sync::Arc;
 
-/// The answer to each of these rows, which stand behind so many others. `Err` says that memory ran out.
-// A body that always found no memory would meet this contract, and no test of this crate refuses it yet.
-pub(crate) fn lines_of(
-    alloc: Global,
-    court: &Court,
-    before: usize,
-    rows: &[Row],
-    answers: &[RowAnswer],
-) -> Result<String, AllocError>
-    requires few { before + length rows.now < 2 ^ 64 }
-    requires as_many { length answers.now ≡ length rows.now }
-    ensures { IfOk result (λ text. string_bytes text ≡ answer_lines court.now (before + 1) rows.now answers.now) }
-{
-    let mut text = String::new(alloc);
-    for (index, row) in rows.iter().enumerate() {
-        let number = (before + index) as u64 + 1;
-        push_line(&mut text, court, number, row.clerk, &answers[index])?;
-    }
-    Ok(text)
+/// The texts of the answers to a clerk's rows, one behind another, without the numbers of row and clerk.
+#[derive(Drop)]
+pub(crate) struct Lines {
+    court: Arc<Court>,
+    bytes: Vec<u8>,
+    // how many bytes each text has
+    lens: Vec<usize>,
+    // where the next text is written first
+    text: String,
 }
 
-/// Adds the answer to the row of that number, counted from 1.
+impl Model for Lines {
+    ghost use Rattle.std.specs.Arc.{arc_value};
+    ghost use Rattle.shared_run.specs.Lines.{LinesView};
+
+    ghost Value = { LinesView };
+
+    ghost view = { λ l. record { court = arc_value l.court; texts = record { bytes = l.bytes.items; lens = l.lens.items } } };
+}
+
+impl Lines {
+    /// Those of a clerk who hasn't begun.
+    pub(crate) fn new(alloc: Global, court: Arc<Court>) -> Self
+        ensures { HoldLines (arc_value court) result [] }
+    {
+        Lines {
+            court,
+            bytes: Vec::new(alloc),
+            lens: Vec::new(alloc),
+            text: String::new(alloc),
+        }
+    }
+
+    /// How many bytes all texts have. It serves to take the memory of a whole text at once, so no clause says it.
+    pub(crate) fn size(&self) -> usize {
+        self.bytes.len()
+    }
+
+    /// All texts, none of which is taken yet.
+    pub(crate) fn all(&self) -> Rest<'_>
+        ensures { result ≡ self.now.texts }
+    {
+        Rest::new(&self.bytes, &self.lens)
+    }
+}
+
+impl<L: Names + NamesCourt> Notes<L> for Lines {
+    ghost hold = { HoldLines L.court };
+
+    // A body that always found no memory would meet this contract, and no test of this crate refuses it yet.
+    fn add(&mut self, answer: RowAnswer) -> Result<(), AllocError> {
+        self.text.clear();
+        push_row_answer(&mut self.text, &self.court, &answer)?;
+        self.bytes.extend_from_slice(self.text.as_bytes())?;
+        self.lens.push(self.text.len())?;
+        Ok(())
+    }
+}
+
+/// Lines for so many clerks, none of whom has begun. `Err` says that memory ran out.
 // A body that always found no memory would meet this contract, and no test of this crate refuses it yet.
-#[tactic(auto, unfolding(crate::specs::Text::answer_line))]
-fn push_line(
-    text: &mut String,
-    court: &Court,
-    number: u64,
-    clerk: u8,
-    answer: &RowAnswer,
-) -> Result<(), AllocError>
-    ensures { OnOk result (string_bytes text.new ≡ string_bytes text.old ++ answer_line court.now number clerk answer.now) }
+pub(crate) fn lines_for(
+    alloc: Global,
+    court: &Arc<Court>,
+    clerks: u8,
+) -> Result<Vec<Lines>, AllocError>
+    ensures as_many { IfOk result (λ lines. length lines.items ≡ clerks) }
+    ensures empty { IfOk result (λ lines. All (λ each. HoldLines (arc_value court.now) each []) lines.items) }
 {
-    push_numbers(text, number, clerk)?;
-    push_row_answer(text, court, answer)
+    let mut lines = Vec::with_capacity(alloc, usize::from(clerks))?;
+    for _clerk in 0..clerks {
+        lines.push_reserved(Lines::new(alloc, court.clone()?));
+    }
+    Ok(lines)
 }
 
 /// Adds the text of an answer, with the ends of its lines.

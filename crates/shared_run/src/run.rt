@@ -1,6 +1,6 @@
 //! A run of several clerks.
 
-ghost use Rattle.std.specs.Prelude.{IfOk, string_bytes};
+ghost use Rattle.std.specs.Prelude.{IfOk};
 ghost use Rattle.office_seats.specs.Words.{AreSeats, IsLimit};
 ghost use Rattle.clerk_workers.specs.Words.{AreOfClerks};
 ghost use Rattle.shared_run.specs.Text.{IsSharedText};
@@ -12,38 +12,40 @@ use office_rows::Row;
 use published_docket::Publisher;
 use std::alloc::{AllocError, Global};
 use std::marker::Brand;
-use std::sync::Wait;
 use std::sync::ledger::Blank;
+use std::sync::{Arc, Wait};
 use std::thread::Threads;
 
-/// The answer to each row in turn, from so many clerks who share an office, each in a thread of its own, and whose journal
-/// takes so many entries; then the sheets of all open cases and the calendars of all judges. The gate is told of each row.
-/// `Err` says that memory ran out, that a thread couldn't be started, or that eight offices in turn had no place for a
-/// clerk to read from. Conditions: 1 to 64 clerks, 0 to 1,000,000 entries, and each row is of one of these clerks.
+/// The bytes of the text of a run: the answer to each row in turn, from so many clerks who share an office, each in a thread
+/// of its own, and whose journal takes so many entries; then the sheets of all open cases and the calendars of all judges.
+/// The gate is told of each row. `Err` says that memory ran out, that a thread couldn't be started, or that eight offices in
+/// turn had no place for a clerk to read from. Conditions: 1 to 64 clerks, 0 to 1,000,000 entries, and each row is of one of
+/// these clerks.
 // A body that always found no memory would meet this contract, and no test of this crate refuses it yet.
 pub fn run_shared<R: Threads + Wait + Sync, G: Gate>(
     rt: &R,
     alloc: Global,
-    court: &Court,
+    court: Court,
     clerks: u8,
     journal_limit: u32,
     rows: &[Row],
     gate: &G,
-) -> Result<String, AllocError>
+) -> Result<Vec<u8>, AllocError>
     requires clerks { AreSeats clerks }
     requires limit { IsLimit journal_limit }
     requires rows { AreOfClerks clerks rows.now }
-    ensures { IfOk result (λ text. IsSharedText court.now clerks journal_limit rows.now (string_bytes text)) }
+    ensures { IfOk result (λ text. IsSharedText court clerks journal_limit rows.now text.items) }
 {
+    let court = Arc::new(alloc, court)?;
     for _try in 0..8 {
-        let publisher = Publisher::new(alloc, court, clerks)?;
+        let publisher = Publisher::new(alloc, &court, clerks)?;
         let blank = Blank::new(64);
         let text = attempt::<Brand, R, G>(
             rt,
             alloc,
             blank,
             publisher,
-            court,
+            &court,
             clerks,
             journal_limit,
             rows,

@@ -6,8 +6,8 @@ use Rattle.clerk_workers.proofs.workers.hire_all.Given as goal
 abbrev pub invariant-loop-desk : goal.invariant-loop-desk
 invariant-loop-desk g l = record {
   all : l.fn.desks.items ≡ l.desks.items ++ begun_at l.hired.items;
-  ready : All (IsReady l.rows) l.desks.items;
-  same_rows : All (λ (h : HiredView). h.rows ≡ l.rows) l.hired.items;
+  ready : All (IsReady g.K.Notes.hold) l.desks.items;
+  same_rows : All (λ (h : HiredView _). h.rows ≡ l.rows) l.hired.items;
   room : length l.desks.items + length l.hired.items ≤ vec_capacity l.hired;
   space : length l.desks.items + length l.hired.items ≤ vec_capacity l.desks;
 }

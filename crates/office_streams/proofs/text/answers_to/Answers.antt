@@ -1,4 +1,4 @@
-use Rattle.std.proofs.Common.{List, string_bytes, subst}
+use Rattle.std.proofs.Common.{List, subst}
 use Rattle.office_rows.specs.declared.row.Row.{Row}
 use Rattle.office_streams.specs.Office.{IsChecked, IsTextBy, IsTextOf, input_of}
 use Rattle.office_streams.proofs.InputLemmas.{made_further}
@@ -10,8 +10,8 @@ returns-in-Ok g c =
     let clerks = c.args.options.clerks in
     let journal = c.args.options.journal in
     let checked = c.in_ok-checked.checked in
-    let text = string_bytes c.in-Ok.text in
-    made_further IsChecked (λ input t. IsTextOf clerks journal input (string_bytes t)) checked c.in-Ok.text (input_of clerks c.args.input.now)
+    let text = c.in-Ok.text.items in
+    made_further IsChecked (λ input t. IsTextOf clerks journal input t.items) checked c.in-Ok.text (input_of clerks c.args.input.now)
     (λ input is.
     record {
       court = checked.court;

@@ -1,3 +1,4 @@
+use Rattle.std.specs.Arc.{arc_value}
 use Rattle.shared_run.proofs.run.run_shared.Given as goal
 
 -- an office of the history and the court that its publisher has, and of the blank's ledger
@@ -6,3 +7,6 @@ ghosts-attempt-L-Names g a = record { history = a.publisher.trail.book; bench = 
 
 abbrev pub ghosts-attempt-L-Ledger : goal.ghosts-attempt-L-Ledger
 ghosts-attempt-L-Ledger g a = record { name = a.blank.name; parts = a.blank.parts }
+
+abbrev pub ghosts-attempt-L-NamesCourt : goal.ghosts-attempt-L-NamesCourt
+ghosts-attempt-L-NamesCourt g a = record { court = arc_value a.court.now }

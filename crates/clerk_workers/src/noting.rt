@@ -1,0 +1,77 @@
+//! Runs of several clerks, who note the answers to their rows.
+
+ghost use Rattle.std.specs.Prelude.{◌≡◌, ◌≤◌, [], All, length, vec_capacity};
+ghost use Rattle.clerk_workers.specs.Desks.{AreWorked, seats_at};
+ghost use Rattle.clerk_workers.specs.Noted.{RunsNoting};
+
+use crate::desk::Desk;
+use crate::desks::{all_are, leave_all, seat_all, unseat_all};
+use crate::gate::Gate;
+use crate::notes::Notes;
+use crate::outcome::{Noted, RunFault};
+use crate::state::State;
+use crate::workers::at_work;
+use office_rows::Row;
+use office_seats::{Names, Seat, Tally};
+use std::alloc::Global;
+use std::snapshot::Snapshot;
+use std::sync::Wait;
+use std::thread::Threads;
+
+// The result of a run, by how far the clerks came who began at the first desks. The lists are empty, and have room.
+fn outcome<L: Names, K: Notes<L>>(
+    start: &Snapshot<Vec<Desk<L, K>>>,
+    mut desks: Vec<Desk<L, K>>,
+    mut seats: Vec<Seat<L>>,
+    mut notes: Vec<K>,
+    mut tallies: Vec<Tally<L>>,
+    rows: &[Row],
+) -> Result<Noted<L, K>, RunFault<L>>
+    requires worked { AreWorked K.hold L.bench rows.now start.now.value.items desks.items }
+    requires seats { (seats.items ≡ []) × (length start.now.value.items ≤ vec_capacity seats) }
+    requires notes { (notes.items ≡ []) × (length start.now.value.items ≤ vec_capacity notes) }
+    requires tallies { (tallies.items ≡ []) × (length start.now.value.items ≤ vec_capacity tallies) }
+    ensures { RunsNoting K.hold L.bench rows.now (seats_at start.now.value.items) result }
+{
+    if all_are(desks.as_slice(), State::Waiting) {
+        unseat_all(&mut desks, &mut seats);
+        return Err(RunFault::NotStarted { seats });
+    }
+    let done = all_are(desks.as_slice(), State::Done);
+    leave_all(&mut desks, &mut tallies, &mut notes);
+    if done {
+        Ok(Noted { notes, tallies })
+    } else {
+        Err(RunFault::Stopped { tallies })
+    }
+}
+
+/// Lets each clerk do its rows in order, all clerks at the same time, each in a thread of its own, in which it notes the
+/// answers; the first notes are the first seat's. A command is prepared and committed up to eight times, until no part was
+/// touched in between; then it is made while no other clerk can finish one. A journal that is full is an answer, and the
+/// clerk goes on with its next row. A clerk that finds no memory stops; the others go on. All clerks begin together, or,
+/// where a thread can't be made for each of them, none does. Conditions: there are notes for each seat, and they hold nothing.
+// A body that never started would meet this contract, and no test of this crate refuses it yet.
+pub fn run_noting<L: Names + Send + Sync, K: Notes<L>, R: Threads + Wait + Sync, G: Gate>(
+    rt: &R,
+    alloc: Global,
+    mut seats: Vec<Seat<L>>,
+    mut notes: Vec<K>,
+    rows: &[Row],
+    gate: &G,
+) -> Result<Noted<L, K>, RunFault<L>>
+    requires as_many { length notes.items ≡ length seats.items }
+    requires empty { All (λ n. K.hold n []) notes.items }
+    ensures { RunsNoting K.hold L.bench rows.now seats.items result }
+{
+    let Ok(tallies) = Vec::with_capacity(alloc, seats.len()) else {
+        return Err(RunFault::NotStarted { seats });
+    };
+    let Ok(mut desks) = Vec::with_capacity(alloc, seats.len()) else {
+        return Err(RunFault::NotStarted { seats });
+    };
+    seat_all(&mut seats, &mut notes, &mut desks);
+    let start = Snapshot::of(&desks);
+    let desks = at_work(rt, alloc, desks, rows, gate);
+    outcome(&start, desks, seats, notes, tallies, rows)
+}
