@@ -5,7 +5,7 @@
 
 Rows are made at random from SEED (by default 1) until COUNT deadlines (by default 10000) were shown: ends that are
 computed, and deadlines that are started and extended, with holidays and outages that are entered meanwhile. Every
-deadline that an answer or a sheet shows must have reasons that lead to what is shown, by the steps of derivation_steps.py
+deadline that an answer or a sheet shows must have reasons that lead to what is shown, by the steps of lib/derivation_steps.py
 alone, which computes no deadline. So must those of the examples and of the stored run. Then reasons of every shape are
 spoiled in every way below and must be refused. The status is 0 where all of this is so. It needs Python 3.8 or later.
 """
@@ -16,8 +16,8 @@ import subprocess
 import sys
 from collections import Counter
 
-from derivation_steps import AFTER, COLUMN, WEEKDAYS, Calendar, Deadline, Wrong, checked, line_of
-from made_inputs import CODES, HOLIDAYS, ZONES, listed, quoted
+from lib.derivation_steps import AFTER, COLUMN, WEEKDAYS, Calendar, Deadline, Wrong, checked, line_of
+from lib.made_inputs import CODES, HOLIDAYS, ZONES, listed, quoted
 from reference.civil import day_of_text, day_text, minute_of_text, weekday
 from reference.court_file import court_of, split, table_of
 

@@ -17,7 +17,7 @@ import re
 import sys
 from collections import Counter
 
-from made_inputs import INPUTS, made_input
+from lib.made_inputs import INPUTS, made_input
 from office_reference import ended
 from reference.civil import CannotTell
 from reference.court_file import NUMBERS as COURT_FAULTS, tomllib

@@ -17,15 +17,15 @@ import random
 import re
 import sys
 
+from lib.order_search import FULL, NoOrder
+from lib.races_inputs import inputs
+from lib.serial_orders import explained, replies
 from office_reference import lines_of
-from order_search import FULL, NoOrder
-from races_inputs import inputs
 from reference.court_file import court_of
 from reference.docket import STEPS, opening, step, view
 from reference.rows_in import rows_of
 from reference.text_out import answer_lines, closing_lines
 from runs_check import ended_program
-from serial_orders import explained, replies
 
 
 # Of inputs with more rows no text is spoiled, since it takes long to see that no order explains one.

@@ -16,10 +16,10 @@ import random
 import sys
 
 from lib.refusals import PROGRAM_ENDED, lacking, library_that_refuses, swept
+from lib.steps_reference import made, opening_world
 from reference.court_file import court_of
 from reference.rows_in import rows_of
 from steps_compare import random_lists
-from steps_reference import made, opening_world
 
 # The outcomes of steps that take memory.
 TAKE_MEMORY = ("began", "read", "finished")

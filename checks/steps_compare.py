@@ -14,10 +14,10 @@ import subprocess
 import sys
 from collections import Counter
 
-from made_inputs import ROWS, made_court
+from lib.made_inputs import ROWS, made_court
+from lib.steps_reference import made, next_part, opening_world
 from reference.court_file import court_of
 from reference.rows_in import rows_of
-from steps_reference import made, next_part, opening_world
 
 OUTCOMES = ["began", "busy", "idle", "no clerk", "read", "ready", "not read", "finished", "stale", "discarded"]
 MOST_DIFFERING = 5

@@ -8,7 +8,7 @@ after it. An order is looked for by order_search.py; that it explains the run is
 """
 import re
 
-from order_search import FULL, NoOrder, Search
+from lib.order_search import FULL, NoOrder, Search
 from reference.docket import STEPS, opening, step, view
 from reference.text_out import answer_lines, closing_lines
 
