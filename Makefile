@@ -62,4 +62,4 @@ help:
 	@echo "make check-long  the long ones"
 	@echo "Each check by itself, and about how long it takes:"
 	@python3 checks/run.py --help-lines
-	@echo "With SEED=2 COUNT=1000 those that draw at random draw so many from another seed."
+	@echo "SEED=2 COUNT=1000: for those that draw at random, another seed and another count."

@@ -218,7 +218,7 @@ def names_in(court, key):
 
 
 def court_of(judges):
-    """The example's file with so many judges and rooms."""
+    """The example's file with that many judges and rooms."""
     court = EXAMPLE.read_text()
     for key, letter in (("judges", "J"), ("rooms", "R")):
         names = ", ".join('"{}{}"'.format(letter, number) for number in range(1, judges + 1))

@@ -6,7 +6,7 @@
 Inputs of 2 to 64 clerks are made from SEED (by default 1): rows that get in one another's way, and rows that have nothing
 to do with those of others. Each is run COUNT times (by default 20). What the program prints must be what the reference
 prints of one clerk who gives all commands in some order that keeps each clerk's own: answers, sheets and calendars; a
-query shows some moment behind its clerk's rows before it. Then texts of short inputs are spoiled in every way below, and must
+query shows some moment after its clerk's rows before it. Then texts of short inputs are spoiled in every way below, and must
 be refused. The lines tell of each input how many different texts were printed and how many different orders explain
 them, in how many runs commands were answered otherwise than in the order of the rows, and in how many a clerk numbered a
 motion or a deadline of a case between two of another clerk. Where both are so, clerks met: neither one of them after the
@@ -50,7 +50,7 @@ class Race:
         return explained(self.court, self.rows, self.made.clerks, self.made.limit, text)
 
     def commands_in(self, lines):
-        """What a text answers to commands, and what stands behind the answers."""
+        """What a text answers to commands, and what comes after the answers."""
         told, closing = replies(self.rows, lines)
         return [lines for row, lines in zip(self.rows, told) if row.work[0] in STEPS], closing
 

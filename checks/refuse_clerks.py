@@ -23,7 +23,7 @@ import sys
 from lib.refusals import PROGRAM_ENDED, lacking, library_that_refuses, swept
 from refuse_office import NO_READER
 
-# What is told of a line that stands there because memory was refused, by that line and the word before it.
+# What a line that is there because memory was refused says, by that line and the word before it.
 TOLD = {
     (b"out of memory", b"clerks"): "opening",
     (b"out of memory", b"done"): "close",

@@ -29,8 +29,8 @@ NOTES = TOP / "out" / "proved.json"
 # How much memory the first proof of a large crate takes with one job, and how many jobs one crate makes use of.
 GIGABYTES_A_JOB = 3
 MOST_JOBS = 4
-# How many lines of a failed crate are shown, and how often a line says what is still being proved. What takes a few
-# seconds was proved before, and isn't told.
+# How many lines of a failed crate are shown, and how often a line says what is still being proved. A crate that takes
+# a few seconds was proved before, and gets no line.
 LAST_LINES = 25
 SECONDS_BETWEEN_LINES = 60
 FEW_SECONDS = 5
