@@ -5,9 +5,10 @@
 
 Rows are made at random from SEED (by default 1) until COUNT deadlines (by default 10000) were shown: ends that are
 computed, and deadlines that are started and extended, with holidays and outages that are entered meanwhile. Every
-deadline that an answer or a sheet shows must have reasons that lead to what is shown, by the steps of derivation_steps.py
-alone, which computes no deadline. So must those of the examples and of the stored run. Then reasons of every shape are
-spoiled in every way below and must be refused. The status is 0 where all of this is so. It needs Python 3.8 or later.
+deadline that an answer or a sheet shows must have reasons that lead to what is shown, by the steps of
+lib/derivation_steps.py alone, which computes no deadline. So must those of the examples and of the stored run. Then
+reasons of every shape are spoiled in every way below and must be refused. The status is 0 where all of this is so. It
+needs Python 3.8 or later.
 """
 import pathlib
 import random
@@ -16,8 +17,8 @@ import subprocess
 import sys
 from collections import Counter
 
-from derivation_steps import AFTER, COLUMN, WEEKDAYS, Calendar, Deadline, Wrong, checked, line_of
-from made_inputs import CODES, HOLIDAYS, ZONES, listed, quoted
+from lib.derivation_steps import AFTER, COLUMN, WEEKDAYS, Calendar, Deadline, Wrong, checked, line_of
+from lib.made_inputs import CODES, HOLIDAYS, ZONES, listed, quoted
 from reference.civil import day_of_text, day_text, minute_of_text, weekday
 from reference.court_file import court_of, split, table_of
 
@@ -197,7 +198,7 @@ def an_input(chance):
 
 
 def other_day(text, days):
-    """The line with a day that lies so many days later, and its weekday."""
+    """The line with a day that lies that many days later, and its weekday."""
     day = day_of_text(text[6:16])
     if day is None:
         return None
@@ -214,14 +215,14 @@ def swapped(text, old, new):
 def lines_spoiled(texts):
     """Each way to spoil the lines, by its name."""
     for place, text in enumerate(texts):
-        before, behind = texts[:place], texts[place + 1:]
-        yield "a line left out", before + behind
-        yield "a line twice", before + [text, text] + behind
-        if behind and behind[0] != text:
-            yield "two lines exchanged", before + [behind[0], text] + behind[1:]
+        before, after = texts[:place], texts[place + 1:]
+        yield "a line left out", before + after
+        yield "a line twice", before + [text, text] + after
+        if after and after[0] != text:
+            yield "two lines exchanged", before + [after[0], text] + after[1:]
         for name, line in line_spoiled(text):
             if line is not None and line != text:
-                yield name, before + [line] + behind
+                yield name, before + [line] + after
     yield "an end left out", texts[:-1]
     yield "nothing at all", []
 

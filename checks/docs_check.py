@@ -64,7 +64,7 @@ def is_answered(example, kind):
 
 
 def is_told(page, example):
-    """Whether the page has each row of the example with its answer, and all lines that stand behind the answers."""
+    """Whether the page has each row of the example with its answer, and all lines after the answers."""
     pairs = re.findall(r"^\| `([^`]*)` \| `([^`]*)` \|", page, re.MULTILINE)
     rows = example.with_suffix(".txt").read_text().split(DIVIDER, 1)[1].splitlines()
     lines = example.with_suffix(".out").read_text().splitlines()

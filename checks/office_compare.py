@@ -17,7 +17,7 @@ import re
 import sys
 from collections import Counter
 
-from made_inputs import INPUTS, made_input
+from lib.made_inputs import INPUTS, made_input
 from office_reference import ended
 from reference.civil import CannotTell
 from reference.court_file import NUMBERS as COURT_FAULTS, tomllib
@@ -25,7 +25,7 @@ from reference.rows_in import NUMBERS as ROW_FAULTS
 from reference.text_out import NAMES
 from runs_check import FOUR_CLERKS, RUNS, ended_program
 
-# The first needs 100,001 rows, which are a run of their own; the second is seldom told without tomllib.
+# The first needs 100,001 rows, which are a run of their own; without tomllib the reference seldom knows the second.
 NOT_MADE = {"TooManyRows"} | (set() if tomllib else {"NotToml"})
 MOST_DIFFERING = 5
 
@@ -55,7 +55,7 @@ def smaller(program, words, data):
 
 
 def inputs(seed, count):
-    """The whole run cut after each byte, and the inputs that are made, each behind the words of its command line."""
+    """The whole run cut after each byte, and the inputs that are made, each after the words of its command line."""
     whole = (RUNS / "docket" / "from_filing_to_hearing.in").read_bytes()
     for length in range(len(whole)):
         yield [], whole[:length]

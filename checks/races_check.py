@@ -6,7 +6,7 @@
 Inputs of 2 to 64 clerks are made from SEED (by default 1): rows that get in one another's way, and rows that have nothing
 to do with those of others. Each is run COUNT times (by default 20). What the program prints must be what the reference
 prints of one clerk who gives all commands in some order that keeps each clerk's own: answers, sheets and calendars; a
-query shows some moment behind its clerk's rows before it. Then texts of short inputs are spoiled in every way below, and must
+query shows some moment after its clerk's rows before it. Then texts of short inputs are spoiled in every way below, and must
 be refused. The lines tell of each input how many different texts were printed and how many different orders explain
 them, in how many runs commands were answered otherwise than in the order of the rows, and in how many a clerk numbered a
 motion or a deadline of a case between two of another clerk. Where both are so, clerks met: neither one of them after the
@@ -17,15 +17,15 @@ import random
 import re
 import sys
 
+from lib.order_search import FULL, NoOrder
+from lib.races_inputs import inputs
+from lib.serial_orders import explained, replies
 from office_reference import lines_of
-from order_search import FULL, NoOrder
-from races_inputs import inputs
 from reference.court_file import court_of
 from reference.docket import STEPS, opening, step, view
 from reference.rows_in import rows_of
 from reference.text_out import answer_lines, closing_lines
 from runs_check import ended_program
-from serial_orders import explained, replies
 
 
 # Of inputs with more rows no text is spoiled, since it takes long to see that no order explains one.
@@ -50,7 +50,7 @@ class Race:
         return explained(self.court, self.rows, self.made.clerks, self.made.limit, text)
 
     def commands_in(self, lines):
-        """What a text answers to commands, and what stands behind the answers."""
+        """What a text answers to commands, and what comes after the answers."""
         told, closing = replies(self.rows, lines)
         return [lines for row, lines in zip(self.rows, told) if row.work[0] in STEPS], closing
 

@@ -3,28 +3,27 @@
 
     refuse_clerks.py PROGRAM INPUT
 
-PROGRAM is stored_office, and INPUT a court's file and one schedule `clerks SEATS LIMIT` with its rows. The first growth is
-refused, then the second, and so on, until a run ends without a refusal. A run in which one is refused must end in one of
-these ways, or it could do without that growth and writes what it writes with ample memory. The opening or the close of the
-office was answered want of memory, once, and succeeded when it was tried again. Or the run of the clerks wasn't started,
-and succeeded with the seats that came back. Or it was stopped: the tallies closed the office, and the journal has of each
-clerk the first commands of its rows, in their order. Or a seat got no place to read from, and the office was opened anew.
-Or the program itself, which reads rows and writes text, found no memory, and says so with status 1. Each of the first four
-must come up, for which all growths are refused again, some times at most. The clerks don't ask for memory in the same order
-in each run, so it is chance whose growth is refused. The status is 0 where all of that is so. It needs Linux, Python 3.8 or
-later and a C compiler, `cc` or the one that CC names.
+PROGRAM is stored_office, and INPUT a court's file and one schedule `clerks SEATS LIMIT` with its rows. A run in which a
+growth is refused must end in one of these ways, or it could do without that growth and writes what it writes with ample
+memory. The opening or the close of the office was answered want of memory, once, and succeeded when it was tried again.
+Or the run of the clerks wasn't started, and succeeded with the seats that came back. Or it was stopped: the tallies
+closed the office, and the journal has of each clerk the first commands of its rows, in their order. Or a seat got no
+place to read from, and the office was opened anew. Or the program itself, which reads rows and writes text, found no
+memory, and says so with status 1. Each of the first four must come up, for which all growths are refused again, a few
+times at most. The clerks don't ask for memory in the same order in each run, so it is chance whose growth is refused.
+The status is 0 where all of that is so. It needs Linux, Python 3.8 or later and a C compiler, `cc` or the one that CC
+names.
 """
 import collections
 import pathlib
 import re
 import subprocess
 import sys
-import tempfile
 
-from refuse_memory import built_library, run
-from refuse_office import ENDED, NO_READER
+from lib.refusals import PROGRAM_ENDED, lacking, library_that_refuses, swept
+from refuse_office import NO_READER
 
-# What is told of a line that stands there because memory was refused, by that line and the word before it.
+# What a line that is there because memory was refused says, by that line and the word before it.
 TOLD = {
     (b"out of memory", b"clerks"): "opening",
     (b"out of memory", b"done"): "close",
@@ -55,7 +54,7 @@ def stopped_with_beginnings(lines, wanted):
 def who_was_refused(ended, wanted):
     """Who was refused memory; None where the run didn't end as it must."""
     status, output, errors = ended
-    if (status, output) == (1, b"") and errors in ENDED:
+    if ended in PROGRAM_ENDED:
         return "the program itself"
     if ended == (0, wanted, NO_READER):
         return "a seat's reader"
@@ -70,41 +69,24 @@ def who_was_refused(ended, wanted):
     return STOPPED if stopped_with_beginnings(lines, wanted) else None
 
 
-def swept(program, path, library, wanted, counts):
-    """How many growths were refused, one in each run, until a run ended without a refusal; None where one didn't end as it must."""
-    text, number = path.read_bytes(), 1
-    while True:
-        refused, ended = run(program, text, library, number)
-        if not refused and ended == (0, wanted, b""):
-            return number - 1
-        who = who_was_refused(ended, wanted) if refused else None
-        if who is None:
-            print(f"{path}: with growth {number} refused it ended so: {ended}")
-            return None
-        counts[who] += 1
-        number += 1
-
-
 def refuse_each(program, path, library):
     """Whether each run on that input ended as it must, and each way came up."""
-    wanted = subprocess.run([program], input=path.read_bytes(), capture_output=True, check=True).stdout
-    counts = collections.Counter()
+    text, counts = path.read_bytes(), collections.Counter()
+    wanted = subprocess.run([program], input=text, stdout=subprocess.PIPE, check=True).stdout
     for _sweep in range(SWEEPS):
-        growths = swept(program, path, library, wanted, counts)
-        if growths is None:
+        more = swept(library, path, [program], text, lambda ended: who_was_refused(ended, wanted),
+                     lambda ended: ended == (0, wanted, b""))
+        if more is None:
             return False
-        missing = [who for who in [*TOLD.values(), STOPPED] if who not in counts]
-        told = ", ".join(f"{count} {who}" for who, count in sorted(counts.items()))
-        print(f"{path}: {growths} growths, each refused once: {told}")
-        if not missing:
+        counts.update(more)
+        if not lacking(path, counts, [*TOLD.values(), STOPPED]):
             return True
-    print(f"{path}: it never came up: {', '.join(missing)}")
     return False
 
 
 def main(program, path):
-    with tempfile.TemporaryDirectory() as folder:
-        sys.exit(0 if refuse_each(program, pathlib.Path(path), built_library(folder)) else 1)
+    with library_that_refuses() as library:
+        sys.exit(0 if refuse_each(program, pathlib.Path(path), library) else 1)
 
 
 if __name__ == "__main__":

@@ -4,31 +4,25 @@
     refuse_office.py PROGRAM INPUT
 
 PROGRAM is stored_office, and makes the calls that INPUT lists; a call that is answered want of memory it makes once more.
-The first growth is refused, then the second, and so on, until a run ends without a refusal. A run in which one is refused
-must end in one of three ways. A call, or the opening of the office, was answered want of memory: the program writes what
-it writes with ample memory, and one line `out of memory` more, above what the same call was answered when it was made
-again. Or a seat got no place to read from, and the office was opened anew: the program says so on standard error, and
-writes what it writes with ample memory. Or the program itself, which reads calls and writes text, found no memory: it ends
-with status 1, writes nothing to standard output, and says so on standard error. So a call that is refused memory says so;
-it changes nothing, does without it nowhere, and doesn't wait for good. Each kind of call that takes memory must have been
-refused it. The status is 0 where all of that is so. It needs Linux, Python 3.8 or later and a C compiler, `cc` or the one
-that CC names.
+A run in which a growth is refused must end in one of three ways. A call, or the opening of the office, was answered want
+of memory: the program writes what it writes with ample memory, and one line `out of memory` more, above what the same
+call was answered when it was made again. Or a seat got no place to read from, and the office was opened anew: the program
+says so on standard error, and writes what it writes with ample memory. Or the program itself, which reads calls and
+writes text, found no memory: it ends with status 1, writes nothing to standard output, and says so on standard error. So
+a call that is refused memory says so; it changes nothing, does without it nowhere, and doesn't wait for good. Each kind
+of call that takes memory must have been refused it. The status is 0 where all of that is so. It needs Linux, Python 3.8
+or later and a C compiler, `cc` or the one that CC names.
 """
-import collections
 import pathlib
 import subprocess
 import sys
-import tempfile
 
-from refuse_memory import built_library, run
+from lib.refusals import PROGRAM_ENDED, lacking, library_that_refuses, swept
 
 # What the line above `out of memory` begins with: that of the opening, and of each call that takes memory.
 CALLS = ("office", "prepare", "commit", "perform", "show", "close")
 REFUSED = b"out of memory\n"
 NO_READER = b"a seat got no place to read from\n"
-# What the program says where it lacks memory for its input, the court's file, a call's row or its text.
-ENDED = [b"Error: " + text + b"\n"
-         for text in (b"out of memory", b"11 OutOfMemory", b"no memory is left", b"memory allocation failed")]
 
 
 def refused_call(output, wanted):
@@ -47,37 +41,21 @@ def who_was_refused(ended, wanted):
         return refused_call(output, wanted)
     if ended == (0, wanted, NO_READER):
         return "a seat's reader"
-    if (status, output) == (1, b"") and errors in ENDED:
-        return "the program itself"
-    return None
+    return "the program itself" if ended in PROGRAM_ENDED else None
 
 
 def refuse_each(program, path, library):
     """Whether each run on that input ended as it must."""
     text = path.read_bytes()
-    wanted = subprocess.run([program], input=text, capture_output=True, check=True).stdout
-    counts, number = collections.Counter(), 1
-    while True:
-        refused, ended = run(program, text, library, number)
-        if not refused and ended == (0, wanted, b""):
-            break
-        who = who_was_refused(ended, wanted) if refused else None
-        if who is None:
-            print(f"{path}: with growth {number} refused it ended so: {ended}")
-            return False
-        counts[who] += 1
-        number += 1
-    told = ", ".join(f"{count} {who}" for who, count in sorted(counts.items()))
-    print(f"{path}: {number - 1} growths, each refused once: {told}")
-    missing = [call for call in CALLS if call not in counts]
-    if missing:
-        print(f"{path}: never refused memory: {', '.join(missing)}")
-    return not missing
+    wanted = subprocess.run([program], input=text, stdout=subprocess.PIPE, check=True).stdout
+    counts = swept(library, path, [program], text, lambda ended: who_was_refused(ended, wanted),
+                   lambda ended: ended == (0, wanted, b""))
+    return counts is not None and not lacking(path, counts, CALLS)
 
 
 def main(program, path):
-    with tempfile.TemporaryDirectory() as folder:
-        sys.exit(0 if refuse_each(program, pathlib.Path(path), built_library(folder)) else 1)
+    with library_that_refuses() as library:
+        sys.exit(0 if refuse_each(program, pathlib.Path(path), library) else 1)
 
 
 if __name__ == "__main__":

@@ -4,30 +4,28 @@
     refuse_steps.py PROGRAM INPUT [SEED]
 
 PROGRAM is stored_steps, and reads INPUT, and then lists of steps that are made at random from SEED (by default 1), as
-steps_compare.py makes them. Of each the first growth is refused, then the second, and so on, until a run ends without a
-refusal. A run in which one is refused may end in three ways. With status 1 it writes nothing to standard output, and to
-standard error one line that says so. With status 0 one step is answered `no memory`: it would have taken memory, and
-changes nothing, so that all others are answered as the replay answers them where that step isn't made. Or it could do
-without that growth, and all is answered as the replay answers it, as it must be in the last run. The status is 0 where
-all of that is so. It needs Linux, Python 3.8 or later and a C compiler, `cc` or the one that CC names.
+steps_compare.py makes them. A run in which a growth is refused may end in three ways. With status 1 it writes nothing to
+standard output, and to standard error one line that says so. With status 0 one step is answered `no memory`: it would
+have taken memory, and changes nothing, so that all others are answered as the replay answers them where that step isn't
+made. Or it could do without that growth, and all is answered as the replay answers it, as it must be in the run without
+a refusal. The second must come up. The status is 0 where all of that is so. It needs Linux, Python 3.8 or later and a C
+compiler, `cc` or the one that CC names.
 """
 import pathlib
 import random
 import sys
-import tempfile
 
+from lib.refusals import PROGRAM_ENDED, lacking, library_that_refuses, swept
+from lib.steps_reference import made, opening_world
 from reference.court_file import court_of
 from reference.rows_in import rows_of
-from refuse_memory import built_library, run
 from steps_compare import random_lists
-from steps_reference import made, opening_world
 
-# How a run ends that lacks memory for its input, the court's file, the rows, or for a schedule and its text.
-ENDED = [(1, b"", b"Error: " + text + b"\n")
-         for text in (b"out of memory", b"11 OutOfMemory", b"no memory is left", b"memory allocation failed")]
 # The outcomes of steps that take memory.
 TAKE_MEMORY = ("began", "read", "finished")
 MADE = 40
+# What came of a growth that was refused.
+LOST, ENDED, DONE_WITHOUT = "lost one step", "ended the run", "the run could do without"
 
 
 class Schedules:
@@ -67,23 +65,17 @@ class Schedules:
 
 def refuse_each(program, name, text, library):
     """Whether each run on that input ended as it must."""
-    schedules, number, ends, steps = Schedules(text), 1, 0, 0
-    while True:
-        refused, ended = run(program, text.encode(), library, number)
+    schedules = Schedules(text)
+
+    def refusals(ended):
         status, output, errors = ended
-        refusals = schedules.refusals(output.decode()) if (status, errors) == (0, b"") else None
-        if refused and ended in ENDED:
-            ends += 1
-        elif refused and refusals == 1:
-            steps += 1
-        elif refusals != 0 or not (refused or steps):
-            print(f"{name}: with growth {number} refused it ended so: {ended}")
-            return False
-        elif not refused:
-            print(f"{name}: {number - 1} growths, each refused once: {steps} lost one step, {ends} ended the run, "
-                  f"{number - 1 - steps - ends} it could do without")
-            return True
-        number += 1
+        return schedules.refusals(output.decode()) if (status, errors) == (0, b"") else None
+
+    def who_was_refused(ended):
+        return ENDED if ended in PROGRAM_ENDED else {0: DONE_WITHOUT, 1: LOST}.get(refusals(ended))
+
+    counts = swept(library, name, [program], text.encode(), who_was_refused, lambda ended: refusals(ended) == 0)
+    return counts is not None and not lacking(name, counts, [LOST])
 
 
 def texts(path, seed):
@@ -93,8 +85,7 @@ def texts(path, seed):
 
 
 def main(program, path, seed=1):
-    with tempfile.TemporaryDirectory() as folder:
-        library = built_library(folder)
+    with library_that_refuses() as library:
         ended = [refuse_each(program, name, text, library) for name, text in texts(path, seed)]
     sys.exit(0 if all(ended) else 1)
 

@@ -14,10 +14,10 @@ import subprocess
 import sys
 from collections import Counter
 
-from made_inputs import ROWS, made_court
+from lib.made_inputs import ROWS, made_court
+from lib.steps_reference import made, next_part, opening_world
 from reference.court_file import court_of
 from reference.rows_in import rows_of
-from steps_reference import made, next_part, opening_world
 
 OUTCOMES = ["began", "busy", "idle", "no clerk", "read", "ready", "not read", "finished", "stale", "discarded"]
 MOST_DIFFERING = 5
@@ -62,8 +62,8 @@ class Schedules:
 
     def made(self, world, word):
         """The world after the step of a word, and its outcome."""
-        clerk, behind = word[0], word[2:]
-        command = self.commands[int(behind) - 1] if behind else None
+        clerk, number = word[0], word[2:]
+        command = self.commands[int(number) - 1] if number else None
         return made(self.court, world, int(clerk), word[1], command)
 
     def add(self, clerks, words, outcomes):
@@ -87,7 +87,7 @@ class Schedules:
 
 
 def every_list(beginning, numbers):
-    """Chunks of every list of five steps of two clerks behind a beginning, with the first of the five the same."""
+    """Chunks of every list of five steps of two clerks after a beginning, with the first of the five the same."""
     letters = ["b{}".format(number) for number in numbers] + ["r", "c", "d"]
     words = [clerk + letter for clerk in "01" for letter in letters]
     for first in words:
@@ -101,7 +101,7 @@ def every_list(beginning, numbers):
 
 
 def add_longer(chunk, world, words, begun, outcomes, more):
-    """Adds every list that begins so and has so many steps more."""
+    """Adds every list with that beginning and that many steps more."""
     if more == 0:
         chunk.add(2, begun, outcomes)
         return
@@ -111,7 +111,7 @@ def add_longer(chunk, world, words, begun, outcomes, more):
 
 
 def random_lists(chance, count):
-    """Chunks of lists that are made at random, so many in all."""
+    """Chunks of lists that are made at random, that many in all."""
     for at in range(0, count, CHUNK):
         kind = chance.choice(["mixed", "hearings", "hearings"])
         court, world = made_court(chance, kind)

@@ -32,11 +32,11 @@ class CourtFault(Exception):
 
 
 def split(data):
-    """The court's file, and the rows: what stands before and behind the first line that is `%%`."""
+    """The court's file, and the rows: what comes before and after the first line that is `%%`."""
     at = 0
     for line in data.split(b"\n"):
         end = at + len(line) + 1
-        # a CR alone doesn't end a line, so that it must have an LF behind it
+        # a CR alone doesn't end a line, so that it must have an LF after it
         if line == b"%%" or (line == b"%%\r" and end <= len(data)):
             return data[:at], data[end:]
         at = end
@@ -183,7 +183,7 @@ def small_value(tokens):
 
 
 def next_token(tokens):
-    """The first token in a list behind the ends of lines, which are left out."""
+    """The first token in a list after the ends of lines, which are left out."""
     while tokens and is_end(tokens[0]):
         tokens.popleft()
     expect(tokens)

@@ -26,7 +26,7 @@ SLOT = 15
 
 
 class Refused(Exception):
-    """The number of a refusal, and what is printed behind its name."""
+    """The number of a refusal, and what is printed after its name."""
 
 
 def opening(court):

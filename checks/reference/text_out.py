@@ -35,8 +35,8 @@ def answer_lines(court, rows, answer):
 
 
 def refusal_text(number, *rest):
-    behind = [day_text(day) for day in rest] if number == 19 else [str(part) for part in rest]
-    return " ".join(["refused", str(number), NAMES[number]] + behind)
+    after = [day_text(day) for day in rest] if number == 19 else [str(part) for part in rest]
+    return " ".join(["refused", str(number), NAMES[number]] + after)
 
 
 def shown_text(court, end):

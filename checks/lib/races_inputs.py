@@ -22,7 +22,7 @@ rooms = [{}]
 
 
 def court_text(judges, rooms):
-    """The court's file with so many judges and rooms."""
+    """The court's file with that many judges and rooms."""
     named = [", ".join('"{}{}"'.format(letter, number) for number in range(1, count + 1))
              for letter, count in (("J", judges), ("R", rooms))]
     return COURT.format(*named)

@@ -3,12 +3,12 @@
 A serial order is a journal: it merges the commands of all clerks, those of each clerk in the order of its rows, and leaves
 out those that were answered `journal full`. It explains a run where the reference's docket, given the commands in that
 order, answers each as it was printed, the sheets and calendars at the end are those of the docket after all of them, and
-what each query printed is what the docket shows at some moment behind its clerk's command before it, and before the one
+what each query printed is what the docket shows at some moment after its clerk's command before it, and before the one
 after it. An order is looked for by order_search.py; that it explains the run is seen here once more, by a plain replay.
 """
 import re
 
-from order_search import FULL, NoOrder, Search
+from lib.order_search import FULL, NoOrder, Search
 from reference.docket import STEPS, opening, step, view
 from reference.text_out import answer_lines, closing_lines
 
@@ -24,7 +24,7 @@ def explained(court, rows, clerks, limit, text):
 
 
 def replies(rows, lines):
-    """The lines of the answer to each row, without the two numbers, and the lines that stand behind all answers."""
+    """The lines of the answer to each row, without the two numbers, and the lines after all answers."""
     told, at = [], 0
     for number, row in enumerate(rows, 1):
         begin = "{} {} ".format(number, row.clerk)
@@ -65,7 +65,7 @@ def check_full(rows, told, limit):
 
 
 def replayed(court, rows, told, closing, order):
-    """The docket after the commands in that order, which must explain all that was told."""
+    """The docket after the commands in that order, which must explain all that was printed."""
     if sorted(order) != [number for number, (row, lines) in enumerate(zip(rows, told), 1)
                          if row.work[0] in STEPS and lines != FULL]:
         raise NoOrder("the order isn't one of the commands that were finished")

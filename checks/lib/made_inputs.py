@@ -6,7 +6,7 @@ rows speak of the same cases, judges, rooms, days and slots.
 import datetime
 from collections import namedtuple
 
-from made_calendars import clock_changes, long_span
+from lib.made_calendars import clock_changes, long_span
 
 # What rows speak of: any days, those on which papers were served, those of hearings; judges, rooms, and open cases.
 World = namedtuple("World", "days served hearings judges rooms cases")

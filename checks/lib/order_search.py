@@ -14,7 +14,7 @@ from reference.text_out import answer_lines, booking_line, closing_lines
 # A row, and the lines of the answer to it. `reads` and `writes` are sets of parts of the docket, a bit each.
 Item = namedtuple("Item", "row work lines reads writes")
 
-# The docket, how many commands of each clerk were placed, the queries behind them that aren't shown yet, and the numbers
+# The docket, how many commands of each clerk were placed, the queries after them that aren't shown yet, and the numbers
 # of the rows that were placed, as pairs of what stood before and a number.
 Moment = namedtuple("Moment", "docket places waiting order")
 
@@ -106,7 +106,7 @@ class Search:
 
     def __init__(self, court, rows, clerks, told, closing):
         self.court, self.closing = court, closing
-        # of each clerk the commands, and the queries that stand behind as many of them
+        # of each clerk the commands, and the queries that come after as many of them
         self.commands = [[] for _ in range(clerks)]
         self.queries = [[[]] for _ in range(clerks)]
         self.parts = parts = Parts(rows, told)
@@ -120,7 +120,7 @@ class Search:
                 self.commands[row.clerk - 1].append(item)
                 self.queries[row.clerk - 1].append([])
         self.later = [self.parts_later(clerk) for clerk in range(clerks)]
-        # the line of each motion's hearing in the calendars behind the answers
+        # the line of each motion's hearing in the calendars after the answers
         self.last_lines = {}
         for line in closing:
             found = re.match(r"\d{4}-.* case (\d+) motion (\d+) room ", line)
@@ -177,7 +177,7 @@ class Search:
                      if answer_lines(self.court, docket, view(self.court, docket, query.work)) != query.lines)
 
     def placed(self, moment, clerk):
-        """The moment behind the clerk's next command, or None where it is answered otherwise."""
+        """The moment after the clerk's next command, or None where it is answered otherwise."""
         item = self.head(moment, clerk)
         if moment.waiting[clerk]:
             return None
@@ -246,7 +246,7 @@ class Search:
                                            if other != clerk)
 
     def advanced(self, moment):
-        """The moment behind all commands that can be placed without a choice."""
+        """The moment after all commands that can be placed without a choice."""
         went_on = True
         while went_on:
             went_on = False

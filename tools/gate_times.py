@@ -1,0 +1,111 @@
+#!/usr/bin/env python3
+"""Runs the gate, and says how many seconds each crate took of it.
+
+    gate_times.py
+
+`rt ci` prints no times, so this looks at its processes twice a second and adds up the processor time of each: what
+proving a crate took, building it by two compilers, proving its tests, its must-fail edits, and the runs of its program
+and tests. Processes that end within half a second may be missed. The table has the crates that took most first. The
+status is that of `rt ci`. It needs Linux and Python 3.8 or later.
+"""
+import collections
+import os
+import pathlib
+import subprocess
+import sys
+import time
+
+TOP = pathlib.Path(__file__).resolve().parent.parent
+KINDS = ("proof", "build", "tests", "edits", "runs")
+SECONDS_BETWEEN_LOOKS = 0.5
+TICKS = os.sysconf("SC_CLK_TCK")
+
+
+def read_process(folder):
+    """A process's parent, its number with its start, its seconds, its words and its folder; None where it has ended."""
+    try:
+        fields = (folder / "stat").read_text().rpartition(")")[2].split()
+        words = (folder / "cmdline").read_bytes().decode(errors="replace").split("\0")[:-1]
+        place = os.readlink(str(folder / "cwd"))
+    except (OSError, ValueError):
+        return None
+    return int(fields[1]), (int(folder.name), fields[19]), (int(fields[11]) + int(fields[12])) / TICKS, words, place
+
+
+def work_of(words, place):
+    """The crate that a process works for and the kind of its work; None where its own words don't tell."""
+    if "--crate-name" in words:
+        crate = words[words.index("--crate-name") + 1]
+        if os.path.basename(place).startswith("rt-edit"):
+            return crate, "edits"
+        if "--test" in words:
+            return crate, "tests"
+        return crate, "build" if "--crate-checked" in words else "proof"
+    for word in words:
+        if "/rt-run-" in word:
+            name = os.path.basename(word)
+            return name[:-len("_tests")] if name.endswith("_tests") else name, "runs"
+    return None
+
+
+class Times:
+    """The processor seconds of each process that was seen, and what it worked for."""
+
+    def __init__(self, root):
+        self.root, self.seconds, self.works = root, {}, {}
+
+    def look(self):
+        """Takes in what each process below the root has used by now."""
+        folders = [folder for folder in pathlib.Path("/proc").iterdir() if folder.name.isdigit()]
+        found = {int(folder.name): read for folder in folders for read in [read_process(folder)] if read}
+        for number, (_, key, seconds, _, _) in found.items():
+            work = self.work_above(number, found)
+            if work:
+                self.seconds[key], self.works[key] = seconds, work
+
+    def work_above(self, number, found):
+        """What a process works for: what its words tell, or those of the nearest process above it."""
+        told = None
+        while number in found:
+            if number == self.root:
+                return told
+            parent, _, _, words, place = found[number]
+            told = told or work_of(words, place)
+            number = parent
+        return None
+
+    def table(self):
+        """The seconds of each crate by kind."""
+        rows = collections.defaultdict(collections.Counter)
+        for key, (crate, kind) in self.works.items():
+            rows[crate][kind] += self.seconds[key]
+        return rows
+
+
+def print_table(rows, minutes):
+    line = "{:<20}" + "{:>8}" * (len(KINDS) + 1)
+    print(line.format("processor seconds", *KINDS, "all"))
+    for crate in sorted(rows, key=lambda name: -sum(rows[name].values())):
+        print(line.format(crate, *("{:.0f}".format(rows[crate][kind]) for kind in KINDS),
+                          "{:.0f}".format(sum(rows[crate].values()))))
+    sums = [sum(row[kind] for row in rows.values()) for kind in KINDS]
+    print(line.format("all", *("{:.0f}".format(each) for each in sums), "{:.0f}".format(sum(sums))))
+    print("{:.0f} processor minutes, in {:.0f} minutes".format(sum(sums) / 60, minutes))
+
+
+def main():
+    began = time.monotonic()
+    gate = subprocess.Popen(["rt", "ci"], cwd=str(TOP))
+    times = Times(gate.pid)
+    try:
+        while gate.poll() is None:
+            times.look()
+            time.sleep(SECONDS_BETWEEN_LOOKS)
+    except KeyboardInterrupt:
+        gate.wait()
+    print_table(times.table(), (time.monotonic() - began) / 60)
+    sys.exit(gate.returncode)
+
+
+if __name__ == "__main__":
+    main()

@@ -1,0 +1,223 @@
+#!/usr/bin/env python3
+"""Proves and builds programs, with the libraries below them, several crates at a time.
+
+    prove.py [--jobs N] PROGRAM..
+
+`rt run` proves a program and the libraries below it one after the other. Here crates that don't use one another are
+proved side by side, those first that most other work waits for. N processors are used, by default all, but no more
+than memory allows. What is proved is kept in the crates' out/ folders, and isn't proved again while nothing changes.
+out/proved.json notes which libraries were proved and from which sources, so that `rt` isn't asked about each; at the
+end it is asked about each program, and looks at all below it once more. Where a crate isn't proved, the end of what
+`rt` printed is shown, and no other is begun. On Ctrl-C all stops, and what was proved is kept. A run of more than a
+minute ends with a table of the seconds of each crate. The status is 0 where all is proved and built. It needs Python
+3.8 or later.
+"""
+import argparse
+import hashlib
+import json
+import os
+import pathlib
+import signal
+import subprocess
+import sys
+import time
+
+from crates import TOP, is_program, needed_by, sources_of, uses_of_all
+
+LOGS = TOP / "out" / "prove"
+NOTES = TOP / "out" / "proved.json"
+# How much memory the first proof of a large crate takes with one job, and how many jobs one crate makes use of.
+GIGABYTES_A_JOB = 3
+MOST_JOBS = 4
+# How many lines of a failed crate are shown, and how often a line says what is still being proved. A crate that takes
+# a few seconds was proved before, and gets no line.
+LAST_LINES = 25
+SECONDS_BETWEEN_LINES = 60
+FEW_SECONDS = 5
+
+
+def jobs_that_fit():
+    """As many jobs as there are processors, or as fit into the memory that is free."""
+    processors = len(os.sched_getaffinity(0)) if hasattr(os, "sched_getaffinity") else os.cpu_count() or 1
+    try:
+        lines = pathlib.Path("/proc/meminfo").read_text().splitlines()
+    except OSError:
+        return processors
+    free = next((int(line.split()[1]) for line in lines if line.startswith("MemAvailable:")), None)
+    return processors if free is None else max(1, min(processors, free // (GIGABYTES_A_JOB * 1024 * 1024)))
+
+
+def prints_of(crates, uses):
+    """For each crate a number that changes where a source of it or of a crate below changes, or the toolchain."""
+    version = subprocess.run(["rt", "version"], stdout=subprocess.PIPE, check=True).stdout
+    made = {}
+
+    def print_of(crate):
+        if crate not in made:
+            text = hashlib.sha256(version)
+            for path in sources_of(crate):
+                text.update(str(path.relative_to(TOP)).encode() + b"\0" + path.read_bytes() + b"\0")
+            for below in sorted(uses[crate]):
+                text.update(print_of(below).encode())
+            made[crate] = text.hexdigest()
+        return made[crate]
+
+    return {crate: print_of(crate) for crate in crates}
+
+
+def weights_of(crates, uses):
+    """How much waits for each crate: its own lines, and those of the longest chain of crates above it."""
+    lines = {crate: sum(path.read_bytes().count(b"\n") for path in sources_of(crate)) for crate in crates}
+    made = {}
+
+    def weight_of(crate):
+        if crate not in made:
+            above = [other for other in crates if crate in uses[other]]
+            made[crate] = lines[crate] + max(map(weight_of, above), default=0)
+        return made[crate]
+
+    return {crate: weight_of(crate) for crate in crates}
+
+
+class Run:
+    """One crate that is being proved."""
+
+    def __init__(self, crate, jobs):
+        self.crate, self.jobs, self.began = crate, jobs, time.monotonic()
+        folder = TOP / "crates" / crate
+        given = folder / "stdin"
+        self.log = LOGS / (crate + ".log")
+        with open(self.log, "wb") as log, open(given if given.exists() else os.devnull, "rb") as rows:
+            words = ["rt", "run" if is_program(crate) else "lib", "--jobs", str(jobs)]
+            self.process = subprocess.Popen(words, cwd=str(folder), stdin=rows, stdout=log, stderr=subprocess.STDOUT,
+                                            start_new_session=True)
+
+    def seconds(self):
+        return time.monotonic() - self.began
+
+    def stop(self):
+        """Ends rt and all that it started."""
+        for number in (signal.SIGTERM, signal.SIGKILL):
+            try:
+                os.killpg(self.process.pid, number)
+                self.process.wait(timeout=5)
+            except (ProcessLookupError, subprocess.TimeoutExpired):
+                continue
+
+
+class Prover:
+    """The crates that are wanted: those that wait, those that are being proved, and those that are."""
+
+    def __init__(self, wanted, jobs):
+        self.uses = uses_of_all()
+        needed = needed_by(wanted, self.uses)
+        self.prints = prints_of(needed, self.uses)
+        self.weights = weights_of(needed, self.uses)
+        notes = json.loads(NOTES.read_text()) if NOTES.exists() else {}
+        self.done = {crate for crate in needed if notes.get(crate) == self.prints[crate] and self.is_kept(crate)}
+        self.waiting = needed - self.done
+        self.all = len(self.waiting)
+        self.jobs, self.running, self.times, self.failed = jobs, [], {}, []
+
+    @staticmethod
+    def is_kept(crate):
+        return not is_program(crate) and (TOP / "crates" / crate / "out" / "rlib" / (crate + ".rlib")).exists()
+
+    def begin(self):
+        """Begins each crate whose libraries are proved, as long as there are jobs."""
+        ready = [crate for crate in self.waiting if self.done.issuperset(self.uses[crate])]
+        ready.sort(key=self.weights.get, reverse=True)
+        for place, crate in enumerate(ready):
+            free = self.jobs - sum(run.jobs for run in self.running)
+            if free <= 0:
+                return
+            others = len(ready) - place - 1
+            jobs = max(1, min(free - others, MOST_JOBS))
+            self.waiting.discard(crate)
+            self.running.append(Run(crate, jobs))
+
+    def note(self):
+        """Notes what is proved, for the next time. What an earlier run proved of other crates stays noted."""
+        notes = json.loads(NOTES.read_text()) if NOTES.exists() else {}
+        notes.update((crate, self.prints[crate]) for crate in self.done)
+        NOTES.write_text(json.dumps(notes, indent=1, sort_keys=True) + "\n")
+
+    def end(self, run):
+        self.running.remove(run)
+        seconds = run.seconds()
+        if run.process.returncode != 0:
+            self.failed.append(run.crate)
+            self.waiting.clear()
+            lines = run.log.read_text(errors="replace").splitlines()
+            print("{} is not proved. All that was printed is in {}; its last lines:".format(
+                run.crate, run.log.relative_to(TOP)))
+            print("\n".join("    " + line for line in lines[-LAST_LINES:]), flush=True)
+            return
+        self.done.add(run.crate)
+        self.times[run.crate] = seconds
+        self.note()
+        if seconds >= FEW_SECONDS:
+            print("{:>3} of {}  {:<20}{:>5.0f} s".format(len(self.times), self.all, run.crate, seconds), flush=True)
+
+    def tell(self):
+        print("still proving: " + ", ".join(
+            "{} ({:.0f} s)".format(run.crate, run.seconds()) for run in self.running), flush=True)
+
+    def prove(self):
+        told = time.monotonic()
+        self.begin()
+        while self.running:
+            time.sleep(0.2)
+            for run in [run for run in self.running if run.process.poll() is not None]:
+                self.end(run)
+                told = time.monotonic()
+            if time.monotonic() - told >= SECONDS_BETWEEN_LINES:
+                self.tell()
+                told = time.monotonic()
+            self.begin()
+
+    def stop(self):
+        for run in self.running:
+            run.stop()
+
+
+def table(times, seconds):
+    """The seconds of each crate, the longest first."""
+    for crate in sorted(times, key=times.get, reverse=True):
+        print("{:>6.0f} s  {}".format(times[crate], crate))
+    print("{:>6.0f} s  all {}, side by side; {:.0f} s one after the other".format(
+        seconds, len(times), sum(times.values())))
+
+
+def interrupted(_number, _frame):
+    raise KeyboardInterrupt
+
+
+def main():
+    reader = argparse.ArgumentParser(description="Proves and builds programs, several crates at a time.")
+    reader.add_argument("--jobs", type=int, default=0, help="how many processors to use")
+    reader.add_argument("programs", nargs="+", metavar="PROGRAM")
+    given = reader.parse_args()
+    unknown = [name for name in given.programs if name not in uses_of_all()]
+    if unknown:
+        sys.exit("crates.txt has no crate " + unknown[0])
+    LOGS.mkdir(parents=True, exist_ok=True)
+    began = time.monotonic()
+    prover = Prover(given.programs, given.jobs or jobs_that_fit())
+    signal.signal(signal.SIGTERM, interrupted)
+    if not all(is_program(crate) for crate in prover.waiting):
+        print("proving {} crates, {} jobs at a time".format(prover.all, prover.jobs), flush=True)
+    try:
+        prover.prove()
+    except KeyboardInterrupt:
+        prover.stop()
+        sys.exit("\nstopped; the next run goes on with what is proved")
+    if prover.failed:
+        sys.exit(1)
+    seconds = time.monotonic() - began
+    if seconds >= SECONDS_BETWEEN_LINES:
+        table(prover.times, seconds)
+
+
+if __name__ == "__main__":
+    main()
