@@ -1,7 +1,8 @@
 //! What a command changes in the case that it is about: in the docket's own, or in a copy.
 
-ghost use Rattle.std.specs.Prelude.{◌≡◌, IfSome, OnOk, OnErr};
+ghost use Rattle.std.specs.Prelude.{◌≡◌, true, None, IfSome, OnOk, OnErr};
 ghost use Rattle.docket_core.specs.Changes.{CanChangeRecord, case_after, case_of, record_after};
+ghost use Rattle.docket_core.specs.Memory.{takes_memory};
 
 use crate::rebooking::hearing_asked;
 use docket_rows::{CaseRecord, Command};
@@ -31,6 +32,7 @@ fn change_record(alloc: Global, case: &mut CaseRecord, command: &Command) -> Res
     requires { CanChangeRecord command.now case.old }
     ensures ok { OnOk result (case.new ≡ record_after command.now case.old) }
     ensures err { OnErr result (case.new ≡ case.old) }
+    ensures memory { OnErr result (takes_memory None command.now ≡ true) }
 {
     match command {
         Command::Start {
@@ -79,6 +81,7 @@ pub(crate) fn change_case(
     requires { IfSome case.old (CanChangeRecord command.now) }
     ensures ok { OnOk result (case.new ≡ case_after command.now case.old) }
     ensures err { OnErr result (case.new ≡ case.old) }
+    ensures memory { OnErr result (takes_memory None command.now ≡ true) }
 {
     if let Command::OpenCase { filed, .. } = command {
         *case = Some(CaseRecord::new(alloc, *filed));

@@ -1,7 +1,8 @@
 //! What is decided on the parts that were read.
 
-ghost use Rattle.std.specs.Prelude.{◌≡◌, ◌++◌, None, IfOk, OnOk, filter_map, option_map, option_to_list};
+ghost use Rattle.std.specs.Prelude.{◌≡◌, ◌++◌, true, None, IfOk, IfErr, OnOk, filter_map, option_map, option_to_list};
 ghost use Rattle.docket_rows.specs.Words.{refusal, parts_read, next_part, answered, changed, written_on};
+ghost use Rattle.docket_core.specs.Memory.{decision_takes_memory};
 ghost use Rattle.docket_core.specs.Written.{written_into};
 
 use crate::answers::answer_if_made;
@@ -22,7 +23,7 @@ impl DocketRules {
     }
 
     /// What the command is answered, and what it writes, where these are the parts that it read. They need never have
-    /// been true together. `Err` says that memory ran out.
+    /// been true together. `Err` says that memory ran out, which a refusal takes only where it is that notice is lost.
     #[tactic(auto, unfolding(docket_rows::specs::Words::answered, docket_rows::specs::Words::written_on))]
     pub fn decide(
         &self,
@@ -33,6 +34,7 @@ impl DocketRules {
         requires { next_part self.now command.now reads.now ≡ None }
         ensures answer { IfOk result (λ d. d.answer ≡ answered self.now (parts_read self.now reads.now) command.now) }
         ensures writes { IfOk result (λ d. d.writes ≡ written_on self.now command.now reads.now) }
+        ensures memory { IfErr result (λ e. decision_takes_memory (refusal self.now (parts_read self.now reads.now) command.now) ≡ true) }
     {
         let seen = Seen::of(self, reads);
         if let Some(refusal) = refusal(alloc, self, &seen, command)? {

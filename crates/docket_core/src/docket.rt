@@ -1,8 +1,9 @@
 //! The docket of one thread.
 
-ghost use Rattle.std.specs.Prelude.{◌≡◌, Some, None, option_copied, nat_lt, IfOk, IfErr, if◌then◌else◌};
+ghost use Rattle.std.specs.Prelude.{◌≡◌, true, Some, None, option_copied, nat_lt, IfOk, IfErr, if◌then◌else◌};
 ghost use Rattle.docket_rows.specs.declared.part.PartId.{PartId};
-ghost use Rattle.docket_rows.specs.Words.{AreSound, Rows, answered, bench_of, deadline_in, has_case, opening_rows, part_after, part_value, seen_by, step, view_of};
+ghost use Rattle.docket_rows.specs.Words.{AreSound, Rows, answered, bench_of, deadline_in, has_case, opening_rows, part_after, part_value, refusal, seen_by, step, view_of};
+ghost use Rattle.docket_core.specs.Memory.{takes_memory, view_takes_memory};
 
 use crate::holdings::Holdings;
 use crate::seen::deadline_in;
@@ -45,22 +46,26 @@ impl Docket {
 
     /// Decides the command on the docket as it is, and changes the docket in place where the command isn't refused. A
     /// command about a case copies neither the case nor its deadlines, and a hearing that is booked behind all others
-    /// of a judge moves no booking. `Err` says that memory ran out, and leaves the docket as it was.
+    /// of a judge moves no booking. `Err` says that memory ran out, which no command says that takes none, and leaves
+    /// the docket as it was.
     pub fn apply(&mut self, alloc: Global, command: &Command) -> Result<Answer, AllocError>
         ensures bench { self.new.bench ≡ self.old.bench }
         ensures answer { IfOk result (λ a. a ≡ answered self.old.bench (parts_held self.old) command.now) }
         ensures parts { IfOk result (λ a. (part : PartId) → part_value (parts_held self.new) part ≡ part_after self.old.bench (parts_held self.old) command.now part) }
         ensures rows { (rows : Rows) → AreSound self.old.bench rows → StandsFor self.old rows → IfOk result (λ a. (a ≡ (step self.old.bench rows command.now).1) × StandsFor self.new (step self.old.bench rows command.now).0) }
         ensures err { IfErr result (λ e. self.new ≡ self.old) }
+        ensures memory { IfErr result (λ e. takes_memory (refusal self.old.bench (parts_held self.old) command.now) command.now ≡ true) }
         ensures lawful { IsDocket self.new }
     {
         self.holdings.apply(alloc, command)
     }
 
-    /// What the query shows of the docket, or why it is refused. `Err` says that memory ran out.
+    /// What the query shows of the docket, or why it is refused. `Err` says that memory ran out, which no refusal and no
+    /// end of a period takes.
     pub fn show(&self, alloc: Global, query: &Query) -> Result<View, AllocError>
         ensures view { IfOk result (λ v. v ≡ seen_by self.now.bench (parts_held self.now) query.now) }
         ensures rows { (rows : Rows) → StandsFor self.now rows → IfOk result (λ v. v ≡ view_of self.now.bench rows query.now) }
+        ensures memory { IfErr result (λ e. view_takes_memory (seen_by self.now.bench (parts_held self.now) query.now) ≡ true) }
     {
         self.holdings.show(alloc, query)
     }

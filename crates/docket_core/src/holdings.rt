@@ -3,9 +3,10 @@ mod apply;
 mod calendars;
 mod cases;
 
-ghost use Rattle.std.specs.Prelude.{◌≡◌, [], None, Some, All, option_copied, unwrap_or, get_or, length, nat_lt, IfOk, if◌then◌else◌};
+ghost use Rattle.std.specs.Prelude.{◌≡◌, true, [], None, Some, All, option_copied, unwrap_or, get_or, length, nat_lt, IfOk, IfErr, if◌then◌else◌};
 ghost use Rattle.docket_rows.specs.Words.{bench_of, has_case, opening_rows, parts_of, part_value, seen_by};
 ghost use Rattle.docket_rows.specs.declared.part.PartId.{PartId};
+ghost use Rattle.docket_core.specs.Memory.{view_takes_memory};
 
 use crate::rules::DocketRules;
 use crate::seen::has_case;
@@ -62,7 +63,8 @@ impl Holdings {
 
     /// What the query shows of the docket as it is, or why it is refused. `Err` says that memory ran out.
     pub fn show(&self, alloc: Global, query: &Query) -> Result<View, AllocError>
-        ensures { IfOk result (λ v. v ≡ seen_by self.now.bench (parts_held self.now) query.now) }
+        ensures view { IfOk result (λ v. v ≡ seen_by self.now.bench (parts_held self.now) query.now) }
+        ensures memory { IfErr result (λ e. view_takes_memory (seen_by self.now.bench (parts_held self.now) query.now) ≡ true) }
     {
         view_of(alloc, &self.rules, self, query)
     }

@@ -1,9 +1,11 @@
 //! Entering a holiday.
 
-ghost use Rattle.std.specs.Prelude.{◌≡◌, Some, [], filter, unwrap_or, option_copied, IfOk};
+ghost use Rattle.std.specs.Prelude.{◌≡◌, true, Some, [], filter, unwrap_or, option_copied, IfOk, IfErr};
 ghost use Rattle.std.specs.Option.{option_map_or};
 ghost use Rattle.docket_rows.specs.Words.{lesser, comes_first, least, lacks_notice, all_booked, hearing_that_day, notice_lost, holiday_refusal};
 ghost use Rattle.docket_core.specs.Holidays.{least_before, sought_test};
+ghost use Rattle.docket_core.specs.Memory.{takes_memory};
+ghost use Rattle.docket_rows.specs.declared.command.Command.TheVariants as command;
 
 use crate::hearings::lacks_notice;
 use crate::rules::DocketRules;
@@ -140,7 +142,8 @@ pub(crate) fn holiday_refusal<S: Sight>(
     day: Day,
     list: HolidayList,
 ) -> Result<Option<Refusal>, AllocError>
-    ensures { IfOk result (λ r. r ≡ holiday_refusal rules.now (S.parts sight.now) day list) }
+    ensures value { IfOk result (λ r. r ≡ holiday_refusal rules.now (S.parts sight.now) day list) }
+    ensures memory { IfErr result (λ e. takes_memory (holiday_refusal rules.now (S.parts sight.now) day list) (command.Holiday day list) ≡ true) }
 {
     if !sight.days().covered(day) {
         return Ok(Some(Refusal::BadDay));

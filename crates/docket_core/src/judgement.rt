@@ -1,7 +1,8 @@
 //! Why a command is refused, if it is.
 
-ghost use Rattle.std.specs.Prelude.{◌≡◌, IfOk};
+ghost use Rattle.std.specs.Prelude.{◌≡◌, true, IfOk, IfErr};
 ghost use Rattle.docket_rows.specs.Words.{refusal};
+ghost use Rattle.docket_core.specs.Memory.{takes_memory};
 
 use crate::cases::open_case_refusal;
 use crate::deadlines::{extend_refusal, file_act_refusal, start_deadline_refusal};
@@ -22,7 +23,8 @@ pub(crate) fn refusal<S: Sight>(
     sight: &S,
     command: &Command,
 ) -> Result<Option<Refusal>, AllocError>
-    ensures { IfOk result (λ r. r ≡ refusal rules.now (S.parts sight.now) command.now) }
+    ensures value { IfOk result (λ r. r ≡ refusal rules.now (S.parts sight.now) command.now) }
+    ensures memory { IfErr result (λ e. takes_memory (refusal rules.now (S.parts sight.now) command.now) command.now ≡ true) }
 {
     match command {
         Command::OpenCase { case, filed } => Ok(open_case_refusal(sight, *case, *filed)),

@@ -1,10 +1,11 @@
 //! What a query shows of a docket.
 mod sheet;
 
-ghost use Rattle.std.specs.Prelude.{◌≡◌, [], unwrap_or, option_copied, IfOk};
+ghost use Rattle.std.specs.Prelude.{◌≡◌, true, [], unwrap_or, option_copied, IfOk, IfErr};
 ghost use Rattle.hearing_slots.specs.Words.{on_day};
 ghost use Rattle.docket_rows.specs.Words.{seen_by};
 ghost use Rattle.docket_rows.specs.declared.query.Query.TheVariants as query;
+ghost use Rattle.docket_core.specs.Memory.{view_takes_memory};
 
 use crate::deadlines::{shown_at_start, start_refusal};
 use crate::rules::DocketRules;
@@ -26,7 +27,8 @@ fn case_view<S: Sight>(
     sight: &S,
     case: u32,
 ) -> Result<View, AllocError>
-    ensures { IfOk result (λ v. v ≡ seen_by rules.now (S.parts sight.now) (query.Sheet case)) }
+    ensures view { IfOk result (λ v. v ≡ seen_by rules.now (S.parts sight.now) (query.Sheet case)) }
+    ensures memory { IfErr result (λ e. view_takes_memory (seen_by rules.now (S.parts sight.now) (query.Sheet case)) ≡ true) }
 {
     if !has_case(sight, case) {
         return Ok(View::Refused(Refusal::NoSuchCase));
@@ -56,7 +58,8 @@ fn day_view<S: Sight>(
     judge: u8,
     day: Day,
 ) -> Result<View, AllocError>
-    ensures { IfOk result (λ v. v ≡ seen_by rules.now (S.parts sight.now) (query.JudgeDay judge day)) }
+    ensures view { IfOk result (λ v. v ≡ seen_by rules.now (S.parts sight.now) (query.JudgeDay judge day)) }
+    ensures memory { IfErr result (λ e. view_takes_memory (seen_by rules.now (S.parts sight.now) (query.JudgeDay judge day)) ≡ true) }
 {
     if judge >= rules.judges() {
         return Ok(View::Refused(Refusal::NoSuchJudge));
@@ -95,7 +98,8 @@ pub(crate) fn view_of<S: Sight>(
     sight: &S,
     query: &Query,
 ) -> Result<View, AllocError>
-    ensures { IfOk result (λ v. v ≡ seen_by rules.now (S.parts sight.now) query.now) }
+    ensures view { IfOk result (λ v. v ≡ seen_by rules.now (S.parts sight.now) query.now) }
+    ensures memory { IfErr result (λ e. view_takes_memory (seen_by rules.now (S.parts sight.now) query.now) ≡ true) }
 {
     match query {
         Query::Sheet(case) => case_view(alloc, rules, sight, *case),
@@ -114,7 +118,8 @@ impl DocketRules {
         sight: &S,
         query: &Query,
     ) -> Result<View, AllocError>
-        ensures { IfOk result (λ v. v ≡ seen_by self.now (S.parts sight.now) query.now) }
+        ensures view { IfOk result (λ v. v ≡ seen_by self.now (S.parts sight.now) query.now) }
+        ensures memory { IfErr result (λ e. view_takes_memory (seen_by self.now (S.parts sight.now) query.now) ≡ true) }
     {
         view_of(alloc, self, sight, query)
     }

@@ -2,9 +2,10 @@
 mod calendars;
 mod cases;
 
-ghost use Rattle.std.specs.Prelude.{◌≡◌, None, IfOk};
+ghost use Rattle.std.specs.Prelude.{◌≡◌, true, None, IfOk, IfErr};
 ghost use Rattle.docket_rows.specs.Words.{refusal, outage_refusal, changed, days_written};
 ghost use Rattle.court_days.specs.Words.{add_outage};
+ghost use Rattle.docket_core.specs.Memory.{takes_memory};
 
 use crate::rules::DocketRules;
 use crate::sight::Sight;
@@ -39,7 +40,8 @@ pub(crate) fn days_written<S: Sight>(
     command: &Command,
 ) -> Result<Option<Days>, AllocError>
     requires { refusal rules.now (S.parts sight.now) command.now ≡ None }
-    ensures { IfOk result (λ days. days ≡ days_written (S.parts sight.now).days command.now) }
+    ensures value { IfOk result (λ days. days ≡ days_written (S.parts sight.now).days command.now) }
+    ensures memory { IfErr result (λ e. takes_memory None command.now ≡ true) }
 {
     match command {
         Command::Holiday { day, list } => {

@@ -16,6 +16,6 @@ pub use Rattle.docket_rows.specs.Lawful.{IsNoticed, KeepsNotice, AreLawful, IsSe
 pub use Rattle.docket_rows.specs.Reads.{calendars_of, calendars_now, about_case, wanted, is_read}
 unfoldable pub use Rattle.docket_rows.specs.Reads.{next_part}
 pub use Rattle.docket_rows.specs.Writes.{add_deadline, change_deadline, add_motion, set_hearing, days_written, case_written, booking_of, rebooked, is_before_judge, is_in_room, judge_written, room_written, changed, part_after}
-unfoldable pub use Rattle.docket_rows.specs.Writes.{touches_part, written_on}
+unfoldable pub use Rattle.docket_rows.specs.Writes.{written_on}
 pub use Rattle.docket_rows.specs.View.{state_of, sheet_deadline, sheet_hearing, sheet_motion, sheet_of, shown_if_asked, view_of}
 unfoldable pub use Rattle.docket_rows.specs.View.{seen_by}

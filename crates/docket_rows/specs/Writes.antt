@@ -1,5 +1,5 @@
 -- Which parts a command writes, and what it writes into them.
-use Rattle.std.specs.Prelude.{ℕ, ◌+◌, ◌==◌, Bool, true, false, ◌&&◌, is_some, is_none, List, [], ◌∷◌, ◌++◌, length, map, Option, Some, None, option_map, unwrap_or, if◌then◌else◌}
+use Rattle.std.specs.Prelude.{ℕ, ◌+◌, ◌==◌, Bool, true, false, is_none, List, [], ◌∷◌, ◌++◌, length, map, Option, Some, None, option_map, unwrap_or, if◌then◌else◌}
 use Rattle.std.specs.List.{filter_map}
 use Rattle.std.specs.Option.{option_map_or}
 use Rattle.court_days.specs.Words.{DaysView, add_holiday, add_outage, later_day}
@@ -114,10 +114,6 @@ changed parts command Court = option_map value.Days (days_written parts.days com
 changed parts command (Judge judge) = option_map value.Calendar (judge_written parts command judge)
 changed parts command (Room room) = option_map value.Calendar (room_written parts command room)
 changed parts command (Case case) = option_map (λ c. value.Case (Some c)) (case_written parts command case)
-
--- a command touches the parts that it writes; a refused one touches none
-unfoldable pub touches_part : Bench → Parts → Command → PartId → Bool
-touches_part bench parts command part = is_none (refusal bench parts command) && is_some (changed parts command part)
 
 -- what a part holds after a command: what the command writes into it, where it isn't refused and touches the part, and
 -- else what it held

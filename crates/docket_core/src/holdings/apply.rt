@@ -1,6 +1,6 @@
 //! A command, applied to a docket in place.
 
-ghost use Rattle.std.specs.Prelude.{◌≡◌, None, set, get_or, IfOk, IfErr, IfSome, OnOk, OnErr};
+ghost use Rattle.std.specs.Prelude.{◌≡◌, true, None, set, get_or, IfOk, IfErr, IfSome, OnOk, OnErr};
 ghost use Rattle.docket_rows.specs.Words.{refusal, answered, part_value};
 ghost use Rattle.docket_rows.specs.declared.part.PartId.{PartId};
 
@@ -15,6 +15,7 @@ use std::alloc::{AllocError, Global};
 
 impl Holdings {
     ghost use Rattle.docket_core.specs.Docket.{parts_held};
+    ghost use Rattle.docket_core.specs.Memory.{takes_memory};
     ghost use Rattle.docket_rows.specs.Words.{part_after};
     ghost use Rattle.docket_core.specs.Changes.{IsAfter, CanChangeRecord, case_after, rebooked_docket};
     ghost use Rattle.docket_core.specs.Rebooking.{CanChangeAll, judge_change, room_change};
@@ -28,6 +29,7 @@ impl Holdings {
         ensures answer { IfOk result (λ a. a ≡ answered self.old.bench (parts_held self.old) command.now) }
         ensures parts { IfOk result (λ a. (part : PartId) → part_value (parts_held self.new) part ≡ part_after self.old.bench (parts_held self.old) command.now part) }
         ensures err { IfErr result (λ e. self.new ≡ self.old) }
+        ensures memory { IfErr result (λ e. takes_memory (refusal self.old.bench (parts_held self.old) command.now) command.now ≡ true) }
     {
         if let Some(refusal) = refusal(alloc, &self.rules, self, command)? {
             return Ok(Answer::Refused(refusal));
@@ -43,6 +45,7 @@ impl Holdings {
         ensures bench { self.new.bench ≡ self.old.bench }
         ensures ok { OnOk result (IsAfter self.old command.now self.new) }
         ensures err { OnErr result (self.new ≡ self.old) }
+        ensures memory { OnErr result (takes_memory None command.now ≡ true) }
     {
         if let Some(days) = days_written(alloc, &self.rules, self, command)? {
             self.days = days;
@@ -83,6 +86,7 @@ impl Holdings {
         requires { IfSome ((parts_held self.old).case number) (CanChangeRecord command.now) }
         ensures ok { OnOk result (self.new ≡ record self.old { cases = set self.old.cases number (case_after command.now (get_or self.old.cases number None)) }) }
         ensures err { OnErr result (self.new ≡ self.old) }
+        ensures memory { OnErr result (takes_memory None command.now ≡ true) }
     {
         cases::change(alloc, &mut self.cases, number, command)
     }

@@ -1,8 +1,9 @@
 //! The cases of a docket, changed in place.
 
-ghost use Rattle.std.specs.Prelude.{◌≡◌, None, set, get_or, IfSome, OnOk, OnErr};
+ghost use Rattle.std.specs.Prelude.{◌≡◌, true, None, set, get_or, IfSome, OnOk, OnErr};
 ghost use Rattle.docket_rows.specs.Words.{set_hearing};
 ghost use Rattle.docket_core.specs.Changes.{CanChangeRecord, case_after, with_case};
+ghost use Rattle.docket_core.specs.Memory.{takes_memory};
 
 use crate::case_changes::change_case;
 use docket_rows::{CaseRecord, Command, Hearing};
@@ -18,6 +19,7 @@ pub(crate) fn change(
     requires { IfSome (get_or cases.old number None) (CanChangeRecord command.now) }
     ensures ok { OnOk result (cases.new ≡ set cases.old number (case_after command.now (get_or cases.old number None))) }
     ensures err { OnErr result (cases.new ≡ cases.old) }
+    ensures memory { OnErr result (takes_memory None command.now ≡ true) }
 {
     if number as usize >= cases.len() {
         return Ok(());

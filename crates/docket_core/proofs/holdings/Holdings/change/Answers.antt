@@ -34,5 +34,5 @@ pub returns-in-Some-case_of-clause-ok : goal.returns-in-Some-case_of-clause-ok
 returns-in-Some-case_of-clause-ok c =
     let d = c.args.self.now in
     let places = subst (λ (d : DocketView). HasPlaces d.bench d.cases d.judges d.rooms) c.self.view_is c.self.invariant in
-    let after = only_case_changed d.bench d c.args.command.now c.in-Some-case_of.number c.requires places.of_cases (sym c.in_ok-days.ensures ∙ c.in_default.is) (sym c.in_default-rebooking_of.ensures) c.in-Some-case_of.ensures in
+    let after = only_case_changed d.bench d c.args.command.now c.in-Some-case_of.number c.requires places.of_cases (sym c.in_ok-days.ensures.value ∙ c.in_default.is) (sym c.in_default-rebooking_of.ensures) c.in-Some-case_of.ensures in
     on_ok_weaker c.change_case.result (λ e. subst (λ (n : DocketView). IsAfter d c.args.command.now n) (sym e) after) c.change_case.ensures.ok

@@ -1,0 +1,30 @@
+-- What takes memory. What takes none is answered even where no memory is left.
+use Rattle.std.specs.Prelude.{Bool, true, false, Option, Some, None}
+use Rattle.docket_rows.specs.declared.command.Command.{Command}
+use Rattle.docket_rows.specs.declared.command.Command.TheVariants.{OpenCase, FileAct}
+use Rattle.docket_rows.specs.declared.refusal.Refusal.{Refusal}
+use Rattle.docket_rows.specs.declared.refusal.Refusal.TheVariants.{NoticeLost}
+use Rattle.docket_rows.specs.declared.view.View.{View}
+use Rattle.docket_rows.specs.declared.view.View.TheVariants as view
+
+-- whether a command takes memory, by why it is refused: a holiday that takes the notice of a hearing is found by days of
+-- its own, and any other refusal without memory; where nothing is refused, a case is opened and an act is recorded without
+abbrev pub takes_memory : Option Refusal → Command → Bool
+takes_memory (Some (NoticeLost case motion)) command = true
+takes_memory (Some refusal) command = false
+takes_memory None (OpenCase case filed) = false
+takes_memory None (FileAct case deadline filing) = false
+takes_memory None command = true
+
+-- whether a decision takes memory, by why its command is refused: what the command writes is copied
+abbrev pub decision_takes_memory : Option Refusal → Bool
+decision_takes_memory (Some (NoticeLost case motion)) = true
+decision_takes_memory (Some refusal) = false
+decision_takes_memory None = true
+
+-- whether a query takes memory, by what it shows: a sheet and a day's bookings are lists, and nothing else is
+abbrev pub view_takes_memory : View → Bool
+view_takes_memory (view.Sheet sheet) = true
+view_takes_memory (view.Bookings bookings) = true
+view_takes_memory (view.Computed shown) = false
+view_takes_memory (view.Refused refusal) = false
