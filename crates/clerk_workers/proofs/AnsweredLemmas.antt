@@ -1,37 +1,13 @@
 -- Answers to a clerk's rows, as more of the history is seen and more rows are answered.
-use Rattle.std.proofs.Common.{◌≡◌, ℕ, ◌+◌, ◌≤◌, List, [], ◌∷◌, ◌++◌, length, All, refl, ap, sym, ◌∙◌, append_assoc, append-nil, arith, length-append, subst}
-use Rattle.std.proofs.lemmas.List.Elements.{All-nil, All-cons}
+use Rattle.std.proofs.Common.{◌≡◌, ℕ, List, [], ◌∷◌, ◌++◌, length, refl, ap, sym, ◌∙◌, append_assoc, append-nil, arith}
 use mathlib.Core.List.{IsPrefix}
-use Rattle.docket_rows.specs.declared.answer.Answer.{Answer}
-use Rattle.docket_rows.specs.declared.command.Command.{Command}
 use Rattle.docket_rows.specs.Words.{Bench}
-use Rattle.versioned_steps.specs.declared.entry.Entry.{Entry}
-use Rattle.published_docket.proofs.CallerLemmas.{prefix_trans}
+use Rattle.published_docket.proofs.CallerLemmas.{prefix_self, prefix_trans}
 use Rattle.office_rows.specs.declared.row.Work.{Work}
 use Rattle.office_rows.specs.declared.row.Work.TheVariants as work
 use Rattle.clerk_workers.specs.declared.answer.RowAnswer.{RowAnswer}
 use Rattle.clerk_workers.specs.declared.answer.RowAnswer.TheVariants.{Made, JournalFull, Viewed}
-use Rattle.clerk_workers.specs.Answered.{History, StandsAt, IsAnswered, AreAnswered, place_told, places_told}
-
--- an entry stands where it stood, as more is seen
-stands_later : (seen now : History) (place : ℕ) (entry : Entry Command Answer) → IsPrefix seen now → StandsAt seen place entry → StandsAt now place entry
-stands_later seen now place entry begins stands = record {
-  before = stands.before;
-  after = stands.after ++ begins.0;
-  history_is = sym begins.1 ∙ (ap (λ (h : History). h ++ begins.0) stands.history_is ∙ append_assoc stands.before (entry ∷ stands.after) begins.0);
-  place_is = stands.place_is;
-}
-
--- its place is within the history
-stands_inside : (seen : History) (place : ℕ) (entry : Entry Command Answer) → StandsAt seen place entry → place ≤ length seen
-stands_inside seen place entry stands =
-    let long : length seen ≡ length stands.before + length (entry ∷ stands.after) = ap length stands.history_is ∙ length-append stands.before (entry ∷ stands.after) in
-    omega (arith, long, stands.place_is)
-
-pub prefix_long : (seen now : History) → IsPrefix seen now → length seen ≤ length now
-prefix_long seen now begins =
-    let long : length now ≡ length seen + length begins.0 = ap length (sym begins.1) ∙ length-append seen begins.0 in
-    omega (arith, long)
+use Rattle.clerk_workers.specs.Answered.{History, Says, IsAnsweredAt, AreAnswered, place_told, places_told}
 
 -- the places of more answers
 pub places_push : (answers : List RowAnswer) (answer : RowAnswer) → places_told (answers ++ answer ∷ []) ≡ places_told answers ++ place_told answer
@@ -39,55 +15,47 @@ places_push [] answer = append-nil (place_told answer)
 places_push (a ∷ answers) answer =
     ap (λ (ps : List ℕ). place_told a ++ ps) (places_push answers answer) ∙ sym (append_assoc (place_told a) (places_told answers) (place_told answer))
 
-module _ (bench : Bench) (limit number : ℕ) (seen : History) where
-  -- an answer that was right stays so, as more is seen
-  answered_later : (now : History) → IsPrefix seen now → (earlier : List ℕ) (w : Work) (answer : RowAnswer) → IsAnswered bench limit number seen earlier w answer → IsAnswered bench limit number now earlier w answer
-  answered_later now begins earlier (work.Command command) (Made done) is =
-      record { entry = stands_later seen now done.place _ begins is.entry; within = is.within }
-  answered_later now begins earlier (work.Command command) JournalFull is = omega (arith, is, prefix_long seen now begins)
-  answered_later now begins earlier (work.Command command) (Viewed view) is = is
-  answered_later now begins earlier (work.Query query) (Made done) is = is
-  answered_later now begins earlier (work.Query query) JournalFull is = is
-  answered_later now begins earlier (work.Query query) (Viewed view) is =
-      record { moment = is.moment; beginning = prefix_trans is.moment seen now is.beginning begins; holds = is.holds; shows = is.shows }
+module _ (bench : Bench) (limit number : ℕ) where
+  -- what an answer says of its moment it says also to a clerk who had seen less before
+  pub says_since : (less before : History) (w : Work) (answer : RowAnswer) (moment : History) → IsPrefix less before → Says bench limit number before w answer moment → Says bench limit number less w answer moment
+  says_since less before (work.Command command) (Made done) moment begins is = record {
+    earlier = is.earlier;
+    later = prefix_trans less before is.earlier begins is.later;
+    moment_is = is.moment_is;
+    place_is = is.place_is;
+    within = is.within;
+  }
+  says_since less before (work.Command command) JournalFull moment begins is = is
+  says_since less before (work.Command command) (Viewed view) moment begins is = is
+  says_since less before (work.Query query) (Made done) moment begins is = is
+  says_since less before (work.Query query) JournalFull moment begins is = is
+  says_since less before (work.Query query) (Viewed view) moment begins is = is
 
-  pub are_answered_later : (now : History) → IsPrefix seen now → (earlier : List ℕ) (works : List Work) (answers : List RowAnswer) → AreAnswered bench limit number seen earlier works answers → AreAnswered bench limit number now earlier works answers
-  are_answered_later now begins earlier [] [] are = tt
-  are_answered_later now begins earlier [] (answer ∷ answers) are = absurd are
-  are_answered_later now begins earlier (w ∷ works) [] are = absurd are
-  are_answered_later now begins earlier (w ∷ works) (answer ∷ answers) are =
-      (answered_later now begins earlier w answer are.0, are_answered_later now begins (earlier ++ place_told answer) works answers are.1)
+  module _ (seen now : History) (more : IsPrefix seen now) where
+    -- answers that were right stay so, as more is seen
+    answered_later : (before : History) (w : Work) (answer : RowAnswer) (moment : History) → IsAnsweredAt bench limit number seen before w answer moment → IsAnsweredAt bench limit number now before w answer moment
+    answered_later before w answer moment is =
+        record { later = is.later; beginning = prefix_trans moment seen now is.beginning more; says = is.says }
 
-  -- one more is answered
-  pub are_answered_push : (earlier : List ℕ) (works : List Work) (answers : List RowAnswer) (w : Work) (answer : RowAnswer) → AreAnswered bench limit number seen earlier works answers → IsAnswered bench limit number seen (earlier ++ places_told answers) w answer → AreAnswered bench limit number seen earlier (works ++ w ∷ []) (answers ++ answer ∷ [])
-  are_answered_push earlier [] [] w answer are is =
-      let P : List ℕ → Type 0 = λ ps. IsAnswered bench limit number seen ps w answer in
-      (subst P (append-nil earlier) is, tt)
-  are_answered_push earlier [] (a ∷ answers) w answer are is = absurd are
-  are_answered_push earlier (v ∷ works) [] w answer are is = absurd are
-  are_answered_push earlier (v ∷ works) (a ∷ answers) w answer are is =
-      let P : List ℕ → Type 0 = λ ps. IsAnswered bench limit number seen ps w answer in
-      (are.0, are_answered_push (earlier ++ place_told a) works answers w answer are.1 (subst P (sym (append_assoc earlier (place_told a) (places_told answers))) is))
+    pub are_answered_later : (before : History) (works : List Work) (answers : List RowAnswer) → AreAnswered bench limit number seen before works answers → AreAnswered bench limit number now before works answers
+    are_answered_later before [] [] are = tt
+    are_answered_later before [] (answer ∷ answers) are = absurd are
+    are_answered_later before (w ∷ works) [] are = absurd are
+    are_answered_later before (w ∷ works) (answer ∷ answers) are =
+        (are.0, answered_later before w answer are.0 are.1, are_answered_later are.0 works answers are.2)
 
-  -- the calls that the answers tell are all seen
-  place_inside : (earlier : List ℕ) (w : Work) (answer : RowAnswer) (rest : List ℕ) → IsAnswered bench limit number seen earlier w answer → All (λ place. place ≤ length seen) rest → All (λ place. place ≤ length seen) (place_told answer ++ rest)
-  place_inside earlier (work.Command command) (Made done) rest is inside = All-cons (λ place. place ≤ length seen) done.place rest (stands_inside seen done.place _ is.entry) inside
-  place_inside earlier (work.Command command) JournalFull rest is inside = inside
-  place_inside earlier (work.Command command) (Viewed view) rest is inside = absurd is
-  place_inside earlier (work.Query query) (Made done) rest is inside = absurd is
-  place_inside earlier (work.Query query) JournalFull rest is inside = absurd is
-  place_inside earlier (work.Query query) (Viewed view) rest is inside = inside
-
-  pub places_inside : (earlier : List ℕ) (works : List Work) (answers : List RowAnswer) → AreAnswered bench limit number seen earlier works answers → All (λ place. place ≤ length seen) (places_told answers)
-  places_inside earlier [] [] are = All-nil (λ place. place ≤ length seen)
-  places_inside earlier [] (answer ∷ answers) are = absurd are
-  places_inside earlier (w ∷ works) [] are = absurd are
-  places_inside earlier (w ∷ works) (answer ∷ answers) are =
-      place_inside earlier w answer (places_told answers) are.0 (places_inside (earlier ++ place_told answer) works answers are.1)
+    -- one more is answered, at the moment up to which the history is seen now
+    pub are_answered_push : (before : History) (works : List Work) (answers : List RowAnswer) (w : Work) (answer : RowAnswer) → IsPrefix before seen → AreAnswered bench limit number seen before works answers → Says bench limit number seen w answer now → AreAnswered bench limit number now before (works ++ w ∷ []) (answers ++ answer ∷ [])
+    are_answered_push before [] [] w answer begins are is =
+        (now, record { later = prefix_trans before seen now begins more; beginning = prefix_self now; says = says_since before seen w answer now begins is }, tt)
+    are_answered_push before [] (a ∷ answers) w answer begins are is = absurd are
+    are_answered_push before (v ∷ works) [] w answer begins are is = absurd are
+    are_answered_push before (v ∷ works) (a ∷ answers) w answer begins are is =
+        (are.0, answered_later before v a are.0 are.1, are_answered_push are.0 works answers w answer are.1.beginning are.2 is)
 
   -- as many answers as works
-  pub as_many : (earlier : List ℕ) (works : List Work) (answers : List RowAnswer) → AreAnswered bench limit number seen earlier works answers → length answers ≡ length works
-  as_many earlier [] [] are = refl
-  as_many earlier [] (answer ∷ answers) are = absurd are
-  as_many earlier (w ∷ works) [] are = absurd are
-  as_many earlier (w ∷ works) (answer ∷ answers) are = omega (arith, as_many (earlier ++ place_told answer) works answers are.1)
+  pub as_many : (seen before : History) (works : List Work) (answers : List RowAnswer) → AreAnswered bench limit number seen before works answers → length answers ≡ length works
+  as_many seen before [] [] are = refl
+  as_many seen before [] (answer ∷ answers) are = absurd are
+  as_many seen before (w ∷ works) [] are = absurd are
+  as_many seen before (w ∷ works) (answer ∷ answers) are = omega (arith, as_many seen are.0 works answers are.2)

@@ -8,12 +8,12 @@ use Rattle.clerk_workers.specs.declared.answer.RowAnswer.{RowAnswer}
 use Rattle.clerk_workers.specs.declared.state.State.{State}
 use Rattle.clerk_workers.specs.Desks.{AreUnderWay, AreWorked, DeskView, HiredView, IsIn, IsReady, IsWorked, begun_at}
 
--- what is taken from a list one after another, the last first, and put behind others
+-- what is taken from a list one after another, the last first, and put after others
 pub turned_more : {X Y : Type 0} (f : X → Y) (others : List Y) (xs : List X) (x : X) → others ++ reverse (map f (xs ++ x ∷ [])) ≡ (others ++ f x ∷ []) ++ reverse (map f xs)
 turned_more f others xs x =
     ap (λ ys. others ++ ys) (ap reverse (map-append f xs (x ∷ [])) ∙ reverse-append (map f xs) (f x ∷ [])) ∙ sym (append_assoc others (f x ∷ []) (reverse (map f xs)))
 
--- desks, and behind them those of hired clerks, one more of whom is hired
+-- desks, and after them those of hired clerks, one more of whom is hired
 pub begun_more : {K : Type 0} (others : List (DeskView K)) (hired : List (HiredView K)) (clerk : HiredView K) → others ++ begun_at (hired ++ clerk ∷ []) ≡ (others ++ clerk.desk ∷ []) ++ begun_at hired
 begun_more {K} others hired clerk = turned_more (λ (h : HiredView K). h.desk) others hired clerk
 

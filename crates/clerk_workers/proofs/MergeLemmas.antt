@@ -5,7 +5,7 @@ use Rattle.std.proofs.lemmas.List.{get_or-map, get_or-set_other, get_or-set_same
 use Rattle.office_rows.specs.declared.row.Row.{Row}
 use Rattle.clerk_workers.specs.declared.answer.RowAnswer.{RowAnswer}
 use Rattle.clerk_workers.specs.Merged.{AreFromTheLast, IsTaken, list_at}
-use Rattle.clerk_workers.specs.Rows.{AreOfClerks, IsOfClerk, answers_of, works_of}
+use Rattle.clerk_workers.specs.Rows.{AreOfClerks, IsClerk, answers_of, works_of}
 use Rattle.clerk_workers.proofs.DeskLemmas.{all_but_last, all_first}
 use Rattle.clerk_workers.proofs.RowLemmas.{answers_other, answers_own, works_append, works_other, works_own}
 
@@ -23,10 +23,11 @@ taken f lists place old new answer lt at popped =
 
 module _ (all rest before : List Row) (row : Row) (first now : List (List RowAnswer)) (taken : List RowAnswer) (last : rest ≡ before ++ row ∷ []) (way : AreFromTheLast all rest first now taken) where
   -- the next row is of one of the clerks
-  pub next_clerk : (clerks : ℕ) → AreOfClerks clerks all → IsOfClerk clerks row
+  pub next_clerk : (clerks : ℕ) → AreOfClerks clerks all → IsClerk clerks row.clerk
   next_clerk clerks each =
-      let here : AreOfClerks clerks rest = all_first (IsOfClerk clerks) rest way.later (subst (All (IsOfClerk clerks)) way.all_is each) in
-      (all_but_last (IsOfClerk clerks) before row (subst (All (IsOfClerk clerks)) last here)).1
+      let P : Row → Type 0 = λ (r : Row). IsClerk clerks r.clerk in
+      let here : AreOfClerks clerks rest = all_first P rest way.later (subst (All P) way.all_is each) in
+      (all_but_last P before row (subst (All P) last here)).1
 
   -- as many of each clerk's rows are left as before the next row, and it
   rows_left : (clerk : ℕ) → length (works_of clerk rest) ≡ length (works_of clerk before) + length (works_of clerk (row ∷ []))

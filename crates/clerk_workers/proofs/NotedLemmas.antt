@@ -62,7 +62,7 @@ module _ {K : Type 0} (hold : K → List RowAnswer → Type 0) (bench : Bench) (
       record {
         lists = mine ∷ rest.lists;
         held = (all.0.held, rest.held);
-        many = λ place lt. many_at first mine rest.lists (as_many bench seat.limit seat.number tally.seen [] (works_of seat.number rows) mine all.0.worked.answered ∙ ap (λ k. length (works_of k rows)) here) rest.many place lt;
+        many = λ place lt. many_at first mine rest.lists (as_many bench seat.limit seat.number tally.seen seat.seen (works_of seat.number rows) mine all.0.worked.answered ∙ ap (λ k. length (works_of k rows)) here) rest.many place lt;
         worked = λ answers merged.
             let own : mine ≡ answers_of seat.number rows answers = merged 0 (omega arith) ∙ ap (λ k. answers_of k rows answers) (omega (arith, here)) in
             let P : List RowAnswer → Type 0 = λ each. HasWorked bench seat (works_of seat.number rows) each tally in (

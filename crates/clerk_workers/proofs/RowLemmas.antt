@@ -33,7 +33,7 @@ module _ (clerk : ℕ) where
   pub works_begin : (first rows : List Row) → IsPrefix first rows → IsPrefix (works_of clerk first) (works_of clerk rows)
   works_begin first rows begins = (works_of clerk begins.0, sym (works_append first begins.0) ∙ ap (works_of clerk) begins.1)
 
-  -- the answers at a row of the clerk's and behind it, and at one of another's
+  -- the answers at a row of the clerk's and after it, and at one of another's
   pub answers_own : (row : Row) (rows : List Row) (answer : RowAnswer) (answers : List RowAnswer) → row.clerk ≡ clerk → answers_of clerk (row ∷ rows) (answer ∷ answers) ≡ answer ∷ answers_of clerk rows answers
   answers_own row rows answer answers own = let is : (row.clerk == clerk) ≡ true = (Decides-eqb row.clerk clerk).1 own in rw is
 

@@ -1,5 +1,5 @@
 -- A clerk at work: what is so after some rows stays so after the next.
-use Rattle.std.proofs.Common.{◌≡◌, ℕ, ◌≤◌, List, [], ◌∷◌, ◌++◌, length, All, OnOk, refl, ap, sym, ◌∙◌, append_assoc, append-nil, subst, arith}
+use Rattle.std.proofs.Common.{◌≡◌, ℕ, List, [], ◌∷◌, ◌++◌, OnOk, refl, ap, sym, ◌∙◌, append_assoc, append-nil, subst}
 use Rattle.std.specs.declared.result.Result.{Result}
 use Rattle.std.specs.declared.result.Result.TheVariants.{Ok, Err}
 use mathlib.Core.List.{IsPrefix}
@@ -9,12 +9,12 @@ use Rattle.office_seats.specs.Words.{SeatView, Goes}
 use Rattle.office_rows.specs.declared.row.Row.{Row}
 use Rattle.office_rows.specs.declared.row.Work.{Work}
 use Rattle.clerk_workers.specs.declared.answer.RowAnswer.{RowAnswer}
-use Rattle.clerk_workers.specs.Answered.{AreAnswered, IsAnswered, place_told, places_told}
+use Rattle.clerk_workers.specs.Answered.{Says, place_told, places_told}
 use Rattle.clerk_workers.specs.Noted.{HasNoted, IsNoted}
 use Rattle.clerk_workers.specs.Rows.{works_of}
 use Rattle.clerk_workers.specs.Steps.{Answers, FinishesNothing, HasLeft, IsAfter, IsDone}
 use Rattle.clerk_workers.specs.Worked.{HasStopped, HasWorked, tally_of}
-use Rattle.clerk_workers.proofs.AnsweredLemmas.{prefix_long, are_answered_later, are_answered_push, places_inside, places_push}
+use Rattle.clerk_workers.proofs.AnsweredLemmas.{are_answered_later, are_answered_push, places_push, says_since}
 use Rattle.clerk_workers.proofs.RowLemmas.{works_append, works_begin, works_other, works_own}
 
 goes_on : (old mid new : SeatView) → Goes old mid → Goes mid new → Goes old new
@@ -24,19 +24,13 @@ goes_on old mid new first then = record {
   seen = prefix_trans old.seen mid.seen new.seen first.seen then.seen;
 }
 
--- what holds of all places up to one length holds of all up to a longer one
-all_longer : (places : List ℕ) (less more : ℕ) → less ≤ more → All (λ place. place ≤ less) places → All (λ place. place ≤ more) places
-all_longer places less more le all = λ k d lt. let one = all k d lt in omega (arith, one, le)
-
 module _ (bench : Bench) where
   -- nothing was finished, and then the row was answered
   pub answers_then : {E : Type 0} (old mid : SeatView) (w : Work) (result : Result RowAnswer E) (new : SeatView) → FinishesNothing old mid → Answers bench mid w result new → Answers bench old w result new
   answers_then old mid w (Ok answer) new first done = record {
     goes = goes_on old mid new first.goes done.goes;
     mine = done.mine ∙ ap (λ (ps : List ℕ). ps ++ place_told answer) first.mine;
-    answered = λ earlier seen.
-        let within : All (λ place. place ≤ length mid.seen) earlier = all_longer earlier (length old.seen) (length mid.seen) (prefix_long old.seen mid.seen first.goes.seen) seen in
-        rw (first.goes.limit, first.goes.number) at (done.answered earlier within);
+    says = says_since bench old.limit old.number old.seen mid.seen w answer new.seen first.goes.seen (rw (first.goes.limit, first.goes.number) at done.says);
   }
   answers_then old mid w (Err e) new first nothing = record {
     goes = goes_on old mid new first.goes nothing.goes;
@@ -52,7 +46,7 @@ module _ (bench : Bench) where
         number = nothing.goes.number ∙ was.worked.number;
         seen = prefix_trans start.seen seat.seen now.seen was.worked.seen nothing.goes.seen;
         mine = nothing.mine ∙ was.worked.mine;
-        answered = are_answered_later bench start.limit start.number seat.seen now.seen nothing.goes.seen [] (works_of start.number rows) answers was.worked.answered;
+        answered = are_answered_later bench start.limit start.number seat.seen now.seen nothing.goes.seen start.seen (works_of start.number rows) answers was.worked.answered;
       };
     }
 
@@ -70,9 +64,7 @@ module _ (bench : Bench) where
         let works = works_of start.number rows in
         let mine : works_of start.number (row ∷ []) ≡ row.work ∷ [] = works_own start.number row (own ∙ was.worked.number) in
         let more : works_of start.number (rows ++ row ∷ []) ≡ works ++ row.work ∷ [] = works_append start.number rows (row ∷ []) ∙ ap (λ (ws : List Work). works ++ ws) mine in
-        let seen : All (λ place. place ≤ length seat.seen) (places_told answers) = places_inside bench start.limit start.number seat.seen [] works answers was.worked.answered in
-        let is : IsAnswered bench start.limit start.number now.seen (places_told answers) row.work answer = rw (was.limit, was.worked.number) at (done.answered (places_told answers) seen) in
-        let before : AreAnswered bench start.limit start.number now.seen [] works answers = are_answered_later bench start.limit start.number seat.seen now.seen done.goes.seen [] works answers was.worked.answered in
+        let says : Says bench start.limit start.number seat.seen row.work answer now.seen = rw (was.limit, was.worked.number) at done.says in
         let P : List Work → Type 0 = λ ws. HasWorked bench start ws (answers ++ answer ∷ []) (tally_of now) in
         record {
           limit = done.goes.limit ∙ was.limit;
@@ -80,7 +72,7 @@ module _ (bench : Bench) where
             number = done.goes.number ∙ was.worked.number;
             seen = prefix_trans start.seen seat.seen now.seen was.worked.seen done.goes.seen;
             mine = done.mine ∙ (ap (λ (ps : List ℕ). ps ++ place_told answer) was.worked.mine ∙ (append_assoc start.mine (places_told answers) (place_told answer) ∙ ap (λ (ps : List ℕ). start.mine ++ ps) (sym (places_push answers answer))));
-            answered = are_answered_push bench start.limit start.number now.seen [] works answers row.work answer before is;
+            answered = are_answered_push bench start.limit start.number seat.seen now.seen done.goes.seen start.seen works answers row.work answer was.worked.seen was.worked.answered says;
           });
         }
 
@@ -108,13 +100,13 @@ module _ {K : Type 0} (hold : K → List RowAnswer → Type 0) (bench : Bench) (
         record { answers = was.answers ++ answer ∷ []; held = adds was.answers was.held; after = after_row bench start rows was.answers seat was.after row answer now own is }
     noted_row answer now next (Err e) own is adds = tt
 
-    -- the clerk left before the row, or behind it
+    -- the clerk left before the row, or after it
     pub left_before : (now : SeatView) → FinishesNothing seat now → HasLeft bench start (rows ++ row ∷ []) now
     left_before now nothing =
         record { done = rows; answers = was.answers; beginning = (row ∷ [], refl); after = after_nothing bench start rows was.answers seat was.after now nothing }
 
-    pub left_behind : (answer : RowAnswer) (now : SeatView) → row.clerk ≡ seat.number → IsDone bench seat row.work answer now → HasLeft bench start (rows ++ row ∷ []) now
-    left_behind answer now own is =
+    pub left_after : (answer : RowAnswer) (now : SeatView) → row.clerk ≡ seat.number → IsDone bench seat row.work answer now → HasLeft bench start (rows ++ row ∷ []) now
+    left_after answer now own is =
         record { done = rows ++ row ∷ []; answers = was.answers ++ answer ∷ []; beginning = prefix_self (rows ++ row ∷ []); after = after_row bench start rows was.answers seat was.after row answer now own is }
 
   -- all rows are noted

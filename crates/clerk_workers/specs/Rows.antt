@@ -16,10 +16,11 @@ answers_of clerk (row ∷ rows) [] = []
 answers_of clerk (row ∷ rows) (answer ∷ answers) =
     if row.clerk == clerk then answer ∷ answers_of clerk rows answers else answers_of clerk rows answers
 
--- the row is of one of so many clerks, who are numbered from 1
-pub record IsOfClerk (clerks : ℕ) (row : Row) : Type 0 where
-  pub from_one : 0 < row.clerk
-  pub to_last : row.clerk ≤ clerks
+-- this is the number of one of so many clerks, who are numbered from 1
+pub record IsClerk (clerks clerk : ℕ) : Type 0 where
+  pub from_one : 0 < clerk
+  pub to_last : clerk ≤ clerks
 
+-- the rows are of these clerks
 abbrev pub AreOfClerks : (clerks : ℕ) → List Row → Type 0
-AreOfClerks clerks rows = All (IsOfClerk clerks) rows
+AreOfClerks clerks rows = All (λ (row : Row). IsClerk clerks row.clerk) rows

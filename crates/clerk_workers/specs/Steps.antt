@@ -1,5 +1,5 @@
 -- What one row does to a seat.
-use Rattle.std.specs.Prelude.{◌≡◌, ℕ, ◌≤◌, List, ◌++◌, length, All}
+use Rattle.std.specs.Prelude.{◌≡◌, List, ◌++◌}
 use mathlib.Core.List.{IsPrefix}
 use Rattle.std.specs.declared.result.Result.{Result}
 use Rattle.std.specs.declared.result.Result.TheVariants.{Ok, Err}
@@ -8,7 +8,7 @@ use Rattle.office_seats.specs.Words.{SeatView, Goes}
 use Rattle.office_rows.specs.declared.row.Row.{Row}
 use Rattle.office_rows.specs.declared.row.Work.{Work}
 use Rattle.clerk_workers.specs.declared.answer.RowAnswer.{RowAnswer}
-use Rattle.clerk_workers.specs.Answered.{IsAnswered, place_told}
+use Rattle.clerk_workers.specs.Answered.{Says, place_told}
 use Rattle.clerk_workers.specs.Rows.{works_of}
 use Rattle.clerk_workers.specs.Worked.{HasWorked, tally_of}
 
@@ -18,11 +18,11 @@ pub record FinishesNothing (old new : SeatView) : Type 0 where
   pub mine : new.mine ≡ old.mine
 
 module _ (bench : Bench) where
-  -- the row was answered so, by a clerk whose earlier calls stand anywhere in what it had seen
+  -- the row was answered so, at the moment up to which the seat has now seen the history
   pub record IsDone (old : SeatView) (w : Work) (answer : RowAnswer) (new : SeatView) : Type 0 where
     pub goes : Goes old new
     pub mine : new.mine ≡ old.mine ++ place_told answer
-    pub answered : (earlier : List ℕ) → All (λ place. place ≤ length old.seen) earlier → IsAnswered bench old.limit old.number new.seen earlier w answer
+    pub says : Says bench old.limit old.number old.seen w answer new.seen
 
   -- what this result of answering a row says
   abbrev pub Answers : {E : Type 0} → (old : SeatView) → Work → Result RowAnswer E → (new : SeatView) → Type 0

@@ -12,12 +12,13 @@ abbrev pub tally_of : SeatView → TallyView
 tally_of seat = record { number = seat.number; seen = seat.seen; mine = seat.mine }
 
 module _ (bench : Bench) where
-  -- from this seat on the clerk asked for these, and was given these answers; the tally is what is left of the seat
+  -- from this seat on the clerk asked for these, and was given these answers, the first at a moment no earlier than what was seen then; the
+  -- tally is what is left of the seat
   pub record HasWorked (seat : SeatView) (works : List Work) (answers : List RowAnswer) (tally : TallyView) : Type 0 where
     pub number : tally.number ≡ seat.number
     pub seen : IsPrefix seat.seen tally.seen
     pub mine : tally.mine ≡ seat.mine ++ places_told answers
-    pub answered : AreAnswered bench seat.limit seat.number tally.seen [] works answers
+    pub answered : AreAnswered bench seat.limit seat.number tally.seen seat.seen works answers
 
   -- so for some of the works, from the first on
   pub record HasStopped (seat : SeatView) (works : List Work) (tally : TallyView) : Type 0 where

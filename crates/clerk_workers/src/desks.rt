@@ -37,7 +37,7 @@ pub(crate) fn seat_all<L: Names, K: Notes<L>>(
     }
 }
 
-/// Takes all seats from their desks, and puts them behind the others, the last desk's first.
+/// Takes all seats from their desks, and puts them after the others, the last desk's first.
 pub(crate) fn unseat_all<L: Names, K: Notes<L>>(
     desks: &mut Vec<Desk<L, K>>,
     seats: &mut Vec<Seat<L>>,

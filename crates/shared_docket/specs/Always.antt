@@ -1,5 +1,5 @@
 -- What holds of the docket that clerks share, after each step of every run.
-use Rattle.std.specs.Prelude.{◌≡◌, ℕ, None, List, drop, filter, map, take}
+use Rattle.std.specs.Prelude.{◌≡◌, ℕ, true, None, List, drop, filter, map, take}
 use Rattle.docket_rows.specs.declared.answer.Answer.{Answer}
 use Rattle.docket_rows.specs.declared.command.Command.{Command}
 use Rattle.docket_rows.specs.declared.part.PartId.{PartId}
@@ -9,7 +9,7 @@ use Rattle.docket_rows.specs.declared.sheet.Sheet.{Sheet}
 use Rattle.docket_rows.specs.declared.view.View.TheVariants as view
 use Rattle.docket_rows.specs.Words.{Bench, Parts, is_deadline_in, part_value, parts_of, seen_by}
 use Rattle.docket_laws.specs.Words.{AllHaveNotice, NoneIsBookedTwice, deadline_on_sheet}
-use Rattle.versioned_steps.specs.Words.{World, IsRun, entered, finishes, opening_world, value_of}
+use Rattle.versioned_steps.specs.Words.{World, IsRun, entered, finishes, is_legal, opening_world, value_of}
 use Rattle.versioned_steps.specs.declared.entry.Entry.{Entry}
 use Rattle.versioned_steps.specs.declared.step.Step.{Step}
 use Rattle.versioned_steps.specs.declared.step.Outcome.{Outcome}
@@ -35,6 +35,10 @@ AlwaysHolds claim =
 pub record IsOneDocket (bench : Bench) (history : List (Entry Command Answer)) : Type 0 where
   pub answers : IsSequential bench history
   pub parts : (part : PartId) → value_of (docket_rules bench) history part ≡ part_value (parts_of (rows_of bench history)) part
+
+-- whoever finished the commands of a legal history, and whatever steps led to it, it is one docket
+abbrev pub LegalIsOneDocket : Type 0
+LegalIsOneDocket = (bench : Bench) (history : List (Entry Command Answer)) → is_legal (docket_rules bench) history ≡ true → IsOneDocket bench history
 
 -- the sheet of a case, as the parts show it that clerks share, has just the deadlines that are docketed in the case, each
 -- with the end that the rules give it by the days as they are docketed then

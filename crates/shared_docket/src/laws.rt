@@ -1,6 +1,6 @@
 //! What clerks may rely on who share a docket: after each step of any clerks, in whatever order they take their steps.
 
-ghost use Rattle.shared_docket.specs.Always.{ClerksShareOneDocket, DeadlinesAreShown, FinishedStandOnce, HearingsHaveNotice, NoneIsDoubleBooked};
+ghost use Rattle.shared_docket.specs.Always.{ClerksShareOneDocket, DeadlinesAreShown, FinishedStandOnce, HearingsHaveNotice, LegalIsOneDocket, NoneIsDoubleBooked};
 
 use docket_laws::{
     deadlines_are_shown_by_the_days_as_docketed, every_hearing_has_its_notice,
@@ -11,6 +11,12 @@ use docket_laws::{
 /// the finished commands in their order, and each part holds what that clerk's docket then says.
 pub fn clerks_share_one_docket()
     ensures { ClerksShareOneDocket }
+{}
+
+/// A legal history is one docket, so the journal of an office is too: each command is answered as by one clerk who is given
+/// the commands in their order, and each part holds what that clerk's docket then says.
+pub fn a_legal_history_is_one_docket()
+    ensures { LegalIsOneDocket }
 {}
 
 /// No judge and no room is double-booked: no two hearings that have a judge or the room in common take the same slot of a

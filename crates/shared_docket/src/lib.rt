@@ -6,7 +6,7 @@ mod parts;
 mod steps;
 
 pub use laws::{
-    clerks_share_one_docket, each_finished_command_stands_once,
+    a_legal_history_is_one_docket, clerks_share_one_docket, each_finished_command_stands_once,
     every_deadline_is_that_of_the_rules, every_hearing_is_noticed,
     no_judge_or_room_is_double_booked,
 };

@@ -2,7 +2,7 @@ use Rattle.std.proofs.Common.{◌≡◌, ◌+◌, ◌-◌, ◌++◌, ◌∷◌, 
 use Rattle.std.proofs.lemmas.List.{length-map}
 use Rattle.clerk_workers.specs.declared.answer.RowAnswer.{RowAnswer}
 use Rattle.clerk_workers.specs.Merged.{AreFromTheLast}
-use Rattle.clerk_workers.specs.Rows.{IsOfClerk}
+use Rattle.clerk_workers.specs.Rows.{IsClerk}
 use Rattle.clerk_workers.proofs.MergeLemmas.{from_more, next_answer, next_clerk}
 use Rattle.clerk_workers.proofs.merge.merge.Goals as goal
 
@@ -15,7 +15,7 @@ take_last-requires-clause-some c =
     let before = c.in-Some.before.now in
     let last : rest ≡ before ++ row ∷ [] = c.in-Some.ensures.cases.0 in
     let way = c.loop-row.invariant.so_far in
-    let clerk : IsOfClerk (length c.args.lists.now.items) row = next_clerk c.args.rows.now rest before row first now c.loop-row.answers.items last way (length c.args.lists.now.items) c.requires.clerks in
+    let clerk : IsClerk (length c.args.lists.now.items) row.clerk = next_clerk c.args.rows.now rest before row first now c.loop-row.answers.items last way (length c.args.lists.now.items) c.requires.clerks in
     next_answer c.args.rows.now rest before row first now c.loop-row.answers.items last way (row.clerk - 1) (omega (arith, clerk.from_one, clerk.to_last, length-map c.args.lists.now.items (λ list. list.items))) (omega (arith, clerk.from_one))
 
 pub loop-row-preserved : goal.loop-row-preserved
@@ -29,7 +29,7 @@ loop-row-preserved c =
     let last : rest ≡ before ++ row ∷ [] = c.in-Some.ensures.cases.0 in
     let shorter : length before + 1 ≡ length rest = c.in-Some.ensures.cases.1 in
     let way = c.loop-row.invariant.so_far in
-    let clerk : IsOfClerk (length c.args.lists.now.items) row = next_clerk c.args.rows.now rest before row first now c.loop-row.answers.items last way (length c.args.lists.now.items) c.requires.clerks in
+    let clerk : IsClerk (length c.args.lists.now.items) row.clerk = next_clerk c.args.rows.now rest before row first now c.loop-row.answers.items last way (length c.args.lists.now.items) c.requires.clerks in
     let P : List RowAnswer → Type 0 = λ taken. AreFromTheLast c.args.rows.now before first new taken in
     record {
       so_far = subst P (sym c.push_reserved.ensures.items) (from_more c.args.rows.now rest before row first now c.loop-row.answers.items last way (row.clerk - 1) (omega (arith, clerk.from_one)) new c.take_last.result c.take_last.ensures);

@@ -1,6 +1,6 @@
 use Rattle.std.proofs.Common.{◌∙◌, sym, arith}
 use Rattle.clerk_workers.specs.Steps.{FinishesNothing, IsDone}
-use Rattle.clerk_workers.proofs.WorkLemmas.{left_before, left_behind, noted_other, noted_row}
+use Rattle.clerk_workers.proofs.WorkLemmas.{left_after, left_before, noted_other, noted_row}
 use Rattle.clerk_workers.proofs.worker.take_row.Goals as goal
 
 pub returns-then-row-clerk-clause-noted : goal.returns-then-row-clerk-clause-noted
@@ -21,5 +21,5 @@ returns-clause-noted g c start rows was =
 pub returns-clause-stopped : goal.returns-clause-stopped
 returns-clause-stopped g c start rows was =
     let done : IsDone g.L.Names.bench c.args.seat.now c.args.row.now.work c.in_ok-answer.answer c.answer.new.seat = rw c.in_ok-answer.was at c.answer.ensures in
-    let left = left_behind g.K.Notes.hold g.L.Names.bench start rows c.args.notes.now c.args.seat.now was c.args.row.now c.in_ok-answer.answer c.answer.new.seat (c.if-row-clerk.false ∙ c.number-clerk.ensures) done in
+    let left = left_after g.K.Notes.hold g.L.Names.bench start rows c.args.notes.now c.args.seat.now was c.args.row.now c.in_ok-answer.answer c.answer.new.seat (c.if-row-clerk.false ∙ c.number-clerk.ensures) done in
     grind arith
