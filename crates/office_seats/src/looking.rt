@@ -1,6 +1,6 @@
 //! How a seat reads what is published.
 
-ghost use Rattle.std.specs.Prelude.{◌≡◌, IfNone, IfOk, IfSome};
+ghost use Rattle.std.specs.Prelude.{◌≡◌, IfNone, IfOk, IfSome, MatchBool};
 ghost use mathlib.Core.List.{IsPrefix};
 ghost use Rattle.left_right.specs.Sides.{view};
 ghost use Rattle.docket_rows.specs.Words.{view_of};
@@ -15,6 +15,19 @@ use published_docket::{DocketReader, Shown, Trail, enter, read_all, show};
 use shared_docket::DocketParts;
 use std::alloc::{AllocError, Global};
 use versioned_steps::Draft;
+
+// Notes how far the history has gone, and says whether that goes on from what was seen before. Where it doesn't, nothing is
+// noted.
+fn is_noted(shown: &Shown, trail: &mut Trail) -> bool
+    requires { shown.now.trail.book ≡ trail.old.book }
+    ensures { MatchBool result (IsPrefix trail.old.log shown.now.trail.log × (trail.new ≡ shown.now.trail)) (trail.new ≡ trail.old) }
+{
+    if !trail.begins(shown.trail()) {
+        return false;
+    }
+    *trail = shown.trail().again();
+    true
+}
 
 // Notes how far the history has gone, and makes a draft of the command at this moment. None where what is seen is older than
 // what was seen before.
@@ -35,10 +48,9 @@ fn read_at(
     ensures command { IfSome result (λ r. IfOk r (λ d. d.command ≡ command.now)) }
     ensures read { IfSome result (λ r. IfOk r (IsReadAll (docket_rules shown.now.parts) shown.now.trail.log)) }
 {
-    if !trail.begins(shown.trail()) {
+    if !is_noted(shown, trail) {
         return None;
     }
-    *trail = shown.trail().again();
     Some(read_all(alloc, shown, clerk, command))
 }
 
@@ -83,15 +95,14 @@ fn show_at(
     ensures trail { IfSome result (λ _. trail.new ≡ shown.now.trail) }
     ensures view { IfSome result (λ r. IfOk r (λ view. view ≡ view_of shown.now.parts (rows_of shown.now.parts shown.now.trail.log) query.now)) }
 {
-    if !trail.begins(shown.trail()) {
+    if !is_noted(shown, trail) {
         return None;
     }
-    *trail = shown.trail().again();
     Some(show(alloc, shown, query))
 }
 
-/// What the query shows at one moment, up to which the seat has then seen the history. `Err` says that memory ran out, now
-/// or before readers could be shown what the seat has seen.
+/// What the query shows at one moment, up to which the seat has then seen the history. None where readers aren't shown yet
+/// what the seat has seen.
 // A body that always found no memory would meet this contract, and no test of this crate refuses it yet.
 pub(crate) fn showed<L: Names>(
     alloc: Global,
