@@ -12,6 +12,7 @@ use Rattle.docket_rows.specs.Words.{Bench}
 use Rattle.versioned_steps.specs.declared.entry.Entry.{Entry}
 use Rattle.versioned_steps.specs.Words.{is_legal}
 use Rattle.shared_docket.specs.Words.{docket_rules}
+use Rattle.shared_docket.proofs.CallerLemmas.{legal_sequential}
 use Rattle.office_seats.specs.Places.{places_after, places_of, Within}
 use Rattle.office_seats.specs.Closed.{TallyView, numbers_of, calls_of, AreApart, IsClosed}
 use Rattle.office_seats.proofs.PlaceLemmas.{within_length, within_whole}
@@ -109,6 +110,7 @@ module _ (journal : List (Entry Command Answer)) where
   counted bench ts apart legal seen some all =
       record {
         legal = legal;
+        sequential = legal_sequential bench journal legal;
         seen = seen;
         mine = calls_whole ts some (omega (arith, all, total_most 0 (numbers_of ts) journal apart));
         no_other = none_other 0 (numbers_of ts) journal apart (omega (arith, all, calls_most ts some));

@@ -40,13 +40,7 @@ seat_opened history bench trail known parts amount number capacity knows start o
       book = refl;
       known = known;
       there = refl;
-      seen = record {
-        knows = knows.knows;
-        there = knows.there;
-        parts = knows.parts;
-        ahead = record { book = knows.book; log = (knows.knows.trail.log, refl) };
-        legal = legal_empty (docket_rules bench);
-      };
+      seen = record { knows_of = knows; legal = legal_empty (docket_rules bench) };
       one_part = one;
       counted = none;
       within = tt;
@@ -88,24 +82,33 @@ module _ {history : Book} {bench : Bench} {trail : Past} {reader : Option (Optio
   pub seat_own : (d : DocketDraft) → draft ≡ Some d → IsOwn bench trail.log number (length mine) capacity d
   seat_own d is = let P : Option DocketDraft → Type 0 = λ o. IfSome o (IsOwn bench trail.log number (length mine) capacity) in subst P is was.own
 
-  -- its reader knows of the office
-  pub seat_known : (known : Option Known) → Some known ≡ Some was.known → KnowsOf history bench known
-  seat_known known same =
-      let seen = seat_knows known same in
-      record { knows = seen.knows; there = seen.there; parts = seen.parts; book = seen.ahead.book ∙ was.book }
+  -- its reader serves also where it has seen more of the same history
+  seat_sees : (after : Past) → after.book ≡ trail.book → is_legal (docket_rules bench) after.log ≡ true → HasSeen bench after was.known
+  seat_sees after same legal = record {
+    knows_of = subst (λ b. KnowsOf b bench was.known) (sym same) was.seen.knows_of;
+    legal = legal;
+  }
 
   -- it has seen more, and its draft is as it was
-  pub seat_kept : (after : Past) (now : Option Known) (held sum : ℕ) → HasSeen bench after now → after.book ≡ trail.book → IsPrefix trail.log after.log → held ≡ parts → sum ≡ amount → IsSeat history bench after (Some now) held sum number mine capacity draft
-  seat_kept after now held sum seen same begins holds counts =
-      rw (holds, counts) (seat_looked after now mine capacity (record { seen = seen; later = record { book = same; log = begins } }) refl (omega arith))
+  pub seat_kept : (after : Past) (held sum : ℕ) → after.book ≡ trail.book → is_legal (docket_rules bench) after.log ≡ true → IsPrefix trail.log after.log → held ≡ parts → sum ≡ amount → IsSeat history bench after reader held sum number mine capacity draft
+  seat_kept after held sum same legal begins holds counts = record {
+    book = same ∙ was.book;
+    known = was.known;
+    there = was.there;
+    seen = seat_sees after same legal;
+    one_part = holds ∙ was.one_part;
+    counted = counts ∙ was.counted;
+    within = within_longer number mine trail.log after.log begins was.within;
+    own = own_longer bench trail.log after.log number (length mine) (length mine) capacity capacity draft begins refl (omega arith) was.own;
+  }
 
   -- it has seen more, and its draft is gone
-  pub seat_dropped : (after : Past) (now : Option Known) (held sum : ℕ) (calls : List ℕ) (room : ℕ) → HasSeen bench after now → after.book ≡ trail.book → IsPrefix trail.log after.log → held ≡ parts → sum ≡ amount → calls ≡ mine → IsSeat history bench after (Some now) held sum number calls room None
-  seat_dropped after now held sum calls room seen same begins holds counts own = record {
+  pub seat_dropped : (after : Past) (held sum : ℕ) (calls : List ℕ) (room : ℕ) → after.book ≡ trail.book → is_legal (docket_rules bench) after.log ≡ true → IsPrefix trail.log after.log → held ≡ parts → sum ≡ amount → calls ≡ mine → IsSeat history bench after reader held sum number calls room None
+  seat_dropped after held sum calls room same legal begins holds counts own = record {
     book = same ∙ was.book;
-    known = now;
-    there = refl;
-    seen = seen;
+    known = was.known;
+    there = was.there;
+    seen = seat_sees after same legal;
     one_part = holds ∙ was.one_part;
     counted = counts ∙ was.counted ∙ ap length (sym own);
     within = rw own (within_longer number mine trail.log after.log begins was.within);
@@ -126,17 +129,17 @@ module _ {history : Book} {bench : Bench} {trail : Past} {reader : Option (Optio
   }
 
   -- a command of its clerk became an entry, at the end of its calls
-  pub seat_made : (after : Past) (now : Option Known) (held sum : ℕ) (calls : List ℕ) (room limit : ℕ) (done : Done) (clerk : ℕ) (command : Command) (before : List (Entry Command Answer)) → HasSeen bench after now → after.book ≡ trail.book → clerk ≡ number → IsPrefix trail.log before → IsMade bench before limit clerk command done after.log → held ≡ parts → sum ≡ amount + 1 → calls ≡ mine ++ done.place ∷ []
-      → IsSeat history bench after (Some now) held sum number calls room None
-  seat_made after now held sum calls room limit done clerk command before seen same own later made holds counts pushed =
+  pub seat_made : (after : Past) (held sum : ℕ) (calls : List ℕ) (room limit : ℕ) (done : Done) (clerk : ℕ) (command : Command) (before : List (Entry Command Answer)) → after.book ≡ trail.book → is_legal (docket_rules bench) after.log ≡ true → clerk ≡ number → IsPrefix trail.log before → IsMade bench before limit clerk command done after.log → held ≡ parts → sum ≡ amount + 1 → calls ≡ mine ++ done.place ∷ []
+      → IsSeat history bench after reader held sum number calls room None
+  seat_made after held sum calls room limit done clerk command before same legal own later made holds counts pushed =
       let within : Within (mine ++ (length before + 1) ∷ []) (places_of number (before ++ next_entry bench before clerk command ∷ [])) =
       within_next number mine before (next_entry bench before clerk command) own (within_longer number mine trail.log before later was.within) in
       let longer : length calls ≡ length mine + 1 = ap length pushed ∙ length-append mine (done.place ∷ []) in
       record {
         book = same ∙ was.book;
-        known = now;
-        there = refl;
-        seen = seen;
+        known = was.known;
+        there = was.there;
+        seen = seat_sees after same legal;
         one_part = holds ∙ was.one_part;
         counted = omega (arith, counts, was.counted, longer);
         within = rw (pushed, made.place, made.history) within;
@@ -144,10 +147,10 @@ module _ {history : Book} {bench : Bench} {trail : Past} {reader : Option (Optio
       }
 
   -- its draft did
-  pub seat_finished : (after : Past) (now : Option Known) (held sum : ℕ) (calls : List ℕ) (room limit : ℕ) (done : Done) (d : DocketDraft) → HasSeen bench after now → after.book ≡ trail.book → draft ≡ Some d → Settles bench trail.log limit d (Ok done) after.log → held ≡ parts → sum ≡ amount + 1 → calls ≡ mine ++ done.place ∷ []
-      → IsSeat history bench after (Some now) held sum number calls room None
-  seat_finished after now held sum calls room limit done d seen same is settles holds counts pushed =
-      seat_made after now held sum calls room limit done d.clerk d.command settles.before seen same (seat_own d is).clerk settles.later settles.commits.made holds counts pushed
+  pub seat_finished : (after : Past) (held sum : ℕ) (calls : List ℕ) (room limit : ℕ) (done : Done) (d : DocketDraft) → after.book ≡ trail.book → draft ≡ Some d → Settles bench trail.log limit d (Ok done) after.log → held ≡ parts → sum ≡ amount + 1 → calls ≡ mine ++ done.place ∷ []
+      → IsSeat history bench after reader held sum number calls room None
+  seat_finished after held sum calls room limit done d same is settles holds counts pushed =
+      seat_made after held sum calls room limit done d.clerk d.command settles.before same settles.legal (seat_own d is).clerk settles.later settles.commits.made holds counts pushed
 
   -- what it leaves
   pub seat_leaves : IsTally history bench trail parts amount number mine

@@ -7,7 +7,7 @@ use Rattle.docket_rows.specs.declared.command.Command.{Command}
 use Rattle.docket_rows.specs.Words.{Bench}
 use Rattle.versioned_steps.specs.declared.entry.Entry.{Entry}
 use Rattle.versioned_steps.specs.Words.{is_legal}
-use Rattle.shared_docket.specs.Words.{docket_rules}
+use Rattle.shared_docket.specs.Words.{docket_rules, IsSequential}
 use Rattle.office_seats.specs.declared.fault.CloseError.{CloseError}
 use Rattle.office_seats.specs.declared.fault.CloseError.TheVariants.{MissingTally, OutOfMemory}
 use Rattle.office_seats.specs.Places.{places_of}
@@ -49,9 +49,11 @@ abbrev pub StaysOpen : (seats : ℕ) → List TallyView → CloseError → Type 
 StaysOpen seats tallies (MissingTally number) = IsFirstMissing seats tallies number
 StaysOpen seats tallies OutOfMemory = HasTallies seats tallies
 
--- the journal is legal; what each seat had seen is a beginning of it; the calls of each seat are its entries; and it has no others
+-- the journal is legal, and that of a docket which one clerk gives its commands in order; what each seat had seen is a beginning of it;
+-- the calls of each seat are its entries; and it has no others
 pub record IsClosed (bench : Bench) (tallies : List TallyView) (journal : List (Entry Command Answer)) : Type 0 where
   pub legal : is_legal (docket_rules bench) journal ≡ true
+  pub sequential : IsSequential bench journal
   pub seen : All (λ (t : TallyView). IsPrefix t.seen journal) tallies
   pub mine : All (λ (t : TallyView). t.mine ≡ places_of t.number journal) tallies
   pub no_other : All (λ (e : Entry Command Answer). Contains (numbers_of tallies) e.clerk) journal

@@ -12,12 +12,16 @@ use Rattle.published_docket.specs.Words.{Past, IsBeginning}
 use Rattle.office_seats.specs.Finished.{DocketDraft}
 use Rattle.office_seats.specs.Places.{places_of, Within}
 
--- what was seen is legal, and the reader knows of this court and no less of the history
-pub record HasSeen (bench : Bench) (trail : Past) (known : Option Known) : Type 0 where
+-- the reader knows of this court and this history
+pub record KnowsOf (history : Book) (bench : Bench) (known : Option Known) : Type 0 where
   pub knows : Known
   pub there : known ≡ Some knows
   pub parts : knows.parts ≡ bench
-  pub ahead : IsBeginning trail knows.trail
+  pub book : knows.trail.book ≡ history
+
+-- what was seen is legal, and the reader knows of this court and the same history
+pub record HasSeen (bench : Bench) (trail : Past) (known : Option Known) : Type 0 where
+  pub knows_of : KnowsOf trail.book bench known
   pub legal : is_legal (docket_rules bench) trail.log ≡ true
 
 -- the seat has seen no less than before
@@ -42,13 +46,6 @@ pub record IsSeat (history : Book) (bench : Bench) (trail : Past) (reader : Opti
   pub counted : amount ≡ length mine
   pub within : Within mine (places_of number trail.log)
   pub own : IfSome draft (IsOwn bench trail.log number (length mine) capacity)
-
--- the reader knows of this court and this history
-pub record KnowsOf (history : Book) (bench : Bench) (known : Option Known) : Type 0 where
-  pub knows : Known
-  pub there : known ≡ Some knows
-  pub parts : knows.parts ≡ bench
-  pub book : knows.trail.book ≡ history
 
 -- what a seat leaves: what it had seen, and its calls, counted in its share
 pub record IsTally (history : Book) (bench : Bench) (trail : Past) (parts amount number : ℕ) (mine : List ℕ) : Type 0 where

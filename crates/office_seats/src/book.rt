@@ -121,8 +121,8 @@ impl<L: Names> Book<L> {
     }
 
     /// Finishes a prepared command as the next entry, where the journal takes one more and no part was touched after the
-    /// draft read it. All memory is taken before the entry is published, so an error leaves the journal as it was. The
-    /// share counts the entry.
+    /// draft read it. All memory is taken before the entry is published, or readers are shown it later, so an error leaves
+    /// the journal as it was. The share counts the entry.
     // A body that always found no memory would meet this contract, and no test of this crate refuses it yet.
     pub(crate) fn commit<R: Wait>(
         &mut self,
@@ -155,7 +155,7 @@ impl<L: Names> Book<L> {
         journal.reserve(1)?;
         let change = store.stage(alloc, draft)?;
         let writes = copy_writes(alloc, change.writes())?;
-        publisher.publish(rt, &entry, writes);
+        publisher.publish(rt, &entry, writes)?;
         journal.push_reserved(entry);
         counted.add(share, 1);
         let place = store.finish(change);

@@ -14,7 +14,7 @@ ghost use Rattle.office_seats.specs.Seen.{KnowsOf};
 use crate::book::Book;
 use crate::done::Done;
 use crate::fault::{CommitError, PerformError};
-use crate::looking::{caught_up, looked, showed};
+use crate::looking::{looked, showed};
 use crate::names::Names;
 use crate::settling::{made, settled};
 use crate::tally::Tally;
@@ -115,8 +115,39 @@ impl<L: Names> Seat<L> {
         self.draft = None;
     }
 
+    // Reads all parts of a command at one moment, and decides it on them. The new draft takes the place of an older one. `Err`
+    // says that memory ran out, and None that readers aren't shown yet what the seat has seen; an older draft then stays.
+    // A body that always found no memory would meet this contract, and no test of this crate refuses it yet.
+    fn draw(&mut self, alloc: Global, command: Command) -> Option<Result<(), AllocError>>
+        ensures goes { Goes self.old self.new }
+        ensures mine { self.new.mine ≡ self.old.mine }
+        ensures drafted { IfSome result (λ r. OnOk r (IsSome self.new.draft)) }
+        ensures ready { IfSome result (λ r. OnOk r (IfSome self.new.draft (IsReady L.bench self.new command))) }
+        ensures err { IfSome result (λ r. OnErr r (self.new.draft ≡ self.old.draft)) }
+        ensures older { IfNone result (self.new.draft ≡ self.old.draft) }
+    {
+        let Ok(()) = self.mine.reserve(1) else {
+            return Some(Err(AllocError));
+        };
+        let Some(reader) = self.reader.take() else {
+            unreachable!()
+        };
+        let clerk = u32::from(self.number);
+        let (reader, draft) = looked::<L>(alloc, reader, &mut self.trail, clerk, &command);
+        self.reader = Some(reader);
+        match draft {
+            Some(Ok(draft)) => {
+                self.draft = Some(draft);
+                Some(Ok(()))
+            }
+            Some(Err(AllocError)) => Some(Err(AllocError)),
+            None => None,
+        }
+    }
+
     /// Reads all parts of a command at one moment, and decides it on them. The new draft takes the place of an older one.
-    /// `Err` says that memory ran out; an older draft then stays.
+    /// `Err` says that memory ran out, now or before readers could be shown what the seat has seen; an older draft then
+    /// stays.
     // A body that always found no memory would meet this contract, and no test of this crate refuses it yet.
     pub fn prepare(&mut self, alloc: Global, command: Command) -> Result<(), AllocError>
         ensures goes { Goes self.old self.new }
@@ -125,18 +156,14 @@ impl<L: Names> Seat<L> {
         ensures ready { OnOk result (IfSome self.new.draft (IsReady L.bench self.new command)) }
         ensures err { OnErr result (self.new.draft ≡ self.old.draft) }
     {
-        self.mine.reserve(1)?;
-        let Some(reader) = self.reader.take() else {
-            unreachable!()
-        };
-        let clerk = u32::from(self.number);
-        let (reader, draft) = looked(alloc, reader, &mut self.trail, clerk, &command);
-        self.reader = Some(reader);
-        self.draft = Some(draft?);
-        Ok(())
+        match self.draw(alloc, command) {
+            Some(result) => result,
+            None => Err(AllocError),
+        }
     }
 
-    /// What the query shows of the docket at one moment, or why it is refused. `Err` says that memory ran out.
+    /// What the query shows of the docket at one moment, or why it is refused. `Err` says that memory ran out, now or
+    /// before readers could be shown what the seat has seen.
     // A body that always found no memory would meet this contract, and no test of this crate refuses it yet.
     pub fn show(&mut self, alloc: Global, query: &Query) -> Result<View, AllocError>
         ensures goes { Goes self.old self.new }
@@ -147,9 +174,12 @@ impl<L: Names> Seat<L> {
         let Some(reader) = self.reader.take() else {
             unreachable!()
         };
-        let (reader, view) = showed(alloc, reader, &mut self.trail, query);
+        let (reader, view) = showed::<L>(alloc, reader, &mut self.trail, query);
         self.reader = Some(reader);
-        view
+        match view {
+            Some(view) => view,
+            None => Err(AllocError),
+        }
     }
 
     /// Finishes the command of the draft, where the journal takes one more entry and no part was touched after the draft
@@ -162,9 +192,6 @@ impl<L: Names> Seat<L> {
         let Some(draft) = &self.draft else {
             return Err(CommitError::NothingPrepared);
         };
-        let Some(reader) = self.reader.take() else {
-            unreachable!()
-        };
         let result = settled::<L, R>(
             rt,
             alloc,
@@ -174,7 +201,6 @@ impl<L: Names> Seat<L> {
             draft,
             self.limit,
         );
-        self.reader = Some(caught_up::<L, R>(rt, reader, &self.trail));
         match result {
             Ok(done) => {
                 self.mine.push_reserved(done.place);
@@ -191,8 +217,8 @@ impl<L: Names> Seat<L> {
         }
     }
 
-    // Prepares and commits the command once. None where a part was touched in between; nothing is finished then, and no
-    // draft is left.
+    // Prepares and commits the command once. None where readers aren't shown yet what the seat has seen, or a part was
+    // touched in between; nothing is finished then, and no draft is left.
     // A body that always found no memory would meet this contract, and no test of this crate refuses it yet.
     fn try_once<R: Wait>(
         &mut self,
@@ -206,11 +232,15 @@ impl<L: Names> Seat<L> {
         ensures mine { IfNone result (self.new.mine ≡ self.old.mine) }
         ensures draft { self.new.draft ≡ None }
     {
-        let Ok(()) = self.prepare(alloc, *command) else {
-            // It tells that what was seen is legal.
-            let _seen = self.seen();
-            return Some(Err(PerformError::OutOfMemory));
-        };
+        match self.draw(alloc, *command) {
+            Some(Ok(())) => {}
+            Some(Err(AllocError)) => {
+                // It tells that what was seen is legal.
+                let _seen = self.seen();
+                return Some(Err(PerformError::OutOfMemory));
+            }
+            None => return None,
+        }
         let result = self.commit(rt, alloc);
         self.discard();
         match result {
@@ -235,9 +265,6 @@ impl<L: Names> Seat<L> {
     {
         self.draft = None;
         self.mine.reserve(1)?;
-        let Some(reader) = self.reader.take() else {
-            unreachable!()
-        };
         let clerk = u32::from(self.number);
         let result = made::<L, R>(
             rt,
@@ -249,7 +276,6 @@ impl<L: Names> Seat<L> {
             command,
             self.limit,
         );
-        self.reader = Some(caught_up::<L, R>(rt, reader, &self.trail));
         match result {
             Ok(finished) => {
                 self.mine.push_reserved(finished.place);
@@ -260,7 +286,8 @@ impl<L: Names> Seat<L> {
     }
 
     /// Finishes a command. It is prepared and committed up to so many times, until no part was touched in between; then
-    /// it is made while no other clerk can finish one, so it is never stale. An older draft is dropped, and none is left.
+    /// it is made while no other clerk can finish one, so it is never stale, nor does it wait for readers to be shown what
+    /// the seat has seen. An older draft is dropped, and none is left.
     /// A refusal by the docket is an answer of a finished command.
     // A body that always found no memory would meet this contract, and no test of this crate refuses it yet.
     pub fn perform<R: Wait>(

@@ -40,6 +40,10 @@ pub fill_more : (x : Board) (pending : List Change) (trail : Past) → fold appl
 fill_more x pending trail same is =
     fold-append applied_to x pending (Grow trail ∷ []) ∙ (ap (λ y. applied_to y (Grow trail)) same ∙ ap (λ t. record x { trail = t }) is)
 
+-- the last change tells how far the history went
+pub grown_trail : (x : Board) (pending : List Change) (trail : Past) → (fold applied_to x (pending ++ Grow trail ∷ [])).trail ≡ trail
+grown_trail x pending trail = ap (λ (y : Board). y.trail) (fold-append applied_to x pending (Grow trail ∷ []))
+
 -- what they come to, one after another
 pub puts_made : (x : Board) (version : ℕ) (writes : List (PartId × PartValue)) → fold applied_to x (puts_of version writes) ≡ record x { slots = put_all version writes x.slots }
 puts_made x version [] = refl

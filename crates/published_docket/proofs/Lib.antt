@@ -1,5 +1,6 @@
 pub mod CallerLemmas
 pub mod ChangeLemmas
+pub mod OwedLemmas
 pub mod PublishedLemmas
 pub mod PublishingLemmas
 pub mod SightLemmas

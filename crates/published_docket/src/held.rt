@@ -1,9 +1,11 @@
 //! The writer of what is published, with the changes that readers don't see yet.
 
-ghost use Rattle.std.specs.Prelude.{◌≡◌, ◌<◌, ◌++◌, ◌∷◌, [], None, Some, fold, IfOk, MatchBool, MatchResult};
+ghost use Rattle.std.specs.Prelude.{◌≡◌, ◌<◌, ◌++◌, ◌∷◌, [], None, Some, fold, IfOk, MatchBool, MatchResult, OnOk};
 ghost use Rattle.left_right.specs.Sides.{view};
+ghost use Rattle.published_docket.specs.declared.change.Change.TheVariants.{Grow};
 ghost use Rattle.published_docket.specs.Boards.{IsShown, known_of};
 ghost use Rattle.published_docket.specs.Changes.{applied_to, puts_of};
+ghost use Rattle.published_docket.specs.Held.{AllShown, ShownOrOwed, board_then};
 ghost use Rattle.published_docket.specs.Published.{MayShow};
 
 use crate::change::Change;
@@ -40,14 +42,6 @@ impl Drop for Held {
     }
 }
 
-/// Stands for a step that never happens, where no contract says so.
-pub(crate) fn wait_forever<R: Wait>(rt: &R)
-    ensures { ⊥ }
-{
-    for _ in rt.forever() {}
-    unreachable!()
-}
-
 impl Held {
     /// A writer for so many readers. `Err` says that memory ran out.
     pub(crate) fn new(
@@ -65,48 +59,62 @@ impl Held {
         Ok(Held { writer })
     }
 
-    /// Adds a change that readers don't see yet. `Err` says that memory ran out.
-    fn append(&mut self, change: Change) -> Result<(), AllocError>
-        ensures { MatchResult result (λ _. self.new ≡ record self.old { pending = self.old.pending ++ change ∷ [] }) (λ e. self.new ≡ self.old) }
+    // Adds a change that readers don't see yet. It comes back where memory ran out.
+    fn append(&mut self, change: Change) -> Result<(), Change>
+        ensures { MatchResult result (λ _. self.new ≡ record self.old { pending = self.old.pending ++ change ∷ [] }) (λ c. (c ≡ change) × (self.new ≡ self.old)) }
     {
-        match self.writer.append(change) {
+        self.writer.append(change)
+    }
+
+    // Adds that the history went on as far as this. `Err` says that memory ran out.
+    fn grow(&mut self, trail: &Trail) -> Result<(), AllocError>
+        ensures { MatchResult result (λ _. self.new ≡ record self.old { pending = self.old.pending ++ Grow trail.now ∷ [] }) (λ _. self.new ≡ self.old) }
+    {
+        match self.append(Change::Grow(trail.again())) {
             Ok(()) => Ok(()),
             Err(_) => Err(AllocError),
         }
     }
 
-    /// Adds a change that readers don't see yet. There is room for it once as many were warmed up for.
-    pub(crate) fn queue<R: Wait>(&mut self, rt: &R, change: Change)
-        ensures { self.new ≡ record self.old { pending = self.old.pending ++ change ∷ [] } }
+    // Adds the changes by which the parts written have this version, the last of them first. `Err` says that memory ran
+    // out; the writes that are left weren't added.
+    fn write(
+        &mut self,
+        writes: &mut Vec<(PartId, PartValue)>,
+        version: u64,
+    ) -> Result<(), AllocError>
+        ensures shown { self.new.shown ≡ self.old.shown }
+        ensures pending { self.new.pending ++ puts_of version writes.new.items ≡ self.old.pending ++ puts_of version writes.old.items }
+        ensures all { OnOk result (writes.new.items ≡ []) }
     {
-        if self.append(change).is_err() {
-            wait_forever(rt);
-            unreachable!();
-        }
-    }
-
-    /// Adds the changes by which the parts written have this version, the last of them first.
-    pub(crate) fn write<R: Wait>(&mut self, rt: &R, writes: Vec<(PartId, PartValue)>, version: u64)
-        ensures { self.new ≡ record self.old { pending = self.old.pending ++ puts_of version writes.items } }
-    {
-        let mut writes = writes;
         while let Some(write) = writes.pop() {
             let (part, value) = write;
-            self.queue(rt, Change::Put(slot_of(part), version, value));
-        }
-    }
-
-    /// Adds so many changes that change nothing. `Err` says that memory ran out.
-    #[tactic(auto, using(crate::proofs::ChangeLemmas::fill_more))]
-    pub(crate) fn fill(&mut self, trail: &Trail, count: u32) -> Result<(), AllocError>
-        requires { trail.now ≡ self.old.shown.trail }
-        ensures shown { self.new.shown ≡ self.old.shown }
-        ensures same { fold applied_to self.old.shown self.old.pending ≡ self.old.shown → fold applied_to self.old.shown self.new.pending ≡ self.old.shown }
-    {
-        for _count in 0..count {
-            self.append(Change::Grow(trail.again()))?;
+            match self.append(Change::Put(slot_of(part), version, value)) {
+                Ok(()) => {}
+                Err(Change::Put(_, _, value)) => {
+                    writes.push_reserved((part, value));
+                    return Err(AllocError);
+                }
+                Err(Change::Grow(_)) => unreachable!(),
+            }
         }
         Ok(())
+    }
+
+    // Adds all changes of an entry: of the parts written, and that the history went on. `Err` says that memory ran out;
+    // what is left of the writes wasn't added, nor perhaps the history.
+    fn queue(
+        &mut self,
+        owed: &mut Vec<(PartId, PartValue)>,
+        trail: &Trail,
+    ) -> Result<(), AllocError>
+        ensures shown { self.new.shown ≡ self.old.shown }
+        ensures same { board_then self.new owed.new.items trail.now ≡ board_then self.old owed.old.items trail.now }
+        ensures all { OnOk result (fold applied_to self.new.shown self.new.pending ≡ board_then self.old owed.old.items trail.now) }
+        ensures none { OnOk result (owed.new.items ≡ []) }
+    {
+        self.write(owed, trail.len())?;
+        self.grow(trail)
     }
 
     // Shows readers all changes at once, or none where one of them couldn't be made.
@@ -121,20 +129,75 @@ impl Held {
         (Held { writer }, done.is_ok())
     }
 
-    /// Shows readers all changes at once.
-    pub(crate) fn flush<R: Wait>(self, rt: &R) -> Held
-        requires { MayShow self.shown (fold applied_to self.shown self.pending) }
-        ensures { result ≡ record { shown = fold applied_to self.shown self.pending; pending = []; known = Some (known_of (fold applied_to self.shown self.pending)) } }
+    /// Shows readers the history as far as this, with these writes of its last entry, and says whether they see all of it.
+    /// Where memory runs out they see what they saw, and what is left stays owed.
+    pub(crate) fn show<R: Wait>(
+        self,
+        rt: &R,
+        owed: &mut Vec<(PartId, PartValue)>,
+        trail: &Trail,
+    ) -> (Held, bool)
+        requires { MayShow self.shown (board_then self owed.old.items trail.now) }
+        ensures parts { result.0.shown.parts ≡ self.shown.parts }
+        ensures shows { ShownOrOwed result.1 result.0 owed.new.items trail.now }
     {
         let mut held = self;
-        for _ in rt.forever() {
-            let (next, done) = held.publish(rt);
-            held = next;
-            if done {
-                return held;
-            }
+        let Ok(()) = held.queue(owed, trail) else {
+            return (held, false);
+        };
+        held.publish(rt)
+    }
+
+    /// Shows readers what they don't see yet, if there is anything, and says whether they then see all.
+    pub(crate) fn catch_up<R: Wait>(
+        self,
+        rt: &R,
+        all: bool,
+        owed: &mut Vec<(PartId, PartValue)>,
+        trail: &Trail,
+    ) -> (Held, bool)
+        requires { ShownOrOwed all self owed.old.items trail.now }
+        ensures parts { result.0.shown.parts ≡ self.shown.parts }
+        ensures shows { ShownOrOwed result.1 result.0 owed.new.items trail.now }
+    {
+        if all {
+            return (self, true);
         }
-        unreachable!()
+        self.show(rt, owed, trail)
+    }
+
+    // Adds so many changes that change nothing. `Err` says that memory ran out.
+    #[tactic(auto, using(crate::proofs::ChangeLemmas::fill_more))]
+    fn fill(&mut self, trail: &Trail, count: u32) -> Result<(), AllocError>
+        requires { trail.now ≡ self.old.shown.trail }
+        ensures shown { self.new.shown ≡ self.old.shown }
+        ensures same { fold applied_to self.old.shown self.old.pending ≡ self.old.shown → fold applied_to self.old.shown self.new.pending ≡ self.old.shown }
+    {
+        for _count in 0..count {
+            self.grow(trail)?;
+        }
+        Ok(())
+    }
+
+    /// Takes the memory for so many changes at once, and says whether there was any; readers see nothing new. The changes
+    /// are shown twice, so that both copies have taken them.
+    pub(crate) fn warm<R: Wait>(
+        self,
+        rt: &R,
+        owed: &mut Vec<(PartId, PartValue)>,
+        trail: &Trail,
+        count: u32,
+    ) -> (Held, bool)
+        requires { AllShown self owed.old.items trail.now }
+        ensures parts { result.0.shown.parts ≡ self.shown.parts }
+        ensures shows { ShownOrOwed result.1 result.0 owed.new.items trail.now }
+    {
+        let mut held = self;
+        if held.fill(trail, count).is_err() {
+            return (held, false);
+        }
+        let (held, _once) = held.show(rt, owed, trail);
+        held.show(rt, owed, trail)
     }
 
     /// A reader that knows what the writer knows. `Err` says that there are as many readers as can be, or that memory

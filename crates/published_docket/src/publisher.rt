@@ -1,13 +1,12 @@
 //! The one who publishes.
 
-ghost use Rattle.std.specs.Prelude.{◌≡◌, ◌+◌, ◌<◌, ◌^◌, ◌++◌, ◌∷◌, [], length, true, Some, IfOk};
+ghost use Rattle.std.specs.Prelude.{◌≡◌, ◌+◌, ◌<◌, ◌^◌, ◌++◌, ◌∷◌, [], length, true, Some, IfOk, MatchResult};
 ghost use Rattle.left_right.specs.Sides.{view};
 ghost use Rattle.docket_rows.specs.Words.{bench_of};
 ghost use Rattle.versioned_steps.specs.Words.{MayFollow, is_legal, value_of, writes_on};
 ghost use Rattle.shared_docket.specs.Words.{docket_rules};
 
-use crate::change::Change;
-use crate::held::{Held, wait_forever};
+use crate::held::Held;
 use crate::law::Head;
 use crate::protocol::DocketReader;
 use crate::shown::Shown;
@@ -25,6 +24,10 @@ use versioned_steps::Entry;
 pub struct Publisher {
     // It is there between two calls.
     held: Option<Held>,
+    // The writes of the last entry that readers weren't shown, for want of memory.
+    owed: Vec<(PartId, PartValue)>,
+    // Whether readers are shown the whole history.
+    all: bool,
     head: Head,
     parts: DocketParts,
     trail: Trail,
@@ -38,7 +41,7 @@ impl Model for Publisher {
 
     ghost view = { λ p. record { parts = p.parts; trail = p.trail } };
 
-    ghost invariant = { λ p. Keeps p.held p.head p.parts p.trail };
+    ghost invariant = { λ p. Keeps p.held p.owed.items p.all p.head p.parts p.trail };
 }
 
 impl Publisher {
@@ -56,6 +59,8 @@ impl Publisher {
         let held = Held::new(alloc, first, second, readers.max(1))?;
         Ok(Publisher {
             held: Some(held),
+            owed: Vec::new(alloc),
+            all: false,
             head,
             parts,
             trail,
@@ -78,18 +83,28 @@ impl Publisher {
     }
 
     /// Takes the memory for so many changes at once, twice: an entry makes one for each part that it writes, and one
-    /// more, and readers may still be reading what it changes. `Err` says that memory ran out.
+    /// more, and readers may still be reading what it changes. So no call that publishes takes any. `Err` says that memory
+    /// ran out.
     // A body that always found no memory would meet this contract, and no test of this crate refuses it yet.
     pub fn warm<R: Wait>(&mut self, rt: &R, count: u32) -> Result<(), AllocError>
         ensures { self.new ≡ self.old }
     {
-        let Some(mut held) = self.held.take() else {
+        let Some(held) = self.held.take() else {
             unreachable!()
         };
-        let filled = held.fill(&self.trail, count);
-        let held = held.flush(rt);
-        self.held = Some(held.flush(rt));
-        filled
+        let (held, all) = held.catch_up(rt, self.all, &mut self.owed, &self.trail);
+        self.all = all;
+        if !all {
+            self.held = Some(held);
+            return Err(AllocError);
+        }
+        let (held, all) = held.warm(rt, &mut self.owed, &self.trail, count);
+        self.held = Some(held);
+        self.all = all;
+        if !all {
+            return Err(AllocError);
+        }
+        Ok(())
     }
 
     /// A reader that has seen all that is published. `Err` says that there are as many readers as can be, or that memory
@@ -102,43 +117,62 @@ impl Publisher {
         let Some(held) = self.held.take() else {
             unreachable!()
         };
-        let mut held = held.flush(rt);
+        let (mut held, all) = held.catch_up(rt, self.all, &mut self.owed, &self.trail);
+        self.all = all;
+        if !all {
+            self.held = Some(held);
+            return Err(AllocError);
+        }
         let reader = held.greet();
         self.held = Some(held);
         reader
     }
 
     /// Publishes one more entry, with what its command writes. It changes the slots of the parts written alone, and
-    /// waits for the readers that read what was published before the last entry.
+    /// waits for the readers that read what was published before the last entry. Where memory runs out while readers are
+    /// shown the entry, it is published all the same; they are shown it by the next call, before anything else. `Err` says
+    /// that memory ran out for what was owed to them before; nothing is published then.
+    // A body that always found no memory would meet this contract, and no test of this crate refuses it yet.
     pub fn publish<R: Wait>(
         &mut self,
         rt: &R,
         entry: &Entry<Command, Answer>,
         writes: Vec<(PartId, PartValue)>,
-    )
+    ) -> Result<(), AllocError>
         requires room { length self.old.trail.log + 1 < 2 ^ 64 }
         requires follows { MayFollow (docket_rules self.old.parts) self.old.trail.log entry.now }
         requires writes { writes.items ≡ writes_on (docket_rules self.old.parts) (value_of (docket_rules self.old.parts) self.old.trail.log) entry.now.command }
-        ensures { self.new ≡ record self.old { trail = record self.old.trail { log = self.old.trail.log ++ entry.now ∷ [] } } }
+        ensures { MatchResult result (λ _. self.new ≡ record self.old { trail = record self.old.trail { log = self.old.trail.log ++ entry.now ∷ [] } }) (λ _. self.new ≡ self.old) }
     {
-        let mut trail = self.trail.again();
-        if !trail.add(&self.head, entry) {
-            wait_forever(rt);
-            unreachable!();
-        }
-        let Some(mut held) = self.held.take() else {
+        let Some(held) = self.held.take() else {
             unreachable!()
         };
-        held.write(rt, writes, trail.len());
-        held.queue(rt, Change::Grow(trail.again()));
-        self.held = Some(held.flush(rt));
+        let (held, all) = held.catch_up(rt, self.all, &mut self.owed, &self.trail);
+        self.all = all;
+        if !all {
+            self.held = Some(held);
+            return Err(AllocError);
+        }
+        let mut trail = self.trail.again();
+        if !trail.add(&self.head, entry) {
+            // It never happens: nobody else adds entries to this history.
+            self.held = Some(held);
+            return Err(AllocError);
+        }
+        self.owed = writes;
+        let (held, all) = held.show(rt, &mut self.owed, &trail);
+        self.held = Some(held);
+        self.all = all;
         self.trail = trail;
+        Ok(())
     }
 
     /// Waits for the readers, and gives back all memory.
     pub fn end<R: Wait>(self, rt: &R) {
         let Publisher {
             held,
+            owed: _,
+            all: _,
             head: _,
             parts: _,
             trail: _,

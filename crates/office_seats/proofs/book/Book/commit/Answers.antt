@@ -44,7 +44,7 @@ invariant_of-self-2 g c =
     let replays : Replays (docket_rules bench) (h ++ e ∷ []) c.finish-place.new.self =
     store_longer bench h e c.self.inside.store c.stage.new.self c.finish-place.new.self c.in_ok-change.change.writes was.owner c.stage.ensures.owner was.replays c.stage.ensures.kept c.finish-place.ensures.put written in
     let pushed : c.push_reserved.new.self.items ≡ h ++ e ∷ [] = c.push_reserved.ensures.items ∙ ap (λ (l : List (Entry Command Answer)). l ++ e ∷ []) c.in_ok-reserve.ensures.items in
-    book_longer g.L.Names.history bench c.self.inside.publisher c.publish.new.self h c.push_reserved.new.self.items c.self.inside.store c.finish-place.new.self c.self.inside.counted.total c.add.new.self.total e was c.publish.ensures pushed (c.finish-place.ensures.owner ∙ c.stage.ensures.owner) replays c.add.ensures.total
+    book_longer g.L.Names.history bench c.self.inside.publisher c.publish.new.self h c.push_reserved.new.self.items c.self.inside.store c.finish-place.new.self c.self.inside.counted.total c.add.new.self.total e was c.in_ok-publish.ensures pushed (c.finish-place.ensures.owner ∙ c.stage.ensures.owner) replays c.add.ensures.total
 
 pub returns-clause-commits : goal.returns-clause-commits
 returns-clause-commits g c =

@@ -8,15 +8,14 @@ use Rattle.published_docket.proofs.ChangeLemmas.{puts_more}
 use Rattle.published_docket.proofs.held.Held.write.Goals as goal
 
 pub loop-write-preserved : goal.loop-write-preserved
-loop-write-preserved g c =
+loop-write-preserved c =
     let was = c.loop-write.self in
     let rest = c.pop.new.self.items in
     let w = c.in-Some.write in
     record {
-      shown = ap (λ (h : HeldView). h.shown) c.queue.ensures ∙ c.loop-write.invariant.shown;
-      known = ap (λ (h : HeldView). h.known) c.queue.ensures ∙ c.loop-write.invariant.known;
+      shown = ap (λ (h : HeldView). h.shown) c.in-Ok.ensures ∙ c.loop-write.invariant.shown;
       pending =
-          ap (λ (h : HeldView). h.pending ++ puts_of c.args.version rest) c.queue.ensures
+          ap (λ (h : HeldView). h.pending ++ puts_of c.args.version rest) c.in-Ok.ensures
           ∙ (ap (λ (n : ℕ). (was.pending ++ Put n c.args.version w.1 ∷ []) ++ puts_of c.args.version rest) c.slot_of.ensures
           ∙ (puts_more c.args.version was.pending rest w
           ∙ (ap (λ (l : List (PartId × PartValue)). was.pending ++ puts_of c.args.version l) (sym c.in-Some.ensures.items) ∙ c.loop-write.invariant.pending)));
