@@ -4,7 +4,7 @@ use Rattle.std.specs.List.{list_all}
 use Rattle.std.specs.Option.{option_map_or}
 use Rattle.std.specs.Str.{is_utf8}
 use Rattle.std.specs.Borrow.{Bor}
-use Rattle.csv.specs.Reading.{Ready, default_config, has_failed, reader_config, reader_state, reader_trim, records_from, source_of}
+use Rattle.csv.specs.Reading.{Ready, default_config, has_failed, is_flexible, reader_config, reader_state, reader_trim, records_from, source_of}
 use Rattle.csv.specs.declared.parser.Config.{Config}
 use Rattle.csv.specs.declared.parser.State.{State}
 use Rattle.csv.specs.declared.error.ErrorKind.{ErrorKind}
@@ -20,6 +20,7 @@ all_records cfg s text = records_from cfg (length text + 2) s text
 pub record TakesAnyRow (r : Reader (Bor (List ℕ))) : Type 0 where
   pub whole : reader_trim r ≡ trim.None
   pub usual : reader_config r ≡ default_config
+  pub any_length : is_flexible r ≡ true
   pub ready : Ready r
   pub sound : has_failed r ≡ false
 

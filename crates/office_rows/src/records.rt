@@ -3,11 +3,10 @@
 ghost use Rattle.std.specs.Prelude.{◌≡◌, [], true, Ok};
 ghost use Rattle.std.specs.List.{list_all};
 ghost use Rattle.std.specs.Str.{is_utf8};
-ghost use Rattle.csv.specs.Reading.{error_kind};
 ghost use Rattle.csv.specs.Records.{fields_of};
 ghost use Rattle.office_rows.specs.Rows.{AnswersRow, AnswersRows, clerk_of, row_of, rows_from, rows_of};
 ghost use Rattle.office_rows.specs.Names.{names_of};
-ghost use Rattle.office_rows.specs.Records.{TakesAnyRow, TakesText, MeetsNoText, records_left, tells_no_text};
+ghost use Rattle.office_rows.specs.Records.{TakesAnyRow, TakesText, MeetsNoText, records_left};
 
 use crate::columns::column;
 use crate::fault::{RowCause, RowError};
@@ -131,22 +130,11 @@ fn read_next(reader: &mut Reader<&[u8]>, fields: &mut StringRecord) -> Result<Ne
 {
     match reader.read_record(fields) {
         Ok(found) => { if found { Ok(Next::Text) } else { Ok(Next::End) } }
-        Err(error) => {
-            if tells_no_text(&error) {
-                Ok(Next::NotText)
-            } else {
-                Err(AllocError)
-            }
-        }
-    }
-}
-
-// Whether a field was found that is no text.
-fn tells_no_text(error: &csv::Error) -> bool
-    ensures { result ≡ tells_no_text (error_kind error.now) }
-{
-    match error.kind() {
-        ErrorKind::Utf8 { .. } => true,
-        _ => false,
+        Err(error) => match error.kind() {
+            ErrorKind::Utf8 { .. } => Ok(Next::NotText),
+            // Records may differ in their number of fields.
+            ErrorKind::UnequalLengths { .. } => unreachable!(),
+            _ => Err(AllocError),
+        },
     }
 }

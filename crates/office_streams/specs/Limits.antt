@@ -3,7 +3,7 @@ use Rattle.std.specs.Prelude.{◌≡◌, ◌+◌, ◌≤◌, ◌⊎◌, ℕ, tru
 use Rattle.std.specs.Io.{StartsWith}
 use Rattle.std.specs.Io.KnownBytes.{Appends}
 use Rattle.office_streams.specs.declared.watched.Watched.{Watched}
-use Rattle.office_streams.specs.Watched.{has_failed, has_ended, read_calls, bytes_given, counted}
+use Rattle.office_streams.specs.Watched.{watched, has_failed, has_ended, was_called_again, read_calls, bytes_given, counted}
 
 -- how many bytes of input the office takes, and how often it reads: both are its own choice
 abbrev pub most_bytes : ℕ
@@ -29,3 +29,9 @@ WasCutShort old new = (has_failed new ≡ true) ⊎ IsPastLimits old new
 -- known bytes grow by a beginning of the text
 abbrev pub AppendsFront : Option (List ℕ) → Option (List ℕ) → List ℕ → Type 0
 AppendsFront old new text = (front : List ℕ) × Appends old new front × StartsWith text front
+
+-- a writer was given the text: it took all of it or, where a write failed, a beginning, and then it wasn't called again
+pub record IsGiven {W : Type 0} (contents : W → Option (List ℕ)) (old new : Watched W) (text : List ℕ) : Type 0 where
+  pub whole : has_failed new ≡ false → Appends (contents (watched old)) (contents (watched new)) text
+  pub front : has_failed new ≡ true → AppendsFront (contents (watched old)) (contents (watched new)) text
+  pub again : was_called_again new ≡ was_called_again old

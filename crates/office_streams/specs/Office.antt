@@ -14,6 +14,7 @@ use Rattle.office_streams.specs.declared.fault.OfficeFault.{OfficeFault}
 use Rattle.office_streams.specs.declared.fault.OfficeFault.TheVariants.{Court, Row, ReadFault, WriteFault, OutOfMemory}
 use Rattle.office_streams.specs.declared.watched.Watched.{Watched}
 use Rattle.office_streams.specs.Division.{court_part, rows_part}
+use Rattle.office_streams.specs.Fault.{IsToldAs}
 use Rattle.office_streams.specs.Limits.{AppendsFront, IsWithinLimits}
 use Rattle.office_streams.specs.Watched.{has_ended, has_failed}
 
@@ -121,6 +122,12 @@ pub record WasReadWhole {R : Type 0} (old new : Watched R) : Type 0 where
   pub ended : has_ended new ≡ true
   pub worked : has_failed new ≡ false
   pub within : IsWithinLimits old new
+
+-- an input has the fault that is told with this status
+pub record HasFaultTold (status : ℕ) (IsGivenErrors : List ℕ → Type 0) (said : Result Input OfficeFault) : Type 0 where
+  pub fault : OfficeFault
+  pub has : said ≡ Err fault
+  pub told : IsToldAs fault status IsGivenErrors
 
 -- an input has a fault of its court's file
 pub record HasCourtFault (said : Result Input OfficeFault) : Type 0 where

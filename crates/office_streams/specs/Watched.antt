@@ -14,6 +14,10 @@ has_failed w = w.failed
 abbrev pub has_ended : {T : Type 0} → Watched T → Bool
 has_ended w = w.ended
 
+-- it was called again after a call had failed
+abbrev pub was_called_again : {T : Type 0} → Watched T → Bool
+was_called_again w = w.called_again
+
 -- how often it was read from so far
 abbrev pub read_calls : {T : Type 0} → Watched T → ℕ
 read_calls w = w.read_calls

@@ -1,10 +1,10 @@
 -- The words of clauses and definitions, for the crates above, from one place.
-pub use Rattle.office_streams.specs.Watched.{watched, has_failed, has_ended, read_calls, bytes_given, counted}
-pub use Rattle.office_streams.specs.Limits.{most_bytes, most_reads, IsWithinLimits, IsPastLimits, WasCutShort, AppendsFront}
+pub use Rattle.office_streams.specs.Watched.{watched, has_failed, has_ended, was_called_again, read_calls, bytes_given, counted}
+pub use Rattle.office_streams.specs.Limits.{most_bytes, most_reads, IsWithinLimits, IsPastLimits, WasCutShort, AppendsFront, IsGiven}
 pub use Rattle.office_streams.specs.Division.{court_part, rows_part}
 unfoldable pub use Rattle.office_streams.specs.Division.{divided_from}
 pub use Rattle.office_streams.specs.Divider.{FirstDividerDivides, IsDividedAtDivider, HasNoDivider}
-pub use Rattle.office_streams.specs.Fault.{fault_text, status_number}
-pub use Rattle.office_streams.specs.Office.{Input, IsTextBy, IsTextOf, IsChecked, IsRun, IsRunBy, AnswersInput, HasCourtFault, HasRowFault, WasReadWhole, names_in, rests_on_input}
+pub use Rattle.office_streams.specs.Fault.{fault_text, no_text_line, told_line, status_number, IsTold, IsToldAs}
+pub use Rattle.office_streams.specs.Office.{Input, IsTextBy, IsTextOf, IsChecked, IsRun, IsRunBy, AnswersInput, HasFaultTold, HasCourtFault, HasRowFault, WasReadWhole, names_in, rests_on_input}
 unfoldable pub use Rattle.office_streams.specs.Office.{input_of}
 pub use Rattle.office_streams.specs.UniqueText.{TextsAreUnique}

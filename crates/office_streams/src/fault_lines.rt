@@ -1,7 +1,7 @@
 //! The line and the status that tell of a fault.
 
 ghost use Rattle.std.specs.Prelude.{◌≡◌, IfOk, string_bytes};
-ghost use Rattle.office_streams.specs.Fault.{fault_text, status_number};
+ghost use Rattle.office_streams.specs.Fault.{fault_text, status_number, told_line};
 
 use crate::fault::OfficeFault;
 use court_days::{CourtFault, NumberedFault};
@@ -28,6 +28,14 @@ pub fn fault_line(alloc: Global, fault: &OfficeFault) -> Result<String, AllocErr
 {
     let line = FaultLine { fault };
     format!(in alloc; "{line}")
+}
+
+// The same line with its end.
+pub(crate) fn ended_line(alloc: Global, fault: &OfficeFault) -> Result<String, AllocError>
+    ensures { IfOk result (λ line. string_bytes line ≡ told_line fault.now) }
+{
+    let line = FaultLine { fault };
+    format!(in alloc; "{line}\n")
 }
 
 /// A fault, to be written as its line. The numbers and names of faults stand in `NumberedFault` and in `RowCause`.

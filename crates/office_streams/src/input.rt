@@ -2,7 +2,7 @@
 
 ghost use Rattle.std.specs.Prelude.{◌≡◌, ◌⊎◌, true, false, vec_len, IfOk, IfErr, IfSome, OnOk};
 ghost use Rattle.std.specs.Io.KnownBytes.{Consumes, IsAtEnd};
-ghost use Rattle.office_streams.specs.Watched.{watched, has_failed, has_ended};
+ghost use Rattle.office_streams.specs.Watched.{watched, has_failed, has_ended, was_called_again};
 ghost use Rattle.office_streams.specs.Limits.{IsWithinLimits, WasCutShort};
 
 use crate::fault::OfficeFault;
@@ -20,7 +20,8 @@ pub const MAX_READ_CALLS: u32 = 17_000_000;
 const CHUNK_BYTES: usize = 65_536;
 
 /// All that the reader has left. `ReadFault` at the first read that answers with an error, at a byte past
-/// `MAX_INPUT_BYTES`, and where `MAX_READ_CALLS` reads didn't come to the end.
+/// `MAX_INPUT_BYTES`, and where `MAX_READ_CALLS` reads didn't come to the end. After a read that answered with an error
+/// there is no other.
 pub fn read_all<R: Read>(alloc: Global, reader: &mut Watched<R>) -> Result<Vec<u8>, OfficeFault>
     requires working { has_failed reader.old ≡ false }
     requires not_ended { has_ended reader.old ≡ false }
@@ -30,6 +31,8 @@ pub fn read_all<R: Read>(alloc: Global, reader: &mut Watched<R>) -> Result<Vec<u
     ensures worked { OnOk result (has_failed reader.new ≡ false) }
     ensures within { OnOk result (IsWithinLimits reader.old reader.new) }
 
+    ensures failed { has_failed reader.new ≡ true → result ≡ Err OfficeFault.ReadFault }
+    ensures again { was_called_again reader.new ≡ was_called_again reader.old }
     ensures short { result ≡ Err OfficeFault.ReadFault → WasCutShort reader.old reader.new }
     ensures faults { IfErr result (λ fault. (fault ≡ OfficeFault.ReadFault) ⊎ (fault ≡ OfficeFault.OutOfMemory)) }
 {

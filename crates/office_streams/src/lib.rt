@@ -18,7 +18,7 @@ mod watched;
 
 pub use checking::{CheckedInput, check_input};
 pub use division::divide;
-pub use endings::{BAD_WORDS, ended_by, helped, unread};
+pub use endings::{ended_by, helped, refused, unread};
 pub use fault::OfficeFault;
 pub use fault_lines::{fault_line, status_of};
 pub use gate::OpenGate;

@@ -3,7 +3,7 @@
 ghost use Rattle.std.specs.Prelude.{◌≡◌, ◌≢◌, true, false, IfSome, OnErr, OnOk};
 ghost use Rattle.office_streams.specs.Limits.{WasCutShort};
 ghost use Rattle.office_streams.specs.Office.{IsRun, WasReadWhole, input_of, rests_on_input};
-ghost use Rattle.office_streams.specs.Watched.{has_ended, has_failed, watched};
+ghost use Rattle.office_streams.specs.Watched.{has_ended, has_failed, was_called_again, watched};
 
 use crate::fault::OfficeFault;
 use crate::input::read_all;
@@ -22,7 +22,7 @@ use std::thread::Threads;
 /// the calendars of all judges. One clerk does all rows in the order in which they stand; several share one docket, and
 /// each does its own rows in that order, in a thread of its own, which tells the gate of them. All input is read and all
 /// rows are checked before the first is done, and the output is made whole before it is written: after `WriteFault` a
-/// beginning of it is out, after any other fault nothing is. `OutOfMemory` also says that a thread couldn't be started, or
+/// beginning of it is out, after any other fault nothing is. A read or a write that fails is the fault, and the last one. `OutOfMemory` also says that a thread couldn't be started, or
 /// that a clerk got no place to read from.
 pub fn run_office<H: Threads + Wait + Sync, R: Read, W: Write, G: Gate>(
     rt: &H,
@@ -42,9 +42,13 @@ pub fn run_office<H: Threads + Wait + Sync, R: Read, W: Write, G: Gate>(
         IsRun options.clerks options.journal (W.contents (watched writer.old)) (W.contents (watched writer.new)) result (input_of options.clerks input)) }
     ensures whole { rests_on_input result ≡ true → WasReadWhole reader.old reader.new }
     ensures read_fault { result ≡ Err OfficeFault.ReadFault → WasCutShort reader.old reader.new }
+    ensures read_failed { has_failed reader.new ≡ true → result ≡ Err OfficeFault.ReadFault }
+    ensures read_again { was_called_again reader.new ≡ was_called_again reader.old }
 
     ensures written { OnOk result (has_failed writer.new ≡ false) }
     ensures write_fault { result ≡ Err OfficeFault.WriteFault → has_failed writer.new ≡ true }
+    ensures write_failed { has_failed writer.new ≡ true → result ≡ Err OfficeFault.WriteFault }
+    ensures write_again { was_called_again writer.new ≡ was_called_again writer.old }
     ensures nothing_written { OnErr result (result ≢ Err OfficeFault.WriteFault → writer.new ≡ writer.old) }
 
     // Want of memory has one name only.

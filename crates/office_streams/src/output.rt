@@ -2,8 +2,8 @@
 
 ghost use Rattle.std.specs.Prelude.{◌≡◌, ◌++◌, ℕ, List, true, false, OnOk, OnErr};
 ghost use Rattle.std.specs.Io.KnownBytes.{Appends};
-ghost use Rattle.office_streams.specs.Watched.{watched, has_failed, has_ended};
-ghost use Rattle.office_streams.specs.Limits.{AppendsFront};
+ghost use Rattle.office_streams.specs.Watched.{watched, has_failed};
+ghost use Rattle.office_streams.specs.Limits.{AppendsFront, IsGiven};
 
 use crate::fault::OfficeFault;
 use crate::watched::Watched;
@@ -14,6 +14,7 @@ use std::io::Write;
 pub fn write_all<W: Write>(writer: &mut Watched<W>, text: &[u8]) -> Result<(), OfficeFault>
     requires { has_failed writer.old ≡ false }
     ensures written { OnOk result (Appends (W.contents (watched writer.old)) (W.contents (watched writer.new)) text.now) }
+    ensures given { IsGiven W.contents writer.old writer.new text.now }
     ensures worked { OnOk result (has_failed writer.new ≡ false) }
     ensures front { OnErr result (AppendsFront (W.contents (watched writer.old)) (W.contents (watched writer.new)) text.now) }
     ensures failed { OnErr result (has_failed writer.new ≡ true) }

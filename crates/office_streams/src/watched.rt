@@ -10,18 +10,20 @@ use std::io::{Read, Write};
 pub struct Watched<T> {
     inner: T,
     failed: bool,
+    called_again: bool,
     ended: bool,
     read_calls: u64,
     bytes_given: u64,
 }
 
 impl<T> Watched<T> {
-    ghost use Rattle.office_streams.specs.Watched.{watched, has_failed, has_ended, read_calls, bytes_given};
+    ghost use Rattle.office_streams.specs.Watched.{watched, has_failed, has_ended, was_called_again, read_calls, bytes_given};
 
     /// Watches a reader or a writer from here on.
     pub fn new(inner: T) -> Watched<T>
         ensures inner { watched result ≡ inner }
         ensures failed { has_failed result ≡ false }
+        ensures again { was_called_again result ≡ false }
         ensures ended { has_ended result ≡ false }
         ensures calls { read_calls result ≡ 0 }
         ensures bytes { bytes_given result ≡ 0 }
@@ -29,6 +31,7 @@ impl<T> Watched<T> {
         Watched {
             inner,
             failed: false,
+            called_again: false,
             ended: false,
             read_calls: 0,
             bytes_given: 0,
@@ -62,7 +65,7 @@ impl<R: Read> Read for Watched<R> {
     ghost use Rattle.std.specs.Result.{is_err};
     ghost use Rattle.std.specs.Io.{ReadsAtMost};
     ghost use Rattle.std.specs.Io.KnownBytes.{ReadConsumes};
-    ghost use Rattle.office_streams.specs.Watched.{watched, has_failed, has_ended, read_calls, bytes_given, moved_nothing, moved, counted};
+    ghost use Rattle.office_streams.specs.Watched.{watched, has_failed, has_ended, was_called_again, read_calls, bytes_given, moved_nothing, moved, counted};
 
     ghost remaining = { λ w. R.remaining (watched w) };
 
@@ -70,10 +73,12 @@ impl<R: Read> Read for Watched<R> {
         ensures bound { ReadsAtMost result buf.new }
         ensures bytes { ReadConsumes (R.remaining (watched self.old)) (R.remaining (watched self.new)) result buf.new }
         ensures failed { has_failed self.new ≡ (has_failed self.old || is_err result) }
+        ensures again { was_called_again self.new ≡ (has_failed self.old || was_called_again self.old) }
         ensures ended { has_ended self.new ≡ (has_ended self.old || moved_nothing result buf.new) }
         ensures calls { read_calls self.new ≡ counted (read_calls self.old) 1 }
         ensures given { bytes_given self.new ≡ counted (bytes_given self.old) (moved result) }
     {
+        self.called_again = self.failed || self.called_again;
         let answer = self.inner.read(buf);
         let given = match &answer {
             Ok(count) => {
@@ -98,7 +103,7 @@ impl<W: Write> Write for Watched<W> {
     ghost use Rattle.std.specs.Result.{is_err};
     ghost use Rattle.std.specs.Io.{WritesAtMost};
     ghost use Rattle.std.specs.Io.KnownBytes.{Keeps, WriteAppends};
-    ghost use Rattle.office_streams.specs.Watched.{watched, has_failed, has_ended, read_calls, bytes_given, moved_nothing};
+    ghost use Rattle.office_streams.specs.Watched.{watched, has_failed, has_ended, was_called_again, moved_nothing};
 
     ghost contents = { λ w. W.contents (watched w) };
 
@@ -106,8 +111,10 @@ impl<W: Write> Write for Watched<W> {
         ensures bound { WritesAtMost result buf.now }
         ensures bytes { WriteAppends (W.contents (watched self.old)) (W.contents (watched self.new)) result buf.now }
         ensures failed { has_failed self.new ≡ (has_failed self.old || (is_err result || moved_nothing result buf.now)) }
+        ensures again { was_called_again self.new ≡ (has_failed self.old || was_called_again self.old) }
         ensures ended { has_ended self.new ≡ has_ended self.old }
     {
+        self.called_again = self.failed || self.called_again;
         let answer = self.inner.write(buf);
         match &answer {
             Ok(count) => {
@@ -125,8 +132,10 @@ impl<W: Write> Write for Watched<W> {
     fn flush(&mut self) -> io::Result<()>
         ensures bytes { Keeps (W.contents (watched self.old)) (W.contents (watched self.new)) }
         ensures failed { has_failed self.new ≡ (has_failed self.old || is_err result) }
+        ensures again { was_called_again self.new ≡ (has_failed self.old || was_called_again self.old) }
         ensures ended { has_ended self.new ≡ has_ended self.old }
     {
+        self.called_again = self.failed || self.called_again;
         let answer = self.inner.flush();
         if answer.is_err() {
             self.failed = true;

@@ -1,6 +1,7 @@
-use Rattle.std.proofs.Common.{◌∙◌, sym, inl}
+use Rattle.std.proofs.Common.{◌≡◌, ◌∙◌, true, inl, refl}
 use Rattle.csv.specs.Reading.{error_kind}
 use Rattle.csv.specs.Records.{fields_of}
+use Rattle.office_rows.specs.Records.{tells_no_text}
 use Rattle.office_rows.proofs.ReadingLemmas.{all_text-passes, explains_no_text, takes_next, takes_none}
 use Rattle.office_rows.proofs.records.read_next.Goals as goal
 
@@ -15,6 +16,7 @@ returns-then-found-clause-text c e =
       onward = record {
         whole = read.3 ∙ whole;
         usual = read.2 ∙ c.requires.usual;
+        any_length = c.in-Ok.ensures.flexible ∙ c.requires.any_length;
         ready = inl (c.in-Ok.ensures.ready whole);
         sound = c.in-Ok.ensures.goes ∙ c.requires.sound;
       };
@@ -25,7 +27,8 @@ returns-in-Ok-clause-end c e =
     let read = rw c.if-found.false at (c.in-Ok.ensures.reads c.requires.whole c.requires.ready) in
     takes_none c.args.reader.now c.read_record.new.self (fields_of c.read_record.new.row) c.requires read
 
-pub returns-then-tells_no_text-clause-no_text : goal.returns-then-tells_no_text-clause-no_text
-returns-then-tells_no_text-clause-no_text c e =
+pub returns-in-Utf8-clause-no_text : goal.returns-in-Utf8-clause-no_text
+returns-in-Utf8-clause-no_text c e =
     let why = c.in-Err.ensures.why c.requires.whole c.requires.ready in
-    explains_no_text c.args.reader.now c.read_record.new.self (error_kind c.in-Err.error) c.requires (sym c.if-tells_no_text.ensures) why
+    let told : tells_no_text (error_kind c.in-Err.error) ≡ true = rw (← c.kind.ensures, c.in-Utf8.is) refl in
+    explains_no_text c.args.reader.now c.read_record.new.self (error_kind c.in-Err.error) c.requires told why

@@ -6,8 +6,9 @@ use Rattle.office_streams.proofs.output.write_all.Goals as goal
 
 pub loop-rest-preserved : goal.loop-rest-preserved
 loop-rest-preserved g c =
-    let (front, whole, held, working) = c.loop-rest.invariant in
+    let (front, whole, held, working, again) = c.loop-rest.invariant in
     let taken = take c.in-Ok.count c.loop-rest.rest.now in
     let split = ap (λ l. front ++ l) (sym (take-append-drop c.in-Ok.count c.loop-rest.rest.now)) ∙ sym (append_assoc front taken (drop c.in-Ok.count c.loop-rest.rest.now)) in
     let still : has_failed c.write.new.self ≡ false = grind (arith, common_steps) in
-    (front ++ taken, rw c.split_at.ensures.back (whole ∙ split), Appends-trans _ _ _ front taken held c.in-Ok.ensures.bytes, still)
+    let later = (rw working at c.write.ensures.again) ∙ again in
+    (front ++ taken, rw c.split_at.ensures.back (whole ∙ split), Appends-trans _ _ _ front taken held c.in-Ok.ensures.bytes, still, later)

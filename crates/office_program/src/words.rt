@@ -2,7 +2,7 @@
 
 ghost use Rattle.std.specs.Prelude.{map, string_bytes};
 ghost use Rattle.office_options.specs.Words.{words_behind};
-ghost use Rattle.clerk_office.specs.Program.{AnswersWords};
+ghost use Rattle.office_program.specs.Program.{AnswersWords};
 
 use office_options::{Options, OptionsFault, options_of, texts_behind};
 use std::alloc::Global;

@@ -1,0 +1,48 @@
+//! The program over the words and the streams of its process.
+
+ghost use Rattle.std.specs.Prelude.{◌≤◌};
+ghost use Rattle.office_program.specs.Process.{ended_status};
+
+use crate::program::run_program;
+use office_options::words_of;
+use office_streams::Watched;
+use std::io;
+use std::io::Eprint;
+use std::process::{ExitCode, Termination};
+use std::sync::Wait;
+use std::thread::Threads;
+
+/// How the program ended. Only a run of it makes one, so that a `main` that returns it can't give another status.
+#[derive(Debug, Drop)]
+pub struct Ended {
+    status: u8,
+}
+
+impl Termination for Ended {
+    fn report<R: Eprint>(self, _rt: &R) -> ExitCode {
+        ExitCode::from(self.status)
+    }
+}
+
+// No contract says what a process is called with, or what its streams hold. The gate runs programs whose `main` is this
+// call, with words that are refused and with a faulty row.
+
+/// Runs the program on the process's own words and streams. `main` hands over its runtime twice, since only there can it
+/// start threads.
+pub fn run_on_process<H: Threads + Wait + Sync>(rt: &HostRuntime, threads: &H) -> Ended
+    ensures { ended_status result ≤ 5 }
+{
+    let words = words_of(rt);
+    let mut reader = Watched::new(rt.stdin());
+    let mut writer = Watched::new(io::writer(rt));
+    let mut errors = Watched::new(rt.stderr());
+    let status = run_program(
+        threads,
+        rt.alloc(),
+        words,
+        &mut reader,
+        &mut writer,
+        &mut errors,
+    );
+    Ended { status }
+}
