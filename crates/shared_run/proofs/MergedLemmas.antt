@@ -5,7 +5,7 @@ use Rattle.std.proofs.lemmas.List.{get_or-set_other, get_or-set_same, length-set
 use Rattle.std.proofs.lemmas.List.Elements.{All-head, All-tail}
 use Rattle.office_rows.specs.declared.row.Row.{Row}
 use Rattle.clerk_workers.specs.declared.answer.RowAnswer.{RowAnswer}
-use Rattle.clerk_workers.specs.Words.{AreAsMany, AreMerged, AreOfClerks, IsOfClerk, answers_of, list_at, works_of}
+use Rattle.clerk_workers.specs.Words.{AreAsMany, AreMerged, AreOfClerks, IsClerk, answers_of, list_at, works_of}
 use Rattle.clerk_workers.proofs.CallerLemmas.{answers_other, answers_own, works_append, works_other, works_own}
 use Rattle.shared_run.proofs.HoldLemmas.{first_of}
 
@@ -28,7 +28,7 @@ none_left : (answers : List RowAnswer) → length answers ≡ 0 → answers ≡ 
 none_left [] none = refl
 none_left (answer ∷ answers) none = absurd (omega (arith, none))
 
-module _ (row : Row) (rows : List Row) (lists : List (List RowAnswer)) (clerk : IsOfClerk (length lists) row) (many : AreAsMany (row ∷ rows) lists) where
+module _ (row : Row) (rows : List Row) (lists : List (List RowAnswer)) (clerk : IsClerk (length lists) row.clerk) (many : AreAsMany (row ∷ rows) lists) where
   abbrev place : ℕ
   place = row.clerk - 1
 
@@ -38,7 +38,7 @@ module _ (row : Row) (rows : List Row) (lists : List (List RowAnswer)) (clerk : 
   within : place < length lists
   within = omega (arith, clerk.from_one, clerk.to_last)
 
-  -- as many rows of each clerk as behind the first row, and it
+  -- as many rows of each clerk as after the first row, and it
   counted : (n : ℕ) → length (works_of n (row ∷ rows)) ≡ length (works_of n (row ∷ [])) + length (works_of n rows)
   counted n = ap length (works_append n (row ∷ []) rows) ∙ length-append (works_of n (row ∷ [])) (works_of n rows)
 
@@ -77,7 +77,7 @@ module _ (row : Row) (rows : List Row) (lists : List (List RowAnswer)) (clerk : 
         let same : length (list_at other left) ≡ length (list_at other lists) = ap length (elsewhere other differs) in
         omega (arith, many other (inside other lt), none, same, counted (other + 1))
 
-    -- once it is taken, the others are those of the rows behind
+    -- once it is taken, the others are those of the rows after it
     pub first_left : AreAsMany rows left
     first_left =
         at_each (λ other. other < length left → length (list_at other left) ≡ length (works_of (other + 1) rows)) place (λ lt. many_here) many_elsewhere
@@ -109,10 +109,10 @@ AreAll rows lists answers = (length answers ≡ length rows) × AreMerged rows l
 pub all_merged : (rows : List Row) (lists : List (List RowAnswer)) → AreOfClerks (length lists) rows → AreAsMany rows lists → AreAll rows lists (merged rows lists)
 all_merged [] lists clerks many = (refl, λ place lt. none_left (list_at place lists) (many place lt))
 all_merged (row ∷ rows) lists clerks many =
-    let clerk = All-head (IsOfClerk (length lists)) row rows clerks in
+    let clerk = All-head (λ (r : Row). IsClerk (length lists) r.clerk) row rows clerks in
     let first = first_of (list_at (row.clerk - 1) lists) (first_has row rows lists clerk many) in
     let P : ℕ → Type 0 = λ n. AreOfClerks n rows in
-    let behind = subst P (sym (length-set lists (row.clerk - 1) first.1)) (All-tail (IsOfClerk (length lists)) row rows clerks) in
+    let behind = subst P (sym (length-set lists (row.clerk - 1) first.1)) (All-tail (λ (r : Row). IsClerk (length lists) r.clerk) row rows clerks) in
     let rest = all_merged rows (set lists (row.clerk - 1) first.1) behind (first_left row rows lists clerk many first.0 first.1 first.2) in
     let answers = merged rows (set lists (row.clerk - 1) first.1) in
     let Q : List RowAnswer → Type 0 = λ all. AreAll (row ∷ rows) lists all in

@@ -5,7 +5,7 @@ use Rattle.court_days.specs.Words.{CourtView}
 use Rattle.office_rows.specs.declared.row.Row.{Row}
 use Rattle.office_run.specs.Words.{row_numbers}
 use Rattle.clerk_workers.specs.declared.answer.RowAnswer.{RowAnswer}
-use Rattle.clerk_workers.specs.Words.{AllHold, AreAsMany, AreOfClerks, IsOfClerk, list_at}
+use Rattle.clerk_workers.specs.Words.{AllHold, AreAsMany, AreOfClerks, IsClerk, list_at}
 use Rattle.clerk_workers.proofs.CallerLemmas.{held_long}
 use Rattle.shared_run.specs.Lines.{HoldTexts, TextsView}
 use Rattle.shared_run.specs.Merged.{IsMergedText, IsNext}
@@ -19,10 +19,10 @@ pub record IsSoFar (court : CourtView) (left : List TextsView) (number : ℕ) (r
   pub as_many : AreAsMany rows lists
   pub text_is : text ++ answer_lines court number rows (merged rows lists) ≡ whole
 
-module _ (court : CourtView) (left : List TextsView) (number : ℕ) (row : Row) (rows : List Row) (text whole : List ℕ) (clerk : IsOfClerk (length left) row) (so_far : IsSoFar court left number (row ∷ rows) text whole) where
-  of_list : IsOfClerk (length so_far.lists) row
+module _ (court : CourtView) (left : List TextsView) (number : ℕ) (row : Row) (rows : List Row) (text whole : List ℕ) (clerk : IsClerk (length left) row.clerk) (so_far : IsSoFar court left number (row ∷ rows) text whole) where
+  of_list : IsClerk (length so_far.lists) row.clerk
   of_list =
-      let P : ℕ → Type 0 = λ n. IsOfClerk n row in
+      let P : ℕ → Type 0 = λ n. IsClerk n row.clerk in
       subst P (sym (held_long (HoldTexts court) left so_far.lists so_far.held)) clerk
 
   -- the clerk of the next row has a text left
@@ -50,7 +50,7 @@ module _ (court : CourtView) (left : List TextsView) (number : ℕ) (row : Row) 
       }
 
 module _ (court : CourtView) (left : List TextsView) (number i : ℕ) (rows : List Row) (text whole : List ℕ) (so_far : IsSoFar court left number (drop i rows) text whole) where
-  -- the next row, and those behind it
+  -- the next row, and those after it
   pub at_next : (row : Row) → i < length rows → row ≡ get_or rows i row → IsSoFar court left number (row ∷ drop (i + 1) rows) text whole
   at_next row lt at =
       let P : List Row → Type 0 = λ rs. IsSoFar court left number rs text whole in

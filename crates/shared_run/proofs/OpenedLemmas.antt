@@ -11,7 +11,7 @@ use Rattle.versioned_steps.specs.declared.entry.Entry.{Entry}
 use Rattle.office_seats.specs.Words.{AreOfSeats, IsClosed, IsOpened, SeatView, TallyView, numbers_of, open_seat, open_seats}
 use Rattle.office_rows.specs.declared.row.Row.{Row}
 use Rattle.clerk_workers.specs.declared.answer.RowAnswer.{RowAnswer}
-use Rattle.clerk_workers.specs.Words.{AllNoted, AllWorked, AreInOrder, AreNoted, HasRun, HasWorked, History, answers_of, works_of}
+use Rattle.clerk_workers.specs.Words.{AllNoted, AllWorked, AreInOrder, AreNoted, HasRun, HasWorked, History, IsClerk, answers_of, works_of}
 use Rattle.clerk_workers.proofs.CallerLemmas.{are_noted, noted_long, open_in_order, open_long}
 use Rattle.shared_run.specs.Run.{IsSharedRun}
 use Rattle.shared_run.proofs.RunLemmas.{HaveWorked, shared_run}
@@ -44,10 +44,10 @@ module _ (bench : Bench) (rows : List Row) (answers : List RowAnswer) where
 
   module _ (clerks limit : ℕ) (tallies : List TallyView) (all : AllWorked bench rows answers (open_seats limit clerks) tallies) where
     have_worked : HaveWorked bench clerks limit rows answers tallies
-    have_worked zero first last = absurd (omega (arith, first))
-    have_worked (suc i) first last =
-        let within : i < length (open_seats limit clerks) = omega (arith, last, open_long limit clerks) in
-        let seat : get_or (open_seats limit clerks) i (open_seat limit 0) ≡ open_seat limit (suc i) = open_at limit clerks i (open_seat limit 0) (omega (arith, last)) ∙ ap (open_seat limit) (add-one i) in
+    have_worked zero one = absurd (omega (arith, one.from_one))
+    have_worked (suc i) one =
+        let within : i < length (open_seats limit clerks) = omega (arith, one.to_last, open_long limit clerks) in
+        let seat : get_or (open_seats limit clerks) i (open_seat limit 0) ≡ open_seat limit (suc i) = open_at limit clerks i (open_seat limit 0) (omega (arith, one.to_last)) ∙ ap (open_seat limit) (add-one i) in
         let Left : SeatView → Type 0 = λ s. (t : TallyView) × Contains tallies t × HasWorked bench s (works_of s.number rows) (answers_of s.number rows answers) t in
         subst Left seat (one_worked (open_seats limit clerks) tallies all i (open_seat limit 0) within)
 
@@ -66,6 +66,6 @@ run_made bench clerks limit office seats rows answers tallies journal opened ran
     let P : List SeatView → Type 0 = λ ss. AllWorked bench rows answers ss tallies in
     let worked = have_worked bench rows answers clerks limit tallies (subst P opened.seats_are ran.worked) in
     let IsTallied : Entry Command Answer → Type 0 = λ (e : Entry Command Answer). Contains (numbers_of tallies) e.clerk in
-    let IsTheirs : Entry Command Answer → Type 0 = λ (e : Entry Command Answer). (0 < e.clerk) × (e.clerk ≤ clerks) in
+    let IsTheirs : Entry Command Answer → Type 0 = λ (e : Entry Command Answer). IsClerk clerks e.clerk in
     shared_run bench clerks limit rows answers tallies journal worked closed ran.as_many
-    (All-weaker IsTallied IsTheirs (λ e has. let seat = of_seats e.clerk has in (seat.0, omega (arith, seat.1, opened.office_is))) journal closed.no_other)
+    (All-weaker IsTallied IsTheirs (λ e has. let seat = of_seats e.clerk has in record { from_one = seat.0; to_last = omega (arith, seat.1, opened.office_is) }) journal closed.no_other)

@@ -1,10 +1,10 @@
--- The text of a clerk's answers, one behind another.
+-- The text of a clerk's answers, one after another.
 use Rattle.std.specs.Prelude.{◌≡◌, ℕ, List, [], ◌∷◌, ◌++◌, length}
 use Rattle.court_days.specs.Words.{CourtView}
 use Rattle.clerk_workers.specs.declared.answer.RowAnswer.{RowAnswer}
 use Rattle.shared_run.specs.Text.{row_text}
 
--- the bytes of some texts, one behind another, and how many bytes each of them has
+-- the bytes of some texts, one after another, and how many bytes each of them has
 pub record TextsView : Type 0 where
   pub bytes : List ℕ
   pub lens : List ℕ
@@ -15,7 +15,7 @@ pub record LinesView : Type 0 where
   pub texts : TextsView
 
 module _ (court : CourtView) where
-  -- the texts of answers, one behind another
+  -- the texts of answers, one after another
   abbrev pub texts_of : List RowAnswer → List ℕ
   texts_of [] = []
   texts_of (answer ∷ answers) = row_text court answer ++ texts_of answers

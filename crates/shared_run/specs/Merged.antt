@@ -7,7 +7,7 @@ use Rattle.clerk_workers.specs.Words.{AllHold, AreMerged, list_at}
 use Rattle.shared_run.specs.Lines.{HoldTexts, TextsView}
 use Rattle.shared_run.specs.Text.{answer_lines, row_text}
 
--- the text is that of the first answer in the clerk's list; behind it these lines are left
+-- the text is that of the first answer in the clerk's list; after it these lines are left
 pub record IsNext (court : CourtView) (lists : List (List RowAnswer)) (place : ℕ) (text : List ℕ) (left : List TextsView) : Type 0 where
   pub answer : RowAnswer
   pub others : List RowAnswer

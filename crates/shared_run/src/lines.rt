@@ -15,7 +15,7 @@ use std::alloc::{AllocError, Global};
 use std::marker::Model;
 use std::sync::Arc;
 
-/// The texts of the answers to a clerk's rows, one behind another, without the numbers of row and clerk.
+/// The texts of the answers to a clerk's rows, one after another, without the numbers of row and clerk.
 #[derive(Drop)]
 pub(crate) struct Lines {
     court: Arc<Court>,

@@ -8,7 +8,7 @@ ghost use Rattle.shared_run.specs.Text.{row_text};
 
 use std::marker::Model;
 
-/// The last ones of some texts, one behind another, and how many bytes each of them has.
+/// The last ones of some texts, one after another, and how many bytes each of them has.
 #[derive(Drop)]
 pub(crate) struct Rest<'a> {
     bytes: &'a [u8],

@@ -3,7 +3,7 @@ use Rattle.std.proofs.lemmas.List.{length-map}
 use Rattle.std.proofs.lemmas.List.Elements.{All-get_or}
 use Rattle.office_rows.specs.declared.row.Row.{Row}
 use Rattle.office_run.specs.Words.{row_numbers}
-use Rattle.clerk_workers.specs.Words.{AreOfClerks, IsOfClerk}
+use Rattle.clerk_workers.specs.Words.{AreOfClerks, IsClerk}
 use Rattle.clerk_workers.proofs.CallerLemmas.{held_long}
 use Rattle.shared_run.specs.Lines.{HoldLines}
 use Rattle.shared_run.specs.Text.{answer_lines}
@@ -13,11 +13,11 @@ use Rattle.shared_run.proofs.MergedTextLemmas.{all_written, at_next, line_more, 
 use Rattle.shared_run.proofs.merged.answers_text.Goals as goal
 
 -- the row at a place is of one of so many clerks
-row_of : (rows : List Row) (clerks count i : ℕ) (row : Row) → AreOfClerks clerks rows → count ≡ clerks → i < length rows → row ≡ get_or rows i row → IsOfClerk count row
+row_of : (rows : List Row) (clerks count i : ℕ) (row : Row) → AreOfClerks clerks rows → count ≡ clerks → i < length rows → row ≡ get_or rows i row → IsClerk count row.clerk
 row_of rows clerks count i row all same lt at =
-    let P : ℕ → Type 0 = λ n. IsOfClerk n row in
-    let Q : Row → Type 0 = λ r. IsOfClerk clerks r in
-    subst P (sym same) (subst Q (sym at) (All-get_or (IsOfClerk clerks) rows i row lt all))
+    let P : ℕ → Type 0 = λ n. IsClerk n row.clerk in
+    let Q : Row → Type 0 = λ r. IsClerk clerks r.clerk in
+    subst P (sym same) (subst Q (sym at) (All-get_or Q rows i row lt all))
 
 pub loop-index-init : goal.loop-index-init
 loop-index-init c =
