@@ -53,7 +53,7 @@ $(CHECKS):
 help:
 	@echo "make             proves and builds the program, which is then $(PROGRAM)"
 	@echo "make try         runs $(EXAMPLE) from the sources in a minute or two, and proves nothing"
-	@echo "make memo        the same for the program that gives reasons, $(MEMO)"
+	@echo "make memo        the same for the one that gives reasons, $(MEMO)"
 	@echo "make run         proves and builds the program, and runs it on $(EXAMPLE)"
 	@echo "make test        proves and tests everything from nothing (rt ci): the gate"
 	@echo "make times       the same, with a table of the seconds of each crate; it needs Linux"
