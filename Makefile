@@ -34,7 +34,7 @@ memo:
 test:
 	@rt ci
 
-# The same, and then a table of the seconds that each crate took.
+# The same, and then a table of the processor seconds that each crate took.
 times:
 	@python3 tools/gate_times.py
 
@@ -52,9 +52,9 @@ $(CHECKS):
 
 help:
 	@echo "make             proves and builds the program, which is then $(PROGRAM)"
-	@echo "make try         runs $(EXAMPLE) from the sources within two minutes, and proves nothing"
+	@echo "make try         runs $(EXAMPLE) from the sources in a minute or two, and proves nothing"
+	@echo "make memo        the same for the one that gives reasons, $(MEMO)"
 	@echo "make run         proves and builds the program, and runs it on $(EXAMPLE)"
-	@echo "make memo        proves and builds the program that gives reasons, $(MEMO)"
 	@echo "make test        proves and tests everything from nothing (rt ci): the gate"
 	@echo "make times       the same, with a table of the seconds of each crate; it needs Linux"
 	@echo "make bench       prints the program's rows per second and peak memory; it needs Linux"

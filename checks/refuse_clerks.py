@@ -71,7 +71,7 @@ def who_was_refused(ended, wanted):
 
 def refuse_each(program, path, library):
     """Whether each run on that input ended as it must, and each way came up."""
-    text, counts = path.read_bytes(), collections.Counter()
+    text, counts, ways = path.read_bytes(), collections.Counter(), [*TOLD.values(), STOPPED]
     wanted = subprocess.run([program], input=text, stdout=subprocess.PIPE, check=True).stdout
     for _sweep in range(SWEEPS):
         more = swept(library, path, [program], text, lambda ended: who_was_refused(ended, wanted),
@@ -79,9 +79,9 @@ def refuse_each(program, path, library):
         if more is None:
             return False
         counts.update(more)
-        if not lacking(path, counts, [*TOLD.values(), STOPPED]):
-            return True
-    return False
+        if all(way in counts for way in ways):
+            break
+    return not lacking(path, counts, ways)
 
 
 def main(program, path):
