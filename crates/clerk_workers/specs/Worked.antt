@@ -1,5 +1,5 @@
 -- What a clerk's work does to a seat.
-use Rattle.std.specs.Prelude.{◌≡◌, List, [], ◌++◌}
+use Rattle.std.specs.Prelude.{◌≡◌, List, ◌++◌}
 use mathlib.Core.List.{IsPrefix}
 use Rattle.docket_rows.specs.Words.{Bench}
 use Rattle.office_seats.specs.Words.{SeatView, TallyView}
