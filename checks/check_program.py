@@ -1,14 +1,15 @@
 #!/usr/bin/env python3
-"""Runs the built program for every status that it may end with, and looks at all that it writes.
+"""Runs a built program for every status that it may end with, and looks at all that it writes.
 
     check_program.py PROGRAM
 
-The gate sees one run of the program, which ends with 0. Here each status from 0 to 5 is met: with what stands on
-standard input, on the command line and behind the two outputs, the status, standard output and standard error must
-be what is written below; of the long texts that tell of the command line a part must be. It needs Python 3.8 and Linux
-(/dev/full, a limit of memory), and nothing else. The last line counts the runs as 'N passed, M failed'; the status is 0
-where none failed.
+PROGRAM is a clerk_office or a deadline_memo, as its file is called. The gate sees one run of each, which ends with 0. Here
+each status from 0 to 5 is met: with what stands on standard input, on the command line and behind the two outputs, the
+status, standard output and standard error must be what is written below; of the long texts that tell of the command line
+a part must be. It needs Python 3.8 and Linux (/dev/full, a limit of memory), and nothing else. The last line counts the
+runs as 'N passed, M failed'; the status is 0 where none failed.
 """
+import datetime
 import os
 import resource
 import subprocess
@@ -39,7 +40,6 @@ MOST_BYTES = 16777216
 MEGABYTE = 1000000
 
 
-
 class Has:
     """Stands for each text that has this part: of a long one, as the help, a part is looked for."""
 
@@ -57,41 +57,115 @@ def usage(wrong):
     return Has(b"error: " + wrong)
 
 
+def reason(day, what, section):
+    """The line of a reason: the day, what happened in 50 bytes, and the section."""
+    return b"  " + day + b"  " + what.ljust(50) + b"  " + section + b"\n"
+
+
+def reasons(cause):
+    """Why 28 days after 2025-08-04 end on 2025-09-02, where the holiday between them is passed over for this cause."""
+    return (reason(b"Mon 2025-08-04", b"day of the event, excluded", b"6(a)(1)(A)")
+            + reason(b"Mon 2025-09-01", b"day 28, every day counted", b"6(a)(1)(B)")
+            + reason(b"Mon 2025-09-01", cause + b", passed over", b"6(a)(1)(C), 6(a)(6)")
+            + reason(b"Tue 2025-09-02", b"the time runs to this day", b"6(a)(1)(C)")
+            + reason(b"Tue 2025-09-02", b"last day, to 17:00, e-filing to midnight", b"6(a)(4)"))
+
+
 # Each run: what it is, the words of the command line, standard input, and then the status, standard output and standard
-# error that are wanted.
-RUNS = [
-    ("a row", [], ROWS, 0, LINE + JUDGE, b""),
-    ("a refused row", [], ROWS.replace(b"28d", b"0d"), 0, b"1 1 refused 6 BadLength\n" + JUDGE, b""),
-    ("no row behind the divider", [], COURT + b"%%\n", 0, JUDGE, b""),
-    ("no divider", [], COURT, 0, JUDGE, b""),
-    ("two rows", [], ROWS + ROW, 0, LINE + b"2" + LINE[1:] + JUDGE, b""),
-    ("as many bytes as are taken", [], ROWS + b"\n" * (MOST_BYTES - len(ROWS)), 0, LINE + JUDGE, b""),
+# error that are wanted. Behind the answer to a row some programs write why it is that.
+def common_runs(name, why):
+    """The runs that every program has, where it is called so, and gives these reasons of the row."""
+    line = LINE + why
+    return [
+        ("a row", [], ROWS, 0, line + JUDGE, b""),
+        ("a refused row", [], ROWS.replace(b"28d", b"0d"), 0, b"1 1 refused 6 BadLength\n" + JUDGE, b""),
+        ("no row behind the divider", [], COURT + b"%%\n", 0, JUDGE, b""),
+        ("no divider", [], COURT, 0, JUDGE, b""),
+        ("two rows", [], ROWS + ROW, 0, line + b"2" + line[1:] + JUDGE, b""),
+        ("a case", [], COURT + OPEN.replace(b"64", b"1"), 0, OPENED + JUDGE, b""),
+        ("as many bytes as are taken", [], ROWS + b"\n" * (MOST_BYTES - len(ROWS)), 0, line + JUDGE, b""),
+        ("a request for help", ["--help"], b"", 0, Has(b"Usage: " + name), b""),
+        ("a request for help before a mistake", ["-h", "x"], ROWS, 0, Has(b"Usage: " + name), b""),
+        ("a request for the version", ["--version"], ROWS, 0, name + b" 0.1.0\n", b""),
+        ("an argument", ["x"], ROWS, 1, b"", usage(b"unexpected argument 'x' found\n")),
+        ("an argument before a request for help", ["x", "--help"], ROWS, 1, b"", usage(b"unexpected argument 'x' found\n")),
+        ("an empty argument", [""], ROWS, 1, b"", usage(b"unexpected argument ''")),
+        ("another option", ["--rooms", "2"], ROWS, 1, b"", usage(b"unexpected argument '--rooms' found\n")),
+        ("an argument that is no text", [b"\xff"], ROWS, 1, b"", NO_TEXT),
+        ("nothing", [], b"", 2, b"", b"court fault 2 Missing zone\n"),
+        ("a divider alone", [], b"%%\n", 2, b"", b"court fault 2 Missing zone\n"),
+        ("no TOML", [], b"zone = \n%%\n" + ROW, 2, b"", b"court fault 1 NotToml\n"),
+        ("a name twice", [], ROWS.replace(b'"R1"', b'"R1", "R1"'), 2, b"", b"court fault 9 TwiceNamed R1\n"),
+        ("a clerk too many", [], ROWS + b"2" + ROW[1:], 3, b"", b"row 2 fault 1 BadClerk\n"),
+        ("the clerk 64", [], COURT + b"%%\n64" + ROW[1:], 3, b"", b"row 1 fault 1 BadClerk\n"),
+        ("another command", [], COURT + b"%%\n1,fly,1,\"1\"\n", 3, b"", b"row 1 fault 2 UnknownCommand\n"),
+        ("a field too few", [], ROWS + b"1,sheet\n", 3, b"", b"row 2 fault 3 WrongCount\n"),
+        ("a field that can't be read", [], ROWS + b"1,sheet,one\n", 3, b"", b"row 2 fault 4 BadField 3\n"),
+        ("a field that is no text", [], COURT + b"%%\n1,\xff\n", 3, b"", b"row 1 fault 5 NotText\n"),
+        ("a byte too many", [], ROWS + b"\n" * (MOST_BYTES + 1 - len(ROWS)), 4, b"", b"read fault\n"),
+    ]
+
+
+OFFICE_RUNS = [
     ("one clerk and a journal", ["--clerks", "1", "--journal=0"], ROWS, 0, LINE + JUDGE, b""),
-    ("a request for help", ["--help"], b"", 0, Has(b"Usage: clerk_office [OPTIONS]\n"), b""),
+    ("help with the options", ["--help"], b"", 0, Has(b"Usage: clerk_office [OPTIONS]\n"), b""),
     ("a short request for help", ["-h"], ROWS, 0, Has(b"--journal <N>"), b""),
-    ("a request for the version", ["--version"], ROWS, 0, b"clerk_office 0.1.0\n", b""),
-    ("an argument", ["x"], ROWS, 1, b"", usage(b"unexpected argument 'x' found\n")),
-    ("an empty argument", [""], ROWS, 1, b"", usage(b"unexpected argument ''")),
     ("two clerks", ["--clerks", "2"], ROWS + b"2" + ROW[1:], 0, LINE + b"2 2" + LINE[3:] + JUDGE, b""),
     ("64 clerks and no journal", ["--clerks=64", "--journal=0"], COURT + OPEN, 0, b"1 64 journal full\n" + JUDGE, b""),
     ("one clerk and no journal", ["--journal=0"], COURT + OPEN.replace(b"64", b"1"), 0, OPENED + JUDGE, b""),
     ("more clerks than there may be", ["--clerks", "65"], ROWS, 1, b"", usage(b"invalid value '65' for '--clerks <N>'")),
-    ("another option", ["--rooms", "2"], ROWS, 1, b"", usage(b"unexpected argument '--rooms' found\n")),
     ("an option twice", ["--clerks=1", "--clerks=1"], ROWS, 1, b"", Has(b"cannot be used multiple times")),
-    ("an argument that is no text", [b"\xff"], ROWS, 1, b"", NO_TEXT),
     ("a number that is no text", ["--journal", b"\xff"], ROWS, 1, b"", NO_TEXT),
-    ("nothing", [], b"", 2, b"", b"court fault 2 Missing zone\n"),
-    ("a divider alone", [], b"%%\n", 2, b"", b"court fault 2 Missing zone\n"),
-    ("no TOML", [], b"zone = \n%%\n" + ROW, 2, b"", b"court fault 1 NotToml\n"),
-    ("a name twice", [], ROWS.replace(b'"R1"', b'"R1", "R1"'), 2, b"", b"court fault 9 TwiceNamed R1\n"),
-    ("a clerk too many", [], ROWS + b"2" + ROW[1:], 3, b"", b"row 2 fault 1 BadClerk\n"),
     ("a clerk too many of two", ["--clerks=2"], ROWS + b"3" + ROW[1:], 3, b"", b"row 2 fault 1 BadClerk\n"),
-    ("the clerk 64", [], COURT + b"%%\n64" + ROW[1:], 3, b"", b"row 1 fault 1 BadClerk\n"),
-    ("another command", [], COURT + b"%%\n1,fly,1,\"1\"\n", 3, b"", b"row 1 fault 2 UnknownCommand\n"),
-    ("a field that is no text", [], COURT + b"%%\n1,\xff\n", 3, b"", b"row 1 fault 5 NotText\n"),
-    ("a byte too many", [], ROWS + b"\n" * (MOST_BYTES + 1 - len(ROWS)), 4, b"", b"read fault\n"),
     ("a byte too many of four clerks", ["--clerks=4"], ROWS + b"\n" * (MOST_BYTES + 1 - len(ROWS)), 4, b"", b"read fault\n"),
 ]
+
+LABOR = b'2025-09-01 = "Labor Day"\n'
+
+
+def named(entries):
+    """The row's input, with these entries in the table of the names of holidays."""
+    return COURT + b"[holiday_names]\n" + entries + b"%%\n" + ROW
+
+
+def other_names(count):
+    """As many entries that name other days, from 1900 on."""
+    days = (datetime.date(1900, 1, 1) + datetime.timedelta(days=day) for day in range(count))
+    return b"".join(b'%s = "a holiday"\n' % str(day).encode() for day in days)
+
+
+# Names of holidays: what the table has, and by what name the holiday is then called.
+NAMES = [
+    ("a name", LABOR, b"Labor Day"),
+    ("a name at a key in quotes", b'"2025-09-01" = "Labor Day"\n', b"Labor Day"),
+    ("names of other days", b'2025-08-31 = "a"\n2025-09-02 = "b"\n2024-09-01 = "c"\n', b"legal holiday"),
+    ("keys that are no dates", b'2025-09-00 = "a"\n2025-9-1 = "b"\n"" = "c"\nx = "d"\n' + LABOR, b"Labor Day"),
+    ("keys that are no dates, alone", b'"2025-9-1" = "b"\n" 2025-09-01" = "c"\n20250901 = "d"\n', b"legal holiday"),
+    ("values that are no texts", b"1900-01-01 = 1\n1900-01-02 = []\n1900-01-03 = {}\n" + LABOR, b"Labor Day"),
+    ("a date for a name", b"2025-09-01 = 2025-09-01\n", b"legal holiday"),
+    ("an empty name", b'2025-09-01 = ""\n', b"legal holiday"),
+    ("a name with a line end", b'2025-09-01 = "Labor\\nDay"\n', b"legal holiday"),
+    ("a name with a control character", b'2025-09-01 = "Labor\\u007fDay"\n', b"legal holiday"),
+    ("a name of one letter", b'2025-09-01 = "L"\n', b"L"),
+    ("a name of spaces", b'2025-09-01 = " "\n', b" "),
+    ("a name that isn't ASCII", '2025-09-01 = "Día del Trabajo"\n'.encode(), "Día del Trabajo".encode()),
+    ("a name that is wider than its column", b'2025-09-01 = "' + b"Labor Day " * 10 + b'"\n', b"Labor Day " * 10),
+    ("a name of a million bytes", b'2025-09-01 = "' + b"L" * MEGABYTE + b'"\n', b"L" * MEGABYTE),
+    ("4,096 names", other_names(4095) + LABOR, b"Labor Day"),
+    ("a name too many", other_names(4096) + LABOR, b"legal holiday"),
+]
+
+MEMO_RUNS = [(name, [], named(entries), 0, LINE + reasons(cause) + JUDGE, b"") for name, entries, cause in NAMES] + [
+    ("names that are no table", [], b"holiday_names = 3\n" + ROWS, 0, LINE + reasons(b"legal holiday") + JUDGE, b""),
+    ("a day that is named twice", [], named(LABOR + LABOR), 2, b"", b"court fault 1 NotToml\n"),
+    ("an option of the office", ["--clerks", "1"], ROWS, 1, b"", usage(b"unexpected argument '--clerks' found\n")),
+    ("help with the names of holidays", ["--help"], b"", 0, Has(b"[holiday_names]"), b""),
+]
+
+PROGRAMS = {
+    "clerk_office": common_runs(b"clerk_office", b"") + OFFICE_RUNS,
+    "deadline_memo": common_runs(b"deadline_memo", reasons(b"legal holiday")) + MEMO_RUNS,
+}
 
 
 def with_little_memory():
@@ -110,7 +184,7 @@ def ended(command, text, **more):
 
 def runs(program):
     """Each run by its name, how it ended, and how it had to."""
-    for name, words, text, status, output, error in RUNS:
+    for name, words, text, status, output, error in PROGRAMS[os.path.basename(program)]:
         yield name, ended([program] + words, text), (status, output, error)
     folder = os.open("/", os.O_RDONLY)
     yield "a folder for input", ended([program], None, stdin=folder), (4, b"", b"read fault\n")
@@ -137,6 +211,6 @@ def main(program):
 
 
 if __name__ == "__main__":
-    if len(sys.argv) != 2:
-        sys.exit("usage: check_program.py PROGRAM")
+    if len(sys.argv) != 2 or os.path.basename(sys.argv[1]) not in PROGRAMS:
+        sys.exit("usage: check_program.py PROGRAM, which is a {}".format(" or a ".join(PROGRAMS)))
     main(sys.argv[1])

@@ -1,3 +1,4 @@
+pub mod Names
 pub mod Texts
 pub mod Reasons
 pub mod Sheets

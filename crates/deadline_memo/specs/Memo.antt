@@ -1,13 +1,15 @@
 -- The whole text: what the office answers, with the reasons of each deadline that is shown.
-use Rattle.std.specs.Prelude.{◌≡◌, ℕ, List, length}
+use Rattle.std.specs.Prelude.{◌≡◌, ℕ, List, Option, Result, length}
 use Rattle.std.specs.List.{range_with_len}
 use Rattle.court_days.specs.Words.{CourtView, file_of}
 use Rattle.docket_rows.specs.declared.query.Query.TheVariants as query
 use Rattle.docket_rows.specs.Words.{Rows, bench_of, opening_rows, parts_of, view_of}
 use Rattle.office_rows.specs.declared.row.Row.{Row}
 use Rattle.office_run.specs.Words.{calendars_from, docketed_after}
-use Rattle.office_streams.specs.Words.{Input}
+use Rattle.office_streams.specs.declared.fault.OfficeFault.{OfficeFault}
+use Rattle.office_streams.specs.Words.{Input, IsRunBy, court_part, input_of}
 use Rattle.reason_texts.specs.Words.{NamedDay}
+use Rattle.deadline_memo.specs.Names.{holiday_names}
 use Rattle.deadline_memo.specs.Replies.{AreReplies}
 use Rattle.deadline_memo.specs.Sheets.{IsSheetShown}
 use Rattle.deadline_memo.specs.Texts.{Each, Is, Then}
@@ -31,9 +33,13 @@ IsMemo court names rows =
     let opening = opening_rows (bench_of court) in
     Then (AreReplies court names opening 1 rows) (IsClosing court names (docketed_after (bench_of court) opening rows))
 
--- the text of an input, in the court whose file it has, where days have some names
-pub record IsMemoOf (input : Input) (text : List ℕ) : Type 0 where
+-- the text of an input, in the court whose file it has, where holidays have these names
+pub record IsMemoOf (names : List NamedDay) (input : Input) (text : List ℕ) : Type 0 where
   pub court : CourtView
-  pub names : List NamedDay
   pub is_court : file_of court ≡ input.file
   pub is_memo : IsMemo court names input.rows text
+
+-- By its answer, a run has written a text of the input, where holidays have the names that the court's file gives them,
+-- or a beginning of one; or the input has the fault that the answer names.
+abbrev pub IsMemoRun : Option (List ℕ) → Option (List ℕ) → Result (Unit {0}) OfficeFault → (input : List ℕ) → Type 0
+IsMemoRun old new result input = IsRunBy (IsMemoOf (holiday_names (court_part input))) old new result (input_of 1 input)

@@ -1,5 +1,5 @@
 -- The replies to rows, with the reasons of each deadline that they show.
-use Rattle.std.specs.Prelude.{ℕ, ◌+◌, Bool, true, false, List, [], ◌∷◌, Option, Some, None, codes, if◌then◌else◌}
+use Rattle.std.specs.Prelude.{◌≡◌, ℕ, ◌+◌, Bool, true, false, List, [], ◌∷◌, Option, Some, None, codes, if◌then◌else◌}
 use Rattle.court_days.specs.Words.{CourtView}
 use Rattle.rule_periods.specs.Words.{DeadlineRowView}
 use Rattle.docket_rows.specs.declared.answer.Answer.TheVariants as answer
@@ -8,15 +8,16 @@ use Rattle.docket_rows.specs.declared.query.Query.{Query as QueryOf}
 use Rattle.docket_rows.specs.declared.query.Query.TheVariants as query
 use Rattle.docket_rows.specs.declared.sheet.Sheet.{Sheet}
 use Rattle.docket_rows.specs.declared.view.View.TheVariants as view
-use Rattle.docket_rows.specs.Words.{Rows, bench_of, deadline_in, parts_of, started}
+use Rattle.docket_rows.specs.Words.{Rows, bench_of, started}
+use Rattle.docket_core.specs.Words.{DocketView}
 use Rattle.office_rows.specs.declared.row.Row.{Row}
 use Rattle.office_rows.specs.declared.row.Work.{Work}
 use Rattle.office_rows.specs.declared.row.Work.TheVariants.{Command, Query}
 use Rattle.office_run.specs.declared.reply.Reply.{Reply}
 use Rattle.office_run.specs.declared.reply.Reply.TheVariants.{Made, Viewed}
-use Rattle.office_run.specs.Words.{docketed_then, reply_text, reply_to, row_numbers}
+use Rattle.office_run.specs.Words.{Holds, docketed_then, reply_text, reply_to, row_numbers}
 use Rattle.reason_texts.specs.Words.{NamedDay}
-use Rattle.deadline_memo.specs.Reasons.{AreReasonsIfAny}
+use Rattle.deadline_memo.specs.Reasons.{AreReasonsDocketed, AreReasonsIfAny}
 use Rattle.deadline_memo.specs.Sheets.{IsSheet}
 use Rattle.deadline_memo.specs.Texts.{Is, Then}
 
@@ -54,10 +55,20 @@ is_computed reply = false
 abbrev pub deadline_computed : Work → Reply → Option DeadlineRowView
 deadline_computed work reply = if is_computed reply then deadline_asked work else None
 
+-- The docket of that court has answered the work so, and stands for what is docketed since.
+pub record HasAnswered (court : CourtView) (docket : DocketView) (docketed : Rows) (work : Work) (reply : Reply) : Type 0 where
+  pub before : Rows
+  pub said : reply ≡ reply_to (bench_of court) before work
+  pub left : docketed ≡ docketed_then (bench_of court) before work
+  pub holds : Holds (bench_of court) docket docketed
+
 -- the reasons of the deadline whose end a reply tells, as it is docketed behind the row, or of that whose end is computed
 abbrev pub AreReasonsTold : CourtView → List NamedDay → (docketed : Rows) → Option (ℕ × ℕ) → Option DeadlineRowView → List ℕ → Type 0
-AreReasonsTold court names docketed (Some told) computed = AreReasonsIfAny court names docketed.days (deadline_in (parts_of docketed) told.0 told.1)
+AreReasonsTold court names docketed (Some told) computed = AreReasonsDocketed court names docketed told.0 told.1
 AreReasonsTold court names docketed None computed = AreReasonsIfAny court names docketed.days computed
+
+abbrev pub AreReasonsWith : CourtView → List NamedDay → (docketed : Rows) → Work → Reply → List ℕ → Type 0
+AreReasonsWith court names docketed work reply = AreReasonsTold court names docketed (deadline_told work reply) (deadline_computed work reply)
 
 -- the sheet that a reply shows
 abbrev pub sheet_replied : Reply → Option Sheet
@@ -68,7 +79,7 @@ sheet_replied reply = None
 abbrev pub IsReplyWith : CourtView → List NamedDay → (docketed : Rows) → Work → Reply → Option Sheet → List ℕ → Type 0
 IsReplyWith court names docketed work reply (Some sheet) = Then (Is (codes "sheet\n")) (IsSheet court names docketed.days sheet)
 IsReplyWith court names docketed work reply None =
-    Then (Is (reply_text court reply)) (AreReasonsTold court names docketed (deadline_told work reply) (deadline_computed work reply))
+    Then (Is (reply_text court reply)) (AreReasonsWith court names docketed work reply)
 
 abbrev pub IsReply : CourtView → List NamedDay → (docketed : Rows) → Work → Reply → List ℕ → Type 0
 IsReply court names docketed work reply = IsReplyWith court names docketed work reply (sheet_replied reply)

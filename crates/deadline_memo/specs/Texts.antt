@@ -1,5 +1,6 @@
 -- How texts are put together of parts of which there may be more than one.
-use Rattle.std.specs.Prelude.{◌≡◌, ℕ, List, [], ◌∷◌, ◌++◌}
+use Rattle.std.specs.Prelude.{◌≡◌, ℕ, List, [], ◌∷◌, ◌++◌, String, Result, OnOk, string_bytes}
+use Rattle.std.specs.declared.alloc.Global.{Global}
 
 -- this text and no other
 abbrev pub Is : List ℕ → List ℕ → Type 0
@@ -23,3 +24,7 @@ pub record Adds (IsKind : List ℕ → Type 0) (old new : List ℕ) : Type 0 whe
   pub added : List ℕ
   pub is_kind : IsKind added
   pub appended : new ≡ old ++ added
+
+-- a text of a kind is added, unless memory ran out
+abbrev pub Pushes : {E : Type 0} → (List ℕ → Type 0) → Result (Unit {0}) E → (old new : String Global) → Type 0
+Pushes IsKind result old new = OnOk result (Adds IsKind (string_bytes old) (string_bytes new))

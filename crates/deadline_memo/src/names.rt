@@ -1,77 +1,109 @@
 //! The names that a court's file gives to holidays.
 
-ghost use Rattle.std.specs.Prelude.{◌≡◌, IfErr};
+ghost use Rattle.std.specs.Prelude.{◌≡◌, ◌++◌, take, IfOk, OnOk, option_map};
+ghost use Rattle.std.specs.List.{list_all};
+ghost use Rattle.toml.specs.View.{table_view, view};
+ghost use Rattle.deadline_memo.specs.Names.{holiday_names, is_printed, is_printed_byte, named_among, named_by, named_in, table_of_names};
 
 use court_days::Day;
-use office_streams::OfficeFault;
 use reason_texts::HolidayName;
 use std::alloc::{AllocError, Global};
-use toml::Table;
+use toml::{Table, Value};
 
 // The table of a court's file that names holidays.
-const NAMES: &str = "holiday_names";
+const TABLE: &str = "holiday_names";
 
 // How many names are kept, as many as a list of holidays may have.
 const MOST_NAMES: usize = 4_096;
 
-// A body that found no name would meet these contracts, and the program's stored run has names.
+// A body that said at an entry which is passed over that memory ran out would meet these contracts; the program's stored
+// run has such entries.
 
 /// The names that a court's file gives to holidays: in its table `holiday_names` a text stands behind each date. What is
-/// no date, and a name that is no text, is empty or has a control character, is passed over, and so are names past the
-/// 4,096th. `OutOfMemory` alone is a fault, since the court was read from the same bytes.
-pub(crate) fn names_in(alloc: Global, file: &[u8]) -> Result<Vec<HolidayName>, OfficeFault>
-    ensures { IfErr result (λ fault. fault ≡ OfficeFault.OutOfMemory) }
+/// no date, and a name that is no text, is empty or has an ASCII control character, is passed over, and so are names past
+/// the 4,096th. Bytes that are no TOML have none. `Err` says that memory ran out.
+pub(crate) fn holiday_names(alloc: Global, file: &[u8]) -> Result<Vec<HolidayName>, AllocError>
+    ensures { IfOk result (λ names. names.items ≡ holiday_names file.now) }
 {
-    match names_of(alloc, file) {
-        Ok(names) => Ok(names),
-        Err(_) => Err(OfficeFault::OutOfMemory),
-    }
-}
-
-/// The names of a file, as far as it can be read.
-fn names_of(alloc: Global, file: &[u8]) -> Result<Vec<HolidayName>, AllocError> {
-    let mut names = Vec::new(alloc);
     match toml::table_from_slice(alloc, file) {
-        Ok(table) => {
-            push_names(alloc, &mut names, &table)?;
-            Ok(names)
+        Ok(document) => named_in_document(alloc, &document),
+        Err(error) => {
+            if error.is_memory() {
+                return Err(AllocError);
+            }
+            Ok(Vec::new(alloc))
         }
-        Err(error) if error.is_memory() => Err(AllocError),
-        Err(_) => Ok(names),
     }
 }
 
-/// Adds the names of the table.
-fn push_names(alloc: Global, names: &mut Vec<HolidayName>, file: &Table) -> Result<(), AllocError> {
-    let Some(value) = file.get(NAMES) else {
-        return Ok(());
-    };
-    let Some(table) = value.as_table() else {
-        return Ok(());
-    };
-    for (date, name) in table.iter().take(MOST_NAMES) {
-        push_name(alloc, names, date.as_str(), name.as_str())?;
+/// The names in a document's table of names.
+fn named_in_document(alloc: Global, document: &Table) -> Result<Vec<HolidayName>, AllocError>
+    ensures { IfOk result (λ names. names.items ≡ take 4096 (named_in (table_of_names (table_view document.now)))) }
+{
+    match table_of_names(document) {
+        Some(table) => first_named(alloc, table),
+        None => Ok(Vec::new(alloc)),
     }
-    Ok(())
 }
 
-/// Adds the name of a date.
-fn push_name(
+/// The table of a document that names holidays.
+fn table_of_names(document: &Table) -> Option<&Table>
+    ensures { option_map (λ table. table_view table.now) result ≡ table_of_names (table_view document.now) }
+{
+    match document.get(TABLE) {
+        Some(value) => value.as_table(),
+        None => None,
+    }
+}
+
+/// The first of the names that the entries of a table give.
+#[tactic(auto, unfolding(crate::specs::Names::named_among))]
+fn first_named(alloc: Global, table: &Table) -> Result<Vec<HolidayName>, AllocError>
+    ensures { IfOk result (λ names. names.items ≡ take 4096 (named_among (table_view table.now))) }
+{
+    let mut names = Vec::new(alloc);
+    for (key, value) in table.iter() {
+        push_named(alloc, &mut names, key.as_str(), value)?;
+    }
+    names.truncate(MOST_NAMES);
+    Ok(names)
+}
+
+/// Adds the name that an entry gives, if it gives one.
+fn push_named(
     alloc: Global,
     names: &mut Vec<HolidayName>,
-    date: &str,
-    name: Option<&str>,
-) -> Result<(), AllocError> {
-    match (Day::from_text(date), name) {
-        (Some(day), Some(name)) if is_printed(name) => {
-            names.push(HolidayName::new(day, String::from_str(alloc, name)?))?;
+    key: &str,
+    value: &Value,
+) -> Result<(), AllocError>
+    ensures { OnOk result (names.new.items ≡ names.old.items ++ named_by key.now (view value.now)) }
+{
+    match (Day::from_text(key), value.as_str()) {
+        (Some(day), Some(text)) if is_printed(text) => {
+            names.push(HolidayName::new(day, String::from_str(alloc, text)?))?;
             Ok(())
         }
         _ => Ok(()),
     }
 }
 
-/// Whether a name can stand in a line: it has no control character, and isn't empty.
-fn is_printed(name: &str) -> bool {
-    !name.is_empty() && name.bytes().all(|byte| byte >= 32 && byte != 127)
+/// Whether a text can stand in a line as a name.
+fn is_printed(text: &str) -> bool
+    ensures { result ≡ is_printed text.now }
+{
+    !text.is_empty() && are_printed(text.as_bytes())
+}
+
+/// Whether no byte is that of a control character.
+fn are_printed(text: &[u8]) -> bool
+    ensures { result ≡ list_all is_printed_byte text.now }
+{
+    text.iter().all(|b| is_printed_byte(*b))
+}
+
+/// Whether a byte is that of no control character.
+fn is_printed_byte(b: u8) -> bool
+    ensures { result ≡ is_printed_byte b }
+{
+    b >= 32 && b != 127
 }

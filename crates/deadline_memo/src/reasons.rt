@@ -1,11 +1,11 @@
 //! The reasons of deadlines.
 
-ghost use Rattle.std.specs.Prelude.{◌≡◌, None, Some, option_copied, string_bytes, OnOk};
+ghost use Rattle.std.specs.Prelude.{◌≡◌, None};
 ghost use Rattle.rule_periods.specs.Words.{start_refusal};
-ghost use Rattle.docket_rows.specs.Words.{Rows, bench_of, deadline_in, parts_of, started};
+ghost use Rattle.docket_rows.specs.Words.{Rows, bench_of, started};
 ghost use Rattle.office_run.specs.Words.{Holds};
-ghost use Rattle.deadline_memo.specs.Reasons.{AreReasons, AreReasonsIfAny};
-ghost use Rattle.deadline_memo.specs.Texts.{Adds};
+ghost use Rattle.deadline_memo.specs.Reasons.{AreReasons, AreReasonsDocketed};
+ghost use Rattle.deadline_memo.specs.Texts.{Pushes};
 
 use court_days::{Court, Day, Days};
 use deadline_reasons::reasons_of;
@@ -24,7 +24,7 @@ pub(crate) fn push_deadline_reasons(
     days: &Days,
     row: &DeadlineRow,
 ) -> Result<(), AllocError>
-    ensures { OnOk result (Adds (AreReasons court.now names.now days.now row.now) (string_bytes text.old) (string_bytes text.new)) }
+    ensures { Pushes (AreReasons court.now names.now days.now row.now) result text.old text.new }
 {
     let reasons = reasons_of(alloc, days, court.clock(), row)?;
     let course = Course::of(&row.period());
@@ -41,7 +41,7 @@ pub(crate) fn push_docketed_reasons(
     case: u32,
     number: u32,
 ) -> Result<(), AllocError>
-    ensures { (docketed : Rows) → Holds (bench_of court.now) docket.now docketed → OnOk result (Adds (AreReasonsIfAny court.now names.now docketed.days (deadline_in (parts_of docketed) case number)) (string_bytes text.old) (string_bytes text.new)) }
+    ensures { (docketed : Rows) → Holds (bench_of court.now) docket.now docketed → Pushes (AreReasonsDocketed court.now names.now docketed case number) result text.old text.new }
 {
     match docket.deadline(case, number) {
         Some(row) => push_deadline_reasons(alloc, text, court, names, docket.days(), row.row()),
@@ -61,7 +61,8 @@ pub(crate) fn push_started_reasons(
     second: &Option<Day>,
     service: &Option<ServiceKind>,
 ) -> Result<(), AllocError>
-    ensures { start_refusal days.now period.now event.now second.now service.now ≡ None → OnOk result (Adds (AreReasons court.now names.now days.now (started period.now event.now second.now service.now)) (string_bytes text.old) (string_bytes text.new)) }
+    ensures { start_refusal days.now period.now event.now second.now service.now ≡ None →
+        Pushes (AreReasons court.now names.now days.now (started period.now event.now second.now service.now)) result text.old text.new }
 {
     match check_start(days, period, *event, *second, *service) {
         Ok(()) => {

@@ -1,14 +1,14 @@
 //! The replies to rows, with the reasons of each deadline that they show.
 
-ghost use Rattle.std.specs.Prelude.{◌≡◌, option_copied, string_bytes, OnOk};
+ghost use Rattle.std.specs.Prelude.{◌≡◌, option_copied, OnOk};
 ghost use Rattle.rule6.specs.declared.timeliness.Shown.{Shown};
 ghost use Rattle.docket_rows.specs.declared.view.View.TheVariants.{Computed};
 ghost use Rattle.docket_rows.specs.Words.{Rows, bench_of, opening_rows, view_of};
 ghost use Rattle.office_run.specs.declared.reply.Reply.TheVariants.{Viewed};
-ghost use Rattle.office_run.specs.Words.{Holds, docketed_after, docketed_then, reply_to};
+ghost use Rattle.office_run.specs.Words.{Holds, docketed_after, docketed_then};
 ghost use Rattle.deadline_memo.specs.Reasons.{AreReasonsIfAny};
-ghost use Rattle.deadline_memo.specs.Replies.{AreReasonsTold, AreReplies, IsReply, IsRow, deadline_asked, deadline_computed, deadline_extended, deadline_queried, deadline_started, deadline_told, is_computed, sheet_replied};
-ghost use Rattle.deadline_memo.specs.Texts.{Adds};
+ghost use Rattle.deadline_memo.specs.Replies.{AreReasonsWith, AreReplies, HasAnswered, IsReply, IsRow, deadline_asked, deadline_extended, deadline_queried, deadline_started, deadline_told, is_computed, sheet_replied};
+ghost use Rattle.deadline_memo.specs.Texts.{Pushes};
 
 use crate::reasons::{push_docketed_reasons, push_started_reasons};
 use crate::sheets::push_sheet;
@@ -30,7 +30,7 @@ pub(crate) fn push_replies(
     rows: &[Row],
 ) -> Result<(), AllocError>
     requires { Holds (bench_of court.now) docket.old (opening_rows (bench_of court.now)) }
-    ensures text { OnOk result (Adds (AreReplies court.now names.now (opening_rows (bench_of court.now)) 1 rows.now) (string_bytes text.old) (string_bytes text.new)) }
+    ensures text { Pushes (AreReplies court.now names.now (opening_rows (bench_of court.now)) 1 rows.now) result text.old text.new }
     ensures docket { OnOk result (Holds (bench_of court.now) docket.new (docketed_after (bench_of court.now) (opening_rows (bench_of court.now)) rows.now)) }
 {
     let mut number = 1u64;
@@ -51,7 +51,7 @@ fn push_row(
     number: u64,
     row: &Row,
 ) -> Result<(), AllocError>
-    ensures text { (docketed : Rows) → Holds (bench_of court.now) docket.old docketed → OnOk result (Adds (IsRow court.now names.now docketed number row.now) (string_bytes text.old) (string_bytes text.new)) }
+    ensures text { (docketed : Rows) → Holds (bench_of court.now) docket.old docketed → Pushes (IsRow court.now names.now docketed number row.now) result text.old text.new }
     ensures docket { (docketed : Rows) → Holds (bench_of court.now) docket.old docketed → OnOk result (Holds (bench_of court.now) docket.new (docketed_then (bench_of court.now) docketed row.now.work)) }
 {
     let reply = reply_to(alloc, docket, &row.work)?;
@@ -70,7 +70,7 @@ fn push_explained(
     work: &Work,
     reply: &Reply,
 ) -> Result<(), AllocError>
-    ensures { (before : Rows) → reply.now ≡ reply_to (bench_of court.now) before work.now → Holds (bench_of court.now) docket.now (docketed_then (bench_of court.now) before work.now) → OnOk result (Adds (IsReply court.now names.now (docketed_then (bench_of court.now) before work.now) work.now reply.now) (string_bytes text.old) (string_bytes text.new)) }
+    ensures { (docketed : Rows) → HasAnswered court.now docket.now docketed work.now reply.now → Pushes (IsReply court.now names.now docketed work.now reply.now) result text.old text.new }
 {
     match sheet_replied(reply) {
         Some(sheet) => {
@@ -104,7 +104,7 @@ fn push_reasons_told(
     work: &Work,
     reply: &Reply,
 ) -> Result<(), AllocError>
-    ensures { (before : Rows) → reply.now ≡ reply_to (bench_of court.now) before work.now → Holds (bench_of court.now) docket.now (docketed_then (bench_of court.now) before work.now) → OnOk result (Adds (AreReasonsTold court.now names.now (docketed_then (bench_of court.now) before work.now) (deadline_told work.now reply.now) (deadline_computed work.now reply.now)) (string_bytes text.old) (string_bytes text.new)) }
+    ensures { (docketed : Rows) → HasAnswered court.now docket.now docketed work.now reply.now → Pushes (AreReasonsWith court.now names.now docketed work.now reply.now) result text.old text.new }
 {
     match deadline_told(work, reply) {
         Some((case, number)) => push_docketed_reasons(
@@ -131,7 +131,8 @@ fn push_reasons_asked(
     docket: &Docket,
     work: &Work,
 ) -> Result<(), AllocError>
-    ensures { (before : Rows) (shown : Shown) → Viewed (Computed shown) ≡ reply_to (bench_of court.now) before work.now → Holds (bench_of court.now) docket.now (docketed_then (bench_of court.now) before work.now) → OnOk result (Adds (AreReasonsIfAny court.now names.now (docketed_then (bench_of court.now) before work.now).days (deadline_asked work.now)) (string_bytes text.old) (string_bytes text.new)) }
+    ensures { (docketed : Rows) (shown : Shown) → HasAnswered court.now docket.now docketed work.now (Viewed (Computed shown)) →
+        Pushes (AreReasonsIfAny court.now names.now docketed.days (deadline_asked work.now)) result text.old text.new }
 {
     match work {
         Work::Query(query) => push_reasons_queried(alloc, text, court, names, docket, query),
@@ -148,7 +149,8 @@ fn push_reasons_queried(
     docket: &Docket,
     query: &Query,
 ) -> Result<(), AllocError>
-    ensures { (docketed : Rows) (shown : Shown) → Computed shown ≡ view_of (bench_of court.now) docketed query.now → Holds (bench_of court.now) docket.now docketed → OnOk result (Adds (AreReasonsIfAny court.now names.now docketed.days (deadline_queried query.now)) (string_bytes text.old) (string_bytes text.new)) }
+    ensures { (docketed : Rows) (shown : Shown) → Computed shown ≡ view_of (bench_of court.now) docketed query.now → Holds (bench_of court.now) docket.now docketed →
+        Pushes (AreReasonsIfAny court.now names.now docketed.days (deadline_queried query.now)) result text.old text.new }
 {
     match query {
         Query::Compute(period, event, second, service) => push_started_reasons(

@@ -1,14 +1,17 @@
 //! A run over streams.
 
-ghost use Rattle.std.specs.Prelude.{◌≡◌, ◌≢◌, true, false, IfSome, OnErr, OnOk, string_bytes};
+ghost use Rattle.std.specs.Prelude.{◌≡◌, ◌≢◌, true, false, IfOk, IfSome, OnErr, OnOk, string_bytes};
 ghost use Rattle.court_days.specs.declared.fault.CourtFault.TheVariants as court_fault;
-ghost use Rattle.office_streams.specs.Words.{AnswersInput, IsRunBy, WasCutShort, WasReadWhole, has_ended, has_failed, input_of, rests_on_input, watched};
-ghost use Rattle.deadline_memo.specs.Memo.{IsMemoOf};
+ghost use Rattle.office_streams.specs.Words.{AnswersInput, WasCutShort, WasReadWhole, has_ended, has_failed, court_part, input_of, rests_on_input, watched};
+ghost use Rattle.deadline_memo.specs.Memo.{IsMemo, IsMemoOf, IsMemoRun};
+ghost use Rattle.deadline_memo.specs.Names.{holiday_names};
 
 use crate::memo::memo_text;
-use crate::names::names_in;
-use office_streams::{OfficeFault, Watched, check_input, divide, read_all, write_all};
-use std::alloc::Global;
+use crate::names::holiday_names;
+use office_streams::{
+    CheckedInput, OfficeFault, Watched, check_input, divide, read_all, write_all,
+};
+use std::alloc::{AllocError, Global};
 use std::io::{Read, Write};
 
 /// Reads a court's file, a line `%%` and rows of one clerk, and writes the reply to each row with the reasons of each
@@ -27,7 +30,7 @@ pub(crate) fn run_memo<R: Read, W: Write>(
     // What is written is a text of the court and the rows that were read, and nothing else; a fault of theirs is the
     // first.
     ensures run { IfSome (R.remaining (watched reader.old)) (λ input.
-        IsRunBy IsMemoOf (W.contents (watched writer.old)) (W.contents (watched writer.new)) result (input_of 1 input)) }
+        IsMemoRun (W.contents (watched writer.old)) (W.contents (watched writer.new)) result input) }
     ensures whole { rests_on_input result ≡ true → WasReadWhole reader.old reader.new }
     ensures read_fault { result ≡ Err OfficeFault.ReadFault → WasCutShort reader.old reader.new }
 
@@ -45,17 +48,24 @@ pub(crate) fn run_memo<R: Read, W: Write>(
 
 /// The text of an input.
 fn memo_of(alloc: Global, input: &[u8]) -> Result<String, OfficeFault>
-    ensures { AnswersInput (λ said text. IsMemoOf said (string_bytes text)) result (input_of 1 input.now) }
+    ensures { AnswersInput (λ said text. IsMemoOf (holiday_names (court_part input.now)) said (string_bytes text)) result (input_of 1 input.now) }
 {
     let checked = check_input(alloc, input, 1)?;
-    let names = names_in(alloc, divide(input).0)?;
-    match memo_text(
+    match checked_memo(alloc, divide(input).0, &checked) {
+        Ok(text) => Ok(text),
+        Err(_) => Err(OfficeFault::OutOfMemory),
+    }
+}
+
+/// The text of an input that was checked, in which this is the court's file. `Err` says that memory ran out.
+fn checked_memo(alloc: Global, file: &[u8], checked: &CheckedInput) -> Result<String, AllocError>
+    ensures { IfOk result (λ text. IsMemo checked.now.court (holiday_names file.now) checked.now.rows.items (string_bytes text)) }
+{
+    let names = holiday_names(alloc, file)?;
+    memo_text(
         alloc,
         &checked.court,
         names.as_slice(),
         checked.rows.as_slice(),
-    ) {
-        Ok(text) => Ok(text),
-        Err(_) => Err(OfficeFault::OutOfMemory),
-    }
+    )
 }

@@ -1,11 +1,11 @@
 //! Sheets with the reasons of their deadlines.
 
-ghost use Rattle.std.specs.Prelude.{◌≡◌, ◌+◌, ◌≤◌, string_bytes, OnOk};
+ghost use Rattle.std.specs.Prelude.{◌+◌, ◌≤◌};
 ghost use Rattle.docket_rows.specs.Words.{Rows, bench_of};
 ghost use Rattle.office_run.specs.Words.{Holds};
 ghost use Rattle.deadline_memo.specs.Memo.{AreSheets};
 ghost use Rattle.deadline_memo.specs.Sheets.{IsDeadline, IsSheet, IsSheetShown};
-ghost use Rattle.deadline_memo.specs.Texts.{Adds, Each};
+ghost use Rattle.deadline_memo.specs.Texts.{Each, Pushes};
 
 use crate::reasons::push_deadline_reasons;
 use court_days::{Court, Days};
@@ -24,7 +24,7 @@ pub(crate) fn push_sheet(
     days: &Days,
     sheet: &Sheet,
 ) -> Result<(), AllocError>
-    ensures { OnOk result (Adds (IsSheet court.now names.now days.now sheet.now) (string_bytes text.old) (string_bytes text.new)) }
+    ensures { Pushes (IsSheet court.now names.now days.now sheet.now) result text.old text.new }
 {
     push_case(text, sheet)?;
     push_deadlines(alloc, text, court, names, days, sheet.deadlines.as_slice())?;
@@ -40,7 +40,7 @@ fn push_deadlines(
     days: &Days,
     deadlines: &[SheetDeadline],
 ) -> Result<(), AllocError>
-    ensures { OnOk result (Adds (Each (IsDeadline court.now names.now days.now) deadlines.now) (string_bytes text.old) (string_bytes text.new)) }
+    ensures { Pushes (Each (IsDeadline court.now names.now days.now) deadlines.now) result text.old text.new }
 {
     for deadline in deadlines {
         push_explained(alloc, text, court, names, days, deadline)?;
@@ -57,7 +57,7 @@ fn push_explained(
     days: &Days,
     deadline: &SheetDeadline,
 ) -> Result<(), AllocError>
-    ensures { OnOk result (Adds (IsDeadline court.now names.now days.now deadline.now) (string_bytes text.old) (string_bytes text.new)) }
+    ensures { Pushes (IsDeadline court.now names.now days.now deadline.now) result text.old text.new }
 {
     push_deadline(text, court.clock(), deadline)?;
     push_deadline_reasons(alloc, text, court, names, days, &deadline.row)
@@ -74,7 +74,7 @@ pub(crate) fn push_sheets(
     count: u32,
 ) -> Result<(), AllocError>
     requires numbers { first + count ≤ 5_000 }
-    ensures { (docketed : Rows) → Holds (bench_of court.now) docket.now docketed → OnOk result (Adds (AreSheets court.now names.now docketed first count) (string_bytes text.old) (string_bytes text.new)) }
+    ensures { (docketed : Rows) → Holds (bench_of court.now) docket.now docketed → Pushes (AreSheets court.now names.now docketed first count) result text.old text.new }
 {
     for case in first..first + count {
         let view = docket.show(alloc, &Query::Sheet(case))?;
@@ -92,7 +92,7 @@ fn push_sheet_shown(
     days: &Days,
     view: &View,
 ) -> Result<(), AllocError>
-    ensures { OnOk result (Adds (IsSheetShown court.now names.now days.now view.now) (string_bytes text.old) (string_bytes text.new)) }
+    ensures { Pushes (IsSheetShown court.now names.now days.now view.now) result text.old text.new }
 {
     match view {
         View::Sheet(sheet) => push_sheet(alloc, text, court, names, days, sheet),

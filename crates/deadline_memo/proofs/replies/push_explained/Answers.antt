@@ -1,7 +1,7 @@
 use Rattle.std.proofs.Common.{◌≡◌, ◌∙◌, Some, None, codes, string_bytes, sym}
 use Rattle.docket_rows.specs.Words.{bench_of}
-use Rattle.office_run.specs.Words.{docketed_then, reply_text}
-use Rattle.deadline_memo.specs.Replies.{AreReasonsTold, deadline_computed, deadline_told, sheet_replied}
+use Rattle.office_run.specs.Words.{reply_text}
+use Rattle.deadline_memo.specs.Replies.{AreReasonsWith, sheet_replied}
 use Rattle.deadline_memo.specs.Sheets.{IsSheet}
 use Rattle.deadline_memo.specs.Texts.{Is}
 use Rattle.deadline_memo.proofs.DocketLemmas.{days_held}
@@ -9,17 +9,15 @@ use Rattle.deadline_memo.proofs.TextLemmas.{adds_text, adds_then, on_ok}
 use Rattle.deadline_memo.proofs.replies.push_explained.Goals as goal
 
 pub returns-in_ok-push_str-in-Some : goal.returns-in_ok-push_str-in-Some
-returns-in_ok-push_str-in-Some c before said holds =
+returns-in_ok-push_str-in-Some c docketed answered =
     let bench = bench_of c.args.court.now in
-    let docketed = docketed_then bench before c.args.work.now in
     let found : sheet_replied c.args.reply.now ≡ Some c.in-Some.sheet.now = sym c.in-Some.ensures in
-    let days : c.days.result.now ≡ docketed.days = c.days.ensures ∙ days_held bench c.args.docket.now docketed holds in
+    let days : c.days.result.now ≡ docketed.days = c.days.ensures ∙ days_held bench c.args.docket.now docketed answered.holds in
     rw found (on_ok c.push_sheet.result (λ added. adds_then (Is (codes "sheet\n")) (IsSheet c.args.court.now c.args.names.now docketed.days c.in-Some.sheet.now) (string_bytes c.args.text.now) _ (string_bytes c.push_sheet.new.text) (adds_text (codes "sheet\n") _ _ c.in_ok-push_str-in-Some.ensures.bytes) added) (rw days at c.push_sheet.ensures))
 
 pub returns-in_ok-push_reply-in-None : goal.returns-in_ok-push_reply-in-None
-returns-in_ok-push_reply-in-None c before said holds =
+returns-in_ok-push_reply-in-None c docketed answered =
     let court = c.args.court.now in
-    let docketed = docketed_then (bench_of court) before c.args.work.now in
     let reply = c.args.reply.now in
     let none : sheet_replied reply ≡ None = sym c.in-None.ensures in
-    rw none (on_ok c.push_reasons_told.result (λ added. adds_then (Is (reply_text court reply)) (AreReasonsTold court c.args.names.now docketed (deadline_told c.args.work.now reply) (deadline_computed c.args.work.now reply)) (string_bytes c.args.text.now) _ (string_bytes c.push_reasons_told.new.text) (adds_text (reply_text court reply) _ _ c.in_ok-push_reply-in-None.ensures) added) (c.push_reasons_told.ensures before said holds))
+    rw none (on_ok c.push_reasons_told.result (λ added. adds_then (Is (reply_text court reply)) (AreReasonsWith court c.args.names.now docketed c.args.work.now reply) (string_bytes c.args.text.now) _ (string_bytes c.push_reasons_told.new.text) (adds_text (reply_text court reply) _ _ c.in_ok-push_reply-in-None.ensures) added) (c.push_reasons_told.ensures docketed answered))

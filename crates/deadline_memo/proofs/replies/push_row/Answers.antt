@@ -1,4 +1,4 @@
-use Rattle.std.proofs.Common.{string_bytes}
+use Rattle.std.proofs.Common.{string_bytes, refl}
 use Rattle.docket_rows.specs.Words.{bench_of}
 use Rattle.office_run.specs.Words.{docketed_then, reply_to, row_numbers}
 use Rattle.deadline_memo.specs.Replies.{IsReply}
@@ -12,5 +12,6 @@ returns-clause-text c docketed holds =
     let bench = bench_of court in
     let row = c.args.row.now in
     let numbers = row_numbers c.args.number row.clerk in
+    let after = docketed_then bench docketed row.work in
     let replied = c.in_ok-reply.ensures bench docketed holds in
-    on_ok c.push_explained.result (λ added. adds_then (Is numbers) (IsReply court c.args.names.now (docketed_then bench docketed row.work) row.work (reply_to bench docketed row.work)) (string_bytes c.args.text.now) _ (string_bytes c.push_explained.new.text) (adds_text numbers _ _ c.in_ok-push_numbers.ensures) (rw replied.0 at added)) (c.push_explained.ensures docketed replied.0 replied.1)
+    on_ok c.push_explained.result (λ added. adds_then (Is numbers) (IsReply court c.args.names.now after row.work (reply_to bench docketed row.work)) (string_bytes c.args.text.now) _ (string_bytes c.push_explained.new.text) (adds_text numbers _ _ c.in_ok-push_numbers.ensures) (rw replied.0 at added)) (c.push_explained.ensures after (record { before = docketed; said = replied.0; left = refl; holds = replied.1 }))
