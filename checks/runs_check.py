@@ -3,24 +3,27 @@
 
     runs_check.py PROGRAM
     runs_check.py --reference
+    runs_check.py --sums
 
 For each runs/FOLDER/NAME.in the program must end with status 0, write NAME.out to standard output and nothing to
 standard error; where there is a NAME.fault instead, it must write nothing, and end with the status that stands in its
 first line and with the rest of it on standard error. Where there is a NAME.words, it is called with the words of that
-line, or once with those of each line where there are several. Some runs are too large to be kept and are made here. Each
-must stand in runs/README.md. With --reference the reference of this folder is asked in place of a program. It needs
-Python 3.8 or later; the status is 0 where each run ends as it must.
+line, or once with those of each line where there are several. The input of a NAME.made is made from its lines, and NAME.sum
+is kept in place of what the program must write. One run is too large even for that and is made here. Each must stand in
+runs/README.md. With --reference the reference of this folder is asked in place of a program. With --sums nothing is
+compared, and each NAME.sum is written, by the reference alone. It needs Python 3.8 or later; the status is 0 where each run
+ends as it must.
 """
 import pathlib
 import subprocess
 import sys
 
+from lib.runs_made import made_of, sum_of
 from office_reference import ended
 from reference.civil import CannotTell
 
-RUNS = pathlib.Path(__file__).resolve().parent.parent / "runs"
-MOST_ROWS = 100000
 FOUR_CLERKS = ["--clerks", "4"]
+RUNS = pathlib.Path(__file__).resolve().parent.parent / "runs"
 
 
 def ended_program(program, data, words=()):
@@ -29,9 +32,9 @@ def ended_program(program, data, words=()):
     return ran.returncode, ran.stdout, ran.stderr
 
 
-def kept_runs():
-    """Each run by its name, the words of its command line, what it reads, and how it must end."""
-    for path in sorted(RUNS.glob("*/*.in")):
+def runs_of(inputs, outputs):
+    """Each run by its name, the words of its command line, its file of that kind, and how it must end."""
+    for path in sorted(RUNS.glob("*/*" + inputs)):
         name = str(path.relative_to(RUNS).with_suffix(""))
         of_words = path.with_suffix(".words")
         faults = path.with_suffix(".fault")
@@ -39,24 +42,42 @@ def kept_runs():
             status, fault = faults.read_bytes().split(b"\n", 1)
             ends = int(status), b"", fault
         else:
-            ends = 0, path.with_suffix(".out").read_bytes(), b""
+            ends = 0, path.with_suffix(outputs).read_bytes(), b""
         for line in of_words.read_text().splitlines() if of_words.exists() else [""]:
             yield name, line.split(), path.read_bytes(), ends
 
 
+def kept_runs():
+    return runs_of(".in", ".out")
+
+
 def made_runs():
+    return runs_of(".made", ".sum")
+
+
+def all_runs():
+    """Each run by its name and words, its input, how it must end, and what is compared of the text that it writes."""
+    for run in kept_runs():
+        yield run + (bytes,)
+    for name, words, lines, ends in made_runs():
+        yield name, words, made_of(lines), ends, sum_of if ends[0] == 0 else bytes
     court = (RUNS / "input" / "no_rows.in").read_bytes()
-    closing = (RUNS / "input" / "no_rows.out").read_bytes()
-    for words in ([], FOUR_CLERKS):
-        clerks = [1 + row % 4 if words else 1 for row in range(MOST_ROWS)]
-        rows = "".join("{},sheet,1\n".format(clerk) for clerk in clerks).encode()
-        lines = "".join("{} {} refused 1 NoSuchCase\n".format(*row) for row in enumerate(clerks, 1)).encode()
-        yield "limits/as_many_rows_as_are_taken", words, court + rows, (0, lines + closing, b"")
-        for name, row in (("a_row_too_many", b"1,sheet,1\n"), ("a_row_too_many_that_is_none", b"0\n")):
-            yield "limits/" + name, words, court + rows + row, (3, b"", b"row 100001 fault 6 TooManyRows\n")
     name = b"x" * 1000000
     named = court.replace(b'rooms = ["', b'rooms = ["' + name + b'", "')
-    yield "court_faults/name_of_a_million_bytes", [], named, (2, b"", b"court fault 8 BadName " + name + b"\n")
+    yield "court_faults/name_of_a_million_bytes", [], named, (2, b"", b"court fault 8 BadName " + name + b"\n"), bytes
+
+
+def write_sums():
+    """Writes what is kept of each text that is made, as the reference ends it."""
+    for path in sorted(RUNS.glob("*/*.made")):
+        if path.with_suffix(".fault").exists():
+            continue
+        of_words = path.with_suffix(".words")
+        words = of_words.read_text().split() if of_words.exists() else []
+        status, text, _ = ended(made_of(path.read_bytes()), words)
+        if status != 0:
+            sys.exit("{}: the reference ends it with status {}".format(path, status))
+        path.with_suffix(".sum").write_bytes(sum_of(text))
 
 
 def unnamed(names):
@@ -76,16 +97,19 @@ def first_difference(got, wanted):
 
 def main(words):
     if len(words) != 1:
-        sys.exit("usage: runs_check.py PROGRAM | --reference")
+        sys.exit("usage: runs_check.py PROGRAM | --reference | --sums")
+    if words[0] == "--sums":
+        return write_sums()
     passed = failed = 0
     names = set()
-    for name, called, data, wanted in list(kept_runs()) + list(made_runs()):
+    for name, called, data, wanted, kept in all_runs():
         names.add(name)
         try:
-            got = ended(data, called) if words[0] == "--reference" else ended_program(words[0], data, called)
+            status, text, fault = ended(data, called) if words[0] == "--reference" else ended_program(words[0], data, called)
         except CannotTell as why:
             print("{}: the reference can't tell: {}".format(name, why))
             continue
+        got = status, kept(text), fault
         if got == wanted:
             passed += 1
             continue

@@ -3,16 +3,18 @@
 
     runs_join.py [--check]
 
-Each runs/FOLDER/NAME.in that is text stands in crates/stored_runs/stdin behind a line `%%%% FOLDER/NAME`, in which the
-words of NAME.words stand behind the name where there is one (where it has several lines, the input stands there once for
-each), and in crates/stored_runs/stdout stands the same line and then NAME.out or the fault's line of NAME.fault. A line end stands behind each input, so that one that ends within a
-line can be told from one that doesn't. With --check nothing is written, and the status is 1 where the two files aren't
+Each runs/FOLDER/NAME.in stands in crates/stored_runs/stdin after a line `%%%% FOLDER/NAME`, in which the words of
+NAME.words stand after the name where there is one (where it has several lines, the input stands there once for each), and
+in crates/stored_runs/stdout stands the same line and then NAME.out or the fault's line of NAME.fault. The lines of a
+NAME.made stand after a line `%%%% made FOLDER/NAME`, and its NAME.sum stands in the place of NAME.out. So does an input
+that isn't text, with `{ff}` for each byte 255. A line end stands after each input, so that one that ends within a line can
+be told from one that doesn't. With --check nothing is written, and the status is 1 where the two files aren't
 these. It needs Python 3.8 or later.
 """
 import pathlib
 import sys
 
-from runs_check import kept_runs
+from runs_check import kept_runs, made_runs
 
 CRATE = pathlib.Path(__file__).resolve().parent.parent / "crates" / "stored_runs"
 MARK = b"\n%%%% "
@@ -26,16 +28,25 @@ def is_text(data):
     return True
 
 
+def stored_runs():
+    """What stands before the name of each run, its name and words, the text that it is made of, and how it must end."""
+    for name, words, data, ends in kept_runs():
+        if is_text(data):
+            yield "", name, words, data, ends
+        else:
+            yield "made ", name, words, data.replace(b"\xff", b"{ff}"), ends
+    for name, words, data, ends in made_runs():
+        yield "made ", name, words, data, ends
+
+
 def joined():
     """The input of stored_runs and what it has to write."""
     inputs, outputs = b"", b""
-    for name, words, data, (_, text, fault) in kept_runs():
-        if not is_text(data):
-            continue
+    for mark, name, words, data, (_, text, fault) in sorted(stored_runs(), key=lambda run: run[1]):
         if MARK in data:
             sys.exit("{}: a line of it begins as the lines that part runs do".format(name))
         line = " ".join([name] + words).encode() + b"\n"
-        inputs += MARK + line + data
+        inputs += MARK + mark.encode() + line + data
         outputs += MARK[1:] + line + text + fault
     return inputs, outputs
 

@@ -1,22 +1,26 @@
 //! Runs of the office, many in one input, for a check that runs each program once.
 #![tactic(auto)]
 
+mod lines;
+mod made;
 mod named;
 mod stored;
+mod sums;
 
 use named::push_named;
 use std::io;
 use std::io::Write;
 
-/// Does each run that standard input holds: behind a line `%%%% NAME`, and the words of its command line behind the name, a
+/// Does each run that standard input holds: after a line `%%%% NAME`, and the words of its command line after the name, a
 /// whole input, whose last line end is that before the next such line. For each it writes that line, and then what the
-/// run writes or the line of its fault. What stands before the first such line is passed over.
+/// run writes or the line of its fault. After a line `%%%% made NAME` stand lines from which the input is made, and it
+/// writes how much the run writes. What stands before the first such line is passed over.
 fn main(rt: HostRuntime) -> io::Result<()> {
     let input = io::read_to_string(rt.alloc(), rt.stdin())?;
     let mut output = Vec::new(rt.alloc());
     for run in input.as_str().split("\n%%%% ").skip(1) {
         if let Some((line, input)) = run.split_once('\n') {
-            push_named(&rt, rt.alloc(), &mut output, line, input.as_bytes())?;
+            push_named(&rt, rt.alloc(), &mut output, line, input)?;
         }
     }
     io::writer(&rt).write_all(output.as_slice())

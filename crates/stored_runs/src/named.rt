@@ -1,5 +1,6 @@
 //! A stored run by the line that names it.
 
+use crate::made::push_made;
 use crate::stored::{push_name, push_run};
 use office_options::{OptionsFault, options_of};
 use std::alloc::{AllocError, Global};
@@ -8,19 +9,23 @@ use std::thread::Threads;
 
 // No clause says how a line is cut into words; what is stored to be written shows it.
 
-/// Adds the run of that input whose line is `NAME WORD WORD ..`: the words behind the name are those of the command line,
-/// each behind a space. Where these give no options, the text that says so stands in the place of what a run writes.
-/// `Err` says that memory ran out.
+/// Adds the run of that input whose line is `NAME WORD WORD ..`: the words after the name are those of the command line,
+/// each after a space. Where these give no options, the text that says so stands in the place of what a run writes. Where
+/// `made ` stands before the name, the input is made from that text, and what the run writes is told by its sum. `Err` says
+/// that memory ran out.
 pub fn push_named<H: Threads + Wait + Sync>(
     rt: &H,
     alloc: Global,
     output: &mut Vec<u8>,
     line: &str,
-    input: &[u8],
+    text: &str,
 ) -> Result<(), AllocError> {
+    let of_made = line.strip_prefix("made ");
+    let line = of_made.unwrap_or(line);
     let words: Vec<&str> = line.split(' ').skip(1).collect(alloc)?;
     match options_of(alloc, words.as_slice()) {
-        Ok(options) => push_run(rt, alloc, output, line, options, input),
+        Ok(options) if of_made.is_some() => push_made(rt, alloc, output, line, options, text),
+        Ok(options) => push_run(rt, alloc, output, line, options, text.as_bytes()),
         Err(OptionsFault::BadWords(text) | OptionsFault::Help(text)) => {
             push_name(output, line)?;
             output.extend_from_slice(text.as_bytes())

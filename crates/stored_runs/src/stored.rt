@@ -44,7 +44,11 @@ pub fn push_name(output: &mut Vec<u8>, name: &str) -> Result<(), AllocError>
 }
 
 /// Adds the fault's line.
-fn push_fault(alloc: Global, output: &mut Vec<u8>, fault: &OfficeFault) -> Result<(), AllocError>
+pub fn push_fault(
+    alloc: Global,
+    output: &mut Vec<u8>,
+    fault: &OfficeFault,
+) -> Result<(), AllocError>
     ensures { OnOk result (output.new.items ≡ output.old.items ++ fault_text fault.now ++ 10 ∷ []) }
 {
     let line = fault_line(alloc, fault)?;
