@@ -23,6 +23,6 @@ fn main(rt: HostRuntime) -> ExitCode {
     let words = words_of(&rt);
     let mut reader = Watched::new(rt.stdin());
     let mut writer = Watched::new(io::writer(&rt));
-    let mut errors = rt.stderr();
+    let mut errors = Watched::new(rt.stderr());
     ExitCode::from(run_program(rt.alloc(), words, &mut reader, &mut writer, &mut errors))
 }

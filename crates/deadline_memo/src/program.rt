@@ -1,17 +1,17 @@
 //! The program, over the words and the streams that it is given.
 
-ghost use Rattle.std.specs.Prelude.{◌≡◌, ◌≢◌, ◌≤◌, ◌⊎◌, true, false, map, string_bytes, IfErr, IfOk, IfSome};
+ghost use Rattle.std.specs.Prelude.{◌≡◌, ◌≢◌, ◌≤◌, ◌⊎◌, [], true, false, map, string_bytes, IfErr, IfOk, IfSome};
 ghost use Rattle.std.specs.IoError.{error_kind};
 ghost use Rattle.clap.specs.Words.{takes};
 ghost use Rattle.office_options.specs.Words.{HasMistake, IsRefused, words_behind};
-ghost use Rattle.office_streams.specs.Words.{WasCutShort, has_ended, has_failed, watched};
+ghost use Rattle.office_streams.specs.Words.{IsGiven, IsToldAs, WasCutShort, has_ended, has_failed, no_text_line, told_line, was_called_again, watched};
 ghost use Rattle.deadline_memo.specs.CommandLine.{command_line};
 ghost use Rattle.deadline_memo.specs.Program.{IsEnding, faults_in};
 
 use crate::command::check_words;
 use crate::run::run_memo;
 use office_options::OptionsFault;
-use office_streams::{BAD_WORDS, OfficeFault, Watched, ended_by, helped, unread};
+use office_streams::{OfficeFault, Watched, ended_by, helped, refused, unread};
 use std::alloc::Global;
 use std::io;
 use std::io::{ErrorKind, Read, Write};
@@ -25,7 +25,7 @@ pub fn run_program<R: Read, W: Write, E: Write>(
     words: io::Result<Vec<String>>,
     reader: &mut Watched<R>,
     writer: &mut Watched<W>,
-    errors: &mut E,
+    errors: &mut Watched<E>,
 ) -> u8
     requires reader_works { has_failed reader.old ≡ false }
     requires not_ended { has_ended reader.old ≡ false }
@@ -33,33 +33,48 @@ pub fn run_program<R: Read, W: Write, E: Write>(
 
     // Words that can't be read.
     ensures memory { IfErr words (λ e. error_kind e ≡ ErrorKind.OutOfMemory → result ≡ 5) }
-    ensures no_text { IfErr words (λ e. error_kind e ≢ ErrorKind.OutOfMemory → result ≡ 1) }
+    ensures no_text { IfErr words (λ e. error_kind e ≢ ErrorKind.OutOfMemory →
+        (result ≡ 1) × IsGiven E.contents errors.old errors.new no_text_line) }
 
     // Words that are refused: only those that have a mistake, and where they ask for no help nothing else can happen to
     // them but that memory runs out.
     ensures mistaken { IfOk words (λ all. result ≡ 1 → HasMistake (faults_in (words_behind (map string_bytes all.items)))) }
     ensures refused { IfOk words (λ all. IsRefused (faults_in (words_behind (map string_bytes all.items))) → (result ≡ 1) ⊎ (result ≡ 5)) }
     ensures taken { IfOk words (λ all. takes command_line (words_behind (map string_bytes all.items)) ≡ true → result ≢ 1) }
-    ensures nothing_written { result ≢ 0 → result ≢ 4 → writer.new ≡ writer.old }
 
-    // What the statuses 0, 2 and 3 say of the words, and of what was read and written.
+    // Where the words aren't taken, nothing is read.
+    ensures no_words { IfErr words (λ e. reader.new ≡ reader.old) }
+    ensures not_taken { IfOk words (λ all. faults_in (words_behind (map string_bytes all.items)) ≢ [] → reader.new ≡ reader.old) }
+
+    // What the statuses 0, 2, 3 and 4 say of the words, and of what was read, written and told.
     ensures ending { IfOk words (λ all. IfSome (R.remaining (watched reader.old)) (λ input.
-        IsEnding (words_behind (map string_bytes all.items)) (W.contents (watched writer.old)) (W.contents (watched writer.new)) result input)) }
+        IsEnding (words_behind (map string_bytes all.items)) (W.contents (watched writer.old)) (W.contents (watched writer.new))
+        (IsGiven E.contents errors.old errors.new) result input)) }
     ensures worked { result ≡ 0 → has_failed writer.new ≡ false }
-    ensures failed { result ≡ 4 → WasCutShort reader.old reader.new ⊎ (has_failed writer.new ≡ true) }
+    ensures quiet { result ≡ 0 → errors.new ≡ errors.old }
+    ensures nothing_written { result ≢ 0 → result ≢ 4 → writer.new ≡ writer.old }
+    ensures no_memory { result ≡ 5 → IsGiven E.contents errors.old errors.new (told_line OfficeFault.OutOfMemory) }
     ensures known { result ≤ 5 }
+
+    // A read or a write that fails is told as such, and is the last one.
+    ensures failed { result ≡ 4 →
+        (WasCutShort reader.old reader.new × IsGiven E.contents errors.old errors.new (told_line OfficeFault.ReadFault))
+        ⊎ ((has_failed writer.new ≡ true) × IsGiven E.contents errors.old errors.new (told_line OfficeFault.WriteFault)) }
+    ensures read_failed { has_failed reader.new ≡ true →
+        IsToldAs OfficeFault.ReadFault result (IsGiven E.contents errors.old errors.new) }
+    ensures write_failed { has_failed writer.new ≡ true →
+        IsToldAs OfficeFault.WriteFault result (IsGiven E.contents errors.old errors.new) }
+    ensures read_again { was_called_again reader.new ≡ was_called_again reader.old }
+    ensures write_again { was_called_again writer.new ≡ was_called_again writer.old }
 {
     let all = match words {
         Ok(all) => all,
-        Err(error) => return unread(alloc, errors, &error),
+        Err(error) => return unread(errors, &error),
     };
     match check_words(alloc, all.as_slice()) {
         Ok(()) => {}
-        Err(OptionsFault::Help(text)) => return helped(alloc, writer, errors, text.as_str()),
-        Err(OptionsFault::BadWords(text)) => {
-            let _ = errors.write_all(text.as_bytes());
-            return BAD_WORDS;
-        }
+        Err(OptionsFault::Help(text)) => return helped(writer, errors, text.as_str()),
+        Err(OptionsFault::BadWords(text)) => return refused(errors, text.as_str()),
         Err(OptionsFault::OutOfMemory) => {
             return ended_by(alloc, errors, &OfficeFault::OutOfMemory);
         }

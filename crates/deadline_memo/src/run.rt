@@ -2,7 +2,7 @@
 
 ghost use Rattle.std.specs.Prelude.{◌≡◌, ◌≢◌, true, false, IfOk, IfSome, OnErr, OnOk, string_bytes};
 ghost use Rattle.court_days.specs.declared.fault.CourtFault.TheVariants as court_fault;
-ghost use Rattle.office_streams.specs.Words.{AnswersInput, WasCutShort, WasReadWhole, has_ended, has_failed, court_part, input_of, rests_on_input, watched};
+ghost use Rattle.office_streams.specs.Words.{AnswersInput, WasCutShort, WasReadWhole, has_ended, has_failed, court_part, input_of, rests_on_input, was_called_again, watched};
 ghost use Rattle.deadline_memo.specs.Memo.{IsMemo, IsMemoOf, IsMemoRun};
 ghost use Rattle.deadline_memo.specs.Names.{holiday_names};
 
@@ -33,9 +33,13 @@ pub(crate) fn run_memo<R: Read, W: Write>(
         IsMemoRun (W.contents (watched writer.old)) (W.contents (watched writer.new)) result input) }
     ensures whole { rests_on_input result ≡ true → WasReadWhole reader.old reader.new }
     ensures read_fault { result ≡ Err OfficeFault.ReadFault → WasCutShort reader.old reader.new }
+    ensures read_failed { has_failed reader.new ≡ true → result ≡ Err OfficeFault.ReadFault }
+    ensures read_again { was_called_again reader.new ≡ was_called_again reader.old }
 
     ensures written { OnOk result (has_failed writer.new ≡ false) }
     ensures write_fault { result ≡ Err OfficeFault.WriteFault → has_failed writer.new ≡ true }
+    ensures write_failed { has_failed writer.new ≡ true → result ≡ Err OfficeFault.WriteFault }
+    ensures write_again { was_called_again writer.new ≡ was_called_again writer.old }
     ensures nothing_written { OnErr result (result ≢ Err OfficeFault.WriteFault → writer.new ≡ writer.old) }
 
     // Want of memory has one name only.

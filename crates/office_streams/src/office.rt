@@ -22,8 +22,8 @@ use std::thread::Threads;
 /// the calendars of all judges. One clerk does all rows in the order in which they stand; several share one docket, and
 /// each does its own rows in that order, in a thread of its own, which tells the gate of them. All input is read and all
 /// rows are checked before the first is done, and the output is made whole before it is written: after `WriteFault` a
-/// beginning of it is out, after any other fault nothing is. A read or a write that fails is the fault, and the last one. `OutOfMemory` also says that a thread couldn't be started, or
-/// that a clerk got no place to read from.
+/// beginning of it is out, after any other fault nothing is. A read or a write that fails is the fault, and the last one.
+/// `OutOfMemory` also says that a thread couldn't be started, or that a clerk got no place to read from.
 pub fn run_office<H: Threads + Wait + Sync, R: Read, W: Write, G: Gate>(
     rt: &H,
     alloc: Global,
