@@ -4,9 +4,9 @@ ghost use Rattle.std.specs.Prelude.{◌≡◌, []};
 ghost use Rattle.docket_rows.specs.Words.{bench_of};
 ghost use Rattle.published_docket.specs.Words.{past};
 
-use crate::offices::{Opening, TRIES};
+use crate::offices::TRIES;
 use crate::replay::push_replay;
-use crate::work::{Worked, work};
+use crate::work::{Task, Worked, work};
 use anyhow::{Result, bail};
 use court_days::Court;
 use office_seats::{Done, Names, Office, OfficeError, Tally};
@@ -26,11 +26,21 @@ pub fn push_crowd<R: Threads + Wait + Eprint + Sync>(
     alloc: Global,
     text: &mut String,
     court: &Court,
-    opening: Opening,
+    seats: u8,
+    task: Task,
 ) -> Result<()> {
     for _try in 0..TRIES {
-        let publisher = Publisher::new(alloc, court, opening.seats)?;
-        if is_done::<Brand, R>(rt, alloc, text, court, opening, Blank::new(64), publisher)? {
+        let publisher = Publisher::new(alloc, court, seats)?;
+        if is_done::<Brand, R>(
+            rt,
+            alloc,
+            text,
+            court,
+            seats,
+            task,
+            Blank::new(64),
+            publisher,
+        )? {
             return Ok(());
         }
     }
@@ -43,7 +53,8 @@ fn is_done<L: Names + Send + Sync, R: Threads + Wait + Eprint + Sync>(
     alloc: Global,
     text: &mut String,
     court: &Court,
-    opening: Opening,
+    seats: u8,
+    task: Task,
     blank: Blank,
     publisher: Publisher,
 ) -> Result<bool>
@@ -53,11 +64,10 @@ fn is_done<L: Names + Send + Sync, R: Threads + Wait + Eprint + Sync>(
     requires publisher { publisher ≡ record { parts = L.bench; trail = past L.history [] } }
     requires court { L.bench ≡ bench_of court.now }
 {
-    let Opening { seats, number } = opening;
     match Office::<L>::new(rt, alloc, blank, publisher, court, seats, 1_000_000) {
         Ok((office, seats)) => {
-            let worked = thread::map_vec(rt, seats, &|seat| work(rt, alloc, seat, number))?;
-            push_worked(rt, alloc, text, court, office, worked, number)?;
+            let worked = thread::map_vec(rt, seats, &|seat| work(rt, alloc, seat, task))?;
+            push_worked(rt, alloc, text, court, office, worked, task)?;
             Ok(true)
         }
         Err(OfficeError::NoReader) => {
@@ -76,14 +86,14 @@ fn push_worked<L: Names, R: Wait>(
     court: &Court,
     office: Office<L>,
     worked: Vec<Worked<L>>,
-    count: u32,
+    task: Task,
 ) -> Result<()>
     requires all { L.parts ≡ 64 }
 {
     push_failures(text, worked.as_slice())?;
     let (tallies, done) = divided(alloc, worked)?;
     match office.close(rt, alloc, tallies) {
-        Ok(journal) => push_replay(alloc, text, court, &journal, done.as_slice(), count),
+        Ok(journal) => push_replay(alloc, text, court, &journal, done.as_slice(), task),
         Err(refused) => {
             let cause = refused.cause;
             bail!("{cause}")

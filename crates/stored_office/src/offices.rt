@@ -23,7 +23,7 @@ pub const TRIES: u32 = 8;
 pub struct Opening {
     /// How many seats it has.
     pub seats: u8,
-    /// How many entries its journal takes, or how many commands each of its clerks performs.
+    /// How many entries its journal takes.
     pub number: u32,
 }
 

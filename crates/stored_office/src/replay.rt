@@ -1,6 +1,6 @@
 //! The journal of clerks who worked in threads of their own, beside a docket that is given its commands one by one.
 use crate::dockets::push_docket;
-use crate::work::command_at;
+use crate::work::{Task, command_at};
 use anyhow::Result;
 use court_days::{Court, Day};
 use docket_core::Docket;
@@ -27,7 +27,7 @@ pub fn push_replay(
     court: &Court,
     journal: &Journal,
     done: &[Vec<Done>],
-    count: u32,
+    task: Task,
 ) -> Result<()> {
     let entries = journal.entries();
     text.push_str("entries: ")?;
@@ -35,7 +35,7 @@ pub fn push_replay(
     text.push_str("\ncases opened: ")?;
     push_number(text, opened(entries))?;
     text.push_str("\neach clerk's own, in order: ")?;
-    text.push_str(if are_own(entries, done, count) {
+    text.push_str(if are_own(entries, done, task) {
         "yes"
     } else {
         "no"
@@ -66,11 +66,13 @@ fn opened(entries: &[Filed]) -> u64 {
 
 /// Whether each clerk's entries are that clerk's commands, so many and in their order, at the places and with the answers that
 /// the clerk was given.
-fn are_own(entries: &[Filed], done: &[Vec<Done>], count: u32) -> bool {
+fn are_own(entries: &[Filed], done: &[Vec<Done>], task: Task) -> bool {
     let mut clerk = 0u8;
     for finished in done {
         clerk = clerk.saturating_add(1);
-        if finished.len() != count as usize || !are_of(clerk, entries, finished.as_slice()) {
+        if finished.len() != task.count as usize
+            || !are_of(clerk, entries, finished.as_slice(), task.each_case)
+        {
             return false;
         }
     }
@@ -78,7 +80,7 @@ fn are_own(entries: &[Filed], done: &[Vec<Done>], count: u32) -> bool {
 }
 
 /// Whether the clerk's entries are the clerk's commands, as they were finished.
-fn are_of(clerk: u8, entries: &[Filed], finished: &[Done]) -> bool {
+fn are_of(clerk: u8, entries: &[Filed], finished: &[Done], each_case: u32) -> bool {
     let mut rest = finished.iter();
     let mut command = 0u32;
     for place in 0..entries.len() {
@@ -90,7 +92,7 @@ fn are_of(clerk: u8, entries: &[Filed], finished: &[Done]) -> bool {
             place: place as u64 + 1,
             answer: entry.answer,
         };
-        if entry.command != command_at(clerk, command) || rest.next() != Some(&wanted) {
+        if entry.command != command_at(clerk, command, each_case) || rest.next() != Some(&wanted) {
             return false;
         }
         command = command.saturating_add(1);

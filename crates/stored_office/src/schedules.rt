@@ -2,15 +2,18 @@
 use crate::clerks::push_clerks;
 use crate::crowd::push_crowd;
 use crate::offices::{Opening, push_office};
+use crate::reopened::push_reopened;
+use crate::work::Task;
 use anyhow::{Context, Result, bail};
 use court_days::Court;
 use std::alloc::Global;
+use std::rt::Files;
 use std::sync::Wait;
 use std::thread::Threads;
 
 /// For each schedule of the input its lines, each with what it was answered behind it. An error says what is wrong with the
 /// input, or that memory ran out.
-pub fn run_all<R: Threads + Wait + Eprint + Sync>(
+pub fn run_all<R: Threads + Wait + Eprint + Files + AllocGlobal + Sync>(
     rt: &R,
     alloc: Global,
     input: &str,
@@ -28,7 +31,7 @@ pub fn run_all<R: Threads + Wait + Eprint + Sync>(
 }
 
 /// Adds the schedule's lines, each with what it was answered behind it.
-fn push_schedule<R: Threads + Wait + Eprint + Sync>(
+fn push_schedule<R: Threads + Wait + Eprint + Files + AllocGlobal + Sync>(
     rt: &R,
     alloc: Global,
     text: &mut String,
@@ -47,8 +50,19 @@ fn push_schedule<R: Threads + Wait + Eprint + Sync>(
         .parse()?;
     let opening = Opening { seats, number };
     match kind {
+        "threads" => {
+            let each_case = words
+                .next()
+                .context("no number of commands for each case")?
+                .parse()?;
+            let task = Task {
+                count: number,
+                each_case,
+            };
+            push_crowd(rt, alloc, text, court, seats, task)
+        }
+        "again" => push_reopened(rt, alloc, text, court, opening, calls),
         "office" => push_office(rt, alloc, text, court, opening, calls),
-        "threads" => push_crowd(rt, alloc, text, court, opening),
         "clerks" => push_clerks(rt, alloc, text, court, opening, calls),
         _ => bail!("no kind of schedule: {kind}"),
     }

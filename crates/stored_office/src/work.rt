@@ -6,9 +6,6 @@ use office_seats::{Done, Names, Seat, Tally};
 use std::alloc::{AllocError, Global};
 use std::sync::Wait;
 
-/// How many commands a clerk performs about one case before going on to the next.
-const EACH_CASE: u32 = 40;
-
 /// How often a command is tried before it is made while nobody else can finish one.
 const TRIES: u32 = 2;
 
@@ -24,14 +21,23 @@ pub struct Worked<L: Names> {
     pub unseen: u32,
 }
 
+/// What each clerk of an office is to do.
+#[derive(Clone, Copy)]
+pub struct Task {
+    /// How many commands.
+    pub count: u32,
+    /// How many of them about one case before going on to the next, one at least.
+    pub each_case: u32,
+}
+
 /// Performs so many commands, each of those that `command_at` names, and leaves the seat.
-pub fn work<L: Names, R: Wait>(rt: &R, alloc: Global, seat: Seat<L>, count: u32) -> Worked<L> {
+pub fn work<L: Names, R: Wait>(rt: &R, alloc: Global, seat: Seat<L>, task: Task) -> Worked<L> {
     let mut seat = seat;
     let mut done = Vec::new(alloc);
     let mut failed = 0u32;
     let mut unseen = 0u32;
-    for place in 0..count {
-        let command = command_at(seat.number(), place);
+    for place in 0..task.count {
+        let command = command_at(seat.number(), place, task.each_case);
         let finished = seat.perform(rt, alloc, command, TRIES);
         match finished {
             Ok(finished) => {
@@ -74,9 +80,10 @@ fn is_shown<L: Names>(
 
 /// The command that the clerk of that number performs at that place of their list, counted from 0. Clerks have cases of their
 /// own, and share two judges, two rooms and the court's days.
-pub fn command_at(clerk: u8, place: u32) -> Command {
-    let case = u32::from(clerk).wrapping_add((place / EACH_CASE).wrapping_mul(64));
-    let step = place % EACH_CASE;
+pub fn command_at(clerk: u8, place: u32, each_case: u32) -> Command {
+    let each_case = each_case.max(1);
+    let case = u32::from(clerk).wrapping_add((place / each_case).wrapping_mul(64));
+    let step = place % each_case;
     let motion = step / 4 + 1;
     match step % 4 {
         1 => Command::Motion {
