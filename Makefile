@@ -14,7 +14,7 @@ COUNT    :=
 
 .PHONY: build try run memo test times bench check check-long help $(CHECKS)
 
-# Proves the program and the libraries below it, several at a time, and builds it at $(PROGRAM).
+# Proves the program and the libraries below it, and builds it at $(PROGRAM), with a line for each crate that is proved.
 # Where nothing has changed it proves nothing anew.
 build:
 	@python3 tools/prove.py clerk_office

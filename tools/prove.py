@@ -1,11 +1,12 @@
 #!/usr/bin/env python3
-"""Proves and builds programs, with the libraries below them, several crates at a time.
+"""Proves and builds programs, with the libraries below them.
 
     prove.py [--jobs N] PROGRAM..
 
-`rt run` proves a program and the libraries below it one after the other. Here crates that don't use one another are
-proved side by side, those first that most other work waits for. N processors are used, by default all, but no more
-than memory allows. What is proved is kept in the crates' out/ folders, and isn't proved again while nothing changes.
+`rt run` proves a program and the libraries below it one after the other, and says nothing of how far it is. Here each
+crate is proved by itself, those first that most other work waits for, with as many jobs as there are processors, but no
+more than memory allows. Crates that have no crate below them in common are proved side by side; `rt` works on no two
+others at the same time. What is proved is kept in the crates' out/ folders, and isn't proved again while nothing changes.
 out/proved.json notes which libraries were proved and from which sources, so that `rt` isn't asked about each; at the
 end it is asked about each program, and looks at all below it once more. Where a crate isn't proved, the end of what
 `rt` printed is shown, and no other is begun. On Ctrl-C all stops, and what was proved is kept. A run of more than a
@@ -113,6 +114,7 @@ class Prover:
         needed = needed_by(wanted, self.uses)
         self.prints = prints_of(needed, self.uses)
         self.weights = weights_of(needed, self.uses)
+        self.below = {crate: needed_by([crate], self.uses) for crate in needed}
         notes = json.loads(NOTES.read_text()) if NOTES.exists() else {}
         self.done = {crate for crate in needed if notes.get(crate) == self.prints[crate] and self.is_kept(crate)}
         self.waiting = needed - self.done
@@ -124,17 +126,22 @@ class Prover:
         return not is_program(crate) and (TOP / "crates" / crate / "out" / "rlib" / (crate + ".rlib")).exists()
 
     def begin(self):
-        """Begins each crate whose libraries are proved, as long as there are jobs."""
+        """Begins crates whose libraries are proved, as long as there are jobs: no two that use the same crate, since `rt`
+        would let one of them wait."""
         ready = [crate for crate in self.waiting if self.done.issuperset(self.uses[crate])]
-        ready.sort(key=self.weights.get, reverse=True)
-        for place, crate in enumerate(ready):
+        taken = set().union(*(self.below[run.crate] for run in self.running))
+        apart = []
+        for crate in sorted(ready, key=self.weights.get, reverse=True):
+            if taken.isdisjoint(self.below[crate]):
+                taken |= self.below[crate]
+                apart.append(crate)
+        for place, crate in enumerate(apart):
             free = self.jobs - sum(run.jobs for run in self.running)
             if free <= 0:
                 return
-            others = len(ready) - place - 1
-            jobs = max(1, min(free - others, MOST_JOBS))
+            others = len(apart) - place - 1
             self.waiting.discard(crate)
-            self.running.append(Run(crate, jobs))
+            self.running.append(Run(crate, max(1, min(free - others, MOST_JOBS))))
 
     def note(self):
         """Notes what is proved, for the next time. What an earlier run proved of other crates stays noted."""
