@@ -24,8 +24,8 @@ impl Termination for Ended {
     }
 }
 
-// No contract says what a process is called with, or what its streams hold. The gate runs programs whose `main` is this
-// call, with words that are refused and with a faulty row.
+// No contract says what a process is called with, or what its streams hold. The gate runs two programs whose `main` is
+// this call: one with words that are refused, and one on an input that can't lose a byte unseen.
 
 /// Runs the program on the process's own words and streams. `main` hands over its runtime twice, since only there can it
 /// start threads.
