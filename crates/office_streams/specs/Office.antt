@@ -128,14 +128,3 @@ pub record HasFaultTold (status : ℕ) (IsGivenErrors : List ℕ → Type 0) (sa
   pub fault : OfficeFault
   pub has : said ≡ Err fault
   pub told : IsToldAs fault status IsGivenErrors
-
--- an input has a fault of its court's file
-pub record HasCourtFault (said : Result Input OfficeFault) : Type 0 where
-  pub fault : CourtFault
-  pub told : said ≡ Err (Court fault)
-
--- an input has a fault of a row
-pub record HasRowFault (said : Result Input OfficeFault) : Type 0 where
-  pub number : ℕ
-  pub cause : RowCause
-  pub told : said ≡ Err (Row number cause)
