@@ -24,11 +24,14 @@ from reference.court_file import court_of, split, table_of
 
 TOP = pathlib.Path(__file__).resolve().parent.parent
 
-# Of the periods of the Rules the number of days, the act, and whether they run from service under Rule 5(b)(2).
-RULES = {"4m": (90, "service", False), "12a1Ai": (21, "service", False), "12a1Aii-us": (60, "service", False),
-         "12a1Aii-abroad": (90, "service", False), "12a1B": (21, "service", True), "12a1C": (21, "service", True),
-         "12a2": (60, "service", False), "12a3": (60, "service", False), "59b": (28, "filing", False),
-         "59e": (28, "filing", False)}
+# Of the periods of the Rules the number of days, the act, whether they run from service under Rule 5(b)(2), and the day
+# from which they are so.
+COUNTING, SUMMONS = "2009-12-01", "2015-12-01"
+RULES = {"4m": (90, "service", False, SUMMONS), "12a1Ai": (21, "service", False, COUNTING),
+         "12a1Aii-us": (60, "service", False, COUNTING), "12a1Aii-abroad": (90, "service", False, COUNTING),
+         "12a1B": (21, "service", True, COUNTING), "12a1C": (21, "service", True, COUNTING),
+         "12a2": (60, "service", False, COUNTING), "12a3": (60, "service", False, COUNTING),
+         "59b": (28, "filing", False, COUNTING), "59e": (28, "filing", False, COUNTING)}
 
 
 # What an input and its answers say
@@ -37,13 +40,14 @@ RULES = {"4m": (90, "service", False), "12a1Ai": (21, "service", False), "12a1Ai
 def deadline_of(period, date, time, second, kind):
     """The deadline that the last five fields of `start` and `compute` say."""
     if period in RULES:
-        days, act, served = RULES[period]
+        days, act, served, right_from = RULES[period]
         length, direction = ("d", days), AFTER
     else:
         entered, direction, act, start, _ = period.split("/")
-        length, served = (entered[-1], int(entered[:-1])), start == "served"
+        length, served, right_from = (entered[-1], int(entered[:-1])), start == "served", None
     return Deadline(length, direction, act, served, kind or None, day_of_text(date), minute_of_text(time or "00:00"),
-                    day_of_text(second) if second else None, period == "4m", [])
+                    day_of_text(second) if second else None, period == "4m",
+                    day_of_text(right_from) if right_from else None, [])
 
 
 def calendar_of(file):
@@ -133,7 +137,8 @@ def wrong_with(calendar, deadline, texts, shown):
 
 
 def a_date(chance):
-    first = day_of_text(chance.choice(["2007-10-25", "2016-11-15", "2025-02-20", "2025-08-20", "2025-10-20"]))
+    first = day_of_text(chance.choice(["2007-10-25", "2009-11-15", "2015-11-15", "2016-11-15", "2025-02-20", "2025-08-20",
+                                       "2025-10-20"]))
     return day_text(first + chance.randrange(40))
 
 
@@ -223,8 +228,15 @@ def lines_spoiled(texts):
         for name, line in line_spoiled(text):
             if line is not None and line != text:
                 yield name, before + [line] + after
+    if texts[0][18:].startswith("day of the event"):
+        yield "an older event that isn't one", [older_line(texts[0])] + texts
     yield "an end left out", texts[:-1]
     yield "nothing at all", []
+
+
+def older_line(text):
+    """The line of an older event, of the day of this line."""
+    return text[:18] + "the rule as it reads from {} is applied".format(COUNTING).ljust(COLUMN) + "  ours"
 
 
 def line_spoiled(text):
@@ -245,6 +257,11 @@ def line_spoiled(text):
     found = re.match(r"day (\d+),", text[18:])
     if found:
         yield "a day too many", swapped(text, found[0], "day {},".format(int(found[1]) + 1))
+    found = re.match(r"the rule as it reads from (\S+) ", text[18:])
+    if found:
+        other = SUMMONS if found[1] == COUNTING else COUNTING
+        yield "a rule of another day", swapped(text, found[1], other)
+        yield "a rule of the day before", swapped(text, found[1], day_text(day_of_text(found[1]) - 1))
     yield "another service", swapped(text, "by mail", "by hand")
     yield "service by hand", swapped(text, "on the clerk", "by hand")
     yield "filing for service", swapped(text, "last day, to midnight", "last day, to 17:00, e-filing to midnight")

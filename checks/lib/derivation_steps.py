@@ -12,8 +12,8 @@ from reference.civil import civil, day_of_text, day_text, instant_at, minute_tex
 # The calendar as it is when the deadline is shown: its span, its lists of holidays, its outages (day, from, to).
 Calendar = namedtuple("Calendar", "clock first last federal state outages names")
 # What a row says of a deadline: `second` and `kind` may be None, `length` is ("d" or "h", number), `grants` are texts
-# as `+7d`, `+24h` or a date.
-Deadline = namedtuple("Deadline", "length direction act served kind event minute second summons grants")
+# as `+7d`, `+24h` or a date. `right_from` is the day from which the rule of its period is right, or None.
+Deadline = namedtuple("Deadline", "length direction act served kind event minute second summons right_from grants")
 # A line: the day that it shows, or None; what happened; the section that it cites.
 Line = namedtuple("Line", "day what section")
 
@@ -100,13 +100,26 @@ def shown_at(calendar, instant):
 def begins(calendar, deadline, line):
     unit, count = deadline.length
     if unit == "d":
-        event = deadline.event if deadline.second is None else max(deadline.event, deadline.second)
-        expect(line == Line(event, "day of the event, excluded", "6(a)(1)(A)"), "the event's day is excluded")
-        return counting(event, count, deadline.direction, adds_three(deadline), deadline.grants)
+        event = later_event(deadline)
+        if deadline.right_from is not None and event < deadline.right_from:
+            what = "the rule as it reads from {} is applied".format(day_text(deadline.right_from))
+            expect(line == Line(event, what, "ours"), "the event lies before the day from which the rule is right")
+            return excludes
+        return excludes(calendar, deadline, line)
     start = instant_at(calendar.clock.zone, deadline.event, 60 * deadline.minute)
     day, time = shown_at(calendar, start)
     expect(line == Line(day, "the event, at " + time, "6(a)(2)(A)"), "hours are counted from the event on")
     return counting_hours(start, count, deadline.direction, deadline.grants)
+
+
+def excludes(calendar, deadline, line):
+    event = later_event(deadline)
+    expect(line == Line(event, "day of the event, excluded", "6(a)(1)(A)"), "the event's day is excluded")
+    return counting(event, deadline.length[1], deadline.direction, adds_three(deadline), deadline.grants)
+
+
+def later_event(deadline):
+    return deadline.event if deadline.second is None else max(deadline.event, deadline.second)
 
 
 def adds_three(deadline):

@@ -3,9 +3,10 @@ use Rattle.std.proofs.Common.{◌≡◌, ℕ, ◌+◌, ◌<◌, ◌==◌, true, 
 use Rattle.std.proofs.lemmas.Bool.Decides.{Decides-eqb}
 use Rattle.std.proofs.lemmas.List.{get_or-map, get_or-set_other, get_or-set_same, length-map, length-set, map-set, reverse-append}
 use Rattle.office_rows.specs.declared.row.Row.{Row}
+use Rattle.office_rows.specs.Words.{IsClerk, IsOfClerk}
 use Rattle.clerk_workers.specs.declared.answer.RowAnswer.{RowAnswer}
 use Rattle.clerk_workers.specs.Merged.{AreFromTheLast, IsTaken, list_at}
-use Rattle.clerk_workers.specs.Rows.{AreOfClerks, IsClerk, answers_of, works_of}
+use Rattle.clerk_workers.specs.Rows.{AreOfClerks, answers_of, works_of}
 use Rattle.clerk_workers.proofs.DeskLemmas.{all_but_last, all_first}
 use Rattle.clerk_workers.proofs.RowLemmas.{answers_other, answers_own, works_append, works_other, works_own}
 
@@ -25,7 +26,7 @@ module _ (all rest before : List Row) (row : Row) (first now : List (List RowAns
   -- the next row is of one of the clerks
   pub next_clerk : (clerks : ℕ) → AreOfClerks clerks all → IsClerk clerks row.clerk
   next_clerk clerks each =
-      let P : Row → Type 0 = λ (r : Row). IsClerk clerks r.clerk in
+      let P : Row → Type 0 = IsOfClerk clerks in
       let here : AreOfClerks clerks rest = all_first P rest way.later (subst (All P) way.all_is each) in
       (all_but_last P before row (subst (All P) last here)).1
 

@@ -15,7 +15,7 @@ use Rattle.clerk_workers.specs.declared.answer.RowAnswer.TheVariants.{Made, Jour
 abbrev pub History : Type 0
 History = List (Entry Command Answer)
 
--- the places of the calls that these answers tell
+-- the places of the finished calls, as these answers name them
 abbrev pub place_told : RowAnswer → List ℕ
 place_told (Made done) = done.place ∷ []
 place_told JournalFull = []
@@ -26,8 +26,8 @@ places_told [] = []
 places_told (answer ∷ answers) = place_told answer ++ places_told answers
 
 module _ (bench : Bench) (limit number : ℕ) where
-  -- after the first history the clerk's command became an entry, with the answer and at the place that are told, and no later than the
-  -- journal takes; at this moment it is the last one
+  -- at this moment the clerk's command is the last entry, with the answer and at the place that the clerk was given; it came after the
+  -- first history, and no later than the journal takes entries
   pub record IsFinished (before : History) (command : Command) (done : Done) (moment : History) : Type 0 where
     pub earlier : History
     pub later : IsPrefix before earlier

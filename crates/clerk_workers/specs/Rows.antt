@@ -1,7 +1,8 @@
 -- The rows of one clerk among those of all.
-use Rattle.std.specs.Prelude.{ℕ, ◌<◌, ◌≤◌, ◌==◌, if◌then◌else◌, List, [], ◌∷◌, All}
+use Rattle.std.specs.Prelude.{ℕ, ◌==◌, if◌then◌else◌, List, [], ◌∷◌, All}
 use Rattle.office_rows.specs.declared.row.Row.{Row}
 use Rattle.office_rows.specs.declared.row.Work.{Work}
+use Rattle.office_rows.specs.Words.{IsOfClerk}
 use Rattle.clerk_workers.specs.declared.answer.RowAnswer.{RowAnswer}
 
 -- what the clerk asks for, row after row
@@ -9,18 +10,13 @@ abbrev pub works_of : (clerk : ℕ) → List Row → List Work
 works_of clerk [] = []
 works_of clerk (row ∷ rows) = if row.clerk == clerk then row.work ∷ works_of clerk rows else works_of clerk rows
 
--- the answers that stand at the clerk's rows, where these are the answers to all rows
+-- the answers to the clerk's rows, where these are the answers to all rows
 abbrev pub answers_of : (clerk : ℕ) → List Row → List RowAnswer → List RowAnswer
 answers_of clerk [] answers = []
 answers_of clerk (row ∷ rows) [] = []
 answers_of clerk (row ∷ rows) (answer ∷ answers) =
     if row.clerk == clerk then answer ∷ answers_of clerk rows answers else answers_of clerk rows answers
 
--- this is the number of one of so many clerks, who are numbered from 1
-pub record IsClerk (clerks clerk : ℕ) : Type 0 where
-  pub from_one : 0 < clerk
-  pub to_last : clerk ≤ clerks
-
 -- the rows are of these clerks
 abbrev pub AreOfClerks : (clerks : ℕ) → List Row → Type 0
-AreOfClerks clerks rows = All (λ (row : Row). IsClerk clerks row.clerk) rows
+AreOfClerks clerks rows = All (IsOfClerk clerks) rows

@@ -21,7 +21,7 @@ abbrev pub AreInOrder : List SeatView → Type 0
 AreInOrder seats = AreNumbered 1 seats
 
 module _ (bench : Bench) (rows : List Row) where
-  -- each clerk did all its rows, and was given the answers that stand at them; there is one tally for each seat, in order
+  -- each clerk did all its rows, and was given the answers to these; there is one tally for each seat, in order
   abbrev pub AllWorked : (answers : List RowAnswer) → List SeatView → List TallyView → Type 0
   AllWorked answers [] [] = ⊤
   AllWorked answers [] (tally ∷ tallies) = ⊥

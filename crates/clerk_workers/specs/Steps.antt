@@ -29,7 +29,7 @@ module _ (bench : Bench) where
   Answers old w (Ok answer) new = IsDone old w answer new
   Answers old w (Err e) new = FinishesNothing old new
 
-  -- the clerk began at the first seat, has done its rows among these, with these answers, and sits at the second seat
+  -- the clerk began at the first seat, did its rows among these, was given these answers, and is at the second seat
   pub record IsAfter (start : SeatView) (rows : List Row) (answers : List RowAnswer) (seat : SeatView) : Type 0 where
     pub limit : seat.limit ≡ start.limit
     pub worked : HasWorked bench start (works_of start.number rows) answers (tally_of seat)

@@ -12,8 +12,8 @@ abbrev pub tally_of : SeatView → TallyView
 tally_of seat = record { number = seat.number; seen = seat.seen; mine = seat.mine }
 
 module _ (bench : Bench) where
-  -- from this seat on the clerk asked for these, and was given these answers, the first at a moment no earlier than what was seen then; the
-  -- tally is what is left of the seat
+  -- the clerk began at this seat, asked for these, and was given these answers, the first at a moment no earlier than what the seat had
+  -- seen; the tally is what is left of the seat
   pub record HasWorked (seat : SeatView) (works : List Work) (answers : List RowAnswer) (tally : TallyView) : Type 0 where
     pub number : tally.number ≡ seat.number
     pub seen : IsPrefix seat.seen tally.seen

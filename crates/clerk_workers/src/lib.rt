@@ -1,4 +1,5 @@
 //! Clerks at work in threads of their own, each of whom takes its rows in order.
+//! What refuses a body that always answers want of memory is said in docs/PROMISES.md.
 #![tactic(auto)]
 
 mod answer;

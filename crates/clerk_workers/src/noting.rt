@@ -46,12 +46,12 @@ fn outcome<L: Names, K: Notes<L>>(
     }
 }
 
-/// Lets each clerk do its rows in order, all clerks at the same time, each in a thread of its own, in which it notes the
-/// answers; the first notes are the first seat's. A command is prepared and committed up to eight times, until no part was
-/// touched in between; then it is made while no other clerk can finish one. A journal that is full is an answer, and the
-/// clerk goes on with its next row. A clerk that finds no memory stops; the others go on. All clerks begin together, or,
-/// where a thread can't be made for each of them, none does. Conditions: there are notes for each seat, and they hold nothing.
-// A body that never started would meet this contract, and no test of this crate refuses it yet.
+/// Lets each clerk do its rows in order. All clerks work at the same time, each in a thread of its own, in which it
+/// notes the answers; the first notes are the first seat's. A command is prepared and committed up to eight times,
+/// until no part was touched in between. After that it is made while no other clerk can finish one. A journal that is
+/// full is an answer, and the clerk goes on with its next row. A clerk that finds no memory stops; the others go on.
+/// All clerks begin together; where a thread can't be made for each of them, none does. Conditions: there are notes for
+/// each seat, and they hold nothing.
 pub fn run_noting<L: Names + Send + Sync, K: Notes<L>, R: Threads + Wait + Sync, G: Gate>(
     rt: &R,
     alloc: Global,

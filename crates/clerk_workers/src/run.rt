@@ -16,7 +16,6 @@ use std::sync::Wait;
 use std::thread::Threads;
 
 // A list for the answers to each seat's clerk, with room for as many as it has rows. `Err` says that memory ran out.
-// A body that always found no memory would meet this contract, and no test of this crate refuses it yet.
 fn lists_for<L: Names>(
     alloc: Global,
     seats: &[Seat<L>],
@@ -34,7 +33,6 @@ fn lists_for<L: Names>(
 }
 
 /// Lets each clerk do its rows, as `run_noting` does, and gives the answers in the order of the rows.
-// A body that never started would meet this contract, and no test of this crate refuses it yet.
 pub fn run_clerks<L: Names + Send + Sync, R: Threads + Wait + Sync, G: Gate>(
     rt: &R,
     alloc: Global,

@@ -20,7 +20,6 @@ use std::sync::Wait;
 
 // Prepares the command, lets the gate hold it, and commits it. None where a part was touched in between; nothing is
 // finished then.
-// A body that always found no memory would meet this contract, and no test of this crate refuses it yet.
 fn attempt<L: Names, R: Wait, G: Gate>(
     rt: &R,
     alloc: Global,
@@ -48,7 +47,6 @@ fn attempt<L: Names, R: Wait, G: Gate>(
 }
 
 // Makes the command while no other clerk can finish one.
-// A body that always found no memory would meet this contract, and no test of this crate refuses it yet.
 fn make<L: Names, R: Wait>(
     rt: &R,
     alloc: Global,
@@ -65,7 +63,6 @@ fn make<L: Names, R: Wait>(
 }
 
 // Finishes a command: up to eight times optimistically, then with no clerk beside it.
-// A body that always found no memory would meet this contract, and no test of this crate refuses it yet.
 fn finish<L: Names, R: Wait, G: Gate>(
     rt: &R,
     alloc: Global,
@@ -85,7 +82,6 @@ fn finish<L: Names, R: Wait, G: Gate>(
 }
 
 // Shows what a query asks for.
-// A body that always found no memory would meet this contract, and no test of this crate refuses it yet.
 fn view<L: Names>(alloc: Global, seat: &mut Seat<L>, query: &Query) -> Result<RowAnswer, AllocError>
     ensures { Answers L.bench seat.old (work.Query query.now) result seat.new }
 {
@@ -96,7 +92,6 @@ fn view<L: Names>(alloc: Global, seat: &mut Seat<L>, query: &Query) -> Result<Ro
 }
 
 // Answers what a row asks for.
-// A body that always found no memory would meet this contract, and no test of this crate refuses it yet.
 fn answer<L: Names, R: Wait, G: Gate>(
     rt: &R,
     alloc: Global,
@@ -114,7 +109,6 @@ fn answer<L: Names, R: Wait, G: Gate>(
 }
 
 // Does the row if it is the clerk's, and notes its answer; rows of others are passed over. The row's number counts from 1.
-// A body that always found no memory would meet this contract, and no test of this crate refuses it yet.
 fn take_row<L: Names, K: Notes<L>, R: Wait, G: Gate>(
     rt: &R,
     alloc: Global,
@@ -136,9 +130,8 @@ fn take_row<L: Names, K: Notes<L>, R: Wait, G: Gate>(
     notes.add(answer)
 }
 
-/// Does all rows of the seat's clerk, in order, and notes their answers. `Err` says that memory ran out; the rows that were
-/// done are then the first ones of the clerk's.
-// A body that always found no memory would meet this contract, and no test of this crate refuses it yet.
+/// Does all rows of the seat's clerk, in order, and notes their answers. `Err` says that memory ran out; the rows that
+/// were done are then the first ones of the clerk.
 pub(crate) fn serve<L: Names, K: Notes<L>, R: Wait, G: Gate>(
     rt: &R,
     alloc: Global,

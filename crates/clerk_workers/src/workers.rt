@@ -52,7 +52,7 @@ fn hire_all<
     let _word = start.set(rt, true);
 }
 
-// Waits until all hired clerks are done, and puts their desks after the others, in the order in which they stood.
+// Waits until all hired clerks are done, and puts their desks after the others, in the order that they had.
 fn join_all<'e, L: Names, K: Notes<L>, R: Threads>(
     rt: &R,
     desks: &mut Vec<Desk<L, K>>,

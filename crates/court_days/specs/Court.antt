@@ -6,13 +6,11 @@ use Rattle.std.specs.Option.{ok_or}
 use Rattle.std.specs.Str.{is_utf8}
 use Rattle.toml.specs.Data.{Members}
 use Rattle.toml.specs.Parse.{parse_document}
+use Rattle.court_clock.specs.Words.{ClockView, IsSameCourtClock, Zone, days_through, zone_of_text, zone_view}
 use Rattle.court_days.specs.declared.key.Key.TheVariants as key
 use Rattle.court_days.specs.declared.fault.CourtFault.{CourtFault}
 use Rattle.court_days.specs.declared.fault.CourtFault.TheVariants.{NotToml, BadZone, BadHours, BadSpan}
 use Rattle.court_days.specs.Days.{DaysView}
-use Rattle.court_days.specs.Days.Search.{days_through}
-use Rattle.court_days.specs.Clock.{ClockView}
-use Rattle.court_days.specs.Clock.Zone.{IsSameCourtClock, Zone, zone_of_text, zone_view}
 use Rattle.court_days.specs.Court.Reading.{◌>>=◌, must, text_at, minute_at, date_at, dates_at, names_at}
 
 -- what a court's file says
@@ -63,11 +61,11 @@ hours_at file = do
   _ ← must (nat_lt opens closes) BadHours
   Ok (opens, closes)
 
--- a first and a last day, with at most 36,525 days from the one to the other
+-- a first and a last day, with at most 36,525 days from the first to the last
 abbrev pub is_span : ℤ → ℤ → Bool
 is_span from to = int_le from to && nat_le (days_through from to) 36525
 
--- the days: the span, and the holidays that lie in it
+-- the days: the span, and the holidays in it
 unfoldable pub days_at : Members → Result DaysView CourtFault
 days_at file = do
   from ← date_at key.From file

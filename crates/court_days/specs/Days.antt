@@ -6,11 +6,11 @@ pub mod Marks
 use Rattle.std.specs.Prelude.{ℕ, ℤ, ◌≤ℤ◌, ◌&&◌, ◌||◌, not, int_le, Bool, true, false, List, [], ◌∷◌, ◌++◌, if◌then◌else◌}
 use Rattle.std.specs.Ordering.{int_eq}
 use Rattle.std.specs.List.{list_any}
-use Rattle.court_days.specs.declared.direction.Direction.{Direction}
-use Rattle.court_days.specs.declared.direction.Direction.TheVariants.{After, Before}
+use Rattle.court_clock.specs.Words.{is_weekend, IsDayNumber}
+use Rattle.court_clock.specs.declared.direction.Direction.{Direction}
+use Rattle.court_clock.specs.declared.direction.Direction.TheVariants.{After, Before}
 use Rattle.court_days.specs.declared.holiday_list.HolidayList.{HolidayList}
 use Rattle.court_days.specs.declared.holiday_list.HolidayList.TheVariants.{Federal, State}
-use Rattle.court_days.specs.Day.{is_weekend, IsDayNumber}
 
 -- the clerk's office is inaccessible on this day from one minute of the day up to another, which is not included
 pub record OutageView : Type 0 where
@@ -32,11 +32,11 @@ pub record IsSpan (first last : ℤ) : Type 0 where
   pub first_is_day : IsDayNumber first
   pub last_is_day : IsDayNumber last
 
--- the day lies in the span
+-- the day is in the span
 abbrev pub is_covered : DaysView → ℤ → Bool
 is_covered c d = int_le c.from d && int_le d c.to
 
--- the day stands in the list
+-- the day is in the list
 abbrev pub is_among : List ℤ → ℤ → Bool
 is_among days d = list_any (int_eq d) days
 
@@ -49,7 +49,7 @@ is_holiday c Before d = is_among c.federal d
 unfoldable pub is_permitted : DaysView → Direction → ℤ → Bool
 is_permitted c direction d = is_covered c d && (not (is_weekend d) && not (is_holiday c direction d))
 
--- an outage lies on the day
+-- an outage is on the day
 abbrev pub has_outage : DaysView → ℤ → Bool
 has_outage c d = list_any (λ o. int_eq o.day d) c.outages
 
@@ -72,6 +72,6 @@ abbrev pub add_holiday : DaysView → HolidayList → ℤ → DaysView
 add_holiday c Federal d = record c { federal = add_date d c.federal }
 add_holiday c State d = record c { state = add_date d c.state }
 
--- the calendar with one more outage, behind the others
+-- the calendar with one more outage, after the others
 abbrev pub add_outage : DaysView → OutageView → DaysView
 add_outage c o = record c { outages = c.outages ++ o ∷ [] }

@@ -1,6 +1,4 @@
-pub mod Day
 pub mod Days
-pub mod Clock
 pub mod Key
 pub mod Fault
 pub mod Court

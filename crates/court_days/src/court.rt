@@ -3,21 +3,18 @@
 ghost use Rattle.std.specs.Prelude.{◌≡◌, true, ◌<◌, ◌≤◌, ℕ, length, slice_get, IfSome, IfOk, option_copied, Ok};
 ghost use Rattle.toml.specs.View.{table_view};
 ghost use Rattle.jiff.specs.Words.{plain_zone};
-ghost use Rattle.court_days.specs.Clock.{is_ruled};
+ghost use Rattle.court_clock.specs.Words.{is_ruled, zone_view};
 ghost use Rattle.court_days.specs.Court.{CourtView, file_of, court_of, court_in, zone_at, hours_at, days_at, is_span};
 ghost use Rattle.court_days.specs.Court.Reading.{Gives};
 ghost use Rattle.court_days.specs.Court.Names.{name_index};
-ghost use Rattle.court_days.specs.Clock.Zone.{zone_view};
 
-use crate::clock::Clock;
-use crate::clock::zone::zone_from_text;
 use crate::court::names::Names;
 use crate::court::reading::{date_at, dates_at, minute_at, names_at, text_at};
-use crate::day::Day;
 use crate::days::Days;
 use crate::days::holidays::Holidays;
 use crate::fault::CourtFault;
 use crate::key::Key;
+use court_clock::{Clock, Day, zone_from_text};
 use jiff::tz::TimeZone;
 use std::alloc::Global;
 use std::marker::Model;
@@ -64,7 +61,8 @@ impl Court {
         }
     }
 
-    /// The same of a document that was read already.
+    /// The court whose file the document is, or the file's first fault in the order of its keys. `OutOfMemory` where
+    /// memory ran out.
     #[tactic(auto, unfolding(crate::specs::Court::court_of))]
     pub fn from_table(alloc: Global, file: &Table) -> Result<Court, CourtFault>
         ensures { Gives file_of result (court_of (table_view file.now)) }
@@ -191,7 +189,7 @@ fn days_at(alloc: Global, file: &Table) -> Result<Days, CourtFault>
     Ok(Days::new(alloc, holidays)?)
 }
 
-/// Whether a calendar may cover the days from the one to the other.
+/// Whether a calendar may cover the days from the first to the last.
 fn is_span(from: Day, to: Day) -> bool
     ensures { result ≡ is_span from to }
 {

@@ -5,13 +5,13 @@ ghost use Rattle.std.specs.Ordering.{int_eq};
 ghost use Rattle.std.specs.List.{IsDistinct};
 ghost use Rattle.std.specs.Arc.{arc_value};
 ghost use Rattle.court_days.specs.Days.{DaysView, IsSpan, is_covered, is_holiday, is_permitted, is_open, is_among, has_outage, dates_of, add_holiday, add_outage};
-ghost use Rattle.court_days.specs.Days.Search.{earliest_day, days_through};
+ghost use Rattle.court_clock.specs.Words.{days_through};
+ghost use Rattle.court_days.specs.Days.Search.{earliest_day};
 ghost use Rattle.court_days.specs.Days.Rolled.{rolled, next_accessible};
 ghost use Rattle.court_days.specs.Days.Table.{HasTables, entry_day, with_outages};
 
-use crate::day::Day;
-use crate::direction::Direction;
 use crate::holiday_list::HolidayList;
+use court_clock::{Day, Direction};
 use std::alloc::{AllocError, Global};
 use std::marker::Model;
 use std::sync::Arc;
@@ -28,8 +28,8 @@ use outages::Outages;
 use table::{and_holiday, entry_day, table_of};
 
 /// The span that a court's file covers, its two holiday lists, and the outages entered so far. For each direction a
-/// table says how far each covered day lies from the day to which it rolls. The lists, the tables and the outages are
-/// shared, so that days that are made from others copy only what becomes another.
+/// table says how far each covered day is from the day to which it rolls. The lists, the tables and the outages are
+/// shared, so that days that are made from others copy only what changes.
 #[derive(Debug, Drop)]
 struct Held {
     holidays: Holidays,
@@ -38,8 +38,8 @@ struct Held {
     outages: Arc<Outages>,
 }
 
-/// The days of a court. Copies hold one record of them together: a copy takes no memory and changes one counter, which
-/// matters since threads that change the same counter wait for each other.
+/// The days of a court. All copies hold one record of them. A copy takes no memory and changes one counter; one is few,
+/// because threads that change the same counter wait for each other.
 #[derive(Debug, Drop)]
 pub struct Days {
     held: Arc<Held>,
@@ -89,7 +89,7 @@ impl Days {
         self.held.holidays.to()
     }
 
-    /// Whether the day lies in the span, both ends included.
+    /// Whether the day is in the span, both ends included.
     pub fn covered(&self, day: Day) -> bool
         ensures value { result ≡ is_covered self.now day }
         ensures span { IsSpan self.now.from self.now.to }
@@ -97,7 +97,7 @@ impl Days {
         self.held.holidays.covered(day)
     }
 
-    /// Whether the day stands in the list.
+    /// Whether the day is in the list.
     pub fn in_list(&self, list: HolidayList, day: Day) -> bool
         ensures { result ≡ is_among (dates_of self.now list) day }
     {
@@ -141,7 +141,8 @@ impl Days {
         Day::new(day.number() + 1)
     }
 
-    /// How far the day lies from the one to which it rolls, as the table has it, if the day is covered.
+    /// The table's entry for the day: how many days it is away from the one to which it rolls. None where the day isn't
+    /// covered.
     fn entry(&self, day: Day, direction: Direction) -> Option<u16>
         ensures some { IfSome result (λ e. entry_day direction day e ≡ rolled self.now day direction) }
         ensures covered { IfSome result (λ _. is_covered self.now day ≡ true) }
@@ -218,8 +219,8 @@ impl Days {
         self.held.holidays.dates(list)
     }
 
-    /// These days with one more date in a holiday list, which keeps a date that it has already once. This value
-    /// stays as it is. An `Err` says that memory ran out.
+    /// These days with one more date in a holiday list. A date that the list has already is kept once. This value
+    /// doesn't change. An `Err` says that memory ran out.
     pub fn with_holiday(
         &self,
         alloc: Global,
@@ -243,8 +244,7 @@ impl Days {
         })
     }
 
-    /// These days with one more outage, behind the others. This value stays as it is. An `Err` says that memory
-    /// ran out.
+    /// These days with one more outage, after the others. This value doesn't change. An `Err` says that memory ran out.
     pub fn with_outage(&self, alloc: Global, outage: Outage) -> Result<Days, AllocError>
         ensures { IfOk result (λ d. d ≡ add_outage self.now outage) }
     {
@@ -261,8 +261,8 @@ impl Days {
         })
     }
 
-    /// The same days, held once more: it costs the same however many dates and outages there are. It takes no memory;
-    /// `Err` says that there are as many copies as can be counted.
+    /// The same days. A copy takes no memory, and costs the same however many dates and outages there are. An `Err`
+    /// says that there are as many copies as can be counted.
     pub fn copy(&self) -> Result<Days, AllocError>
         ensures { IfOk result (λ d. d ≡ self.now) }
     {

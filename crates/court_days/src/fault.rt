@@ -29,11 +29,11 @@ pub enum CourtFault {
     BadZone,
     /// 6: `opens` or `closes` is no time of day, or the office doesn't open before it closes.
     BadHours,
-    /// 7: `from` lies after `to`, or the span has more than 36,525 days.
+    /// 7: `from` is after `to`, or the span has more than 36,525 days.
     BadSpan,
     /// 8: the text is no name of 1 to 32 letters, digits, `-`, `_` and `.`.
     BadName(FaultText),
-    /// 9: the name stands twice in its list.
+    /// 9: the name is in its list twice.
     TwiceNamed(FaultText),
     /// 10: the list is longer than it may be.
     TooMany(Key),

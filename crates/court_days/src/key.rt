@@ -5,7 +5,7 @@ ghost use Rattle.court_days.specs.Key.{key_name};
 
 use std::fmt;
 
-/// A key of the court's file, in the order in which they are read.
+/// A key of the court's file. The keys are listed in the order in which they are read.
 #[derive(Clone, Copy, Debug, PartialEq, Eq)]
 pub enum Key {
     /// The court's zone: an offset from Greenwich, or a POSIX rule.

@@ -3,8 +3,8 @@ use Rattle.std.specs.Prelude.{ℕ, ◌==◌, ◌&&◌, ◌||◌, not, nat_lt, Bo
 use Rattle.std.specs.List.{list_all}
 use Rattle.std.specs.Option.{option_and_then}
 use Rattle.toml.specs.Data.{Data, Members, no_members, member, as_str, as_table, get_member}
-use Rattle.court_days.specs.Court.{toml_of}
-use Rattle.court_days.specs.Words.{day_of_text}
+use Rattle.court_days.specs.Words.{toml_of}
+use Rattle.court_clock.specs.Words.{day_of_text}
 use Rattle.reason_texts.specs.Words.{NamedDay}
 
 -- a byte of no ASCII control character

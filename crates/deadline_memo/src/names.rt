@@ -5,7 +5,7 @@ ghost use Rattle.std.specs.List.{list_all};
 ghost use Rattle.toml.specs.View.{table_view, view};
 ghost use Rattle.deadline_memo.specs.Names.{holiday_names, is_printed, is_printed_byte, named_among, named_by, named_in, table_of_names};
 
-use court_days::Day;
+use court_clock::Day;
 use reason_texts::HolidayName;
 use std::alloc::{AllocError, Global};
 use toml::{Table, Value};

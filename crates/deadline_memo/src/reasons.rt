@@ -7,7 +7,8 @@ ghost use Rattle.office_run.specs.Words.{Holds};
 ghost use Rattle.deadline_memo.specs.Reasons.{AreReasons, AreReasonsDocketed};
 ghost use Rattle.deadline_memo.specs.Texts.{Pushes};
 
-use court_days::{Court, Day, Days};
+use court_clock::Day;
+use court_days::{Court, Days};
 use deadline_reasons::reasons_of;
 use docket_core::Docket;
 use reason_texts::{Course, HolidayName, push_reasons};

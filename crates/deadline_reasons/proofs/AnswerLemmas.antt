@@ -1,12 +1,13 @@
--- A step of days leaves what the definitions give as it was.
+-- A step of days doesn't change what the definitions give.
 use Rattle.std.proofs.Common.{◌≡◌, inl, inr, ℕ, ◌*◌, ℤ, Bool, true, false, ◌&&◌, not, Contains, List, [], ◌∷◌, Option, Some, None, option_map, refl, sym, ◌∙◌, ap}
 use Rattle.std.specs.List.{list_any}
 use Rattle.std.specs.Ordering.{int_eq}
 use Rattle.std.proofs.lemmas.Bool.{cases_Bool}
 use Rattle.std.proofs.lemmas.Bool.Decides.{Decides-int_eq}
 use Rattle.std.proofs.lemmas.List.Folds.{list_any-from_Any}
-use Rattle.court_days.specs.declared.direction.Direction.{Direction}
-use Rattle.court_days.specs.Words.{DaysView, ClockView, OutageView, counted_from, is_open, has_outage, instant_of, rolled}
+use Rattle.court_clock.specs.declared.direction.Direction.{Direction}
+use Rattle.court_clock.specs.Words.{ClockView, counted_from, instant_of}
+use Rattle.court_days.specs.Words.{DaysView, OutageView, is_open, has_outage, rolled}
 use Rattle.rule6.specs.declared.timeliness.Act.{Act}
 use Rattle.rule6.specs.declared.timeliness.Act.TheVariants as act
 use Rattle.rule6.specs.declared.timeliness.Shown.TheVariants as shown
@@ -20,7 +21,7 @@ use Rattle.rule_periods.specs.declared.period.Length.{Length}
 use Rattle.rule_periods.specs.declared.period.Length.TheVariants.{Days, Hours}
 use Rattle.rule_periods.specs.declared.period.Period.{Period}
 use Rattle.rule_periods.specs.declared.period.Period.TheVariants.{Rule, Entered}
-use Rattle.rule_periods.specs.Words.{DeadlineRowView, base_of_period, end_of_rule, end_of_length, extended_of, act_of, direction_of, grant_fits, granted, granted_if_it_fits, is_certain, is_in_hours, shown_end, shown_after, shown_of}
+use Rattle.rule_periods.specs.Words.{DeadlineRowView, base_of_period, end_of_rule, end_of_length, extended_of, act_due, direction_of, grant_fits, granted, granted_if_it_fits, is_certain, is_in_hours, shown_end, shown_after, shown_of}
 use Rattle.deadline_reasons.specs.declared.look.Look.{Look}
 use Rattle.deadline_reasons.specs.declared.reason.Reason.{Reason}
 use Rattle.deadline_reasons.specs.declared.reason.Reason.TheVariants as reason
@@ -42,7 +43,7 @@ module _ (c : DaysView) (clock : ClockView) (row : DeadlineRowView) where
   entered_is entered (Days n) = refl
   entered_is entered (Hours h) = refl
 
-  base_is : (p : Period) → base_of_period c clock row p ≡ base_by p (length_of p)
+  base_is : (p : Period) → base_of_period c clock row p ≡ base_by p (length_of row p)
   unfolding base_of_period end_of_rule
   base_is (Rule rule) = refl
   base_is (Entered entered) = entered_is entered entered.length
@@ -66,9 +67,9 @@ module _ (c : DaysView) (clock : ClockView) (row : DeadlineRowView) where
   unfolding shown_of extended_of
   shown_is = refl
 
-  pub begins_keeps : (r : Reason) (next : Standing) → Begins clock row (length_of row.period) r next → answer_from c clock row next ≡ shown_of c clock row
+  pub begins_keeps : (r : Reason) (next : Standing) → Begins clock row (length_of row row.period) r next → answer_from c clock row next ≡ shown_of c clock row
   begins_keeps r next h =
-      begins_with (length_of row.period) r next h ∙ sym (shown_is ∙ ap (λ b. with_grants c clock row b row.grants) (base_is row.period))
+      begins_with (length_of row row.period) r next h ∙ sym (shown_is ∙ ap (λ b. with_grants c clock row b row.grants) (base_is row.period))
 
   -- counting
   none_more : (three : Bool) → three_more c three None ≡ None
@@ -109,7 +110,7 @@ module _ (c : DaysView) (clock : ClockView) (row : DeadlineRowView) where
       ap (answer_from c clock row) h.2 ∙ ap (λ t. with_grants c clock row (Some (AtInstant t)) grants) h.1
   finds_keeps d AccessibleDay (reason.RunsTo day) next h = ap (answer_from c clock row) h.1
   finds_keeps d (AccessibleHour second) (reason.SameTime day instant) next h =
-      ap (answer_from c clock row) h.2 ∙ ap (λ t. shown_end (act_of row.period) (Some (AtInstant t))) h.1
+      ap (answer_from c clock row) h.2 ∙ ap (λ t. shown_end (act_due row) (Some (AtInstant t))) h.1
   finds_keeps d aim r next h = absurd h
 
   here_keeps : (d : ℤ) (look : Look) (aim : Aim) (r : Reason) (next : Standing) → is_open c look.holidays look.accessible d ≡ true → Finds clock d aim r next → answer_from c clock row next ≡ reached c clock row aim (found_by c look d)
@@ -143,9 +144,9 @@ module _ (c : DaysView) (clock : ClockView) (row : DeadlineRowView) where
 
   shut : (last : ℤ) → needs_access row ≡ true → has_outage c last ≡ true → reached c clock row AccessibleDay (found_by c (for_access (access_holidays row)) (day_later c last)) ≡ with_grants c clock row (Some (OnDay last)) []
   unfolding shown_after extended_day
-  shut last moves outage = rw (moves, outage) (ap (λ o. shown_end (act_of row.period) (option_map OnDay o)) (found_accessible c (access_holidays row) last))
+  shut last moves outage = rw (moves, outage) (ap (λ o. shown_end (act_due row) (option_map OnDay o)) (found_accessible c (access_holidays row) last))
 
-  not_shut : (last : ℤ) → (needs_access row && has_outage c last) ≡ false → shown_end (act_of row.period) (Some (OnDay last)) ≡ with_grants c clock row (Some (OnDay last)) []
+  not_shut : (last : ℤ) → (needs_access row && has_outage c last) ≡ false → shown_end (act_due row) (Some (OnDay last)) ≡ with_grants c clock row (Some (OnDay last)) []
   unfolding shown_after extended_day
   not_shut last h = elim (cases_Bool (needs_access row)) [
     | inl t ↦
@@ -154,7 +155,7 @@ module _ (c : DaysView) (clock : ClockView) (row : DeadlineRowView) where
     | inr f ↦ rw f refl
   ]
 
-  -- one extension more
+  -- one more extension
   pub extended_is : (hours : Bool) (end : Option Expiry) (g : Grant) → grant_fits hours g ≡ true → granted_if_it_fits c clock hours end g ≡ granted c clock end g
   extended_is hours end g fits = rw fits refl
 
@@ -177,7 +178,7 @@ module _ (c : DaysView) (clock : ClockView) (row : DeadlineRowView) where
       ∙ and_then_extended None (Some (OnDay last)) g grants (not_extended_is (is_in_hours row.period) (Some (OnDay last)) g h.1)
   goes_on_keeps last false [] (reason.Inaccessible outage) next h =
       ap (answer_from c clock row) h.3 ∙ shut last h.0 (outage_lies_on outage last h.1.0 h.2)
-  goes_on_keeps last false [] r next h = closes_keeps (act_of row.period) last r next h.1 ∙ not_shut last h.0
+  goes_on_keeps last false [] r next h = closes_keeps (act_due row) last r next h.1 ∙ not_shut last h.0
   goes_on_keeps last three grants r next h = absurd h
 
   -- no day

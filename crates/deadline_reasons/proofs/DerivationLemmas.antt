@@ -1,9 +1,10 @@
--- Reasons that lead somewhere, and one more; that each leaves what the definitions give as it was.
+-- Reasons that lead somewhere, with one more after them; and that no reason changes what the definitions give.
 use Rattle.std.proofs.Common.{◌≡◌, ℤ, false, ◌&&◌, List, [], ◌∷◌, ◌++◌, Result, Ok, Err, IfOk, refl, sym, ◌∙◌, ap, subst}
-use Rattle.court_days.specs.Words.{DaysView, ClockView, has_outage}
+use Rattle.court_clock.specs.Words.{ClockView}
+use Rattle.court_days.specs.Words.{DaysView, has_outage}
 use Rattle.rule6.specs.declared.timeliness.Act.{Act}
 use Rattle.rule6.specs.declared.timeliness.Act.TheVariants as act
-use Rattle.rule_periods.specs.Words.{DeadlineRowView, act_of}
+use Rattle.rule_periods.specs.Words.{DeadlineRowView, act_due}
 use Rattle.deadline_reasons.specs.declared.reason.Reason.{Reason}
 use Rattle.deadline_reasons.specs.declared.reason.Reason.TheVariants as reason
 use Rattle.deadline_reasons.specs.Derivation.{Lead, DerivationsEndInWhatIsShown}
@@ -36,7 +37,7 @@ lead_keeps c clock row here (r ∷ reasons) last h =
 pub derivation_law : DerivationsEndInWhatIsShown
 derivation_law c clock row reasons shown h = lead_keeps c clock row Unstarted reasons (Ended shown) h
 
--- one reason more
+-- reasons with one more after them
 pub one_more : (c : DaysView) (clock : ClockView) (row : DeadlineRowView) (here : Standing) (reasons : List Reason) (middle : Standing) (r : Reason) (next : Standing) → Lead c clock row here reasons middle → Follows c clock row middle r next → Lead c clock row here (reasons ++ r ∷ []) next
 unfolding Lead
 one_more c clock row here [] middle r next h follows = (next, (subst (λ s. Follows c clock row s r next) h follows, refl))
@@ -47,15 +48,15 @@ pub if_ok : {T E : Type 0} (r : Result T E) (P Q : T → Type 0) → ((x : T) �
 if_ok (Ok x) P Q more h = more x h
 if_ok (Err e) P Q more h = h
 
--- how a last day closes is what may be said of it
-pub closing_follows : (c : DaysView) (clock : ClockView) (row : DeadlineRowView) (last : ℤ) (a : Act) (r : Reason) (next : Standing) → a ≡ act_of row.period → (needs_access row && has_outage c last) ≡ false → Closes clock a last r next → GoesOn c clock row last false [] r next
+-- the reason for which a last day closes follows from that day
+pub closing_follows : (c : DaysView) (clock : ClockView) (row : DeadlineRowView) (last : ℤ) (a : Act) (r : Reason) (next : Standing) → a ≡ act_due row → (needs_access row && has_outage c last) ≡ false → Closes clock a last r next → GoesOn c clock row last false [] r next
 closing_follows c clock row last act.Service (reason.UntilMidnight day) next same accessible h =
     (accessible, subst (λ a. Closes clock a last (reason.UntilMidnight day) next) same h)
 closing_follows c clock row last act.Filing (reason.UntilClosing day minute) next same accessible h =
     (accessible, subst (λ a. Closes clock a last (reason.UntilClosing day minute) next) same h)
 closing_follows c clock row last a r next same accessible h = absurd h
 
--- no reason leads nowhere
+-- no reasons at all lead from a standing to itself
 pub lead_nothing : (c : DaysView) (clock : ClockView) (row : DeadlineRowView) (here : Standing) (reasons : List Reason) → reasons ≡ [] → Lead c clock row here reasons here
 unfolding Lead
 lead_nothing c clock row here reasons none = subst (λ rs. Lead c clock row here rs here) (sym none) refl

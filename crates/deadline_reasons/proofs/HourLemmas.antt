@@ -1,15 +1,16 @@
--- A step of hours leaves what the definitions give as it was.
+-- A step of hours doesn't change what the definitions give.
 use Rattle.std.proofs.Common.{◌≡◌, inl, inr, ℕ, ℤ, true, false, ◌&&◌, Contains, List, [], ◌∷◌, Option, Some, None, option_map, refl, sym, ◌∙◌, ap, arith}
 use Rattle.std.specs.List.{list_any}
 use Rattle.std.specs.Option.{option_and_then}
 use Rattle.std.proofs.lemmas.Bool.{cases_Bool}
-use Rattle.court_days.specs.declared.direction.Direction.{Direction}
-use Rattle.court_days.specs.Words.{DaysView, ClockView, OutageView, CivilTime, civil_of, is_permitted}
+use Rattle.court_clock.specs.declared.direction.Direction.{Direction}
+use Rattle.court_clock.specs.Words.{ClockView, CivilTime, civil_of}
+use Rattle.court_days.specs.Words.{DaysView, OutageView, is_permitted}
 use Rattle.rule6.specs.Words.{continued, end_of_hours_from, extended_end, hours_from, meets_last_hour, same_time_on}
 use Rattle.rule_periods.specs.declared.expiry.Expiry.TheVariants.{AtInstant}
 use Rattle.rule_periods.specs.declared.grant.Grant.{Grant}
 use Rattle.rule_periods.specs.declared.grant.Grant.TheVariants.{ByHours}
-use Rattle.rule_periods.specs.Words.{DeadlineRowView, act_of, is_in_hours, shown_end, shown_after}
+use Rattle.rule_periods.specs.Words.{DeadlineRowView, act_due, is_in_hours, shown_end, shown_after}
 use Rattle.deadline_reasons.specs.declared.reason.Reason.{Reason}
 use Rattle.deadline_reasons.specs.declared.reason.Reason.TheVariants as reason
 use Rattle.deadline_reasons.specs.Passing.{away_from_event, for_access, day_later}
@@ -64,7 +65,7 @@ module _ (c : DaysView) (clock : ClockView) (row : DeadlineRowView) where
   shut : (end day : ℤ) (second : ℕ) → needs_access row ≡ true → list_any (meets_last_hour clock end) c.outages ≡ true → civil_of clock.zone end ≡ Some (time_at day second) → reached c clock row (AccessibleHour second) (found_by c (for_access (access_holidays row)) (day_later c day)) ≡ with_grants c clock row (Some (AtInstant end)) []
   unfolding shown_after extended_end
   shut end day second moves met civil =
-      rw (moves, met, civil) (ap (λ o. shown_end (act_of row.period) (option_map AtInstant (same_time_on clock second o))) (found_accessible c (access_holidays row) day))
+      rw (moves, met, civil) (ap (λ o. shown_end (act_due row) (option_map AtInstant (same_time_on clock second o))) (found_accessible c (access_holidays row) day))
 
   shut_beyond : (end : ℤ) → (needs_access row && list_any (meets_last_hour clock end) c.outages) ≡ true → civil_of clock.zone end ≡ None → with_grants c clock row None [] ≡ with_grants c clock row (Some (AtInstant end)) []
   unfolding shown_after extended_end
@@ -73,7 +74,7 @@ module _ (c : DaysView) (clock : ClockView) (row : DeadlineRowView) where
       let met : list_any (meets_last_hour clock end) c.outages ≡ true = grind arith in
       rw (filing, met, civil) refl
 
-  not_shut : (end : ℤ) → (needs_access row && list_any (meets_last_hour clock end) c.outages) ≡ false → shown_end (act_of row.period) (Some (AtInstant end)) ≡ with_grants c clock row (Some (AtInstant end)) []
+  not_shut : (end : ℤ) → (needs_access row && list_any (meets_last_hour clock end) c.outages) ≡ false → shown_end (act_due row) (Some (AtInstant end)) ≡ with_grants c clock row (Some (AtInstant end)) []
   unfolding shown_after extended_end
   not_shut end h = elim (cases_Bool (needs_access row)) [
     | inl t ↦
@@ -95,6 +96,6 @@ module _ (c : DaysView) (clock : ClockView) (row : DeadlineRowView) where
   goes_on_until_keeps end [] (reason.UntilInstant instant) next h = ap (answer_from c clock row) h.2 ∙ not_shut end h.0
   goes_on_until_keeps end grants r next h = absurd h
 
-  pub closes_at_keeps : (end : ℤ) (r : Reason) (next : Standing) → ClosesAt end r next → answer_from c clock row next ≡ shown_end (act_of row.period) (Some (AtInstant end))
+  pub closes_at_keeps : (end : ℤ) (r : Reason) (next : Standing) → ClosesAt end r next → answer_from c clock row next ≡ shown_end (act_due row) (Some (AtInstant end))
   closes_at_keeps end (reason.UntilInstant instant) next h = ap (answer_from c clock row) h.1
   closes_at_keeps end r next h = absurd h

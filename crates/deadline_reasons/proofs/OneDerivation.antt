@@ -3,9 +3,10 @@ use Rattle.std.proofs.Common.{◌≡◌, ℕ, ◌*◌, ℤ, ◌+ℤ◌, Bool, tr
 use Rattle.std.specs.List.{find, list_any}
 use Rattle.std.specs.Ordering.{int_eq}
 use Rattle.std.proofs.lemmas.Int.{ints}
-use Rattle.court_days.specs.declared.direction.Direction.{Direction}
-use Rattle.court_days.specs.declared.direction.Direction.TheVariants.{After}
-use Rattle.court_days.specs.Words.{DaysView, ClockView, IsInstantSecond, counted_from, is_covered, is_open, is_permitted, has_outage, CivilTime, civil_of, instant_of, offset_seconds}
+use Rattle.court_clock.specs.declared.direction.Direction.{Direction}
+use Rattle.court_clock.specs.declared.direction.Direction.TheVariants.{After}
+use Rattle.court_clock.specs.Words.{ClockView, IsInstantSecond, counted_from, CivilTime, civil_of, instant_of, offset_seconds}
+use Rattle.court_days.specs.Words.{DaysView, is_covered, is_open, is_permitted, has_outage}
 use Rattle.rule6.specs.declared.timeliness.Act.{Act}
 use Rattle.rule6.specs.declared.timeliness.Act.TheVariants as act
 use Rattle.rule6.specs.declared.timeliness.Shown.{Shown}
@@ -15,7 +16,7 @@ use Rattle.rule_periods.specs.declared.grant.Grant.{Grant}
 use Rattle.rule_periods.specs.declared.grant.Grant.TheVariants.{ByDays, ByHours, Until}
 use Rattle.rule_periods.specs.declared.period.Length.{Length}
 use Rattle.rule_periods.specs.declared.period.Length.TheVariants.{Days, Hours}
-use Rattle.rule_periods.specs.Words.{DeadlineRowView, act_of, direction_of, grant_fits, is_certain, is_in_hours}
+use Rattle.rule_periods.specs.Words.{DeadlineRowView, act_due, direction_of, grant_fits, is_certain, is_in_hours}
 use Rattle.deadline_reasons.specs.declared.look.Look.{Look}
 use Rattle.deadline_reasons.specs.declared.reason.Reason.{Reason}
 use Rattle.deadline_reasons.specs.declared.reason.Reason.TheVariants as reason
@@ -106,7 +107,7 @@ module _ (c : DaysView) (clock : ClockView) (row : DeadlineRowView) where
   goes_on last false [] =
       if needs_access row && has_outage c last then
       option_map (λ o. (reason.Inaccessible o, Looking (day_later c last) (for_access (access_holidays row)) AccessibleDay)) (find (λ o. int_eq o.day last) c.outages)
-      else Some (closes (act_of row.period) last)
+      else Some (closes (act_due row) last)
 
   goes_on_one : (last : ℤ) (three : Bool) (grants : List Grant) (r : Reason) (next : Standing) → GoesOn c clock row last three grants r next → goes_on last three grants ≡ Some (r, next)
   goes_on_one last true grants (reason.ThreeAdded kind) next h = rw (h.0, h.1) refl
@@ -115,7 +116,7 @@ module _ (c : DaysView) (clock : ClockView) (row : DeadlineRowView) where
   goes_on_one last false (g ∷ grants) (reason.NotExtended grant) next h = rw (h.1, h.2, h.0) refl
   goes_on_one last false [] (reason.Inaccessible outage) next h =
       rw (h.0, outage_lies_on c clock row outage last h.1.0 h.2, h.1.1, h.3) refl
-  goes_on_one last false [] r next h = rw h.0 (ap Some (closes_one (act_of row.period) last r next h.1))
+  goes_on_one last false [] r next h = rw h.0 (ap Some (closes_one (act_due row) last r next h.1))
   goes_on_one last three grants r next h = absurd h
 
   counts_hours_one : (from : ℤ) (n : ℕ) (direction : Direction) (grants : List Grant) (r s : Reason) (next other : Standing) → CountsHours clock from n direction grants r next → CountsHours clock from n direction grants s other → IsSame r next s other
@@ -193,7 +194,7 @@ module _ (c : DaysView) (clock : ClockView) (row : DeadlineRowView) where
   lacks_one [] reason.Beyond next h = rw h refl
   lacks_one grants r next h = absurd h
 
-  -- of what is there
+  -- the reason that is found, or another where none is
   abbrev held : Reason × Standing → Option (Reason × Standing) → Reason × Standing
   held x (Some y) = y
   held x None = x
@@ -202,14 +203,14 @@ module _ (c : DaysView) (clock : ClockView) (row : DeadlineRowView) where
   same_held found x y h k = ap (held x) (sym h ∙ k)
 
   follows_one : (here : Standing) (r s : Reason) (next other : Standing) → Follows c clock row here r next → Follows c clock row here s other → IsSame r next s other
-  follows_one Unstarted r s next other h k = sym (begins_one (length_of row.period) r next h) ∙ begins_one (length_of row.period) s other k
+  follows_one Unstarted r s next other h k = sym (begins_one (length_of row row.period) r next h) ∙ begins_one (length_of row row.period) s other k
   follows_one (Counting from n direction rest) r s next other h k = sym (counts_one from n direction rest r next h) ∙ counts_one from n direction rest s other k
   follows_one (Looking d look aim) r s next other h k = sym (looks_one d look aim r next h) ∙ looks_one d look aim s other k
   follows_one (Runs last rest) r s next other h k = same_held (goes_on last rest.three rest.grants) (r, next) (s, other) (goes_on_one last rest.three rest.grants r next h) (goes_on_one last rest.three rest.grants s other k)
   follows_one (CountingHours from n direction grants) r s next other h k = counts_hours_one from n direction grants r s next other h k
   follows_one (HoursEnd end direction grants) r s next other h k = sym (ends_hours_one end direction grants r next h) ∙ ends_hours_one end direction grants s other k
   follows_one (RunsUntil end grants) r s next other h k = same_held (goes_on_until end grants) (r, next) (s, other) (goes_on_until_one end grants r next h) (goes_on_until_one end grants s other k)
-  follows_one (Moved d) r s next other h k = sym (closes_one (act_of row.period) d r next h) ∙ closes_one (act_of row.period) d s other k
+  follows_one (Moved d) r s next other h k = sym (closes_one (act_due row) d r next h) ∙ closes_one (act_due row) d s other k
   follows_one (MovedUntil end) r s next other h k = sym (closes_at_one end r next h) ∙ closes_at_one end s other k
   follows_one (Nowhere grants) r s next other h k = same_held (lacks grants) (r, next) (s, other) (lacks_one grants r next h) (lacks_one grants s other k)
   follows_one (Ended shown) r s next other h k = absurd h

@@ -2,9 +2,10 @@
 use Rattle.std.proofs.Common.{◌≡◌, inl, inr, ℤ, pos, ◌+ℤ◌, ◌-ℤ◌, ◌≤ℤ◌, ◌<ℤ◌, Bool, true, false, Option, Some, None, if◌then◌else◌, refl, sym, ◌∙◌, ap, arith}
 use Rattle.std.proofs.lemmas.Int.{ints}
 use Rattle.std.proofs.lemmas.Bool.{cases_Bool}
-use Rattle.court_days.specs.declared.direction.Direction.{Direction}
-use Rattle.court_days.specs.declared.direction.Direction.TheVariants.{After, Before}
-use Rattle.court_days.specs.Words.{DaysView, is_weekend, is_among, is_covered, is_holiday, has_outage, is_open, is_permitted, earliest_day, latest_day, later_day, rolled, next_accessible}
+use Rattle.court_clock.specs.declared.direction.Direction.{Direction}
+use Rattle.court_clock.specs.declared.direction.Direction.TheVariants.{After, Before}
+use Rattle.court_clock.specs.Words.{is_weekend, later_day}
+use Rattle.court_days.specs.Words.{DaysView, is_among, is_covered, is_holiday, has_outage, is_open, is_permitted, earliest_day, latest_day, rolled, next_accessible}
 use Rattle.court_days.proofs.CallerLemmas.{earliest_skips, earliest_finds, earliest_ends, latest_skips, latest_finds, latest_ends}
 use Rattle.rule6.specs.Words.{next_day}
 use Rattle.deadline_reasons.specs.declared.look.Look.{Look}

@@ -1,6 +1,7 @@
 -- When reasons are a derivation of what is shown of a deadline.
 use Rattle.std.specs.Prelude.{◌≡◌, List, [], ◌∷◌}
-use Rattle.court_days.specs.Words.{DaysView, ClockView}
+use Rattle.court_clock.specs.Words.{ClockView}
+use Rattle.court_days.specs.Words.{DaysView}
 use Rattle.rule6.specs.declared.timeliness.Shown.{Shown}
 use Rattle.rule_periods.specs.Words.{DeadlineRowView, shown_of}
 use Rattle.deadline_reasons.specs.declared.reason.Reason.{Reason}

@@ -1,11 +1,12 @@
--- What may be said next, and how far it leads: one step of a derivation, by the rule that it names. Each definition
--- here speaks of one standing; what it doesn't name can't follow there.
+-- Which reason may follow, and how far it leads: one step of a derivation, by the rule that the reason names. Each
+-- definition here is about one standing, and a reason that it doesn't name can't follow there.
 use Rattle.std.specs.Prelude.{◌≡◌, ℕ, ◌*◌, ℤ, ◌+ℤ◌, Bool, true, false, ◌&&◌, List, [], ◌∷◌, Some, None}
 use Rattle.std.specs.List.{list_any}
 use Rattle.std.specs.Ordering.{int_eq}
-use Rattle.court_days.specs.declared.direction.Direction.{Direction}
-use Rattle.court_days.specs.declared.direction.Direction.TheVariants.{After}
-use Rattle.court_days.specs.Words.{DaysView, ClockView, IsInstantSecond, counted_from, is_covered, is_open, is_permitted, has_outage, civil_of, instant_of, offset_seconds}
+use Rattle.court_clock.specs.declared.direction.Direction.{Direction}
+use Rattle.court_clock.specs.declared.direction.Direction.TheVariants.{After}
+use Rattle.court_clock.specs.Words.{ClockView, IsInstantSecond, counted_from, civil_of, instant_of, offset_seconds}
+use Rattle.court_days.specs.Words.{DaysView, is_covered, is_open, is_permitted, has_outage}
 use Rattle.rule6.specs.declared.timeliness.Act.{Act}
 use Rattle.rule6.specs.declared.timeliness.Act.TheVariants as act
 use Rattle.rule6.specs.declared.timeliness.Shown.TheVariants as shown
@@ -14,7 +15,7 @@ use Rattle.rule_periods.specs.declared.grant.Grant.{Grant}
 use Rattle.rule_periods.specs.declared.grant.Grant.TheVariants.{ByDays, ByHours, Until}
 use Rattle.rule_periods.specs.declared.period.Length.{Length}
 use Rattle.rule_periods.specs.declared.period.Length.TheVariants.{Days, Hours}
-use Rattle.rule_periods.specs.Words.{DeadlineRowView, act_of, direction_of, grant_fits, is_certain, is_in_hours}
+use Rattle.rule_periods.specs.Words.{DeadlineRowView, act_due, direction_of, grant_fits, is_certain, is_in_hours}
 use Rattle.deadline_reasons.specs.declared.look.Look.{Look}
 use Rattle.deadline_reasons.specs.declared.reason.Reason.{Reason}
 use Rattle.deadline_reasons.specs.declared.reason.Reason.TheVariants as reason
@@ -49,8 +50,8 @@ Finds clock d (AccessibleHour second) (reason.SameTime day instant) next =
     (day ≡ d) × (instant ≡ instant_of clock.zone d second) × (next ≡ MovedUntil instant)
 Finds clock d aim r next = ⊥
 
--- A covered day is passed over where there is a cause, of which the first is told, and the next one is looked at; a day
--- that is open is the one that was looked for (6(a)(1)(C), 6(a)(2)(C), 6(a)(3)).
+-- A covered day is passed over where there is a cause, and the next day is looked at; of several causes the first is
+-- given. A day that is open is the one that was looked for (6(a)(1)(C), 6(a)(2)(C), 6(a)(3)).
 abbrev pub Looks : DaysView → ClockView → ℤ → Look → Aim → Reason → Standing → Type 0
 Looks c clock d look aim (reason.PassedOver day cause) next =
     (day ≡ d) × (is_covered c d ≡ true) × IsFirstCause c look d cause × (next ≡ Looking (next_day look.going d) look aim)
@@ -66,8 +67,8 @@ Closes clock act.Filing last (reason.UntilClosing day minute) next =
 Closes clock a last r next = ⊥
 
 -- From a last day first three days are counted where the service adds them (6(d)), then each extension in turn (6(b),
--- 4(m)). Then, for filing, an outage on the last day moves the time (6(a)(3)(A)), of which the first is told; without one
--- the time ends.
+-- 4(m)). Then, for filing, an outage on the last day moves the time (6(a)(3)(A)); of several outages the first is given.
+-- Without one the time ends.
 abbrev pub GoesOn : DaysView → ClockView → DeadlineRowView → ℤ → Bool → List Grant → Reason → Standing → Type 0
 GoesOn c clock row last true grants (reason.ThreeAdded kind) next =
     (row.service ≡ Some kind) × (next ≡ Counting last 3 After (record { three = false; grants = grants }))
@@ -80,11 +81,11 @@ GoesOn c clock row last false (g ∷ grants) (reason.NotExtended grant) next =
 GoesOn c clock row last false [] (reason.Inaccessible outage) next =
     (needs_access row ≡ true) × IsFirstOutage (λ o. int_eq o.day last) c.outages outage × (outage.day ≡ last) × (next ≡ Looking (day_later c last) (for_access (access_holidays row)) AccessibleDay)
 GoesOn c clock row last false [] r next =
-    ((needs_access row && has_outage c last) ≡ false) × Closes clock (act_of row.period) last r next
+    ((needs_access row && has_outage c last) ≡ false) × Closes clock (act_due row) last r next
 GoesOn c clock row last three grants r next = ⊥
 
--- Every hour counts, also over a change of the clocks (6(a)(2)(B)). No day is covered where the clock shows no `Day`, so
--- none is where no instant lies so far on.
+-- Every hour counts, also over a change of the clocks (6(a)(2)(B)). Where no instant lies that many hours away, the clock
+-- shows no `Day`, so no day is covered there.
 abbrev pub CountsHours : ClockView → ℤ → ℕ → Direction → List Grant → Reason → Standing → Type 0
 CountsHours clock from h direction grants (reason.HoursCounted hours instant forward) next =
     (hours ≡ h) × (instant ≡ hours_from from h direction) × (offset_seconds clock.zone instant ≡ offset_seconds clock.zone from +ℤ forward) × IsInstantSecond instant × (next ≡ HoursEnd instant direction grants)
@@ -103,7 +104,7 @@ EndsHours c clock end direction grants reason.NotCovered next = (civil_of clock.
 EndsHours c clock end direction grants r next = ⊥
 
 -- From an instant each extension goes on in turn (6(b)). Then, for filing, an outage in the last hour moves the time
--- (6(a)(3)(B)), of which the first is told; without one the time ends.
+-- (6(a)(3)(B)); of several outages the first is given. Without one the time ends.
 abbrev pub GoesOnUntil : DaysView → ClockView → DeadlineRowView → ℤ → List Grant → Reason → Standing → Type 0
 GoesOnUntil c clock row end (ByHours h ∷ grants) (reason.Extended grant) next =
     (grant ≡ ByHours h) × (is_in_hours row.period ≡ true) × (next ≡ CountingHours end h After grants)
@@ -133,14 +134,14 @@ Lacks row grants r next = ⊥
 
 -- from where a derivation stands, this reason leads to where it stands next
 abbrev pub Follows : DaysView → ClockView → DeadlineRowView → Standing → Reason → Standing → Type 0
-Follows c clock row Unstarted r next = Begins clock row (length_of row.period) r next
+Follows c clock row Unstarted r next = Begins clock row (length_of row row.period) r next
 Follows c clock row (Counting from n direction rest) r next = Counts c from n direction rest r next
 Follows c clock row (Looking d look aim) r next = Looks c clock d look aim r next
 Follows c clock row (Runs last rest) r next = GoesOn c clock row last rest.three rest.grants r next
 Follows c clock row (CountingHours from h direction grants) r next = CountsHours clock from h direction grants r next
 Follows c clock row (HoursEnd end direction grants) r next = EndsHours c clock end direction grants r next
 Follows c clock row (RunsUntil end grants) r next = GoesOnUntil c clock row end grants r next
-Follows c clock row (Moved d) r next = Closes clock (act_of row.period) d r next
+Follows c clock row (Moved d) r next = Closes clock (act_due row) d r next
 Follows c clock row (MovedUntil end) r next = ClosesAt end r next
 Follows c clock row (Nowhere grants) r next = Lacks row grants r next
 Follows c clock row (Ended shown) r next = ⊥

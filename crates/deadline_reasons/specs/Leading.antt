@@ -1,6 +1,7 @@
 -- Where a derivation stands after a part of its reasons.
 use Rattle.std.specs.Prelude.{ℤ, List, [], Option, Some, None}
-use Rattle.court_days.specs.Words.{DaysView, ClockView}
+use Rattle.court_clock.specs.Words.{ClockView}
+use Rattle.court_days.specs.Words.{DaysView}
 use Rattle.rule_periods.specs.declared.grant.Grant.{Grant}
 use Rattle.rule_periods.specs.Words.{DeadlineRowView}
 use Rattle.deadline_reasons.specs.declared.look.Look.{Look}

@@ -1,9 +1,10 @@
 -- Which days are passed over where a day is looked for.
 use Rattle.std.specs.Prelude.{◌≡◌, ℤ, pos, ◌+ℤ◌, Bool, true, false, nat_eq, Contains, List, Some, if◌then◌else◌}
 use Rattle.std.specs.List.{find}
-use Rattle.court_days.specs.declared.direction.Direction.{Direction}
-use Rattle.court_days.specs.declared.direction.Direction.TheVariants.{After}
-use Rattle.court_days.specs.Words.{DaysView, OutageView, weekday_of, is_among, is_holiday, has_outage, later_day}
+use Rattle.court_clock.specs.declared.direction.Direction.{Direction}
+use Rattle.court_clock.specs.declared.direction.Direction.TheVariants.{After}
+use Rattle.court_clock.specs.Words.{weekday_of, later_day}
+use Rattle.court_days.specs.Words.{DaysView, OutageView, is_among, is_holiday, has_outage}
 use Rattle.deadline_reasons.specs.declared.look.Look.{Look}
 use Rattle.deadline_reasons.specs.declared.reason.Cause.{Cause}
 use Rattle.deadline_reasons.specs.declared.reason.Cause.TheVariants.{Saturday, Sunday, FederalHoliday, StateHoliday, Inaccessible}
@@ -20,8 +21,8 @@ IsCause c look d StateHoliday = (look.holidays ≡ After) × (is_among c.state d
 -- 6(a)(3)
 IsCause c look d Inaccessible = (look.accessible ≡ true) × (has_outage c d ≡ true)
 
--- of several causes the one that is told: a Saturday or Sunday first, then a holiday, of the United States first, and
--- then that the clerk's office was inaccessible
+-- Of several causes the one that is given: a Saturday or Sunday before a holiday, a federal holiday before one of the
+-- state, and last that the clerk's office was inaccessible.
 abbrev pub first_cause : DaysView → Look → ℤ → Cause
 first_cause c look d =
     if nat_eq (weekday_of d) 5 then Saturday
@@ -30,11 +31,11 @@ first_cause c look d =
     else if is_holiday c look.holidays d then StateHoliday
     else Inaccessible
 
--- there is this cause to pass over the day, and it is the one that is told
+-- there is this cause to pass over the day, and it is the one that is given
 abbrev pub IsFirstCause : DaysView → Look → ℤ → Cause → Type 0
 IsFirstCause c look d cause = IsCause c look d cause × (first_cause c look d ≡ cause)
 
--- of several outages that pass a test the one that is told: the first that was entered
+-- of several outages that pass a test the one that is given: the first that was entered
 abbrev pub IsFirstOutage : (OutageView → Bool) → List OutageView → OutageView → Type 0
 IsFirstOutage test outages outage = Contains outages outage × (find test outages ≡ Some outage)
 

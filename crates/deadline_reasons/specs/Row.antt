@@ -4,28 +4,28 @@ use Rattle.rule_periods.specs.declared.period.Length.{Length}
 use Rattle.rule_periods.specs.declared.period.Length.TheVariants.{Days}
 use Rattle.rule_periods.specs.declared.period.Period.{Period}
 use Rattle.rule_periods.specs.declared.period.Period.TheVariants.{Rule, Entered}
-use Rattle.rule_periods.specs.Words.{DeadlineRowView, terms_of, later_event, runs_from_service, kind_adds, act_of, direction_of, ends_certain, access_direction, is_moved_by_access}
-use Rattle.court_days.specs.declared.direction.Direction.{Direction}
+use Rattle.rule_periods.specs.Words.{DeadlineRowView, terms_of, runs_from, service_rule_of, runs_from_service, kind_adds, act_due, direction_of, ends_certain, access_direction, is_moved_by_access}
+use Rattle.court_clock.specs.declared.direction.Direction.{Direction}
 
 -- how long the period is
-abbrev pub length_of : Period → Length
-length_of (Rule rule) = Days (terms_of rule).days
-length_of (Entered entered) = entered.length
+abbrev pub length_of : DeadlineRowView → Period → Length
+length_of row (Rule rule) = Days (terms_of rule (runs_from row)).days
+length_of row (Entered entered) = entered.length
 
--- the day of the event; of two the later
+-- the day of the event, or the later of two
 abbrev pub event_day : DeadlineRowView → Period → ℤ
-event_day row (Rule rule) = later_event row.event.day row.second
+event_day row (Rule rule) = runs_from row
 event_day row (Entered entered) = row.event.day
 
 -- three days are added for the kind of service (Fed. R. Civ. P. 6(d))
 abbrev pub adds_three : DeadlineRowView → Period → Bool
-adds_three row (Rule rule) = runs_from_service (terms_of rule).service && kind_adds row.service row.event.day
+adds_three row (Rule rule) = runs_from_service (service_rule_of rule) && kind_adds row.service row.event.day
 adds_three row (Entered entered) = entered.served && kind_adds row.service row.event.day
 
 -- the time is one for filing and ends on no date certain, so that it matters whether the clerk's office was accessible
 -- (6(a)(3))
 abbrev pub needs_access : DeadlineRowView → Bool
-needs_access row = is_moved_by_access (act_of row.period) (ends_certain row.grants)
+needs_access row = is_moved_by_access (act_due row) (ends_certain row.grants)
 
 -- whose holidays are passed over where an accessible day is looked for
 abbrev pub access_holidays : DeadlineRowView → Direction

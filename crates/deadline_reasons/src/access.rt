@@ -14,8 +14,9 @@ ghost use Rattle.deadline_reasons.specs.Leading.{LeadsOn, with_day};
 use crate::look::{day_later, for_access, look_for};
 use crate::reason::{Reason, push};
 use crate::row::{access_holidays, needs_access};
-use court_days::{Clock, Day, Days, Outage};
-use rule_periods::DeadlineRow;
+use court_clock::{Clock, Day};
+use court_days::{Days, Outage};
+use rule_periods::{DeadlineRow, act_due};
 use rule6::Act;
 use std::alloc::AllocError;
 
@@ -34,13 +35,13 @@ pub(crate) fn close(
         return Ok(());
     };
     let Some(outage) = shutting_outage(days, row, day) else {
-        push(reasons, closing(clock, row.period().act(), day))?;
+        push(reasons, closing(clock, act_due(row), day))?;
         return Ok(());
     };
     close_later(days, clock, row, reasons, day, outage)
 }
 
-/// Ends a period in days on the last day of which the clerk's office was inaccessible.
+/// Ends a period in days, where the clerk's office was inaccessible on its last day.
 fn close_later(
     days: &Days,
     clock: &Clock,
@@ -62,7 +63,7 @@ fn close_later(
         return Ok(());
     };
     push(reasons, Reason::RunsTo(day))?;
-    push(reasons, closing(clock, row.period().act(), day))?;
+    push(reasons, closing(clock, act_due(row), day))?;
     Ok(())
 }
 

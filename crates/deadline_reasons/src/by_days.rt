@@ -1,7 +1,7 @@
 //! The reasons of a period that is stated in days.
 
 ghost use Rattle.std.specs.Prelude.{◌≡◌, ◌≤◌, true, false, [], ◌∷◌, List, IfOk};
-ghost use Rattle.court_days.specs.Words.{ClockView, counted_from};
+ghost use Rattle.court_clock.specs.Words.{ClockView, counted_from};
 ghost use Rattle.rule6.specs.declared.timeliness.Shown.{Shown};
 ghost use Rattle.rule_periods.specs.declared.grant.Grant.{Grant as GrantData};
 ghost use Rattle.rule_periods.specs.declared.period.Length.TheVariants as stated;
@@ -14,11 +14,12 @@ use crate::access::close;
 use crate::look::{away_from_event, covered_day, look_for};
 use crate::reason::{Reason, push};
 use crate::row::{adding_kind, event_day};
-use court_days::{Clock, Day, Days, Direction};
+use court_clock::{Clock, Day, Direction};
+use court_days::Days;
 use rule_periods::{DeadlineRow, Grant};
 use std::alloc::AllocError;
 
-/// How many days are added after service by mail and the like (Fed. R. Civ. P. 6(d)).
+/// The days that are added after service by mail, on the clerk or by other means (Fed. R. Civ. P. 6(d)).
 const ADDED_DAYS: u32 = 3;
 
 /// Adds the reasons of a period of `n` days.
@@ -29,7 +30,7 @@ pub(crate) fn push_days(
     reasons: &mut Vec<Reason>,
     n: u32,
 ) -> Result<(), AllocError>
-    requires days { length_of row.now.period ≡ stated.Days n }
+    requires days { length_of row.now row.now.period ≡ stated.Days n }
     requires length { n ≤ 3650 }
     ensures { IfOk result (λ _. (shown : Shown) × LeadsOn days.now clock.now row.now reasons.old.items reasons.new.items Unstarted (Ended shown)) }
 {
@@ -41,7 +42,7 @@ pub(crate) fn push_days(
     close(days, clock, row, reasons, extended)
 }
 
-/// Counts so many days, and looks for the last day from there.
+/// Counts `n` days, and looks for the last day from there.
 fn count(
     days: &Days,
     reasons: &mut Vec<Reason>,

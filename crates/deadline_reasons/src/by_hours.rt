@@ -2,7 +2,7 @@
 
 ghost use Rattle.std.specs.Prelude.{◌≡◌, ◌<◌, ◌≤◌, ◌+ℤ◌, ◌&&◌, true, false, [], ◌∷◌, List, IfSome, IfNone, IfOk};
 ghost use Rattle.std.specs.List.{list_any};
-ghost use Rattle.court_days.specs.Words.{IsInstantSecond, offset_seconds};
+ghost use Rattle.court_clock.specs.Words.{IsInstantSecond, offset_seconds};
 ghost use Rattle.rule6.specs.declared.timeliness.Shown.{Shown};
 ghost use Rattle.rule6.specs.Words.{hours_from, meets_last_hour};
 ghost use Rattle.rule_periods.specs.declared.grant.Grant.{Grant as GrantData};
@@ -16,7 +16,8 @@ ghost use Rattle.deadline_reasons.specs.Leading.{LeadsOn, with_instant, moved_to
 use crate::look::{Look, away_from_event, day_later, for_access, look_for};
 use crate::reason::{Reason, push};
 use crate::row::{access_holidays, needs_access};
-use court_days::{Clock, Day, Days, Direction, Instant, Outage};
+use court_clock::{Clock, Day, Direction, Instant};
+use court_days::{Days, Outage};
 use rule_periods::{DeadlineRow, Grant};
 use rule6::meets_last_hour;
 use std::alloc::AllocError;
@@ -32,7 +33,7 @@ pub(crate) fn push_hours(
     reasons: &mut Vec<Reason>,
     h: u32,
 ) -> Result<(), AllocError>
-    requires hours { length_of row.now.period ≡ stated.Hours h }
+    requires hours { length_of row.now row.now.period ≡ stated.Hours h }
     requires length { h ≤ 8760 }
     ensures { IfOk result (λ _. (shown : Shown) × LeadsOn days.now clock.now row.now reasons.old.items reasons.new.items Unstarted (Ended shown)) }
 {
@@ -44,7 +45,7 @@ pub(crate) fn push_hours(
     close(days, clock, row, reasons, extended)
 }
 
-/// Counts so many hours, and looks for the day of their end.
+/// Counts `h` hours, and looks for the day on which they end.
 fn count(
     days: &Days,
     clock: &Clock,
@@ -205,7 +206,7 @@ fn close(
     close_later(days, clock, row, reasons, instant, outage)
 }
 
-/// Ends a period in hours during the last hour of which the clerk's office was inaccessible.
+/// Ends a period in hours, where the clerk's office was inaccessible during its last hour.
 fn close_later(
     days: &Days,
     clock: &Clock,

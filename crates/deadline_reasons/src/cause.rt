@@ -7,7 +7,8 @@ ghost use Rattle.deadline_reasons.specs.Passing.{IsCause, IsFirstCause};
 
 use crate::look::Look;
 use crate::reason::Cause;
-use court_days::{Day, Days, Direction, HolidayList};
+use court_clock::{Day, Direction};
+use court_days::{Days, HolidayList};
 
 /// A cause to pass over the covered day, if there is one: that it is a Saturday or a Sunday, else that it is a holiday,
 /// else that the clerk's office was inaccessible.

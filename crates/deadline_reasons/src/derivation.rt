@@ -11,7 +11,8 @@ use crate::by_days::push_days;
 use crate::by_hours::push_hours;
 use crate::reason::Reason;
 use crate::row::length;
-use court_days::{Clock, Days};
+use court_clock::Clock;
+use court_days::Days;
 use rule_periods::{DeadlineRow, Length};
 use std::alloc::{AllocError, Global};
 

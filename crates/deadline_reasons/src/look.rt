@@ -1,7 +1,8 @@
 //! Looking for a day that there is no cause to pass over.
 
 ghost use Rattle.std.specs.Prelude.{◌≡◌, ◌≤ℤ◌, pos, neg_ℤ, true, false, IfSome, IfNone, IfOk};
-ghost use Rattle.court_days.specs.Words.{DaysView, ClockView, IsDayNumber, is_covered, is_open};
+ghost use Rattle.court_clock.specs.Words.{ClockView, IsDayNumber};
+ghost use Rattle.court_days.specs.Words.{DaysView, is_covered, is_open};
 ghost use Rattle.rule6.specs.Words.{next_day};
 ghost use Rattle.rule_periods.specs.Words.{DeadlineRowView};
 ghost use Rattle.deadline_reasons.specs.Passing.{away_from_event, for_access, day_later};
@@ -10,7 +11,8 @@ ghost use Rattle.deadline_reasons.specs.Leading.{LeadsOn, sought};
 
 use crate::cause::cause_of;
 use crate::reason::{Reason, push};
-use court_days::{Day, Days, Direction};
+use court_clock::{Day, Direction};
+use court_days::Days;
 use std::alloc::AllocError;
 
 /// How a day is looked for.
@@ -90,7 +92,7 @@ fn next_day(day: Day, going: Direction) -> i32
     }
 }
 
-/// The number of the first covered day later than this one, or of one behind the span where there is none.
+/// The number of the first covered day later than this one, or of one after the span where there is none.
 pub(crate) fn day_later(days: &Days, day: Day) -> i32
     ensures { result ≡ day_later days.now day }
 {

@@ -1,13 +1,15 @@
 //! The reasons for which a deadline is the day or the instant that it is.
 
 ghost use Rattle.std.specs.Prelude.{◌≡◌, ◌++◌, ◌∷◌, [], IfOk};
-ghost use Rattle.court_days.specs.Words.{DaysView, ClockView};
+ghost use Rattle.court_clock.specs.Words.{ClockView};
+ghost use Rattle.court_days.specs.Words.{DaysView};
 ghost use Rattle.rule_periods.specs.Words.{DeadlineRowView};
 ghost use Rattle.deadline_reasons.specs.Derivation.{Lead};
 ghost use Rattle.deadline_reasons.specs.Follows.{Follows};
 ghost use Rattle.deadline_reasons.specs.Standing.{Standing, Unstarted};
 
-use court_days::{Day, Instant, Outage};
+use court_clock::{Day, Instant};
+use court_days::Outage;
 use rule_periods::Grant;
 use rule6::ServiceKind;
 use std::alloc::AllocError;
@@ -30,9 +32,9 @@ pub enum Cause {
 /// One step of the way from a deadline's event to its end, with the rule that it goes by.
 #[derive(Clone, Copy, Debug, PartialEq, Eq)]
 pub enum Reason {
-    /// The day of the event is excluded (Fed. R. Civ. P. 6(a)(1)(A)); of two events the later counts.
+    /// The day of the event is excluded (Fed. R. Civ. P. 6(a)(1)(A)). Of two events it is the later.
     Excluded(Day),
-    /// So many days are counted, of which every one counts, and this is the last of them (6(a)(1)(B), (C)).
+    /// This number of days is counted, every day counts, and this day is the last of them (6(a)(1)(B), (C)).
     Counted(u32, Day),
     /// The day is passed over, and the next one is looked at, away from the event (6(a)(1)(C), (a)(5), (a)(6)), or
     /// later where an accessible day is looked for (6(a)(3)).
@@ -47,9 +49,9 @@ pub enum Reason {
     NotExtended(Grant),
     /// The hours are counted from this instant on, that of the event (6(a)(2)(A)).
     HoursFrom(Instant),
-    /// So many hours are counted, of which every one counts (6(a)(2)(B)), and they end at this instant. There the clock
-    /// is so many seconds further ahead of UTC than where they begin: 0 unless the clocks were changed, and negative
-    /// where they were set back.
+    /// This number of hours is counted, every hour counts (6(a)(2)(B)), and they end at this instant. The last number is
+    /// that of the seconds by which the clock is further ahead of UTC there than where they begin: 0 unless the clocks
+    /// were changed, and negative where they were set back.
     HoursCounted(u32, Instant, i32),
     /// The clock shows this day where the hours end, and there is no cause to pass over it (6(a)(2)(C)).
     EndsOn(Day),
@@ -64,7 +66,7 @@ pub enum Reason {
     /// The clerk's office was inaccessible during the last hour for filing, at whose end the clock shows this day and
     /// this second of it, counted from midnight. The same time on a later day is looked for (6(a)(3)(B)).
     LastHour(Outage, Day, u32),
-    /// The last day, which ends at midnight: the act is service, of which 6(a)(4) doesn't speak.
+    /// The last day, which ends at midnight: the act is service, about which 6(a)(4) says nothing.
     UntilMidnight(Day),
     /// The last day, which ends at midnight for electronic filing, and for other filing at the minute, counted from
     /// midnight, at which the clerk's office is scheduled to close (6(a)(4)).
@@ -80,7 +82,7 @@ pub enum Reason {
 /// The types that a reason is made of, which a function that fills a list of reasons has to name.
 type ReasonTypes = Option<(Day, Cause, ServiceKind, Grant, Instant, Outage)>;
 
-/// Adds a reason. Whatever follows by it is reached behind the ones before.
+/// Adds a reason. Where it follows from the reasons so far, the reasons with it lead on to the next standing.
 pub(crate) fn push(reasons: &mut Vec<Reason>, reason: Reason) -> Result<(), AllocError>
     ensures items { IfOk result (λ _. reasons.new.items ≡ reasons.old.items ++ reason ∷ []) }
     ensures leads { (c : DaysView) (clock : ClockView) (row : DeadlineRowView) (here next : Standing) → IfOk result (λ _. Lead c clock row Unstarted reasons.old.items here → Follows c clock row here reason next → Lead c clock row Unstarted reasons.new.items next) }

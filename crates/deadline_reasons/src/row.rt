@@ -4,32 +4,31 @@ ghost use Rattle.std.specs.Prelude.{◌≡◌, true, false, Some, IfSome, IfNone
 ghost use Rattle.rule_periods.specs.Words.{is_length};
 ghost use Rattle.deadline_reasons.specs.Row.{length_of, event_day, adds_three, needs_access, access_holidays};
 
-use court_days::{Day, Direction};
+use court_clock::{Day, Direction};
 use rule_periods::{
-    DeadlineRow, Length, Period, access_direction, ends_certain, is_moved_by_access, kind_adds,
-    later_event, runs_from_service,
+    DeadlineRow, Length, Period, access_direction, act_due, ends_certain, is_moved_by_access,
+    kind_adds, runs_from, runs_from_service,
 };
 use rule6::ServiceKind;
 
 /// How long the deadline's period is.
 pub(crate) fn length(row: &DeadlineRow) -> Length
-    ensures value { result ≡ length_of row.now.period }
+    ensures value { result ≡ length_of row.now row.now.period }
     ensures in_range { is_length result ≡ true }
 {
     match row.period() {
-        Period::Rule(rule) => Length::Days(rule.days()),
+        Period::Rule(rule) => Length::Days(rule.days(runs_from(row))),
         Period::Entered(entered) => entered.length,
     }
 }
 
-/// The day of the event; of two the later.
+/// The day of the event, or the later of two.
 pub(crate) fn event_day(row: &DeadlineRow) -> Day
     ensures { result ≡ event_day row.now row.now.period }
 {
-    let day = row.event().day();
     match row.period() {
-        Period::Rule(_) => later_event(day, row.second()),
-        Period::Entered(_) => day,
+        Period::Rule(_) => runs_from(row),
+        Period::Entered(_) => row.event().day(),
     }
 }
 
@@ -60,7 +59,7 @@ fn adds_three(row: &DeadlineRow) -> bool
 pub(crate) fn needs_access(row: &DeadlineRow) -> bool
     ensures { result ≡ needs_access row.now }
 {
-    is_moved_by_access(row.period().act(), ends_certain(row.grants()))
+    is_moved_by_access(act_due(row), ends_certain(row.grants()))
 }
 
 /// Whose holidays are passed over where an accessible day is looked for.

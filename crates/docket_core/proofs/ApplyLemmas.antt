@@ -1,5 +1,5 @@
 -- The parts of a docket after a command that isn't refused.
-use Rattle.std.proofs.Common.{◌≡◌, ℕ, ◌≤◌, true, false, ◌==◌, nat_eq, nat_lt, List, [], ◌∷◌, length, get_or, set, Option, Some, None, option_map, unwrap_or, refl, ap, sym, ◌∙◌, arith, inl, inr}
+use Rattle.std.proofs.Common.{◌≡◌, ℕ, ◌+◌, ◌≤◌, true, false, ◌==◌, nat_eq, nat_lt, List, [], ◌∷◌, length, get_or, set, Option, Some, None, option_map, unwrap_or, refl, ap, sym, ◌∙◌, arith, inl, inr}
 use Rattle.std.specs.List.{list_all}
 use Rattle.std.proofs.lemmas.Bool.{cases_Bool, false≢true}
 use Rattle.std.proofs.lemmas.Bool.Decides.{nat_tests}
@@ -9,20 +9,20 @@ use Rattle.docket_rows.specs.declared.hearing.Hearing.{Hearing}
 use Rattle.docket_rows.specs.declared.hearing.Setting.{Setting}
 use Rattle.docket_rows.specs.declared.part.PartId.TheVariants.{Court, Judge, Room, Case}
 use Rattle.docket_rows.specs.declared.part.PartValue.TheVariants as value
+use Rattle.docket_rows.specs.declared.rebooking.Rebooking.{Rebooking}
 use Rattle.docket_rows.specs.declared.refusal.Refusal.{Refusal}
-use Rattle.docket_rows.specs.Words.{Bench, Parts, changed, part_value, refusal, open_case_refusal, open_case_checks, book_refusal, move_refusal, hearing_checks, days_written, is_before_judge, is_in_room, booking_of, first_judge, sits, is_case_number}
+use Rattle.docket_rows.specs.Words.{Bench, Parts, changed, part_value, refusal, open_case_refusal, open_case_checks, book_refusal, move_refusal, hearing_checks, days_written, case_of, case_after, booking_of, rebooking_of, changed_by, judge_change, room_change, first_judge, sits, last_case, is_case_number}
 use Rattle.rule_periods.specs.Words.{first_of}
 use Rattle.hearing_slots.specs.declared.booking.Booking.{Booking}
 use Rattle.docket_laws.proofs.CallerLemmas.{none_of, when-not-None}
-use Rattle.docket_core.specs.declared.rebooking.Rebooking.{Rebooking}
 use Rattle.docket_core.specs.Docket.{DocketView, parts_held}
-use Rattle.docket_core.specs.Changes.{IsAfter, case_of, case_after, rebooked_docket}
-use Rattle.docket_core.specs.Rebooking.{rebooking_of, changed_by, calendar_after, judge_change, room_change}
-use Rattle.docket_core.proofs.CaseLemmas.{case_is_written, case_changed}
-use Rattle.docket_core.proofs.RebookingLemmas.{judge_rebooked, room_rebooked, calendar_of, nothing_to_take, nothing_taken, same_rebooking, to_set}
+use Rattle.docket_core.specs.Changes.{IsAfter, rebooked_docket}
+use Rattle.docket_core.specs.Rebooking.{calendar_after}
+use Rattle.docket_core.proofs.CaseLemmas.{case_changed}
+use Rattle.docket_core.proofs.RebookingLemmas.{calendar_of, nothing_to_take, nothing_taken, same_rebooking, to_set}
 
 -- a case that is opened has a place; other commands open none
-opens_in_place : (bench : Bench) (parts : Parts) (command : Command) (n count : ℕ) → refusal bench parts command ≡ None → Some n ≡ case_of command → count ≡ 4097 → count ≤ n → case_after command None ≡ None
+opens_in_place : (bench : Bench) (parts : Parts) (command : Command) (n count : ℕ) → refusal bench parts command ≡ None → Some n ≡ case_of command → count ≡ last_case + 1 → count ≤ n → case_after command None ≡ None
 unfolding open_case_refusal
 opens_in_place bench parts (OpenCase case filed) n count made is all beyond =
     let number : is_case_number case ≡ true = when-not-None _ _ (none_of (open_case_checks parts case filed) made).0 in
@@ -31,12 +31,12 @@ opens_in_place bench parts (OpenCase case filed) n count made is all beyond =
 opens_in_place bench parts _ n count made is all beyond = refl
 
 -- a command that changes no days and no calendar changes its case
-pub only_case_changed : (bench : Bench) (d : DocketView) (command : Command) (n : ℕ) → refusal bench (parts_held d) command ≡ None → length d.cases ≡ 4097 → days_written d.days command ≡ None → rebooking_of (parts_held d) command ≡ None → Some n ≡ case_of command → IsAfter d command (record d { cases = set d.cases n (case_after command (get_or d.cases n None)) })
+pub only_case_changed : (bench : Bench) (d : DocketView) (command : Command) (n : ℕ) → refusal bench (parts_held d) command ≡ None → length d.cases ≡ last_case + 1 → days_written d.days command ≡ None → rebooking_of (parts_held d) command ≡ None → Some n ≡ case_of command → IsAfter d command (record d { cases = set d.cases n (case_after command (get_or d.cases n None)) })
 only_case_changed bench d command n made places days calendars is Court = rw days refl
-only_case_changed bench d command n made places days calendars is (Judge j) = rw (judge_rebooked (parts_held d) command j, calendars) refl
-only_case_changed bench d command n made places days calendars is (Room k) = rw (room_rebooked (parts_held d) command k, calendars) refl
+only_case_changed bench d command n made places days calendars is (Judge j) = rw calendars refl
+only_case_changed bench d command n made places days calendars is (Room k) = rw calendars refl
 only_case_changed bench d command n made places days calendars is (Case i) =
-    rw (case_is_written (parts_held d) command i, sym is)
+    rw (sym is)
     (case_changed command d.cases n i (λ beyond. opens_in_place bench (parts_held d) command n (length d.cases) made is places beyond))
 
 -- Calendars
@@ -80,8 +80,8 @@ unfolding book_refusal move_refusal
 stays_when_made d (Book s) r made judges rooms is = same_rebooking (StaysInCourt d) r _ is (stays_in_court d s _ (in_court d s _ _ judges rooms made))
 stays_when_made d (MoveHearing s) r made judges rooms is = same_rebooking (StaysInCourt d) r _ is (stays_in_court d s _ (in_court d s _ _ judges rooms made))
 stays_when_made d (Cancel case motion) r made judges rooms is = same_rebooking (StaysInCourt d) r _ is (record {
-  judges = λ j beyond. nothing_taken case motion (is_before_judge (parts_held d) case motion j);
-  rooms = λ k beyond. nothing_taken case motion (is_in_room (parts_held d) case motion k);
+  judges = λ j beyond. nothing_taken case motion _;
+  rooms = λ k beyond. nothing_taken case motion _;
 })
 stays_when_made d _ r made judges rooms is = absurd cc
 
@@ -97,11 +97,11 @@ CaseIsAfter d command case r =
 -- a booking, a move and a cancellation change their calendars, and the case
 pub hearing_changed : (d : DocketView) (command : Command) (r : Rebooking) → refusal d.bench (parts_held d) command ≡ None → length d.judges ≡ d.bench.judges → length d.rooms ≡ d.bench.rooms → Some r ≡ rebooking_of (parts_held d) command → IsAfter d command (rebooked_docket r d)
 hearing_changed d command r made judges rooms is (Judge j) =
-    rw (judge_rebooked (parts_held d) command j, sym is)
+    rw (sym is)
     (ap value.Calendar (calendar_of (judge_change r) d.judges j ((stays_when_made d command r made judges rooms is).judges j))
     ∙ value_changed (changed_by (judge_change r j) (get_or d.judges j [])) (get_or d.judges j []))
 hearing_changed d command r made judges rooms is (Room k) =
-    rw (room_rebooked (parts_held d) command k, sym is)
+    rw (sym is)
     (ap value.Calendar (calendar_of (room_change r) d.rooms k ((stays_when_made d command r made judges rooms is).rooms k))
     ∙ value_changed (changed_by (room_change r k) (get_or d.rooms k [])) (get_or d.rooms k []))
 hearing_changed d (Book s) r made judges rooms is Court = refl

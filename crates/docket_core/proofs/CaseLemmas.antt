@@ -6,9 +6,9 @@ use Rattle.std.proofs.lemmas.List.{get_or-set_other}
 use Rattle.docket_rows.specs.declared.command.Command.{Command}
 use Rattle.docket_rows.specs.declared.command.Command.TheVariants.{OpenCase, Start, Extend, Motion, Book, MoveHearing}
 use Rattle.docket_rows.specs.declared.part.PartValue.TheVariants as value
-use Rattle.docket_rows.specs.Words.{Bench, Parts, CaseRecordView, refusal, case_written}
+use Rattle.docket_rows.specs.Words.{Bench, Parts, CaseRecordView, refusal, case_of, case_after}
 use Rattle.docket_laws.proofs.CallerLemmas.{can_start, can_start_in, can_enter_in, can_extend_in, can_book, can_move, count_of}
-use Rattle.docket_core.specs.Changes.{CanChangeRecord, CanChangeCase, case_of, case_after}
+use Rattle.docket_core.specs.Changes.{CanChangeRecord, CanChangeCase}
 
 -- there is room for what a command adds that isn't refused, which suits the case
 pub can_change_record : (bench : Bench) (parts : Parts) (command : Command) (case : Option CaseRecordView) → refusal bench parts command ≡ None → option_and_then parts.case (case_of command) ≡ case → IfSome case (CanChangeRecord command)
@@ -24,11 +24,6 @@ can_change_record bench parts _ (Some c) made found = tt
 
 pub can_change_case : (bench : Bench) (parts : Parts) (command : Command) → refusal bench parts command ≡ None → CanChangeCase parts command
 can_change_case bench parts command made = can_change_record bench parts command _ made refl
-
--- a command writes into its case what it makes of it
-pub case_is_written : (parts : Parts) (command : Command) (case : ℕ) → case_written parts command case ≡ option_and_then (λ n. if case == n then case_after command (parts.case case) else None) (case_of command)
-case_is_written parts (OpenCase number filed) case = refl
-case_is_written parts _ case = refl
 
 -- the value of a case after its change
 case_value : (command : Command) (o : Option CaseRecordView) → value.Case (case_after command o) ≡ unwrap_or (option_map (λ c. value.Case (Some c)) (case_after command o)) (value.Case o)

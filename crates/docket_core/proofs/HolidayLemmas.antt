@@ -11,7 +11,7 @@ pub least_before-append : (xs ys : List Booking) (o : Option Booking) → least_
 least_before-append [] ys o = refl
 least_before-append (x ∷ xs) ys o = ap (λ r. Some (option_map_or (lesser x) r x)) (least_before-append xs ys o)
 
--- behind some bookings stands the least of the others
+-- the least of some bookings and the least of the others
 pub least-append : (xs ys : List Booking) → least (xs ++ ys) ≡ least_before xs (least ys)
 least-append [] ys = refl
 least-append (x ∷ xs) ys = ap (λ r. Some (option_map_or (lesser x) r x)) (least-append xs ys)

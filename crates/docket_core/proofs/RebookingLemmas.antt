@@ -1,41 +1,18 @@
 -- What a booking, a move or a cancellation does to calendars.
-use Rattle.std.proofs.Common.{◌≡◌, ℕ, zero, suc, ◌+◌, ◌≤◌, Bool, true, false, ◌==◌, List, [], ◌∷◌, length, get_or, Option, Some, None, option_and_then, unwrap_or, if◌then◌else◌, refl, ap, sym, ◌∙◌, subst, arith}
+use Rattle.std.proofs.Common.{◌≡◌, ℕ, zero, suc, ◌+◌, ◌≤◌, Bool, true, false, ◌==◌, List, [], ◌∷◌, length, get_or, Option, Some, None, unwrap_or, if◌then◌else◌, refl, ap, sym, ◌∙◌, subst, arith}
 use Rattle.std.proofs.lemmas.Bool.Decides.{nat_tests}
 use Rattle.hearing_slots.specs.declared.booking.Booking.{Booking}
-use Rattle.hearing_slots.specs.Words.{IsWithinDay, IsFree, without_motion}
+use Rattle.hearing_slots.specs.Words.{IsWithinDay, IsFree}
 use Rattle.docket_rows.specs.declared.command.Command.{Command}
 use Rattle.docket_rows.specs.declared.command.Command.TheVariants.{Book, MoveHearing, Cancel}
 use Rattle.docket_rows.specs.declared.hearing.Hearing.{Hearing}
 use Rattle.docket_rows.specs.declared.hearing.Setting.{Setting}
-use Rattle.docket_rows.specs.Words.{Bench, Parts, refusal, rebooked, judge_written, room_written, is_before_judge, is_in_room, booking_of, first_judge, sits}
+use Rattle.docket_rows.specs.declared.rebooking.Change.{Change}
+use Rattle.docket_rows.specs.declared.rebooking.Rebooking.{Rebooking}
+use Rattle.docket_rows.specs.Words.{Bench, Parts, refusal, booking_of, placement_of, rebooking_of, change_to, judge_change, room_change, first_judge, sits}
 use Rattle.docket_laws.specs.Words.{CanSet}
 use Rattle.docket_laws.proofs.CallerLemmas.{can_book, can_move, slots_of}
-use Rattle.docket_core.specs.declared.rebooking.Change.{Change}
-use Rattle.docket_core.specs.declared.rebooking.Rebooking.{Rebooking}
-use Rattle.docket_core.specs.Rebooking.{CanRebook, changed_by, calendar_after, calendars_after, change_to, judge_change, room_change, rebooking_of, placement_of, CanChange, CanChangeAll}
-
--- a booking is put in where it belongs, and else taken out where it stands
-is_rebooked : (belongs stands : Bool) (b : Booking) (bookings : List Booking) → rebooked belongs stands b bookings ≡ changed_by (change_to b.case b.motion stands (if belongs then Some b else None)) bookings
-is_rebooked true stands b bookings = refl
-is_rebooked false true b bookings = refl
-is_rebooked false false b bookings = refl
-
-is_taken_out : (stands : Bool) (case motion : ℕ) (bookings : List Booking) → (if stands then Some (without_motion case motion bookings) else None) ≡ changed_by (change_to case motion stands None) bookings
-is_taken_out true case motion bookings = refl
-is_taken_out false case motion bookings = refl
-
--- what a command writes into a calendar is the change of that calendar
-pub judge_rebooked : (parts : Parts) (command : Command) (judge : ℕ) → judge_written parts command judge ≡ option_and_then (λ (r : Rebooking). changed_by (judge_change r judge) (parts.judge judge)) (rebooking_of parts command)
-judge_rebooked parts (Book s) judge = is_rebooked (sits judge s.judges) false (booking_of parts s.room s) (parts.judge judge)
-judge_rebooked parts (MoveHearing s) judge = is_rebooked (sits judge s.judges) (is_before_judge parts s.case s.motion judge) (booking_of parts s.room s) (parts.judge judge)
-judge_rebooked parts (Cancel case motion) judge = is_taken_out (is_before_judge parts case motion judge) case motion (parts.judge judge)
-judge_rebooked parts _ judge = refl
-
-pub room_rebooked : (parts : Parts) (command : Command) (room : ℕ) → room_written parts command room ≡ option_and_then (λ (r : Rebooking). changed_by (room_change r room) (parts.room room)) (rebooking_of parts command)
-room_rebooked parts (Book s) room = is_rebooked (s.room == room) false (booking_of parts (first_judge s.judges) s) (parts.room room)
-room_rebooked parts (MoveHearing s) room = is_rebooked (s.room == room) (is_in_room parts s.case s.motion room) (booking_of parts (first_judge s.judges) s) (parts.room room)
-room_rebooked parts (Cancel case motion) room = is_taken_out (is_in_room parts case motion room) case motion (parts.room room)
-room_rebooked parts _ room = refl
+use Rattle.docket_core.specs.Rebooking.{CanRebook, calendar_after, calendars_after, CanChange, CanChangeAll}
 
 -- the hearing of a command that isn't refused can be set
 pub can_rebook : (bench : Bench) (parts : Parts) (command : Command) → refusal bench parts command ≡ None → CanRebook parts command
@@ -88,7 +65,7 @@ pub judge_can_change : (parts : Parts) (command : Command) (r : Rebooking) (judg
 judge_can_change parts (Book s) r judge can is = same_rebooking (JudgeCanChange parts judge) r _ is (judge_can_put parts s None judge can)
 judge_can_change parts (MoveHearing s) r judge can is = same_rebooking (JudgeCanChange parts judge) r _ is (judge_can_put parts s _ judge can)
 judge_can_change parts (Cancel case motion) r judge can is =
-    same_rebooking (JudgeCanChange parts judge) r _ is (can_take_out case motion (is_before_judge parts case motion judge) (parts.judge judge))
+    same_rebooking (JudgeCanChange parts judge) r _ is (can_take_out case motion _ (parts.judge judge))
 judge_can_change parts _ r judge can is = absurd cc
 
 abbrev pub RoomCanChange : Parts → (room : ℕ) → Rebooking → Type 0
@@ -98,7 +75,7 @@ pub room_can_change : (parts : Parts) (command : Command) (r : Rebooking) (room 
 room_can_change parts (Book s) r room can is = same_rebooking (RoomCanChange parts room) r _ is (room_can_put parts s None room can)
 room_can_change parts (MoveHearing s) r room can is = same_rebooking (RoomCanChange parts room) r _ is (room_can_put parts s _ room can)
 room_can_change parts (Cancel case motion) r room can is =
-    same_rebooking (RoomCanChange parts room) r _ is (can_take_out case motion (is_in_room parts case motion room) (parts.room room))
+    same_rebooking (RoomCanChange parts room) r _ is (can_take_out case motion _ (parts.room room))
 room_can_change parts _ r room can is = absurd cc
 
 -- Some calendars in a row

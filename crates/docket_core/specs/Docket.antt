@@ -1,9 +1,9 @@
 -- A docket, as contracts see it.
-use Rattle.std.specs.Prelude.{◌≡◌, ◌≤◌, length, List, [], Option, None, get_or}
+use Rattle.std.specs.Prelude.{◌≡◌, ◌≤◌, ◌+◌, length, List, [], Option, None, get_or}
 use Rattle.court_days.specs.Words.{DaysView}
 use Rattle.hearing_slots.specs.declared.booking.Booking.{Booking}
 use Rattle.docket_rows.specs.declared.part.PartId.{PartId}
-use Rattle.docket_rows.specs.Words.{Bench, CaseRecordView, Parts, Rows, AreSound, AreLawful, part_value, parts_of}
+use Rattle.docket_rows.specs.Words.{Bench, CaseRecordView, Parts, Rows, AreSound, AreLawful, last_case, part_value, parts_of}
 
 -- what no command changes; the days; the cases by their numbers, of which there is no number 0; and the calendars of
 -- the judges and of the rooms, by their numbers
@@ -16,7 +16,7 @@ pub record DocketView : Type 0 where
 
 -- there is a place for each case that can be, and a calendar for each judge and each room of the court
 pub record HasPlaces (bench : Bench) (cases : List (Option CaseRecordView)) (judges rooms : List (List Booking)) : Type 0 where
-  pub of_cases : length cases ≡ 4097
+  pub of_cases : length cases ≡ last_case + 1
   pub of_judges : length judges ≡ bench.judges
   pub of_rooms : length rooms ≡ bench.rooms
   pub few_judges : bench.judges ≤ 32

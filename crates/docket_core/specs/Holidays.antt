@@ -13,7 +13,7 @@ abbrev pub sought_test : Sought → DaysView → Booking → Bool
 sought_test (OnDay day) days b = is_on day b
 sought_test Unnoticed days b = lacks_notice days b
 
--- of some bookings and another that of the least case, and of its least motion
+-- the first by case and motion of some bookings and another one
 abbrev pub least_before : List Booking → Option Booking → Option Booking
 least_before [] other = other
 least_before (b ∷ bs) other = Some (option_map_or (lesser b) (least_before bs other) b)

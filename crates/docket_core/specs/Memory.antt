@@ -7,8 +7,9 @@ use Rattle.docket_rows.specs.declared.refusal.Refusal.TheVariants.{NoticeLost}
 use Rattle.docket_rows.specs.declared.view.View.{View}
 use Rattle.docket_rows.specs.declared.view.View.TheVariants as view
 
--- whether a command takes memory, by why it is refused: a holiday that takes the notice of a hearing is found by days of
--- its own, and any other refusal without memory; where nothing is refused, a case is opened and an act is recorded without
+-- whether a command takes memory, by why it is refused: to see that a holiday takes the notice of a hearing, the days with
+-- the holiday are made, and no other refusal takes memory; where nothing is refused, opening a case and recording an act
+-- take none
 abbrev pub takes_memory : Option Refusal → Command → Bool
 takes_memory (Some (NoticeLost case motion)) command = true
 takes_memory (Some refusal) command = false

@@ -1,11 +1,11 @@
--- Of some parts the first that wasn't read.
+-- The first of some parts that wasn't read.
 use Rattle.std.specs.Prelude.{ℕ, nat_lt, not, List, [], ◌∷◌, map, filter, find, Option, if◌then◌else◌}
 use Rattle.docket_rows.specs.declared.part.PartId.{PartId}
 use Rattle.docket_rows.specs.declared.part.PartId.TheVariants.{Judge, Room}
 use Rattle.docket_rows.specs.declared.part.PartValue.{PartValue}
 use Rattle.docket_rows.specs.Words.{Bench, is_read}
 
--- of some parts, in their order, the first that isn't among those read
+-- the first of some parts, in their order, that isn't among those read
 abbrev pub first_unread : List (PartId × PartValue) → List PartId → Option PartId
 first_unread reads parts = find (λ part. not (is_read reads part)) parts
 

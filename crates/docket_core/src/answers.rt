@@ -1,10 +1,10 @@
-//! What a command is answered that isn't refused.
+//! What the start, the meeting and the extension of a deadline are answered, and the entry of a motion.
 
 ghost use Rattle.std.specs.Prelude.{◌≡◌, ◌<◌, None, length};
 ghost use Rattle.std.specs.Option.{option_map_or};
 ghost use Rattle.rule6.specs.Words.{is_in_time};
 ghost use Rattle.rule_periods.specs.Words.{kept_filing, with_grant};
-ghost use Rattle.docket_rows.specs.Words.{has_one, deadline_in, deadlines_in, motions_in, next_deadline, next_motion, shown_now, started, start_deadline_refusal, extend_refusal, motion_refusal, refusal, answer_if_made};
+ghost use Rattle.docket_rows.specs.Words.{has_one, deadline_in, deadlines_in, motions_in, most_deadlines, most_motions, next_deadline, next_motion, shown_now, started, start_deadline_refusal, extend_refusal, motion_refusal};
 ghost use Rattle.rule6.specs.declared.timeliness.Shown.TheVariants.{Beyond};
 ghost use Rattle.docket_rows.specs.declared.answer.Answer.TheVariants as answer;
 
@@ -12,15 +12,15 @@ use crate::deadlines::shown_at_start;
 use crate::rules::DocketRules;
 use crate::seen::{deadline_in, deadlines_count, motions_count, shown_now};
 use crate::sight::Sight;
-use court_days::Day;
-use docket_rows::{Answer, Command};
+use court_clock::Day;
+use docket_rows::Answer;
 use hearing_slots::Need;
 use rule_periods::{Event, Period, Request, kept_filing, shown_with};
 use rule6::{Filing, ServiceKind, Shown, is_timely};
 use std::alloc::Global;
 
 /// What the start of a deadline is answered.
-fn answer_to_start<S: Sight>(
+pub(crate) fn answer_to_start<S: Sight>(
     alloc: Global,
     rules: &DocketRules,
     sight: &S,
@@ -39,14 +39,14 @@ fn answer_to_start<S: Sight>(
 
 /// The number of the deadline that starts next.
 fn next_deadline<S: Sight>(sight: &S, case: u32) -> u32
-    requires { length (deadlines_in (S.parts sight.now) case) < 64 }
+    requires { length (deadlines_in (S.parts sight.now) case) < most_deadlines }
     ensures { result ≡ next_deadline (S.parts sight.now) case }
 {
     deadlines_count(sight, case) as u32 + 1
 }
 
 /// Whether the act is in time, by the docket as it is now.
-fn is_act_timely<S: Sight>(
+pub(crate) fn is_act_timely<S: Sight>(
     rules: &DocketRules,
     sight: &S,
     case: u32,
@@ -66,7 +66,7 @@ fn is_act_timely<S: Sight>(
 }
 
 /// When the time of the deadline ends, once it is extended.
-fn shown_if_extended<S: Sight>(
+pub(crate) fn shown_if_extended<S: Sight>(
     rules: &DocketRules,
     sight: &S,
     case: u32,
@@ -84,56 +84,16 @@ fn shown_if_extended<S: Sight>(
 
 /// The number of the motion that is entered next.
 fn next_motion<S: Sight>(sight: &S, case: u32) -> u32
-    requires { length (motions_in (S.parts sight.now) case) < 64 }
+    requires { length (motions_in (S.parts sight.now) case) < most_motions }
     ensures { result ≡ next_motion (S.parts sight.now) case }
 {
     motions_count(sight, case) as u32 + 1
 }
 
 /// What the entry of a motion is answered.
-fn answer_to_motion<S: Sight>(sight: &S, case: u32, served: Day, need: Need) -> Answer
+pub(crate) fn answer_to_motion<S: Sight>(sight: &S, case: u32, served: Day, need: Need) -> Answer
     requires { motion_refusal (S.parts sight.now) case served need ≡ None }
     ensures { result ≡ answer.MotionEntered (next_motion (S.parts sight.now) case) }
 {
     Answer::MotionEntered(next_motion(sight, case))
-}
-
-/// What a command is answered that isn't refused.
-pub(crate) fn answer_if_made<S: Sight>(
-    alloc: Global,
-    rules: &DocketRules,
-    sight: &S,
-    command: &Command,
-) -> Answer
-    requires { refusal rules.now (S.parts sight.now) command.now ≡ None }
-    ensures { result ≡ answer_if_made rules.now (S.parts sight.now) command.now }
-{
-    match command {
-        Command::OpenCase { .. } => Answer::Opened,
-        Command::Start {
-            case,
-            period,
-            event,
-            second,
-            service,
-        } => answer_to_start(
-            alloc, rules, sight, *case, period, *event, *second, *service,
-        ),
-        Command::FileAct {
-            case,
-            deadline,
-            filing,
-        } => Answer::Filed(is_act_timely(rules, sight, *case, *deadline, *filing)),
-        Command::Extend {
-            case,
-            deadline,
-            request,
-        } => Answer::Extended(shown_if_extended(rules, sight, *case, *deadline, request)),
-        Command::Motion { case, served, need } => answer_to_motion(sight, *case, *served, *need),
-        Command::Book(_) => Answer::Booked,
-        Command::MoveHearing(_) => Answer::Moved,
-        Command::Cancel { .. } => Answer::Cancelled,
-        Command::Holiday { .. } => Answer::HolidayEntered,
-        Command::Inaccessible { .. } => Answer::OutageEntered,
-    }
 }

@@ -5,7 +5,7 @@ ghost use Rattle.docket_rows.specs.Words.{open_case_refusal};
 
 use crate::seen::is_case_number;
 use crate::sight::Sight;
-use court_days::Day;
+use court_clock::Day;
 use docket_rows::Refusal;
 
 /// Why the case can't be opened, if it can't.

@@ -7,8 +7,9 @@ ghost use Rattle.docket_rows.specs.Words.{started, shown_now, deadline_in, refus
 use crate::rules::DocketRules;
 use crate::seen::{deadline_in, deadlines_count, has_case, is_beyond, shown_now};
 use crate::sight::Sight;
-use court_days::{Clock, Day, Days};
-use docket_rows::Refusal;
+use court_clock::{Clock, Day};
+use court_days::Days;
+use docket_rows::{MOST_DEADLINES, MOST_GRANTS, Refusal};
 use rule_periods::{DeadlineRow, DocketRow, Event, Period, Request, check_start, may_extend};
 use rule6::{Filing, ServiceKind, Shown};
 use std::alloc::Global;
@@ -31,7 +32,7 @@ pub(crate) fn start_refusal(
     }
 }
 
-/// When the time of a deadline would end that starts now.
+/// When the time of a deadline would end if it started now.
 pub(crate) fn shown_at_start<S: Sight>(
     alloc: Global,
     rules: &DocketRules,
@@ -73,7 +74,7 @@ pub(crate) fn start_deadline_refusal<S: Sight>(
     if let Some(refusal) = start_refusal(sight.days(), period, event, *second, *service) {
         return Some(refusal);
     }
-    if deadlines_count(sight, case) >= 64 {
+    if deadlines_count(sight, case) >= MOST_DEADLINES {
         return Some(Refusal::Full);
     }
     if is_beyond(shown_at_start(alloc, rules, sight, period, event, *second, *service)) {
@@ -111,7 +112,7 @@ pub(crate) fn file_act_refusal<S: Sight>(
     None
 }
 
-/// Why the deadline can't be extended so, whatever else is recorded of it, if it can't.
+/// Why the request can't be granted, if it can't, whatever else is recorded of the deadline.
 fn extension_refusal(
     days: &Days,
     clock: &Clock,
@@ -153,7 +154,7 @@ pub(crate) fn extend_refusal<S: Sight>(
     if let Some(refusal) = extension_refusal(sight.days(), rules.clock(), row.row(), request) {
         return Some(refusal);
     }
-    if row.row().grants().len() >= 32 {
+    if row.row().grants().len() >= MOST_GRANTS {
         return Some(Refusal::Full);
     }
     None

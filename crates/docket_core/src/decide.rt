@@ -5,9 +5,7 @@ ghost use Rattle.docket_rows.specs.Words.{refusal, parts_read, next_part, answer
 ghost use Rattle.docket_core.specs.Memory.{decision_takes_memory};
 ghost use Rattle.docket_core.specs.Written.{written_into};
 
-use crate::answers::answer_if_made;
-use crate::judgement::refusal;
-use crate::next::next_part;
+use crate::commands::{answer_if_made, next_part, refusal};
 use crate::reads::Seen;
 use crate::rules::DocketRules;
 use crate::writes::changed;
@@ -23,7 +21,7 @@ impl DocketRules {
     }
 
     /// What the command is answered, and what it writes, where these are the parts that it read. They need never have
-    /// been true together. `Err` says that memory ran out, which a refusal takes only where it is that notice is lost.
+    /// been true together. `Err` says that memory ran out. Of the refusals only `NoticeLost` takes memory.
     #[tactic(auto, unfolding(docket_rows::specs::Words::answered, docket_rows::specs::Words::written_on))]
     pub fn decide(
         &self,

@@ -45,9 +45,9 @@ impl Docket {
     }
 
     /// Decides the command on the docket as it is, and changes the docket in place where the command isn't refused. A
-    /// command about a case copies neither the case nor its deadlines, and a hearing that is booked behind all others
-    /// of a judge moves no booking. `Err` says that memory ran out, which no command says that takes none, and leaves
-    /// the docket as it was.
+    /// command about a case copies neither the case nor its deadlines, and a hearing that is booked after all others
+    /// of a judge moves no booking. `Err` says that memory ran out, and leaves the docket as it was. A command that takes
+    /// no memory never gives it.
     pub fn apply(&mut self, alloc: Global, command: &Command) -> Result<Answer, AllocError>
         ensures bench { self.new.bench ≡ self.old.bench }
         ensures answer { IfOk result (λ a. a ≡ answered self.old.bench (parts_held self.old) command.now) }
@@ -60,8 +60,8 @@ impl Docket {
         self.holdings.apply(alloc, command)
     }
 
-    /// What the query shows of the docket, or why it is refused. `Err` says that memory ran out, which no refusal and no
-    /// end of a period takes.
+    /// What the query shows of the docket, or why it is refused. `Err` says that memory ran out. A refusal and the end of
+    /// a period take no memory.
     pub fn show(&self, alloc: Global, query: &Query) -> Result<View, AllocError>
         ensures view { IfOk result (λ v. v ≡ seen_by self.now.bench (parts_held self.now) query.now) }
         ensures rows { (rows : Rows) → StandsFor self.now rows → IfOk result (λ v. v ≡ view_of self.now.bench rows query.now) }
@@ -83,6 +83,7 @@ impl Docket {
     {
         self.holdings.calendar(judge)
     }
+
     /// The days of the court's file, with the holidays and the outages that are docketed. It takes no memory.
     pub fn days(&self) -> &Days
         ensures { result.now ≡ (parts_held self.now).days }

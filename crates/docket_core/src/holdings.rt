@@ -3,8 +3,8 @@ mod apply;
 mod calendars;
 mod cases;
 
-ghost use Rattle.std.specs.Prelude.{◌≡◌, true, [], None, Some, All, option_copied, unwrap_or, get_or, length, nat_lt, IfOk, IfErr, if◌then◌else◌};
-ghost use Rattle.docket_rows.specs.Words.{bench_of, has_case, opening_rows, parts_of, part_value, seen_by};
+ghost use Rattle.std.specs.Prelude.{◌≡◌, ◌+◌, true, [], None, Some, All, option_copied, unwrap_or, get_or, length, nat_lt, IfOk, IfErr, if◌then◌else◌};
+ghost use Rattle.docket_rows.specs.Words.{bench_of, has_case, last_case, opening_rows, parts_of, part_value, seen_by};
 ghost use Rattle.docket_rows.specs.declared.part.PartId.{PartId};
 ghost use Rattle.docket_core.specs.Memory.{view_takes_memory};
 
@@ -13,7 +13,7 @@ use crate::seen::has_case;
 use crate::sight::Sight;
 use crate::views::view_of;
 use court_days::{Court, Days};
-use docket_rows::{CaseRecord, Query, View};
+use docket_rows::{CaseRecord, LAST_CASE, Query, View};
 use hearing_slots::Calendar;
 use std::alloc::{AllocError, Global};
 use std::marker::Model;
@@ -129,17 +129,17 @@ fn calendar_at(calendars: &[Calendar], place: usize) -> Option<&Calendar>
 
 /// Places for as many cases as there can be, none of which is open.
 fn no_cases(alloc: Global) -> Result<Vec<Option<CaseRecord>>, AllocError>
-    ensures count { IfOk result (λ cases. length cases.items ≡ 4097) }
+    ensures count { IfOk result (λ cases. length cases.items ≡ last_case + 1) }
     ensures none { IfOk result (λ cases. All (λ c. c ≡ None) cases.items) }
 {
     let mut cases = Vec::new(alloc);
-    for _case in 0..4_097u32 {
+    for _case in 0..LAST_CASE + 1 {
         cases.push(None)?;
     }
     Ok(cases)
 }
 
-/// So many calendars with no bookings.
+/// As many calendars as `count` says, with no bookings.
 fn no_bookings(alloc: Global, count: u8) -> Result<Vec<Calendar>, AllocError>
     ensures count { IfOk result (λ calendars. length calendars.items ≡ count) }
     ensures none { IfOk result (λ calendars. All (λ c. c ≡ []) calendars.items) }

@@ -10,8 +10,9 @@ ghost use Rattle.docket_rows.specs.declared.command.Command.TheVariants as comma
 use crate::hearings::lacks_notice;
 use crate::rules::DocketRules;
 use crate::sight::Sight;
-use court_days::{Day, Days, HolidayList};
-use docket_rows::Refusal;
+use court_clock::Day;
+use court_days::{Days, HolidayList};
+use docket_rows::{MOST_DATES, Refusal};
 use hearing_slots::{Booking, Calendar};
 use std::alloc::{AllocError, Global};
 
@@ -57,7 +58,7 @@ fn lesser_of(booking: &Booking, other: Option<Booking>) -> Option<Booking>
     }
 }
 
-/// Of the sought bookings of a list, and another, that of the least case, and of its least motion.
+/// The first by case and motion of the sought bookings of a list and another booking.
 fn least_in(
     bookings: &[Booking],
     sought: &Sought,
@@ -78,7 +79,7 @@ fn least_in(
     least
 }
 
-/// The bookings of a calendar; no calendar has none.
+/// The bookings of a calendar. Where there is no calendar there are none.
 fn bookings_of(calendar: Option<&Calendar>) -> &[Booking]
     ensures { result.now ≡ unwrap_or (option_copied calendar.entry) [] }
 {
@@ -88,7 +89,7 @@ fn bookings_of(calendar: Option<&Calendar>) -> &[Booking]
     }
 }
 
-/// Of the sought hearings of all judges that of the least case, and of its least motion.
+/// The first by case and motion of the sought hearings of all judges.
 fn least_booked<S: Sight>(
     rules: &DocketRules,
     sight: &S,
@@ -106,15 +107,14 @@ fn least_booked<S: Sight>(
     least
 }
 
-/// Of the hearings on the day the first, by case and motion.
+/// The first hearing on the day, by case and motion.
 fn hearing_that_day<S: Sight>(rules: &DocketRules, sight: &S, day: Day) -> Option<Booking>
     ensures { result ≡ hearing_that_day rules.now (S.parts sight.now) day }
 {
     least_booked(rules, sight, &Sought::OnDay(day), sight.days())
 }
 
-/// Of the hearings that the holiday would take the notice from the first, by case and motion. `Err` says that memory
-/// ran out.
+/// The first hearing, by case and motion, that would lose its notice by the holiday. `Err` says that memory ran out.
 fn notice_lost<S: Sight>(
     alloc: Global,
     rules: &DocketRules,
@@ -151,7 +151,7 @@ pub(crate) fn holiday_refusal<S: Sight>(
     if sight.days().in_list(list, day) {
         return Ok(Some(Refusal::AlreadyHoliday));
     }
-    if sight.days().dates(list) >= 4_096 {
+    if sight.days().dates(list) >= MOST_DATES {
         return Ok(Some(Refusal::Full));
     }
     if let Some(booking) = hearing_that_day(rules, sight, day) {

@@ -2,15 +2,14 @@
 #![tactic(auto)]
 
 mod answers;
-mod case_changes;
 mod cases;
+mod commands;
 mod deadlines;
 mod decide;
 mod docket;
 mod hearings;
 mod holdings;
 mod holidays;
-mod judgement;
 mod motions;
 mod next;
 mod outages;

@@ -5,11 +5,11 @@ ghost use Rattle.docket_rows.specs.Words.{is_notice_length, is_need, motion_refu
 
 use crate::seen::{has_case, motions_count};
 use crate::sight::Sight;
-use court_days::Day;
-use docket_rows::Refusal;
+use court_clock::Day;
+use docket_rows::{MOST_MOTIONS, Refusal};
 use hearing_slots::Need;
 
-/// Whether a motion can need a notice of so many days.
+/// Whether a motion can need a notice of n days.
 pub(crate) fn is_notice_length(n: u32) -> bool
     ensures { result ≡ is_notice_length n }
 {
@@ -45,7 +45,7 @@ pub(crate) fn motion_refusal<S: Sight>(
     if !is_need(need) {
         return Some(Refusal::BadLength);
     }
-    if motions_count(sight, case) >= 64 {
+    if motions_count(sight, case) >= MOST_MOTIONS {
         return Some(Refusal::Full);
     }
     None

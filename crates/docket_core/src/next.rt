@@ -1,15 +1,15 @@
-//! Which part a command reads next.
+//! Which part is read next, of those that a command reads.
 
 ghost use Rattle.std.specs.Prelude.{◌≡◌, ◌≤◌, ◌+◌, ◌++◌, ◌∷◌, [], map};
 ghost use Rattle.std.specs.List.{range_with_len};
-ghost use Rattle.docket_rows.specs.Words.{is_read, about_case, calendars_of, calendars_now, parts_read, next_part};
+ghost use Rattle.docket_rows.specs.Words.{is_read, about_case, calendars_of, calendars_now, parts_read};
 ghost use Rattle.docket_rows.specs.declared.part.PartId.TheVariants.{Court, Judge};
 ghost use Rattle.docket_core.specs.Next.{first_unread, judges_of, rooms_of};
 
 use crate::reads::{Seen, is_same_part};
 use crate::rules::DocketRules;
 use crate::seen::{hearing_in, is_case_number};
-use docket_rows::{Command, PartId, PartValue, Setting};
+use docket_rows::{PartId, PartValue, Setting};
 use hearing_slots::Panel;
 
 /// Whether the part was read.
@@ -23,7 +23,7 @@ fn is_read(reads: &[(PartId, PartValue)], part: PartId) -> bool
 }
 
 /// The part, if it wasn't read.
-fn unread(reads: &[(PartId, PartValue)], part: PartId) -> Option<PartId>
+pub(crate) fn unread(reads: &[(PartId, PartValue)], part: PartId) -> Option<PartId>
     ensures { result ≡ first_unread reads.now (part ∷ []) }
 {
     if is_read(reads, part) {
@@ -73,7 +73,7 @@ fn unread_calendar(
     }
 }
 
-/// The first calendar, of those in which the motion's hearing stands by what was read, that wasn't read.
+/// The first calendar that wasn't read, of those that have the motion's hearing by what was read.
 fn unread_now(
     rules: &DocketRules,
     reads: &[(PartId, PartValue)],
@@ -104,7 +104,7 @@ fn unread_of_all(reads: &[(PartId, PartValue)], judge: u8, count: u8) -> Option<
 }
 
 /// The next part of a command that reads the case alone.
-fn next_of_case(reads: &[(PartId, PartValue)], case: u32) -> Option<PartId>
+pub(crate) fn next_of_case(reads: &[(PartId, PartValue)], case: u32) -> Option<PartId>
     ensures { result ≡ first_unread reads.now (about_case case []) }
 {
     if !is_case_number(case) {
@@ -114,7 +114,7 @@ fn next_of_case(reads: &[(PartId, PartValue)], case: u32) -> Option<PartId>
 }
 
 /// The next part of a command that reads the case and the court's days.
-fn next_of_deadline(reads: &[(PartId, PartValue)], case: u32) -> Option<PartId>
+pub(crate) fn next_of_deadline(reads: &[(PartId, PartValue)], case: u32) -> Option<PartId>
     ensures { result ≡ first_unread reads.now (about_case case (Court ∷ [])) }
 {
     if !is_case_number(case) {
@@ -127,7 +127,7 @@ fn next_of_deadline(reads: &[(PartId, PartValue)], case: u32) -> Option<PartId>
 }
 
 /// The next part of a booking.
-fn next_of_booking(
+pub(crate) fn next_of_booking(
     rules: &DocketRules,
     reads: &[(PartId, PartValue)],
     s: &Setting,
@@ -148,7 +148,11 @@ fn next_of_booking(
 
 /// The next part of a move.
 #[tactic(auto, using(crate::proofs::NextLemmas::first_unread_joined))]
-fn next_of_move(rules: &DocketRules, reads: &[(PartId, PartValue)], s: &Setting) -> Option<PartId>
+pub(crate) fn next_of_move(
+    rules: &DocketRules,
+    reads: &[(PartId, PartValue)],
+    s: &Setting,
+) -> Option<PartId>
     ensures { result ≡ first_unread reads.now (about_case s.now.case (Court ∷ calendars_now rules.now (parts_read rules.now reads.now) s.now.case s.now.motion ++ calendars_of rules.now s.now.judges s.now.room)) }
 {
     if !is_case_number(s.case) {
@@ -167,7 +171,7 @@ fn next_of_move(rules: &DocketRules, reads: &[(PartId, PartValue)], s: &Setting)
 }
 
 /// The next part of a cancellation.
-fn next_of_cancel(
+pub(crate) fn next_of_cancel(
     rules: &DocketRules,
     reads: &[(PartId, PartValue)],
     case: u32,
@@ -185,34 +189,11 @@ fn next_of_cancel(
 }
 
 /// The next part of a holiday.
-fn next_of_holiday(rules: &DocketRules, reads: &[(PartId, PartValue)]) -> Option<PartId>
+pub(crate) fn next_of_holiday(rules: &DocketRules, reads: &[(PartId, PartValue)]) -> Option<PartId>
     ensures { result ≡ first_unread reads.now (Court ∷ map Judge (range_with_len 0 rules.now.judges)) }
 {
     if !is_read(reads, PartId::Court) {
         return Some(PartId::Court);
     }
     unread_of_all(reads, 0, rules.judges())
-}
-
-/// The part that the command reads next, after these; none where it has read all.
-#[tactic(auto, unfolding(docket_rows::specs::Words::next_part))]
-pub(crate) fn next_part(
-    rules: &DocketRules,
-    command: &Command,
-    reads: &[(PartId, PartValue)],
-) -> Option<PartId>
-    ensures { result ≡ next_part rules.now command.now reads.now }
-{
-    match command {
-        Command::OpenCase { case, .. } => next_of_case(reads, *case),
-        Command::Start { case, .. } => next_of_deadline(reads, *case),
-        Command::FileAct { case, .. } => next_of_deadline(reads, *case),
-        Command::Extend { case, .. } => next_of_deadline(reads, *case),
-        Command::Motion { case, .. } => next_of_case(reads, *case),
-        Command::Book(s) => next_of_booking(rules, reads, s),
-        Command::MoveHearing(s) => next_of_move(rules, reads, s),
-        Command::Cancel { case, motion } => next_of_cancel(rules, reads, *case, *motion),
-        Command::Holiday { .. } => next_of_holiday(rules, reads),
-        Command::Inaccessible { .. } => unread(reads, PartId::Court),
-    }
 }

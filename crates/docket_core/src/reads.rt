@@ -11,8 +11,8 @@ use docket_rows::{CaseRecord, PartId, PartValue};
 use hearing_slots::Calendar;
 
 /// What was read of a docket, in a court of these rules. Where the court's days weren't read, they are those of its
-/// file; a calendar that wasn't has no bookings, and a case that wasn't isn't open. A value of another kind than its
-/// part's is taken for none.
+/// file. A calendar that wasn't read has no bookings, and a case that wasn't read isn't open. A value that isn't of its
+/// part's kind counts as not read.
 #[derive(Clone, Copy)]
 pub(crate) struct Seen<'a> {
     rules: &'a DocketRules,

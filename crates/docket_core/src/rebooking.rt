@@ -1,91 +1,54 @@
 //! What a booking, a move or a cancellation does to the calendars of judges and rooms.
 
 ghost use Rattle.std.specs.Prelude.{◌≡◌, ◌≤◌};
-ghost use Rattle.docket_rows.specs.Words.{hearing_asked, booking_of};
-ghost use Rattle.docket_core.specs.Rebooking.{CanRebook, placement_of, rebooking_of, judge_change, room_change};
+ghost use Rattle.docket_rows.specs.Words.{hearing_asked, booking_of, placement_of, rebooking_of, judge_change, room_change};
+ghost use Rattle.docket_core.specs.Rebooking.{CanRebook};
 
 use crate::hearings::{later, sits};
 use crate::seen::{hearing_in, motion_in};
 use crate::sight::Sight;
-use docket_rows::{Command, Hearing, Setting};
+use docket_rows::{Change, Command, Hearing, Placement, Rebooking, Setting};
 use hearing_slots::{Booking, Need};
 
-/// What becomes of a calendar.
-#[derive(Clone, Copy)]
-pub enum Change {
-    /// It stays as it is.
-    Stays,
-    /// The booking is put in, in place of an older one of its case and motion.
-    Put(Booking),
-    /// The booking of that case and motion is taken out.
-    TakeOut(u32, u32),
-}
-
-/// A hearing that is to be on the calendar.
-#[derive(Clone, Copy)]
-pub struct Placement {
-    /// The hearing.
-    pub hearing: Hearing,
-    /// Its booking for the calendars of its judges, beside the number of its room.
-    pub with_room: Booking,
-    /// Its booking for the calendar of its room, beside the number of its first judge.
-    pub with_judge: Booking,
-}
-
-/// What a booking, a move or a cancellation does to calendars.
-#[derive(Clone, Copy)]
-pub struct Rebooking {
-    /// The number of the case.
-    pub case: u32,
-    /// The number of the motion in its case.
-    pub motion: u32,
-    /// The motion's hearing that is to be taken off the calendar.
-    pub before: Option<Hearing>,
-    /// The one that is to be put on it.
-    pub after: Option<Placement>,
-}
-
-impl Rebooking {
-    /// What becomes of the calendar of the judge.
-    pub(crate) fn of_judge(&self, judge: u8) -> Change
-        ensures { result ≡ judge_change self.now judge }
-    {
-        if let Some(placed) = self.after {
-            if sits(judge, placed.hearing.judges.judges()) {
-                return Change::Put(placed.with_room);
-            }
-        }
-        match self.before {
-            Some(hearing) => {
-                if sits(judge, hearing.judges.judges()) {
-                    Change::TakeOut(self.case, self.motion)
-                } else {
-                    Change::Stays
-                }
-            }
-            None => Change::Stays,
+/// What becomes of the calendar of the judge.
+pub(crate) fn judge_change(rebooking: &Rebooking, judge: u8) -> Change
+    ensures { result ≡ judge_change rebooking.now judge }
+{
+    if let Some(placed) = rebooking.after {
+        if sits(judge, placed.hearing.judges.judges()) {
+            return Change::Put(placed.with_room);
         }
     }
+    match rebooking.before {
+        Some(hearing) => {
+            if sits(judge, hearing.judges.judges()) {
+                Change::TakeOut(rebooking.case, rebooking.motion)
+            } else {
+                Change::Stays
+            }
+        }
+        None => Change::Stays,
+    }
+}
 
-    /// What becomes of the calendar of the room.
-    pub(crate) fn of_room(&self, room: u8) -> Change
-        ensures { result ≡ room_change self.now room }
-    {
-        if let Some(placed) = self.after {
-            if placed.hearing.room == room {
-                return Change::Put(placed.with_judge);
+/// What becomes of the calendar of the room.
+pub(crate) fn room_change(rebooking: &Rebooking, room: u8) -> Change
+    ensures { result ≡ room_change rebooking.now room }
+{
+    if let Some(placed) = rebooking.after {
+        if placed.hearing.room == room {
+            return Change::Put(placed.with_judge);
+        }
+    }
+    match rebooking.before {
+        Some(hearing) => {
+            if hearing.room == room {
+                Change::TakeOut(rebooking.case, rebooking.motion)
+            } else {
+                Change::Stays
             }
         }
-        match self.before {
-            Some(hearing) => {
-                if hearing.room == room {
-                    Change::TakeOut(self.case, self.motion)
-                } else {
-                    Change::Stays
-                }
-            }
-            None => Change::Stays,
-        }
+        None => Change::Stays,
     }
 }
 
@@ -104,7 +67,8 @@ pub(crate) fn hearing_asked(s: &Setting) -> Hearing
     }
 }
 
-/// The hearing that is asked for, as it stands in a calendar beside the number of its room, or of its first judge.
+/// The booking of the hearing that is asked for. `other` is the number of its room in a judge's calendar, and of its first
+/// judge in the room's.
 fn booking_of<S: Sight>(sight: &S, other: u8, s: &Setting) -> Booking
     requires { s.now.count ≤ 96 }
     ensures { result ≡ booking_of (S.parts sight.now) other s.now }

@@ -1,9 +1,10 @@
-//! What of a court no command changes.
+//! What no command changes of a court.
 
 ghost use Rattle.std.specs.Prelude.{◌≡◌, ◌≤◌, IfOk};
 ghost use Rattle.docket_rows.specs.Words.{Bench, bench_of};
 
-use court_days::{Clock, Court, Days};
+use court_clock::Clock;
+use court_days::{Court, Days};
 use std::alloc::AllocError;
 use std::marker::Model;
 

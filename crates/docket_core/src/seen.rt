@@ -6,7 +6,7 @@ ghost use Rattle.docket_rows.specs.Words.{is_case_number, has_case, deadlines_in
 
 use crate::rules::DocketRules;
 use crate::sight::Sight;
-use docket_rows::{Hearing, MotionRecord};
+use docket_rows::{Hearing, LAST_CASE, MotionRecord};
 use rule_periods::{DeadlineRow, DocketRow, shown};
 use rule6::Shown;
 
@@ -14,7 +14,7 @@ use rule6::Shown;
 pub(crate) fn is_case_number(case: u32) -> bool
     ensures { result ≡ is_case_number case }
 {
-    1 <= case && case <= 4_096
+    1 <= case && case <= LAST_CASE
 }
 
 /// Whether the case is open.

@@ -7,8 +7,8 @@ use court_days::Days;
 use docket_rows::CaseRecord;
 use hearing_slots::Calendar;
 
-/// What shows the parts of a docket: the docket itself, the copies that were read of it, or what is published of it. One
-/// judgement serves all.
+/// What shows the parts of a docket: the docket itself, the copies that were read of it, or what is published of it. A
+/// command is judged by the same code on each of them.
 pub trait Sight {
     ghost parts: { Self → Parts };
 

@@ -11,7 +11,7 @@ use crate::deadlines::{shown_at_start, start_refusal};
 use crate::rules::DocketRules;
 use crate::seen::has_case;
 use crate::sight::Sight;
-use court_days::Day;
+use court_clock::Day;
 use docket_rows::{Query, Refusal, View};
 use hearing_slots::{Bookings, Calendar};
 use rule_periods::{Event, Period};
@@ -39,7 +39,7 @@ fn case_view<S: Sight>(
     }
 }
 
-/// The bookings of a calendar on the day; no calendar has none.
+/// The bookings of a calendar on the day. Where there is no calendar there are none.
 fn bookings_on(alloc: Global, calendar: Option<&Calendar>, day: Day) -> Result<Bookings, AllocError>
     ensures { IfOk result (λ b. b ≡ on_day day (unwrap_or (option_copied calendar.entry) [])) }
 {

@@ -11,7 +11,8 @@ use crate::rules::DocketRules;
 use crate::sight::Sight;
 use calendars::{judge_written, room_written};
 use cases::case_written;
-use court_days::{Day, Days, Outage};
+use court_clock::Day;
+use court_days::{Days, Outage};
 use docket_rows::{Command, PartId, PartValue, SharedCase};
 use std::alloc::{AllocError, Global};
 

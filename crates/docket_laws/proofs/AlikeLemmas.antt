@@ -15,7 +15,7 @@ use Rattle.rule_periods.proofs.CallerLemmas.{extension_alike, shown_alike}
 use Rattle.docket_rows.specs.declared.answer.Answer.{Answer}
 use Rattle.docket_rows.specs.declared.answer.Answer.TheVariants as answer
 use Rattle.docket_rows.specs.declared.command.Command.{Command}
-use Rattle.docket_rows.specs.declared.command.Command.TheVariants.{OpenCase, Start, FileAct, Extend, Motion, Book, MoveHearing, Cancel, Holiday, Inaccessible}
+use Rattle.docket_rows.specs.declared.command.Command.TheVariants.{Start, FileAct, Extend, Book, MoveHearing, Holiday}
 use Rattle.docket_rows.specs.declared.hearing.Setting.{Setting}
 use Rattle.docket_rows.specs.declared.query.Query.{Query}
 use Rattle.docket_rows.specs.declared.query.Query.TheVariants.{Sheet, JudgeDay, Compute}
@@ -80,29 +80,20 @@ module _ (a b : Bench) (same : IsSameBench a b) where
   holiday_alike parts day list = rw (notice_alike parts list day, same.judges) refl
 
   pub refusal_alike : (parts : Parts) (command : Command) → refusal a parts command ≡ refusal b parts command
-  refusal_alike parts (OpenCase case filed) = refl
   refusal_alike parts (Start case period event second service) = start_alike parts case period event second service
   refusal_alike parts (FileAct case deadline filing) = file_act_alike parts case deadline filing
   refusal_alike parts (Extend case deadline request) = extend_alike parts case deadline request
-  refusal_alike parts (Motion case served need) = refl
   refusal_alike parts (Book s) = book_alike parts s
   refusal_alike parts (MoveHearing s) = move_alike parts s
-  refusal_alike parts (Cancel case motion) = refl
   refusal_alike parts (Holiday day list) = holiday_alike parts day list
-  refusal_alike parts (Inaccessible day from to) = refl
+  refusal_alike parts _ = refl
 
   -- answers
   made_alike : (parts : Parts) (command : Command) → answer_if_made a parts command ≡ answer_if_made b parts command
-  made_alike parts (OpenCase case filed) = refl
   made_alike parts (Start case period event second service) = ap (answer.Started (next_deadline parts case)) (end_alike parts (started period event second service))
   made_alike parts (FileAct case deadline filing) = ap answer.Filed (timely_alike parts filing (deadline_in parts case deadline))
   made_alike parts (Extend case deadline request) = ap answer.Extended (granted_alike parts request (deadline_in parts case deadline))
-  made_alike parts (Motion case served need) = refl
-  made_alike parts (Book s) = refl
-  made_alike parts (MoveHearing s) = refl
-  made_alike parts (Cancel case motion) = refl
-  made_alike parts (Holiday day list) = refl
-  made_alike parts (Inaccessible day from to) = refl
+  made_alike parts _ = refl
 
   pub answered_alike : (parts : Parts) (command : Command) → answered a parts command ≡ answered b parts command
   unfolding answered
@@ -138,14 +129,13 @@ module _ (a b : Bench) (same : IsSameBench a b) where
 
   asked_alike : (parts : Parts) (query : Query) → shown_if_asked a parts query ≡ shown_if_asked b parts query
   asked_alike parts (Sheet case) = sheet_if_open_alike parts case (parts.case case)
-  asked_alike parts (JudgeDay judge day) = refl
   asked_alike parts (Compute period event second service) = ap view.Computed (end_alike parts (started period event second service))
+  asked_alike parts _ = refl
 
   query_alike : (parts : Parts) (query : Query) → query_refusal a parts query ≡ query_refusal b parts query
   unfolding query_refusal
-  query_alike parts (Sheet case) = refl
   query_alike parts (JudgeDay judge day) = rw same.judges refl
-  query_alike parts (Compute period event second service) = refl
+  query_alike parts _ = refl
 
   pub seen_alike : (parts : Parts) (query : Query) → seen_by a parts query ≡ seen_by b parts query
   unfolding seen_by

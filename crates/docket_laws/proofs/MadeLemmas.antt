@@ -3,7 +3,8 @@ use Rattle.std.proofs.Common.{◌≡◌, ℕ, ◌<◌, ◌≤◌, ◌+◌, ℤ, 
 use Rattle.std.proofs.lemmas.Bool.{cases_Bool, false≢true}
 use Rattle.std.proofs.lemmas.Bool.Decides.{nat_tests}
 use Rattle.std.proofs.lemmas.List.Elements.{All-weaker}
-use Rattle.court_days.specs.Words.{DaysView, ClockView}
+use Rattle.court_clock.specs.Words.{ClockView}
+use Rattle.court_days.specs.Words.{DaysView}
 use Rattle.rule6.specs.declared.service.ServiceKind.{ServiceKind}
 use Rattle.rule_periods.specs.declared.period.Period.{Period}
 use Rattle.rule_periods.specs.declared.grant.Request.{Request}
@@ -16,7 +17,7 @@ use Rattle.docket_rows.specs.declared.hearing.Setting.{Setting}
 use Rattle.docket_rows.specs.declared.refusal.Refusal.{Refusal}
 use Rattle.docket_rows.specs.declared.refusal.Refusal.TheVariants.{NoSuchDeadline}
 use Rattle.docket_laws.specs.CanSet.{CanSet}
-use Rattle.docket_rows.specs.Words.{Bench, Parts, CaseRecordView, NumberedDeadline, refusal_of, deadlines_in, deadline_in, motions_in, fits_day, sits, start_deadline_refusal, start_deadline_checks, extend_refusal, extend_checks, motion_refusal, motion_checks, hearing_checks, book_refusal, move_refusal, outage_refusal, outage_checks}
+use Rattle.docket_rows.specs.Words.{Bench, Parts, CaseRecordView, NumberedDeadline, most_deadlines, most_motions, refusal_of, deadlines_in, deadline_in, motions_in, fits_day, sits, start_deadline_refusal, start_deadline_checks, extend_refusal, extend_checks, motion_refusal, motion_checks, hearing_checks, book_refusal, move_refusal, outage_refusal, outage_checks}
 
 -- no line of the list applies
 abbrev pub NoneOf : {R : Type 0} → List (Option R) → Type 0
@@ -53,7 +54,7 @@ start_made c period event second service h =
 pub record CanStart (parts : Parts) (case : ℕ) (period : Period) (second : Option ℤ) (service : Option ServiceKind) : Type 0 where
   pub suits : suits period second service ≡ true
   pub ranged : has_length period ≡ true
-  pub room : length (deadlines_in parts case) < 64
+  pub room : length (deadlines_in parts case) < most_deadlines
 
 pub can_start : (bench : Bench) (parts : Parts) (case : ℕ) (period : Period) (event : EventView) (second : Option ℤ) (service : Option ServiceKind) → start_deadline_refusal bench parts case period event second service ≡ None → CanStart parts case period second service
 unfolding start_deadline_refusal
@@ -64,7 +65,7 @@ can_start bench parts case period event second service h =
     record { suits = made.0; ranged = made.1; room = grind (arith, nat_tests) }
 
 -- there is room for a motion that is entered
-pub can_enter : (parts : Parts) (case : ℕ) (served : ℤ) (need : Need) → motion_refusal parts case served need ≡ None → length (motions_in parts case) < 64
+pub can_enter : (parts : Parts) (case : ℕ) (served : ℤ) (need : Need) → motion_refusal parts case served need ≡ None → length (motions_in parts case) < most_motions
 unfolding motion_refusal
 can_enter parts case served need h =
     let n = none_of (motion_checks parts case served need) h in
@@ -72,12 +73,12 @@ can_enter parts case served need h =
     grind (arith, nat_tests)
 
 -- in the case that the parts show, where it is open
-pub can_start_in : (bench : Bench) (parts : Parts) (case : ℕ) (period : Period) (event : EventView) (second : Option ℤ) (service : Option ServiceKind) (c : CaseRecordView) → start_deadline_refusal bench parts case period event second service ≡ None → parts.case case ≡ Some c → length c.deadlines < 64
+pub can_start_in : (bench : Bench) (parts : Parts) (case : ℕ) (period : Period) (event : EventView) (second : Option ℤ) (service : Option ServiceKind) (c : CaseRecordView) → start_deadline_refusal bench parts case period event second service ≡ None → parts.case case ≡ Some c → length c.deadlines < most_deadlines
 can_start_in bench parts case period event second service c h found =
     let made = can_start bench parts case period event second service h in
     rw found at made.room
 
-pub can_enter_in : (parts : Parts) (case : ℕ) (served : ℤ) (need : Need) (c : CaseRecordView) → motion_refusal parts case served need ≡ None → parts.case case ≡ Some c → length c.motions < 64
+pub can_enter_in : (parts : Parts) (case : ℕ) (served : ℤ) (need : Need) (c : CaseRecordView) → motion_refusal parts case served need ≡ None → parts.case case ≡ Some c → length c.motions < most_motions
 can_enter_in parts case served need c h found = rw found at (can_enter parts case served need h)
 
 -- an extension that may be granted has a length, and is of the period's kind

@@ -7,10 +7,10 @@ use Rattle.hearing_slots.specs.declared.need.Need.{Need}
 use Rattle.hearing_slots.specs.declared.need.Need.TheVariants.{ExParte}
 use Rattle.hearing_slots.specs.Words.{in_order, is_of, without_motion}
 use Rattle.hearing_slots.proofs.CallerLemmas.{filter_all, filter_comm, without_motion-in_order, with_booking-in_order}
-use Rattle.court_days.specs.Words.{later_day}
+use Rattle.court_clock.specs.Words.{later_day}
 use Rattle.docket_rows.specs.declared.hearing.Hearing.{Hearing}
 use Rattle.docket_rows.specs.declared.hearing.Setting.{Setting}
-use Rattle.docket_rows.specs.Words.{Bench, Rows, DocketedMotion, DocketedHearing, NumberedMotion, AreSound, is_motion, is_hearing, hearing_of, motion_shown, booked, parts_of, has_one, hearing_asked, without_hearing, with_hearing, booking_of, rebooked}
+use Rattle.docket_rows.specs.Words.{Bench, Rows, DocketedMotion, DocketedHearing, NumberedMotion, AreSound, is_motion, is_hearing, hearing_of, motion_shown, booked, parts_of, has_one, hearing_asked, without_hearing, with_hearing, booking_of, changed_by, change_to}
 use Rattle.docket_laws.proofs.PartsLists.{filter-map, filter-push_other, map_filter-push}
 use Rattle.docket_laws.proofs.PartsSeen.{motion_seen}
 
@@ -57,14 +57,14 @@ module _ (case motion : ℕ) where
       ap (λ hs. in_order (map (λ h. booked rows (other h.hearing) h) hs)) (none_taken test rows.hearings once fails)
 
 -- a calendar after the hearing of a motion is taken out
-pub calendar_cancelled : (rows : Rows) (case motion : ℕ) (other : Hearing → ℕ) (test : Hearing → Bool) → AllPairs (λ (a b : DocketedHearing). is_hearing a.case a.motion b ≡ false) rows.hearings → calendar (without_hearing case motion rows) other test ≡ unwrap_or (if has_one test (hearing_of rows case motion) then Some (without_motion case motion (calendar rows other test)) else None) (calendar rows other test)
+pub calendar_cancelled : (rows : Rows) (case motion : ℕ) (other : Hearing → ℕ) (test : Hearing → Bool) → AllPairs (λ (a b : DocketedHearing). is_hearing a.case a.motion b ≡ false) rows.hearings → calendar (without_hearing case motion rows) other test ≡ unwrap_or (changed_by (change_to case motion (has_one test (hearing_of rows case motion)) None) (calendar rows other test)) (calendar rows other test)
 calendar_cancelled rows case motion other test once = elim (cases_Bool (has_one test (hearing_of rows case motion))) [
   | inl stood ↦ rw stood (sym (without_calendar case motion rows other test))
   | inr elsewhere ↦ rw elsewhere (untouched case motion rows other test once elsewhere)
 ]
 
 -- a calendar after the hearing of a motion is put elsewhere
-pub calendar_moved : (rows : Rows) (s : Setting) (other : Hearing → ℕ) (test : Hearing → Bool) → AllPairs (λ (a b : DocketedHearing). is_hearing a.case a.motion b ≡ false) rows.hearings → calendar (with_hearing s (without_hearing s.case s.motion rows)) other test ≡ unwrap_or (rebooked (test (hearing_asked s)) (has_one test (hearing_of rows s.case s.motion)) (booked rows (other (hearing_asked s)) (record { case = s.case; motion = s.motion; hearing = hearing_asked s })) (calendar rows other test)) (calendar rows other test)
+pub calendar_moved : (rows : Rows) (s : Setting) (other : Hearing → ℕ) (test : Hearing → Bool) → AllPairs (λ (a b : DocketedHearing). is_hearing a.case a.motion b ≡ false) rows.hearings → calendar (with_hearing s (without_hearing s.case s.motion rows)) other test ≡ unwrap_or (changed_by (change_to s.case s.motion (has_one test (hearing_of rows s.case s.motion)) (if test (hearing_asked s) then Some (booked rows (other (hearing_asked s)) (record { case = s.case; motion = s.motion; hearing = hearing_asked s })) else None)) (calendar rows other test)) (calendar rows other test)
 calendar_moved rows s other test once =
     let new : DocketedHearing = record { case = s.case; motion = s.motion; hearing = hearing_asked s } in
     let show = λ (h : DocketedHearing). booked rows (other h.hearing) h in

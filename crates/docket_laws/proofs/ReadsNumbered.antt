@@ -1,23 +1,14 @@
 -- A command that isn't refused is about a case that there can be.
-use Rattle.std.proofs.Common.{◌≡◌, true, None}
+use Rattle.std.proofs.Common.{◌≡◌, true, None, IfSome}
 use Rattle.std.proofs.lemmas.Bool.{and_parts}
 use Rattle.docket_rows.specs.declared.command.Command.{Command}
 use Rattle.docket_rows.specs.declared.command.Command.TheVariants.{OpenCase, Start, FileAct, Extend, Motion, Book, MoveHearing, Cancel, Holiday, Inaccessible}
-use Rattle.docket_rows.specs.Words.{Bench, Parts, is_case_number, open_case_checks, start_deadline_checks, file_act_checks, extend_checks, motion_checks, book_checks, move_checks, cancel_checks, open_case_refusal, start_deadline_refusal, file_act_refusal, extend_refusal, motion_refusal, book_refusal, move_refusal, cancel_refusal, refusal}
+use Rattle.docket_rows.specs.Words.{Bench, Parts, case_of, is_case_number, open_case_checks, start_deadline_checks, file_act_checks, extend_checks, motion_checks, book_checks, move_checks, cancel_checks, open_case_refusal, start_deadline_refusal, file_act_refusal, extend_refusal, motion_refusal, book_refusal, move_refusal, cancel_refusal, refusal}
 use Rattle.docket_laws.proofs.MadeLemmas.{none_of, when-not-None}
 
 -- the case that the command is about, if it is about one, has a number that a case can have
 abbrev pub IsNumbered : Command → Type 0
-IsNumbered (OpenCase case filed) = is_case_number case ≡ true
-IsNumbered (Start case period event second service) = is_case_number case ≡ true
-IsNumbered (FileAct case deadline filing) = is_case_number case ≡ true
-IsNumbered (Extend case deadline request) = is_case_number case ≡ true
-IsNumbered (Motion case served need) = is_case_number case ≡ true
-IsNumbered (Book s) = is_case_number s.case ≡ true
-IsNumbered (MoveHearing s) = is_case_number s.case ≡ true
-IsNumbered (Cancel case motion) = is_case_number case ≡ true
-IsNumbered (Holiday day list) = Unit {0}
-IsNumbered (Inaccessible day from to) = Unit {0}
+IsNumbered command = IfSome (case_of command) (λ case. is_case_number case ≡ true)
 
 pub numbered : (bench : Bench) (parts : Parts) (command : Command) → refusal bench parts command ≡ None → IsNumbered command
 unfolding open_case_refusal start_deadline_refusal file_act_refusal extend_refusal motion_refusal book_refusal move_refusal cancel_refusal

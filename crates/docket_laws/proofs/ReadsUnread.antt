@@ -14,7 +14,7 @@ use Rattle.docket_rows.specs.declared.part.PartId.{PartId}
 use Rattle.docket_rows.specs.declared.part.PartId.TheVariants.{Court, Judge, Room, Case}
 use Rattle.docket_rows.specs.declared.part.PartValue.TheVariants as value
 use Rattle.docket_rows.specs.declared.refusal.Refusal.{Refusal}
-use Rattle.docket_rows.specs.Words.{Bench, Parts, IsSettable, same_part, sits, has_one, is_case_number, has_judges, is_panel, hearing_in, calendars_of, calendars_now, about_case, hearing_checks, book_refusal, move_refusal, refusal, days_written, case_written, judge_written, room_written, is_before_judge, is_in_room, changed}
+use Rattle.docket_rows.specs.Words.{Bench, Parts, IsSettable, same_part, sits, has_one, is_case_number, has_judges, is_panel, hearing_in, calendars_of, calendars_now, about_case, hearing_checks, book_refusal, move_refusal, refusal, days_written, case_written, judge_written, room_written, changed}
 use Rattle.docket_laws.specs.Reads.{is_wanted}
 use Rattle.docket_laws.proofs.MadeLemmas.{none_of, when-not-None}
 use Rattle.docket_laws.proofs.ReadsNumbered.{IsNumbered, numbered}
@@ -79,16 +79,9 @@ module _ (bench : Bench) where
 
 module _ (bench : Bench) (p : Parts) (settable : (case motion : ℕ) → IfSome (hearing_in p case motion) (IsSettable bench)) where
   days_unread : (command : Command) → is_wanted bench p command Court ≡ false → days_written p.days command ≡ None
-  days_unread (OpenCase case filed) none = refl
-  days_unread (Start case period event second service) none = refl
-  days_unread (FileAct case deadline filing) none = refl
-  days_unread (Extend case deadline request) none = refl
-  days_unread (Motion case served need) none = refl
-  days_unread (Book s) none = refl
-  days_unread (MoveHearing s) none = refl
-  days_unread (Cancel case motion) none = refl
   days_unread (Holiday day list) none = absurd (true≢false none)
   days_unread (Inaccessible day from to) none = absurd (true≢false none)
+  days_unread _ none = refl
 
   case_unread : (command : Command) → IsNumbered command → (n : ℕ) → is_wanted bench p command (Case n) ≡ false → case_written p command n ≡ None
   case_unread (OpenCase case filed) is n none = rw (other_case n case [] is none) refl
@@ -99,15 +92,9 @@ module _ (bench : Bench) (p : Parts) (settable : (case motion : ℕ) → IfSome 
   case_unread (Book s) is n none = rw (other_case n s.case _ is none) refl
   case_unread (MoveHearing s) is n none = rw (other_case n s.case _ is none) refl
   case_unread (Cancel case motion) is n none = rw (other_case n case _ is none) refl
-  case_unread (Holiday day list) is n none = refl
-  case_unread (Inaccessible day from to) is n none = refl
+  case_unread _ is n none = refl
 
   judge_unread : (command : Command) → refusal bench p command ≡ None → (judge : ℕ) → is_wanted bench p command (Judge judge) ≡ false → judge_written p command judge ≡ None
-  judge_unread (OpenCase case filed) made judge none = refl
-  judge_unread (Start case period event second service) made judge none = refl
-  judge_unread (FileAct case deadline filing) made judge none = refl
-  judge_unread (Extend case deadline request) made judge none = refl
-  judge_unread (Motion case served need) made judge none = refl
   judge_unread (Book s) made judge none =
       let test = same_part (Judge judge) in
       let places = book_places bench p s made in
@@ -120,21 +107,15 @@ module _ (bench : Bench) (p : Parts) (settable : (case motion : ℕ) → IfSome 
       let now = calendars_now bench p s.case s.motion in
       let others = others_none test s.case (Court ∷ now ++ calendars_of bench s.judges s.room) (numbered bench p (MoveHearing s) made) none in
       let away = not_sitting bench judge s.judges s.room places.panel places.judges (back_none test now (calendars_of bench s.judges s.room) others) in
-      let before : is_before_judge p s.case s.motion judge ≡ false = not_before bench judge (hearing_in p s.case s.motion) (settable s.case s.motion) (front_none test now (calendars_of bench s.judges s.room) others) in
+      let before = not_before bench judge (hearing_in p s.case s.motion) (settable s.case s.motion) (front_none test now (calendars_of bench s.judges s.room) others) in
       rw (away, before) refl
   judge_unread (Cancel case motion) made judge none =
       let others = others_none (same_part (Judge judge)) case (calendars_now bench p case motion) (numbered bench p (Cancel case motion) made) none in
-      let before : is_before_judge p case motion judge ≡ false = not_before bench judge (hearing_in p case motion) (settable case motion) others in
+      let before = not_before bench judge (hearing_in p case motion) (settable case motion) others in
       rw before refl
-  judge_unread (Holiday day list) made judge none = refl
-  judge_unread (Inaccessible day from to) made judge none = refl
+  judge_unread _ made judge none = refl
 
   room_unread : (command : Command) → refusal bench p command ≡ None → (room : ℕ) → is_wanted bench p command (Room room) ≡ false → room_written p command room ≡ None
-  room_unread (OpenCase case filed) made room none = refl
-  room_unread (Start case period event second service) made room none = refl
-  room_unread (FileAct case deadline filing) made room none = refl
-  room_unread (Extend case deadline request) made room none = refl
-  room_unread (Motion case served need) made room none = refl
   room_unread (Book s) made room none =
       let test = same_part (Room room) in
       let others = others_none test s.case (Court ∷ calendars_of bench s.judges s.room) (numbered bench p (Book s) made) none in
@@ -145,14 +126,13 @@ module _ (bench : Bench) (p : Parts) (settable : (case motion : ℕ) → IfSome 
       let now = calendars_now bench p s.case s.motion in
       let others = others_none test s.case (Court ∷ now ++ calendars_of bench s.judges s.room) (numbered bench p (MoveHearing s) made) none in
       let away = not_there bench room s.judges s.room (move_places bench p s made).room (back_none test now (calendars_of bench s.judges s.room) others) in
-      let before : is_in_room p s.case s.motion room ≡ false = not_in bench room (hearing_in p s.case s.motion) (settable s.case s.motion) (front_none test now (calendars_of bench s.judges s.room) others) in
+      let before = not_in bench room (hearing_in p s.case s.motion) (settable s.case s.motion) (front_none test now (calendars_of bench s.judges s.room) others) in
       rw (away, before) refl
   room_unread (Cancel case motion) made room none =
       let others = others_none (same_part (Room room)) case (calendars_now bench p case motion) (numbered bench p (Cancel case motion) made) none in
-      let before : is_in_room p case motion room ≡ false = not_in bench room (hearing_in p case motion) (settable case motion) others in
+      let before = not_in bench room (hearing_in p case motion) (settable case motion) others in
       rw before refl
-  room_unread (Holiday day list) made room none = refl
-  room_unread (Inaccessible day from to) made room none = refl
+  room_unread _ made room none = refl
 
   pub unread_unchanged : (command : Command) → refusal bench p command ≡ None → (part : PartId) → is_wanted bench p command part ≡ false → changed p command part ≡ None
   unread_unchanged command made Court none = ap (option_map value.Days) (days_unread command none)

@@ -1,6 +1,6 @@
 -- What the laws of dockets say.
 use Rattle.std.specs.Prelude.{◌≡◌, ℕ, true, List, All, AllPairs, IsSomeAnd, filter, find, map}
-use Rattle.court_days.specs.declared.direction.Direction.TheVariants.{After}
+use Rattle.court_clock.specs.declared.direction.Direction.TheVariants.{After}
 use Rattle.court_days.specs.Words.{is_permitted}
 use Rattle.rule_periods.specs.Words.{shown_of}
 use Rattle.docket_rows.specs.declared.command.Command.{Command}
@@ -8,9 +8,9 @@ use Rattle.docket_rows.specs.declared.query.Query.TheVariants as query
 use Rattle.docket_rows.specs.declared.sheet.Sheet.{Sheet}
 use Rattle.docket_rows.specs.declared.sheet.SheetDeadline.{SheetDeadline}
 use Rattle.docket_rows.specs.declared.view.View.TheVariants as view
-use Rattle.docket_rows.specs.Words.{Bench, Rows, DocketedDeadline, DocketedHearing, Clash, IsNoticed, opening_rows, is_deadline_in, is_motion, is_within_hours, state_of, rows_from, view_of}
+use Rattle.docket_rows.specs.Words.{Bench, Rows, DocketedDeadline, DocketedHearing, Clash, IsNoticed, AreSound, AreLawful, opening_rows, is_deadline_in, is_motion, is_within_hours, state_of, rows_from, step, view_of}
 
--- the rows of a docket after some commands, from the days of the court's file on
+-- the rows of a docket after some commands, which begins with the days of the court's file
 abbrev pub docket_after : Bench → List Command → Rows
 docket_after bench commands = rows_from bench (opening_rows bench) commands
 
@@ -40,3 +40,33 @@ deadline_on_sheet bench rows d = record {
 -- a sheet has just the deadlines of its case, in their order
 abbrev pub SheetShowsDeadlines : Bench → Rows → ℕ → Type 0
 SheetShowsDeadlines bench rows case = (sheet : Sheet) → view_of bench rows (query.Sheet case) ≡ view.Sheet sheet → sheet.deadlines ≡ map (deadline_on_sheet bench rows) (filter (is_deadline_in case) rows.deadlines)
+
+-- The laws, each of a docket after any commands
+
+abbrev pub NoJudgeOrRoomIsBookedTwice : Type 0
+NoJudgeOrRoomIsBookedTwice = (bench : Bench) (commands : List Command) → NoneIsBookedTwice (docket_after bench commands)
+
+abbrev pub EveryHearingHasItsNotice : Type 0
+EveryHearingHasItsNotice = (bench : Bench) (commands : List Command) → AllHaveNotice (docket_after bench commands)
+
+abbrev pub EveryHearingLiesOnACourtDayWithinOfficeHours : Type 0
+EveryHearingLiesOnACourtDayWithinOfficeHours = (bench : Bench) (commands : List Command) → AllAreOnCourtDays bench (docket_after bench commands)
+
+-- of any rows
+abbrev pub DeadlinesAreShownByTheDaysAsDocketed : Type 0
+DeadlinesAreShownByTheDaysAsDocketed = (bench : Bench) (rows : Rows) (case : ℕ) → SheetShowsDeadlines bench rows case
+
+-- before any command the rows fit together and are lawful
+pub record TheOpeningDocketIsLawful : Type 0 where
+  pub sound : (bench : Bench) → AreSound bench (opening_rows bench)
+  pub lawful : (bench : Bench) → AreLawful bench (opening_rows bench)
+
+-- the rows fit together after any commands, since no step undoes that
+pub record RowsStaySound : Type 0 where
+  pub after_a_step : (bench : Bench) (rows : Rows) (command : Command) → AreSound bench rows → AreSound bench (step bench rows command).0
+  pub always : (bench : Bench) (commands : List Command) → AreSound bench (docket_after bench commands)
+
+-- the rows are lawful after any commands, since no step undoes that
+pub record RowsStayLawful : Type 0 where
+  pub after_a_step : (bench : Bench) (rows : Rows) (command : Command) → AreSound bench rows → AreLawful bench rows → AreLawful bench (step bench rows command).0
+  pub always : (bench : Bench) (commands : List Command) → AreLawful bench (docket_after bench commands)

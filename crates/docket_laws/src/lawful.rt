@@ -1,14 +1,11 @@
 //! What holds of every docket, whatever commands it was given and whatever of them it refused.
 
-ghost use Rattle.std.specs.Prelude.{List};
-ghost use Rattle.docket_rows.specs.declared.command.Command.{Command};
-ghost use Rattle.docket_rows.specs.Words.{Bench, Rows, AreSound, AreLawful, step};
-ghost use Rattle.docket_laws.specs.Lawful.{docket_after, NoneIsBookedTwice, AllAreOnCourtDays, AllHaveNotice};
+ghost use Rattle.docket_laws.specs.Lawful.{EveryHearingHasItsNotice, EveryHearingLiesOnACourtDayWithinOfficeHours, NoJudgeOrRoomIsBookedTwice, RowsStayLawful, RowsStaySound};
 
 /// No judge sits in two hearings at one time, and no room holds two: after any commands, no two hearings of the docket
 /// that have a judge or the room in common take the same slot of a day.
 pub fn no_judge_or_room_is_booked_twice()
-    ensures { (bench : Bench) (commands : List Command) → NoneIsBookedTwice (docket_after bench commands) }
+    ensures { NoJudgeOrRoomIsBookedTwice }
 {}
 
 /// Each hearing of a docket is that of a docketed motion. Unless the motion is heard ex parte, there is a last day to serve
@@ -16,25 +13,23 @@ pub fn no_judge_or_room_is_booked_twice()
 /// then (Fed. R. Civ. P. 6(c)(1)). That is so by the days as they are docketed now, with the holidays that were entered
 /// after the hearing was set.
 pub fn every_hearing_has_its_notice()
-    ensures { (bench : Bench) (commands : List Command) → AllHaveNotice (docket_after bench commands) }
+    ensures { EveryHearingHasItsNotice }
 {}
 
 /// Each hearing of a docket lies on a covered day that is no Saturday, Sunday or legal holiday, also of those entered
 /// later, and within the hours of the clerk's office. An outage may come to lie on its day after it was set.
 pub fn every_hearing_lies_on_a_court_day_within_office_hours()
-    ensures { (bench : Bench) (commands : List Command) → AllAreOnCourtDays bench (docket_after bench commands) }
+    ensures { EveryHearingLiesOnACourtDayWithinOfficeHours }
 {}
 
 /// The rows of a docket fit together, and no step undoes that: each case stands once, deadlines and motions are those of
 /// open cases and numbered from 1, each hearing is that of a motion, before judges and in a room of the court.
 pub fn rows_stay_sound()
-    ensures after_a_step { (bench : Bench) (rows : Rows) (command : Command) → AreSound bench rows → AreSound bench (step bench rows command).0 }
-    ensures always { (bench : Bench) (commands : List Command) → AreSound bench (docket_after bench commands) }
+    ensures { RowsStaySound }
 {}
 
 /// The rows of a docket are lawful, and no step undoes that: no two hearings clash, each lies on a day on which the court
 /// hears motions, within office hours, and has its notice.
 pub fn rows_stay_lawful()
-    ensures after_a_step { (bench : Bench) (rows : Rows) (command : Command) → AreSound bench rows → AreLawful bench rows → AreLawful bench (step bench rows command).0 }
-    ensures always { (bench : Bench) (commands : List Command) → AreLawful bench (docket_after bench commands) }
+    ensures { RowsStayLawful }
 {}

@@ -1,12 +1,10 @@
 //! What the sheet of a case shows.
 
-ghost use Rattle.std.specs.Prelude.{ℕ};
-ghost use Rattle.docket_rows.specs.Words.{Bench, Rows};
-ghost use Rattle.docket_laws.specs.Lawful.{SheetShowsDeadlines};
+ghost use Rattle.docket_laws.specs.Lawful.{DeadlinesAreShownByTheDaysAsDocketed};
 
-/// The sheet of a case has just the deadlines that are docketed in the case, in their order, each as it is docketed. When
-/// its time ends, and whether it was met, is told by the days as they are docketed now, with the holidays and outages
+/// The sheet of a case has just the deadlines that are docketed in the case, in their order, each as it is docketed. The
+/// days as they are docketed now decide when its time ends and whether it was met. They have the holidays and outages
 /// that were entered after the deadline started.
 pub fn deadlines_are_shown_by_the_days_as_docketed()
-    ensures { (bench : Bench) (rows : Rows) (case : ℕ) → SheetShowsDeadlines bench rows case }
+    ensures { DeadlinesAreShownByTheDaysAsDocketed }
 {}

@@ -15,7 +15,7 @@ pub length-numbered_motions : (ms : List MotionRecord) (k : ℕ) → length (num
 length-numbered_motions [] k = refl
 length-numbered_motions (m ∷ ms) k = ap suc (length-numbered_motions ms (k + 1))
 
--- the row of a number stands that many places behind the first
+-- the row of a number is that many places after the first
 pub find-numbered_deadlines : (rows : List DeadlineRowView) (n k i : ℕ) → n ≡ k + i → option_map (λ (d : NumberedDeadline). d.row) (find (λ (d : NumberedDeadline). d.number == n) (numbered_deadlines k rows)) ≡ slice_get rows i
 find-numbered_deadlines [] n k i e = refl
 find-numbered_deadlines (r ∷ rows) n k zero e =

@@ -1,6 +1,7 @@
--- What of a court no command changes.
+-- What no command changes of a court.
 use Rattle.std.specs.Prelude.{ℕ, length}
-use Rattle.court_days.specs.Words.{DaysView, ClockView, CourtView}
+use Rattle.court_clock.specs.Words.{ClockView}
+use Rattle.court_days.specs.Words.{DaysView, CourtView}
 
 -- the court's clock, its days as its file has them, and how many judges and rooms it has, which are numbered from 0
 pub record Bench : Type 0 where

@@ -2,8 +2,9 @@
 use Rattle.std.specs.Prelude.{ℕ, ◌+◌, ◌*◌, ◌==◌, ℤ, int_lt, nat_le, nat_lt, Bool, true, false, ◌&&◌, ◌||◌, not, is_some, is_none, List, [], ◌∷◌, length, map, Option, Some, None, if◌then◌else◌}
 use Rattle.std.specs.List.{list_all, flat_map, range_with_len}
 use Rattle.std.specs.Option.{option_map_or, option_and_then}
-use Rattle.court_days.specs.declared.direction.Direction.TheVariants.{After}
-use Rattle.court_days.specs.Words.{DaysView, ClockView, is_permitted, has_outage}
+use Rattle.court_clock.specs.declared.direction.Direction.TheVariants.{After}
+use Rattle.court_clock.specs.Words.{ClockView}
+use Rattle.court_days.specs.Words.{DaysView, is_permitted, has_outage}
 use Rattle.rule_periods.specs.Words.{first_of, notice_of}
 use Rattle.hearing_slots.specs.declared.booking.Booking.{Booking}
 use Rattle.hearing_slots.specs.declared.need.Need.{Need}
@@ -22,7 +23,7 @@ hearing_asked s = record { judges = s.judges; room = s.room; day = s.day; first 
 abbrev pub has_judges : Bench → (panel : List ℕ) → Bool
 has_judges bench panel = list_all (λ j. nat_lt j bench.judges) panel
 
--- no judge stands twice
+-- no judge is named twice
 abbrev pub is_distinct : List ℕ → Bool
 is_distinct [] = true
 is_distinct (j ∷ js) = not (sits j js) && is_distinct js
@@ -56,7 +57,7 @@ is_need (need.Days n) = is_notice_length n
 abbrev pub last_service : DaysView → (hearing : ℤ) → (n : ℕ) → Option ℤ
 last_service days hearing n = if is_notice_length n then notice_of days hearing n else None
 
--- no covered day qualifies as that day; where the motion may be heard ex parte none has to
+-- no covered day qualifies as that day; a motion that may be heard ex parte needs none
 abbrev pub lacks_last_service : DaysView → (hearing : ℤ) → Need → Bool
 lacks_last_service days hearing need.ExParte = false
 lacks_last_service days hearing (need.Days n) = is_none (last_service days hearing n)
@@ -67,8 +68,8 @@ missed_service days hearing need.ExParte served = None
 missed_service days hearing (need.Days n) served =
     option_and_then (λ latest. if int_lt latest served then Some latest else None) (last_service days hearing n)
 
--- the first booking, of the first judge of the panel who has one, that clashes with the hearing; that of the excepted
--- case and motion doesn't
+-- the first booking that clashes with the hearing, of the first judge of the panel who has one; the booking of the
+-- excepted case and motion clashes with nothing
 abbrev pub judge_clash : Parts → Option (ℕ × ℕ) → Hearing → Option Booking
 judge_clash parts except h = first_of (map (λ j. first_conflict (parts.judge j) h.day h.first h.count except) h.judges)
 
@@ -80,14 +81,14 @@ room_clash parts except h = first_conflict (parts.room h.room) h.day h.first h.c
 abbrev pub all_booked : Bench → Parts → List Booking
 all_booked bench parts = flat_map parts.judge (range_with_len 0 bench.judges)
 
--- of two bookings the one of the lesser case, and of one case that of the lesser motion
+-- whether the first of two bookings is of the lesser case, or of the same case and no greater motion
 abbrev pub comes_first : (a b : Booking) → Bool
 comes_first a b = nat_lt a.case b.case || (a.case == b.case && nat_le a.motion b.motion)
 
 abbrev pub lesser : (a b : Booking) → Booking
 lesser a b = if comes_first a b then a else b
 
--- of some bookings that of the least case, and of its least motion
+-- the first of some bookings by case and motion
 abbrev pub least : List Booking → Option Booking
 least [] = None
 least (b ∷ bs) = Some (option_map_or (lesser b) (least bs) b)

@@ -1,7 +1,7 @@
 -- What is true of the rows of a docket after every command.
 use Rattle.std.specs.Prelude.{◌≡◌, ◌<◌, ◌≤ℤ◌, ℕ, ℤ, true, false, All, AllPairs, IsSome, IsSomeAnd, length, filter, find, map}
 use Rattle.std.specs.List.{range_with_len}
-use Rattle.court_days.specs.declared.direction.Direction.TheVariants.{After}
+use Rattle.court_clock.specs.declared.direction.Direction.TheVariants.{After}
 use Rattle.court_days.specs.Words.{DaysView, is_permitted}
 use Rattle.rule_periods.specs.Words.{notice_of}
 use Rattle.hearing_slots.specs.declared.need.Need.{Need}
@@ -39,7 +39,7 @@ pub record IsSettable (bench : Bench) (h : Hearing) : Type 0 where
   pub room : h.room < bench.rooms
   pub slots : fits_day h.first h.count ≡ true
 
--- How the rows fit together: each case stands once; deadlines and motions are those of open cases and are numbered
+-- How the rows fit together: each case is there once; deadlines and motions are those of open cases and are numbered
 -- from 1 in their case; each motion has one hearing at most, and each hearing is that of a motion. No command changes
 -- the span of the days.
 pub record AreSound (bench : Bench) (rows : Rows) : Type 0 where

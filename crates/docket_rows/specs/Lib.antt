@@ -3,9 +3,11 @@ pub mod Cases
 pub mod Clash
 pub mod Hearings
 pub mod Lawful
+pub mod Limits
 pub mod Parts
 pub mod Reads
 pub mod Reasons
+pub mod Rebooking
 pub mod Refusals
 pub mod Rows
 pub mod Seen

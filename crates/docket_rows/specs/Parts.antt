@@ -3,7 +3,8 @@ use Rattle.std.specs.Prelude.{ℕ, ◌==◌, nat_eq, ℤ, Bool, true, false, Lis
 use Rattle.std.specs.List.{list_any}
 use Rattle.std.specs.Map.{lookup}
 use Rattle.std.specs.Option.{option_map_or, option_and_then}
-use Rattle.court_days.specs.Words.{DaysView, later_day}
+use Rattle.court_clock.specs.Words.{later_day}
+use Rattle.court_days.specs.Words.{DaysView}
 use Rattle.hearing_slots.specs.declared.booking.Booking.{Booking}
 use Rattle.hearing_slots.specs.declared.need.Need.{Need}
 use Rattle.hearing_slots.specs.declared.need.Need.TheVariants.{ExParte}
@@ -52,15 +53,15 @@ need_of rows case motion = option_map_or (λ (m : DocketedMotion). m.need) (find
 abbrev pub last_served : Rows → (case motion : ℕ) → (notice : ℤ) → ℤ
 last_served rows case motion notice = option_map_or (λ (m : DocketedMotion). later_day m.served notice) (find (is_motion case motion) rows.motions) notice
 
--- the judge stands in the panel
+-- the judge is in the panel
 abbrev pub sits : (judge : ℕ) → (panel : List ℕ) → Bool
 sits judge panel = list_any (nat_eq judge) panel
 
--- the first judge of a panel, for which it stands in the calendar of a room
+-- the first judge of a panel, who stands for it in the calendar of a room
 abbrev pub first_judge : (panel : List ℕ) → ℕ
 first_judge panel = slice_index panel 0
 
--- a hearing, as it stands in a calendar beside the number of its room, or of its first judge
+-- the booking of a hearing, with the number of its room in a judge's calendar, and of its first judge in the room's
 abbrev pub booked : Rows → (other : ℕ) → DocketedHearing → Booking
 booked rows other h = record {
   case = h.case;
@@ -95,7 +96,7 @@ part_value parts (Judge judge) = value.Calendar (parts.judge judge)
 part_value parts (Room room) = value.Calendar (parts.room room)
 part_value parts (Case case) = value.Case (parts.case case)
 
--- The parts as a command sees them that has read some of them.
+-- The parts that a command sees when it has read some of them.
 
 -- the two name one part
 abbrev pub same_part : (x y : PartId) → Bool
@@ -122,8 +123,8 @@ abbrev pub case_in : PartValue → Option CaseRecordView
 case_in (value.Case case) = case
 case_in _ = None
 
--- What was read. Where the court's days weren't, they are those of its file; a calendar that wasn't read has no
--- bookings, and a case that wasn't read isn't open.
+-- The parts by what was read. Where the court's days weren't read, they are those of its file; a calendar that wasn't
+-- read has no bookings, and a case that wasn't read isn't open.
 unfoldable pub parts_read : Bench → List (PartId × PartValue) → Parts
 parts_read bench reads = record {
   days = unwrap_or (option_and_then days_in (read_of reads Court)) bench.days;

@@ -17,7 +17,7 @@ abbrev pub calendars_of : Bench → (judges : List ℕ) → (room : ℕ) → Lis
 calendars_of bench judges room =
     map Judge (filter (λ j. nat_lt j bench.judges) (take 3 judges)) ++ (if nat_lt room bench.rooms then Room room ∷ [] else [])
 
--- the calendars in which the motion's hearing stands; there are none where the case shows no hearing
+-- the calendars that have the motion's hearing; there are none where the case shows no hearing
 abbrev pub calendars_now : Bench → Parts → (case motion : ℕ) → List PartId
 calendars_now bench parts case motion =
     option_map_or (λ (h : Hearing). calendars_of bench h.judges h.room) (hearing_in parts case motion) []
@@ -26,7 +26,7 @@ calendars_now bench parts case motion =
 abbrev pub about_case : (case : ℕ) → List PartId → List PartId
 about_case case others = if is_case_number case then Case case ∷ others else []
 
--- the parts that a command reads, where those that it has read show these; a part that stands twice is read once
+-- the parts that a command reads, where those that it has read show `parts`; a part that is named twice is read once
 abbrev pub wanted : Bench → Parts → Command → List PartId
 wanted bench parts (OpenCase case filed) = about_case case []
 wanted bench parts (Start case period event second service) = about_case case (Court ∷ [])

@@ -4,7 +4,8 @@ use Rattle.std.specs.Prelude.{ℕ, nat_lt, nat_le, ℤ, ◌&&◌, not, is_some, 
 use Rattle.std.specs.Option.{option_and_then}
 use Rattle.court_days.specs.declared.holiday_list.HolidayList.{HolidayList}
 use Rattle.court_days.specs.declared.holiday_list.HolidayList.TheVariants.{Federal, State}
-use Rattle.court_days.specs.Words.{is_covered, is_among, dates_of, add_holiday, later_day}
+use Rattle.court_clock.specs.Words.{later_day}
+use Rattle.court_days.specs.Words.{is_covered, is_among, dates_of, add_holiday}
 use Rattle.rule6.specs.declared.service.ServiceKind.{ServiceKind}
 use Rattle.rule6.specs.declared.timeliness.Filing.{Filing}
 use Rattle.rule_periods.specs.declared.period.Period.{Period}
@@ -22,6 +23,7 @@ use Rattle.docket_rows.specs.declared.refusal.Refusal.{Refusal}
 use Rattle.docket_rows.specs.declared.refusal.Refusal.TheVariants.{NoSuchCase, CaseIsOpen, NoSuchDeadline, NoSuchMotion, BadDay, BadLength, Beyond, AlreadyMet, AlreadySet, NotSet, NotACourtDay, OutsideHours, ShortNotice, JudgeBusy, RoomBusy, AlreadyHoliday, HearingThatDay, NoticeLost, Full, NoSuchJudge, NoSuchRoom, BadPanel}
 use Rattle.docket_rows.specs.Bench.{Bench}
 use Rattle.docket_rows.specs.Hearings.{hearing_asked, has_judges, is_panel, fits_day, is_court_day, is_within_hours, is_need, lacks_last_service, missed_service, judge_clash, room_clash, all_booked, least, lacks_notice}
+use Rattle.docket_rows.specs.Limits.{most_deadlines, most_motions, most_grants, most_dates, most_outages}
 use Rattle.docket_rows.specs.Parts.{Parts}
 use Rattle.docket_rows.specs.Reasons.{refusal_of}
 use Rattle.docket_rows.specs.Seen.{has_one, is_case_number, has_case, deadlines_in, deadline_in, motions_in, motion_in, hearing_in, started, shown_now}
@@ -37,12 +39,12 @@ open_case_checks parts case filed =
 
 -- Deadlines
 
--- the second line stands for the three that a period is refused by when it starts
+-- the second line is the three by which a period is refused when it starts
 abbrev pub start_deadline_checks : Bench → Parts → (case : ℕ) → Period → EventView → (second : Option ℤ) → Option ServiceKind → List (Option Refusal)
 start_deadline_checks bench parts case period event second service =
     (when (not (has_case parts case)) NoSuchCase
     ∷ option_map refusal_of (start_refusal parts.days period event second service)
-    ∷ when (nat_le 64 (length (deadlines_in parts case))) Full
+    ∷ when (nat_le most_deadlines (length (deadlines_in parts case))) Full
     ∷ when (is_beyond (shown_now bench parts (started period event second service))) Beyond
     ∷ [])
 
@@ -56,7 +58,7 @@ file_act_checks bench parts case deadline filing =
     ∷ when (has_one (λ row. is_beyond (shown_now bench parts row)) row) Beyond
     ∷ [])
 
--- the fourth line stands for the ten that an extension is refused by
+-- the fourth line is the ten by which an extension is refused
 abbrev pub extend_checks : Bench → Parts → (case deadline : ℕ) → Request → List (Option Refusal)
 extend_checks bench parts case deadline request =
     let row = deadline_in parts case deadline in
@@ -64,7 +66,7 @@ extend_checks bench parts case deadline request =
     ∷ when (is_none row) NoSuchDeadline
     ∷ when (has_one (λ row. is_some row.filed) row) AlreadyMet
     ∷ option_and_then (λ row. option_map refusal_of (extension_refusal parts.days bench.clock row request)) row
-    ∷ when (has_one (λ row. nat_le 32 (length row.grants)) row) Full
+    ∷ when (has_one (λ row. nat_le most_grants (length row.grants)) row) Full
     ∷ [])
 
 -- Motions
@@ -74,7 +76,7 @@ motion_checks parts case served need =
     (when (not (has_case parts case)) NoSuchCase
     ∷ when (not (is_covered parts.days served)) BadDay
     ∷ when (not (is_need need)) BadLength
-    ∷ when (nat_le 64 (length (motions_in parts case))) Full
+    ∷ when (nat_le most_motions (length (motions_in parts case))) Full
     ∷ [])
 
 -- Hearings
@@ -115,12 +117,12 @@ cancel_checks parts case motion =
 
 -- Holidays and outages
 
--- of the hearings on the day the first, by case and motion
+-- the first hearing on the day, by case and motion
 abbrev pub hearing_that_day : Bench → Parts → ℤ → Option Booking
 hearing_that_day bench parts day = least (filter (is_on day) (all_booked bench parts))
 
--- of the hearings that a holiday would take the notice from the first, by case and motion: notice is counted backward,
--- where holidays of the state don't count
+-- the first hearing, by case and motion, that would lose its notice by a holiday: notice is counted backward, where
+-- holidays of the state don't count
 abbrev pub notice_lost : Bench → Parts → HolidayList → ℤ → Option Booking
 notice_lost bench parts Federal day = least (filter (lacks_notice (add_holiday parts.days Federal day)) (all_booked bench parts))
 notice_lost bench parts State day = None
@@ -129,7 +131,7 @@ abbrev pub holiday_checks : Bench → Parts → (day : ℤ) → HolidayList → 
 holiday_checks bench parts day list =
     (when (not (is_covered parts.days day)) BadDay
     ∷ when (is_among (dates_of parts.days list) day) AlreadyHoliday
-    ∷ when (nat_le 4096 (length (dates_of parts.days list))) Full
+    ∷ when (nat_le most_dates (length (dates_of parts.days list))) Full
     ∷ option_map (λ b. HearingThatDay b.case b.motion) (hearing_that_day bench parts day)
     ∷ option_map (λ b. NoticeLost b.case b.motion) (notice_lost bench parts list day)
     ∷ [])
@@ -138,7 +140,7 @@ abbrev pub outage_checks : Parts → (day : ℤ) → (from to : ℕ) → List (O
 outage_checks parts day from to =
     (when (not (is_covered parts.days day)) BadDay
     ∷ when (not (nat_lt from to && nat_le to 1440)) BadLength
-    ∷ when (nat_le 512 (length parts.days.outages)) Full
+    ∷ when (nat_le most_outages (length parts.days.outages)) Full
     ∷ [])
 
 -- The first refusal of each command, or none.
@@ -196,7 +198,7 @@ judge_day_checks bench parts judge day =
     ∷ when (not (is_covered parts.days day)) BadDay
     ∷ [])
 
--- the three that a period is refused by when it starts
+-- the three by which a period is refused when it starts
 abbrev pub compute_checks : Parts → Period → EventView → (second : Option ℤ) → Option ServiceKind → List (Option Refusal)
 compute_checks parts period event second service = option_map refusal_of (start_refusal parts.days period event second service) ∷ []
 

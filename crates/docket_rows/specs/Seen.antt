@@ -8,15 +8,16 @@ use Rattle.rule_periods.specs.Words.{DeadlineRowView, EventView, shown_of}
 use Rattle.docket_rows.specs.declared.hearing.Hearing.{Hearing}
 use Rattle.docket_rows.specs.Bench.{Bench}
 use Rattle.docket_rows.specs.Cases.{CaseRecordView, NumberedDeadline, NumberedMotion}
+use Rattle.docket_rows.specs.Limits.{last_case}
 use Rattle.docket_rows.specs.Parts.{Parts}
 
 -- there is one, and it passes the test
 abbrev pub has_one : {A : Type 0} → (A → Bool) → Option A → Bool
 has_one test found = option_map_or test found false
 
--- cases are numbered from 1 to 4,096
+-- cases are numbered from 1 on
 abbrev pub is_case_number : ℕ → Bool
-is_case_number case = nat_le 1 case && nat_le case 4096
+is_case_number case = nat_le 1 case && nat_le case last_case
 
 -- the case is open
 abbrev pub has_case : Parts → (case : ℕ) → Bool

@@ -1,7 +1,8 @@
 -- What a query shows of a docket.
 use Rattle.std.specs.Prelude.{ℕ, map, Option, Some, None, option_map, if◌then◌else◌}
 use Rattle.std.specs.Option.{option_map_or}
-use Rattle.court_days.specs.Words.{DaysView, ClockView}
+use Rattle.court_clock.specs.Words.{ClockView}
+use Rattle.court_days.specs.Words.{DaysView}
 use Rattle.rule6.specs.declared.timeliness.Filing.{Filing}
 use Rattle.rule6.specs.declared.timeliness.Shown.{Shown}
 use Rattle.rule6.specs.Words.{is_in_time}

@@ -4,6 +4,7 @@ pub use Rattle.docket_rows.specs.Rows.{DocketedCase, DocketedDeadline, DocketedM
 pub use Rattle.docket_rows.specs.Cases.{NumberedDeadline, NumberedMotion, CaseRecordView, numbered_deadlines, numbered_motions}
 pub use Rattle.docket_rows.specs.Parts.{Parts, hearing_of, deadline_shown, motion_shown, case_shown, need_of, last_served, sits, first_judge, booked, judge_calendar, room_calendar, part_value, same_part, read_of, days_in, calendar_in, case_in}
 unfoldable pub use Rattle.docket_rows.specs.Parts.{parts_of, parts_read}
+pub use Rattle.docket_rows.specs.Limits.{last_case, most_deadlines, most_motions, most_grants, most_dates, most_outages}
 pub use Rattle.docket_rows.specs.Seen.{has_one, is_case_number, has_case, deadlines_in, deadline_in, motions_in, motion_in, hearing_in, next_deadline, next_motion, started, shown_now}
 pub use Rattle.docket_rows.specs.Hearings.{hearing_asked, has_judges, is_distinct, is_panel, fits_day, is_court_day, is_within_hours, is_notice_length, is_need, last_service, lacks_last_service, missed_service, judge_clash, room_clash, all_booked, comes_first, lesser, least, lacks_notice}
 pub use Rattle.docket_rows.specs.Reasons.{refusal_number, refusal_name, refusal_of}
@@ -15,7 +16,8 @@ pub use Rattle.docket_rows.specs.Clash.{SharesJudge, Clash}
 pub use Rattle.docket_rows.specs.Lawful.{IsNoticed, KeepsNotice, AreLawful, IsSettable, AreSound}
 pub use Rattle.docket_rows.specs.Reads.{calendars_of, calendars_now, about_case, wanted, is_read}
 unfoldable pub use Rattle.docket_rows.specs.Reads.{next_part}
-pub use Rattle.docket_rows.specs.Writes.{add_deadline, change_deadline, add_motion, set_hearing, days_written, case_written, booking_of, rebooked, is_before_judge, is_in_room, judge_written, room_written, changed, part_after}
+pub use Rattle.docket_rows.specs.Rebooking.{booking_of, placement_of, rebooking_of, changed_by, change_to, judge_change, room_change}
+pub use Rattle.docket_rows.specs.Writes.{add_deadline, change_deadline, add_motion, set_hearing, days_written, case_of, record_after, case_after, case_written, judge_written, room_written, changed, part_after}
 unfoldable pub use Rattle.docket_rows.specs.Writes.{written_on}
 pub use Rattle.docket_rows.specs.View.{state_of, sheet_deadline, sheet_hearing, sheet_motion, sheet_of, shown_if_asked, view_of}
 unfoldable pub use Rattle.docket_rows.specs.View.{seen_by}

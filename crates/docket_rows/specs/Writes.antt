@@ -1,26 +1,25 @@
 -- Which parts a command writes, and what it writes into them.
-use Rattle.std.specs.Prelude.{ℕ, ◌+◌, ◌==◌, Bool, true, false, is_none, List, [], ◌∷◌, ◌++◌, length, map, Option, Some, None, option_map, unwrap_or, if◌then◌else◌}
+use Rattle.std.specs.Prelude.{ℕ, ◌+◌, ◌==◌, is_none, List, [], ◌∷◌, ◌++◌, length, map, Option, Some, None, option_map, unwrap_or, if◌then◌else◌}
 use Rattle.std.specs.List.{filter_map}
-use Rattle.std.specs.Option.{option_map_or}
-use Rattle.court_days.specs.Words.{DaysView, add_holiday, add_outage, later_day}
+use Rattle.std.specs.Option.{option_and_then}
+use Rattle.court_days.specs.Words.{DaysView, add_holiday, add_outage}
 use Rattle.rule_periods.specs.Words.{DeadlineRowView, with_grant, with_filing}
 use Rattle.hearing_slots.specs.declared.booking.Booking.{Booking}
-use Rattle.hearing_slots.specs.declared.need.Need.TheVariants.{ExParte}
-use Rattle.hearing_slots.specs.Words.{with_booking, without_motion}
 use Rattle.docket_rows.specs.declared.command.Command.{Command}
 use Rattle.docket_rows.specs.declared.command.Command.TheVariants.{OpenCase, Start, FileAct, Extend, Motion, Book, MoveHearing, Cancel, Holiday, Inaccessible}
 use Rattle.docket_rows.specs.declared.hearing.Hearing.{Hearing}
-use Rattle.docket_rows.specs.declared.hearing.Setting.{Setting}
 use Rattle.docket_rows.specs.declared.part.PartId.{PartId}
 use Rattle.docket_rows.specs.declared.part.PartId.TheVariants.{Court, Judge, Room, Case}
 use Rattle.docket_rows.specs.declared.part.PartValue.{PartValue}
 use Rattle.docket_rows.specs.declared.part.PartValue.TheVariants as value
+use Rattle.docket_rows.specs.declared.rebooking.Rebooking.{Rebooking}
 use Rattle.docket_rows.specs.Bench.{Bench}
 use Rattle.docket_rows.specs.Cases.{CaseRecordView, NumberedDeadline, NumberedMotion}
 use Rattle.docket_rows.specs.Hearings.{hearing_asked}
-use Rattle.docket_rows.specs.Parts.{Parts, parts_read, part_value, sits, first_judge}
+use Rattle.docket_rows.specs.Parts.{Parts, parts_read, part_value}
+use Rattle.docket_rows.specs.Rebooking.{rebooking_of, changed_by, judge_change, room_change}
 use Rattle.docket_rows.specs.Refusals.{refusal}
-use Rattle.docket_rows.specs.Seen.{has_one, motion_in, hearing_in, started}
+use Rattle.docket_rows.specs.Seen.{started}
 
 -- the case with one more deadline, with a change of a deadline, with one more motion, and with a motion's hearing set
 -- or taken out
@@ -44,69 +43,49 @@ days_written days (Holiday day list) = Some (add_holiday days list day)
 days_written days (Inaccessible day from to) = Some (add_outage days (record { day = day; from = from; to = to }))
 days_written days _ = None
 
+-- the case that a command is about, if it is about one
+abbrev pub case_of : Command → Option ℕ
+case_of (OpenCase case filed) = Some case
+case_of (Start case period event second service) = Some case
+case_of (FileAct case deadline filing) = Some case
+case_of (Extend case deadline request) = Some case
+case_of (Motion case served need) = Some case
+case_of (Book s) = Some s.case
+case_of (MoveHearing s) = Some s.case
+case_of (Cancel case motion) = Some case
+case_of (Holiday day list) = None
+case_of (Inaccessible day from to) = None
+
+-- an open case after a command about it
+abbrev pub record_after : Command → CaseRecordView → CaseRecordView
+record_after (Start case period event second service) c = add_deadline (started period event second service) c
+record_after (FileAct case deadline filing) c = change_deadline deadline (λ row. with_filing row filing) c
+record_after (Extend case deadline request) c = change_deadline deadline (λ row. with_grant row request.grant) c
+record_after (Motion case served need) c =
+    add_motion (record { number = length c.motions + 1; served = served; need = need; hearing = None }) c
+record_after (Book s) c = set_hearing s.motion (Some (hearing_asked s)) c
+record_after (MoveHearing s) c = set_hearing s.motion (Some (hearing_asked s)) c
+record_after (Cancel case motion) c = set_hearing motion None c
+record_after _ c = c
+
+-- a case, open or not, after a command about it
+abbrev pub case_after : Command → Option CaseRecordView → Option CaseRecordView
+case_after (OpenCase case filed) c = Some (record { filed = filed; deadlines = []; motions = [] })
+case_after command c = option_map (record_after command) c
+
 -- the case, where the command changes it
 abbrev pub case_written : Parts → Command → (case : ℕ) → Option CaseRecordView
-case_written parts (OpenCase case filed) n =
-    if n == case then Some (record { filed = filed; deadlines = []; motions = [] }) else None
-case_written parts (Start case period event second service) n =
-    if n == case then option_map (add_deadline (started period event second service)) (parts.case n) else None
-case_written parts (FileAct case deadline filing) n =
-    if n == case then option_map (change_deadline deadline (λ row. with_filing row filing)) (parts.case n) else None
-case_written parts (Extend case deadline request) n =
-    if n == case then option_map (change_deadline deadline (λ row. with_grant row request.grant)) (parts.case n) else None
-case_written parts (Motion case served need) n =
-    if n == case
-    then option_map (λ (c : CaseRecordView). add_motion (record { number = length c.motions + 1; served = served; need = need; hearing = None }) c) (parts.case n)
-    else None
-case_written parts (Book s) n = if n == s.case then option_map (set_hearing s.motion (Some (hearing_asked s))) (parts.case n) else None
-case_written parts (MoveHearing s) n = if n == s.case then option_map (set_hearing s.motion (Some (hearing_asked s))) (parts.case n) else None
-case_written parts (Cancel case motion) n = if n == case then option_map (set_hearing motion None) (parts.case n) else None
-case_written parts (Holiday day list) n = None
-case_written parts (Inaccessible day from to) n = None
+case_written parts command n =
+    option_and_then (λ case. if n == case then case_after command (parts.case n) else None) (case_of command)
 
--- the hearing that is asked for, as it stands in a calendar beside the number of its room, or of its first judge
-abbrev pub booking_of : Parts → (other : ℕ) → Setting → Booking
-booking_of parts other s = record {
-  case = s.case;
-  motion = s.motion;
-  other = other;
-  day = s.day;
-  first = s.first;
-  count = s.count;
-  need = option_map_or (λ (m : NumberedMotion). m.need) (motion_in parts s.case s.motion) ExParte;
-  served = option_map_or (λ (m : NumberedMotion). later_day m.served s.notice) (motion_in parts s.case s.motion) s.notice;
-}
-
--- the calendar with the hearing that is asked for, where it belongs into this one; else without it, where it stands there now
-abbrev pub rebooked : (belongs stands : Bool) → Booking → List Booking → Option (List Booking)
-rebooked true stands b bookings = Some (with_booking b bookings)
-rebooked false true b bookings = Some (without_motion b.case b.motion bookings)
-rebooked false false b bookings = None
-
--- the motion's hearing is before the judge, or in the room
-abbrev pub is_before_judge : Parts → (case motion judge : ℕ) → Bool
-is_before_judge parts case motion judge = has_one (λ (h : Hearing). sits judge h.judges) (hearing_in parts case motion)
-
-abbrev pub is_in_room : Parts → (case motion room : ℕ) → Bool
-is_in_room parts case motion room = has_one (λ (h : Hearing). h.room == room) (hearing_in parts case motion)
-
--- the calendar of the judge, where the command changes it
+-- the calendar of the judge, and of the room, where the command changes it
 abbrev pub judge_written : Parts → Command → (judge : ℕ) → Option (List Booking)
-judge_written parts (Book s) judge = rebooked (sits judge s.judges) false (booking_of parts s.room s) (parts.judge judge)
-judge_written parts (MoveHearing s) judge =
-    rebooked (sits judge s.judges) (is_before_judge parts s.case s.motion judge) (booking_of parts s.room s) (parts.judge judge)
-judge_written parts (Cancel case motion) judge =
-    if is_before_judge parts case motion judge then Some (without_motion case motion (parts.judge judge)) else None
-judge_written parts _ judge = None
+judge_written parts command judge =
+    option_and_then (λ (r : Rebooking). changed_by (judge_change r judge) (parts.judge judge)) (rebooking_of parts command)
 
--- the calendar of the room, where the command changes it
 abbrev pub room_written : Parts → Command → (room : ℕ) → Option (List Booking)
-room_written parts (Book s) room = rebooked (s.room == room) false (booking_of parts (first_judge s.judges) s) (parts.room room)
-room_written parts (MoveHearing s) room =
-    rebooked (s.room == room) (is_in_room parts s.case s.motion room) (booking_of parts (first_judge s.judges) s) (parts.room room)
-room_written parts (Cancel case motion) room =
-    if is_in_room parts case motion room then Some (without_motion case motion (parts.room room)) else None
-room_written parts _ room = None
+room_written parts command room =
+    option_and_then (λ (r : Rebooking). changed_by (room_change r room) (parts.room room)) (rebooking_of parts command)
 
 -- what a command that isn't refused writes into a part, if it touches it
 abbrev pub changed : Parts → Command → PartId → Option PartValue

@@ -11,11 +11,11 @@ use std::alloc::AllocError;
 pub enum Answer {
     /// The case is open.
     Opened,
-    /// The deadline was given this number in its case, and ends so.
+    /// The deadline was given this number in its case; when its time ends.
     Started(u32, Shown),
     /// The act is recorded; whether it was timely.
     Filed(bool),
-    /// The time is extended, and ends so.
+    /// The time is extended; when it ends now.
     Extended(Shown),
     /// The motion was given this number in its case.
     MotionEntered(u32),

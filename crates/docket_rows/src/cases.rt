@@ -4,16 +4,16 @@ mod changes;
 ghost use Rattle.std.specs.Prelude.{◌≡◌, ◌≤◌, ◌==◌, [], length, find, slice_get, IfOk, option_map, option_copied};
 ghost use Rattle.std.specs.Arc.{arc_value};
 ghost use Rattle.docket_rows.specs.Cases.{NumberedDeadline, NumberedMotion, numbered_deadlines, numbered_motions};
+ghost use Rattle.docket_rows.specs.Limits.{most_deadlines, most_motions};
 
 use crate::motion::MotionRecord;
-use court_days::Day;
+use court_clock::Day;
 use rule_periods::DocketRow;
 use std::alloc::{AllocError, Global};
 use std::marker::Model;
 use std::sync::Arc;
 
-/// A case: the day on which it was filed, and its deadlines and motions, each numbered from 1 in its list, and at most
-/// 64 of each.
+/// A case: the day on which it was filed, and its deadlines and motions, each numbered from 1 in its list.
 #[derive(Debug, Drop)]
 pub struct CaseRecord {
     filed: Day,
@@ -24,12 +24,13 @@ pub struct CaseRecord {
 impl Model for CaseRecord {
     ghost use Rattle.std.specs.Prelude.{◌≤◌, length};
     ghost use Rattle.docket_rows.specs.Cases.{CaseRecordView, numbered_deadlines, numbered_motions};
+    ghost use Rattle.docket_rows.specs.Limits.{most_deadlines, most_motions};
 
     ghost Value = { CaseRecordView };
 
     ghost view = { λ c. record { filed = c.filed; deadlines = numbered_deadlines 1 c.deadlines.items; motions = numbered_motions 1 c.motions.items } };
 
-    ghost invariant = { λ c. (length c.deadlines.items ≤ 64) × (length c.motions.items ≤ 64) };
+    ghost invariant = { λ c. (length c.deadlines.items ≤ most_deadlines) × (length c.motions.items ≤ most_motions) };
 }
 
 impl CaseRecord {
@@ -55,7 +56,7 @@ impl CaseRecord {
     pub fn deadlines(&self) -> &[DocketRow]
         ensures value { numbered_deadlines 1 result.now ≡ self.now.deadlines }
         ensures count { length result.now ≡ length self.now.deadlines }
-        ensures few { length result.now ≤ 64 }
+        ensures few { length result.now ≤ most_deadlines }
     {
         &self.deadlines
     }
@@ -64,7 +65,7 @@ impl CaseRecord {
     pub fn motions(&self) -> &[MotionRecord]
         ensures value { numbered_motions 1 result.now ≡ self.now.motions }
         ensures count { length result.now ≡ length self.now.motions }
-        ensures few { length result.now ≤ 64 }
+        ensures few { length result.now ≤ most_motions }
     {
         &self.motions
     }

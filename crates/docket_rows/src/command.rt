@@ -3,7 +3,8 @@
 ghost use Rattle.std.specs.Prelude.{◌≡◌, IfOk};
 
 use crate::hearing::Setting;
-use court_days::{Day, HolidayList};
+use court_clock::Day;
+use court_days::HolidayList;
 use hearing_slots::Need;
 use rule_periods::{Event, Period, Request};
 use rule6::{Filing, ServiceKind};

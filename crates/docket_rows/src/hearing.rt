@@ -1,6 +1,6 @@
 //! Hearings of motions.
 
-use court_days::Day;
+use court_clock::Day;
 use hearing_slots::Panel;
 
 /// A hearing, as it is set.

@@ -6,9 +6,11 @@ mod cases;
 mod command;
 mod decision;
 mod hearing;
+mod limits;
 mod motion;
 mod part;
 mod query;
+mod rebooking;
 mod refusal;
 mod sheet;
 mod view;
@@ -18,9 +20,11 @@ pub use cases::{CaseRecord, SharedCase};
 pub use command::Command;
 pub use decision::{Decision, Writes};
 pub use hearing::{Hearing, Setting};
+pub use limits::{LAST_CASE, MOST_DATES, MOST_DEADLINES, MOST_GRANTS, MOST_MOTIONS, MOST_OUTAGES};
 pub use motion::MotionRecord;
 pub use part::{PartId, PartValue};
 pub use query::Query;
+pub use rebooking::{Change, Placement, Rebooking};
 pub use refusal::Refusal;
 pub use sheet::{
     Sheet, SheetDeadline, SheetDeadlines, SheetHearing, SheetMotion, SheetMotions, State,

@@ -1,7 +1,7 @@
 //! Motions.
 
 use crate::hearing::Hearing;
-use court_days::Day;
+use court_clock::Day;
 use hearing_slots::Need;
 
 /// A motion of a case, with its hearing if one is set.

@@ -27,7 +27,7 @@ pub enum PartValue {
     Days(Days),
     /// The calendar of a judge or a room.
     Calendar(Calendar),
-    /// A case, or none where it isn't open.
+    /// A case; none where it isn't open.
     Case(Option<SharedCase>),
 }
 

@@ -1,6 +1,6 @@
 //! What can be asked of a docket without changing it.
 
-use court_days::Day;
+use court_clock::Day;
 use rule_periods::{Event, Period};
 use rule6::ServiceKind;
 

@@ -3,7 +3,7 @@
 ghost use Rattle.std.specs.Prelude.{◌≡◌};
 ghost use Rattle.docket_rows.specs.Reasons.{refusal_number, refusal_name, refusal_of};
 
-use court_days::Day;
+use court_clock::Day;
 use rule_periods::PeriodRefusal;
 
 /// A refusal. Its number and its name are those of `number` and `name`.
@@ -53,11 +53,11 @@ pub enum Refusal {
     JudgeBusy(u32, u32),
     /// The room's first booking that clashes, by its case and motion.
     RoomBusy(u32, u32),
-    /// The day stands in that list of holidays.
+    /// The day is in that list of holidays.
     AlreadyHoliday,
-    /// A hearing lies on the day: that of the least case, and of its least motion.
+    /// A hearing is on the day: the first, by case and motion.
     HearingThatDay(u32, u32),
-    /// A hearing would lose its notice: that of the least case, and of its least motion.
+    /// A hearing would lose its notice: the first, by case and motion.
     NoticeLost(u32, u32),
     /// The docket holds as many as it may.
     Full,
@@ -67,7 +67,7 @@ pub enum Refusal {
     NoSuchRoom,
     /// An extension by days or to a date of a period in hours, or by hours of one in days.
     WrongGrant,
-    /// A judge stands twice in the panel.
+    /// A judge is named twice in the panel.
     BadPanel,
 }
 
@@ -109,7 +109,7 @@ impl Refusal {
         }
     }
 
-    /// The name that texts give behind the number.
+    /// The name that texts give after the number.
     pub fn name(&self) -> &'static str
         ensures { result.now ≡ refusal_name self.now }
     {

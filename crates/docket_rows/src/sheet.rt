@@ -3,7 +3,7 @@
 ghost use Rattle.std.specs.Prelude.{◌≡◌, List};
 
 use crate::hearing::Hearing;
-use court_days::Day;
+use court_clock::Day;
 use hearing_slots::Need;
 use rule_periods::DeadlineRow;
 use rule6::Shown;

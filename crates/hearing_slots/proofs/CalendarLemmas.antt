@@ -20,7 +20,7 @@ IsCalendar-filter p bookings h = record {
   once = AllPairs-filter (λ a b. is_of a.case a.motion b ≡ false) p bookings h.once;
 }
 
--- the bookings and one more, behind those that begin before it
+-- the bookings and one more, after those that begin before it
 pub IsCalendar-insert : (bookings : List Booking) (i : ℕ) (b : Booking) → IsCalendar bookings → IsWithinDay b → All (λ a. SharesSlot a b.day b.first b.count → ⊥) bookings → All (λ a. is_of b.case b.motion a ≡ false) bookings → i ≤ length bookings → IsPartitionPoint (λ a. begins_before a b ≡ true) (λ a. begins_before a b ≡ false) bookings i → IsCalendar (insert bookings i b)
 IsCalendar-insert bookings i b h within free only le point = record {
   within_day = All-insert IsWithinDay bookings i b h.within_day within;
@@ -35,7 +35,7 @@ IsCalendar-insert bookings i b h within free only le point = record {
       (λ k d low high. only k d high);
 }
 
--- a booking's place is behind those that begin before it
+-- a booking's place is after those that begin before it
 pub in_place-at : (b : Booking) (bookings : List Booking) (i : ℕ) → i ≤ length bookings → IsPartitionPoint (λ a. begins_before a b ≡ true) (λ a. begins_before a b ≡ false) bookings i → in_place b bookings ≡ insert bookings i b
 in_place-at b bookings i le point =
     rw (filter_front (λ a. begins_before a b) bookings i le point, filter_back (λ a. begins_before a b) bookings i le point) refl

@@ -82,7 +82,7 @@ module _ (days : List DaySlots) (day : ℤ) (place : ℕ) where
   rest : (from : ℕ) → from ≤ length days → AllWithin (λ x. day <ℤ x.day) days from (length days) → All (λ x. has_day day x ≡ false) (drop from days)
   rest from le behind = All-back (λ x. has_day day x ≡ false) days from le (λ k d low high. not_later_of day (get_or days k d) (behind k d low high))
 
-  -- the entries before the place, the one there, and those behind it
+  -- the entries before the place, the one there, and those after it
   split : (e : DaySlots) → place < length days → days ≡ take place days ++ get_or days place e ∷ drop (suc place) days
   split e within = sym (take-append-drop place days) ∙ ap (λ ys. take place days ++ ys) (drop-cons days place e within)
 

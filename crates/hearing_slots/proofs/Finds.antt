@@ -10,7 +10,7 @@ find_absent p [] h = refl
 find_absent p (x ∷ xs) h =
     rw (All-head (λ y. p y ≡ false) x xs h) (find_absent p xs (All-tail (λ y. p y ≡ false) x xs h))
 
--- the element behind a front in which no element passes
+-- the element after a front in which no element passes
 pub find_here : {X : Type 0} (p : X → Bool) (xs : List X) (y : X) (ys : List X) → All (λ x. p x ≡ false) xs → p y ≡ true → find p (xs ++ y ∷ ys) ≡ Some y
 find_here p [] y ys h passes = rw passes refl
 find_here p (x ∷ xs) y ys h passes =
@@ -24,7 +24,7 @@ find_other p (x ∷ xs) y ys fails = elim (cases_Bool (p x)) [
   | inr not_it ↦ rw not_it (find_other p xs y ys fails)
 ]
 
--- r stands at a place of the list and passes the test, and no element before it does
+-- r is at a place of the list and passes the test, and no element before it does
 pub record IsFirst {X : Type 0} (p : X → Bool) (xs : List X) (r : X) : Type 0 where
   pub place : ℕ
   pub within : place < length xs

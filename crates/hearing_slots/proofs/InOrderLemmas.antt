@@ -15,11 +15,11 @@ use Rattle.hearing_slots.proofs.Inserts.{AllPairs-insert}
 use Rattle.hearing_slots.proofs.Holdings.{parting, first_or_later, to_in_place}
 use Rattle.hearing_slots.proofs.CalendarLemmas.{in_place-at}
 
--- none begins before one that stands before it
+-- none begins before one that comes before it in the list
 abbrev pub NoneTooLate : List Booking → Type 0
 NoneTooLate bookings = AllPairs (λ a b. begins_before b a ≡ false) bookings
 
--- what does not begin behind a booking begins before all that this one begins before
+-- what does not begin after a booking begins before all that this one begins before
 no_later : (a b d : Booking) → begins_before b a ≡ false → begins_before b d ≡ true → begins_before a d ≡ true
 no_later a b d h k = grind (arith, ints)
 
@@ -41,7 +41,7 @@ in_place-sorted b bookings sorted =
     (λ k d low high. not_before-after (get_or bookings k d) b (place.2.0 k d low high))
     (λ k d low high. place.2.1 k d low high))
 
--- the bookings of a calendar stand so
+-- the bookings of a calendar are in that order
 pub none_too_late : (bookings : List Booking) → IsCalendar bookings → NoneTooLate bookings
 none_too_late bookings calendar i j d before within = not_before-after (get_or bookings i d) (get_or bookings j d) (calendar.sorted i j d before within)
 
@@ -83,11 +83,11 @@ module _ (p : Booking → Bool) where
         ∙ ap (λ (xs : List Booking). fold (λ sofar b. in_place b sofar) xs (filter p bs)) (filter-in_place-dropped b placed sorted fails))
   ]
 
-  -- what passes a test is put in order as it stands among all
+  -- what passes a test has the same order as among all
   pub filter-in_order : (bookings : List Booking) → filter p (in_order bookings) ≡ in_order (filter p bookings)
   filter-in_order bookings = filter-placed [] bookings (λ i j d before within. absurd (omega arith))
 
--- one booking more, behind all that are put in order
+-- one booking more, after all that are put in order
 pub in_order-push : (bookings : List Booking) (b : Booking) → in_order (bookings ++ b ∷ []) ≡ in_place b (in_order bookings)
 in_order-push bookings b = fold-append (λ sofar a. in_place a sofar) [] bookings (b ∷ [])
 

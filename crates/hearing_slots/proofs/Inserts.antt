@@ -10,14 +10,14 @@ pub All-insert : {X : Type 0} (P : X → Type 0) (xs : List X) (i : ℕ) (y : X)
 All-insert P xs i y all here =
     All-append P (take i xs) (y ∷ drop i xs) (All-take P i xs all) (All-cons P y (drop i xs) here (All-drop P i xs all))
 
--- an element behind the new one stood one place before
+-- an element after the new one was one place before
 get_or-insert_past : {X : Type 0} (xs : List X) (i : ℕ) (y d : X) (k : ℕ) → i < k → i ≤ length xs → get_or (insert xs i y) k d ≡ get_or xs (k - 1) d
 get_or-insert_past xs i y d k past le =
     let next : k ≡ (k - 1) + 1 = omega arith in
     let at : i ≤ k - 1 = omega arith in
     ap (λ (n : ℕ). get_or (insert xs i y) n d) next ∙ get_or-insert_above xs i y d (k - 1) at le
 
--- each element has R to all behind it
+-- each element has R to all after it
 pub AllPairs-insert : {X : Type 0} (R : X → X → Type 0) (xs : List X) (i : ℕ) (y : X) → i ≤ length xs → AllPairs R xs → AllWithin (λ x. R x y) xs 0 i → AllWithin (R y) xs i (length xs) → AllPairs R (insert xs i y)
 AllPairs-insert R xs i y le pairs front back j k d before within =
     let long : length (insert xs i y) ≡ length xs + 1 = length-insert xs i y le in

@@ -1,4 +1,4 @@
--- How bookings stand to one another in time.
+-- The order of bookings in time.
 use Rattle.std.proofs.Common.{◌≡◌, ℕ, ◌+◌, ◌<◌, ◌≤◌, ℤ, int_lt, int_le, true, false, not, ◌&&◌, sym, arith, inl, inr, max, Option}
 use Rattle.std.proofs.lemmas.Int.{ints}
 use Rattle.std.proofs.lemmas.Bool.{cases_Bool, and_parts}
@@ -42,7 +42,7 @@ SharesSlot-sym a b h = record { same_day = sym h.same_day; slot = h.slot; in_boo
 pub is_of-sym : (a b : Booking) → is_of b.case b.motion a ≡ false → is_of a.case a.motion b ≡ false
 is_of-sym a b h = grind arith
 
--- the test tells whether a slot is shared
+-- the test says whether a slot is shared
 pub SharesSlot-from_test : (b : Booking) (day : ℤ) (first count : ℕ) → 1 ≤ b.count → 1 ≤ count → shares_slot b day first count ≡ true → SharesSlot b day first count
 SharesSlot-from_test b day first count some_b some h =
     let later = max b.first first in

@@ -1,4 +1,4 @@
--- A booking of a calendar stands where those that begin before it end.
+-- A booking of a calendar is where those that begin before it end.
 use Rattle.std.proofs.Common.{◌≡◌, ℕ, suc, ◌<◌, ◌≤◌, true, false, not, Some, List, ◌∷◌, ◌++◌, length, get_or, take, drop, sym, ap, ◌∙◌, subst, arith, inl, inr, drop-cons, take-append-drop}
 use Rattle.std.specs.List.{All, filter, find, remove}
 use Rattle.std.specs.List.Sorted.{IsPartitionPoint}
@@ -41,7 +41,7 @@ module _ (bookings : List Booking) (gone : Booking) (calendar : IsCalendar booki
     ]
   ]
 
-  -- the others stand before it and behind it
+  -- the others are before it and after it
   front : All (λ b. not (is_of gone.case gone.motion b) ≡ true) (take found.place bookings)
   front = All-front (λ b. not (is_of gone.case gone.motion b) ≡ true) bookings found.place (λ k d low high. not_from_false _ (found.first k d high))
 

@@ -39,7 +39,7 @@ same_first x xs y ys hx hy (inr behind) (inr too) =
     (All-contains (λ b. begins_before x b ≡ true) xs y (head_first x xs hx) too)
     (All-contains (λ b. begins_before y b ≡ true) ys x (head_first y ys hy) behind))
 
--- what the one list holds behind its first booking the other holds behind its own
+-- what the one list holds after its first booking the other holds after its own
 rest_held : (x : Booking) (xs ys : List Booking) (z : Booking) → InOrder (x ∷ xs) → Contains xs z → (z ≡ x) ⊎ Contains ys z → Contains ys z
 rest_held x xs ys z h held (inr behind) = behind
 rest_held x xs ys z h held (inl same) =

@@ -3,11 +3,11 @@ use Rattle.std.specs.Prelude.{◌≡◌, ℕ, ◌+◌, ◌<◌, ◌≤◌, ℤ, 
 use Rattle.std.specs.Ordering.{int_eq}
 use Rattle.hearing_slots.specs.declared.booking.Booking.{Booking}
 
--- a day has so many slots, numbered from 0
+-- how many slots a day has; they are numbered from 0
 abbrev pub slots_per_day : ℕ
 slots_per_day = 96
 
--- a slot has so many minutes: slot s begins at minute 15·s of the day
+-- how many minutes a slot has: slot s begins at minute 15·s of the day
 abbrev pub minutes_per_slot : ℕ
 minutes_per_slot = 15
 
@@ -16,11 +16,11 @@ pub record IsWithinDay (b : Booking) : Type 0 where
   pub some_slot : 1 ≤ b.count
   pub ends : b.first + b.count ≤ 96
 
--- the slot lies in the span of so many slots from the first on
+-- the slot is one of the span of `count` slots from the first on
 abbrev pub LiesIn : (first count slot : ℕ) → Type 0
 LiesIn first count slot = (first ≤ slot) × (slot < first + count)
 
--- the booking and the span of so many slots from the first on share a slot of the day
+-- the booking and the span of `count` slots from the first on share a slot of the day
 pub record SharesSlot (b : Booking) (day : ℤ) (first count : ℕ) : Type 0 where
   pub same_day : b.day ≡ day
   pub slot : ℕ

@@ -3,7 +3,7 @@ use Rattle.std.specs.Prelude.{◌≡◌, ℕ, ◌≤◌, ℤ, Bool, true, false,
 use Rattle.hearing_slots.specs.declared.booking.Booking.{Booking}
 use Rattle.hearing_slots.specs.Booking.{IsWithinDay, SharesSlot, shares_slot, is_of, is_excepted, is_on, begins_before}
 
--- the bookings are in order, no two of them share a slot of a day, and each case and motion stands once
+-- the bookings are in order, no two of them share a slot of a day, and each case and motion has one at most
 pub record IsCalendar (bookings : List Booking) : Type 0 where
   pub within_day : All IsWithinDay bookings
   pub sorted : AllPairs (λ a b. begins_before a b ≡ true) bookings

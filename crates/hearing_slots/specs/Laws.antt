@@ -16,7 +16,7 @@ BookingKeepsCalendar = (b : Booking) (bookings : List Booking) → IsCalendar bo
 abbrev pub RemovalKeepsCalendar : Type 0
 RemovalKeepsCalendar = (case motion : ℕ) (bookings : List Booking) → IsCalendar bookings → IsCalendar (without_motion case motion bookings)
 
--- a calendar is told by the bookings that it holds
+-- a calendar is known by the bookings that it holds
 abbrev pub SameBookingsSameCalendar : Type 0
 SameBookingsSameCalendar = (xs ys : List Booking) → IsCalendar xs → IsCalendar ys → ((x : Booking) → Contains xs x ↔ Contains ys x) → xs ≡ ys
 
@@ -24,10 +24,10 @@ SameBookingsSameCalendar = (xs ys : List Booking) → IsCalendar xs → IsCalend
 abbrev pub OrderHoldsTheSame : Type 0
 OrderHoldsTheSame = (bookings : List Booking) (x : Booking) → Contains (in_order bookings) x ↔ Contains bookings x
 
--- the bookings that pass a test are put in order as they stand among all
+-- the bookings that pass a test have the same order as among all
 abbrev pub PartsStandInOrder : Type 0
 PartsStandInOrder = (p : Booking → Bool) (bookings : List Booking) → filter p (in_order bookings) ≡ in_order (filter p bookings)
 
--- a booking that replaces an older one of its motion is put in order behind all others of the list
+-- a booking that replaces an older one of its motion is put in order after all others of the list
 abbrev pub BookingIsPutLast : Type 0
 BookingIsPutLast = (b : Booking) (bookings : List Booking) → with_booking b (in_order bookings) ≡ in_order (without_motion b.case b.motion bookings ++ b ∷ [])

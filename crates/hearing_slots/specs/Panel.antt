@@ -7,14 +7,14 @@ use Rattle.hearing_slots.specs.declared.panel.Panel.TheInside.{Inside}
 abbrev pub judges_of : Inside → List ℕ
 judges_of p = take p.count p.numbers
 
--- one to three judges, and zeros in the places behind them
+-- one to three judges, and zeros in the places after them
 pub record IsPanel (p : Inside) : Type 0 where
   pub some_judge : 1 ≤ p.count
   pub at_most_three : p.count ≤ 3
   pub places : length p.numbers ≡ 3
   pub zeros : drop p.count p.numbers ≡ replicate (3 - p.count) 0
 
--- the panel of so many of these judges
+-- the panel of these judges, of whom there are `count`
 abbrev pub placed : (judges : List ℕ) (count : ℕ) → Inside
 placed judges count = record { numbers = judges ++ replicate (3 - count) 0; count = count }
 

@@ -6,7 +6,7 @@ use Rattle.hearing_slots.specs.declared.booking.Booking.{Booking}
 use Rattle.hearing_slots.specs.declared.day_slots.DaySlots.{DaySlots}
 use Rattle.hearing_slots.specs.Calendar.{on_day}
 
--- so many slots from the first on
+-- `count` slots from the first on
 abbrev pub slots_from : (first count : ℕ) → ℕ
 slots_from first count = 2 ^ (first + count) - 2 ^ first
 
@@ -47,7 +47,7 @@ pub record MarksOnly (old new : List DaySlots) (day : ℤ) (taken : ℕ) : Type 
   pub this_day : marked day new ≡ taken
   pub other_days : (q : ℤ) → (q ≡ day → ⊥) → marked q new ≡ marked q old
 
--- the day's entry stands at the place
+-- the day's entry is at this place
 pub record IsDayAt (days : List DaySlots) (day : ℤ) (place : ℕ) : Type 0 where
   pub in_range : place < length days
   pub before : AllWithin (λ x. x.day <ℤ day) days 0 place

@@ -5,7 +5,7 @@ ghost use Rattle.hearing_slots.specs.Booking.{shares_slot, is_of, is_excepted, b
 ghost use Rattle.hearing_slots.specs.Calendar.{conflicts};
 
 use crate::need::Need;
-use court_days::Day;
+use court_clock::Day;
 
 /// How many slots a day has. They are numbered from 0.
 pub const SLOTS_PER_DAY: u8 = 96;
@@ -13,7 +13,7 @@ pub const SLOTS_PER_DAY: u8 = 96;
 /// How long a slot is: slot s begins at minute 15·s of the day.
 pub const MINUTES_PER_SLOT: u8 = 15;
 
-/// A hearing, as it stands in the calendar of one of its judges or of its room.
+/// A hearing in the calendar of one of its judges or of its room.
 #[derive(Clone, Copy, Debug, PartialEq, Eq)]
 pub struct Booking {
     /// The number of the case.

@@ -14,14 +14,14 @@ use crate::indexed::Indexed;
 use crate::motions::{Motions, noted_motions};
 use crate::open_calendar::OpenCalendar;
 use crate::timetable::Timetable;
-use court_days::Day;
+use court_clock::Day;
 use std::alloc::{AllocError, Global};
 use std::marker::Model;
 use std::sync::Arc;
 
-/// The bookings of one judge or one room, by day and on a day by first slot. No two of them share a slot of a day,
-/// and each case and motion stands once. A calendar is changed in place by `open`; `with` and `without` make a new
-/// one, whose copies all share its bookings.
+/// The bookings of one judge or one room, by day and on a day by first slot. No two of them share a slot of a day, and
+/// each case and motion has one at most. A calendar is changed in place by `open`; `with` and `without` make a new one,
+/// whose copies all share its bookings.
 #[derive(Debug, Drop)]
 pub struct Calendar {
     held: Held,

@@ -3,7 +3,7 @@
 ghost use Rattle.std.specs.Prelude.{◌≡◌, ◌+◌, ◌<◌, ◌≤◌, IfOk, IfErr, vec_len, vec_capacity};
 ghost use Rattle.hearing_slots.specs.Slots.{AreMasks, MarksOnly, IsDayAt, IsGapForDay, marked, slots_from};
 
-use court_days::Day;
+use court_clock::Day;
 
 /// The slots that are taken on one day.
 #[derive(Clone, Copy, Debug)]

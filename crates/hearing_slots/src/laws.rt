@@ -1,4 +1,4 @@
-//! Laws of bookings and calendars, for the definitions that stand on them.
+//! Laws of bookings and calendars, for the definitions that rest on them.
 
 ghost use Rattle.std.specs.Prelude.{◌≡◌};
 ghost use Rattle.hearing_slots.specs.declared.booking.TheConstants.{SLOTS_PER_DAY, MINUTES_PER_SLOT};
@@ -36,7 +36,7 @@ pub fn order_holds_the_same()
     ensures { OrderHoldsTheSame }
 {}
 
-/// A part of the bookings stands in the same order as all of them.
+/// A part of the bookings has the same order as among all of them.
 pub fn parts_stand_in_order()
     ensures { PartsStandInOrder }
 {}

@@ -12,7 +12,7 @@ use std::collections::HashMap;
 /// The booking of each motion, by case and motion.
 pub(crate) type Motions = HashMap<(u32, u32), Booking>;
 
-/// The bookings by case and motion, each of which stands once among them.
+/// The bookings by case and motion, each of which is among them once.
 pub(crate) fn noted_motions(alloc: Global, bookings: &[Booking]) -> Result<Motions, AllocError>
     requires { AllPairs (λ a b. is_of a.case a.motion b ≡ false) bookings.now }
     ensures { IfOk result (NotesBookings bookings.now) }

@@ -5,6 +5,6 @@
 pub enum Need {
     /// The motion may be heard ex parte, so it needs no notice.
     ExParte,
-    /// The motion and the notice of its hearing are served at least so many days before the hearing.
+    /// The motion and the notice of its hearing are served at least this many days before the hearing.
     Days(u32),
 }

@@ -38,8 +38,8 @@ impl OpenCalendar {
         OpenCalendar { indexed }
     }
 
-    /// The calendar with the booking in its place, and without an older one of its case and motion. A booking behind
-    /// all others moves none.
+    /// The calendar with the booking in its place, and without an older one of its case and motion. A booking after all
+    /// others moves none.
     pub fn put(self, booking: Booking) -> Calendar
         requires within_day { IsWithinDay booking }
         requires free { IsFree self booking.day booking.first booking.count (Some (booking.case, booking.motion)) }

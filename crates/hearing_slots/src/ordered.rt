@@ -8,7 +8,7 @@ ghost use Rattle.hearing_slots.specs.Slots.{slots_taken};
 
 use crate::booking::Booking;
 use crate::day_slots::slots_from;
-use court_days::Day;
+use court_clock::Day;
 
 /// The bookings of the day.
 pub(crate) fn part_of_day(bookings: &[Booking], day: Day) -> &[Booking]
@@ -68,7 +68,7 @@ fn place_of(bookings: &[Booking], booking: &Booking) -> usize
     bookings.partition_point(|other| other.begins_before(booking))
 }
 
-/// Takes the booking out, which stands among them.
+/// Takes out the booking, which is one of them.
 pub(crate) fn take_out(bookings: &mut Vec<Booking>, gone: Booking)
     requires calendar { IsCalendar bookings.old.items }
     requires stands { find (is_of gone.case gone.motion) bookings.old.items ≡ Some gone }
@@ -79,7 +79,7 @@ pub(crate) fn take_out(bookings: &mut Vec<Booking>, gone: Booking)
     bookings.remove(place);
 }
 
-/// Puts the booking in its place, where none of its case and motion stands and none shares a slot with it.
+/// Puts the booking in its place, where none is of its case and motion and none shares a slot with it.
 pub(crate) fn place_in(bookings: &mut Vec<Booking>, booking: Booking)
     requires calendar { IsCalendar bookings.old.items }
     requires within_day { IsWithinDay booking }

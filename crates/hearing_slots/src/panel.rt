@@ -5,7 +5,7 @@ ghost use Rattle.std.specs.Prelude.{◌≡◌, ◌≤◌, ◌↔◌, length, IsS
 use std::marker::Model;
 
 /// The judges of one hearing: one to three, by their numbers in the court's file, in the order in which they were
-/// named. That no judge stands twice is for its user to see to.
+/// named. That no judge is named twice is for its user to see to.
 #[derive(Clone, Copy, Debug, PartialEq, Eq)]
 pub struct Panel {
     // Past the first `count` there are zeros.

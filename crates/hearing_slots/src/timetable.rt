@@ -7,7 +7,7 @@ ghost use Rattle.hearing_slots.specs.Calendar.{IsCalendar, IsFree, IsLeastConfli
 use crate::booking::Booking;
 use crate::day_slots::{DaySlots, lower, mark, slots_from, taken_on};
 use crate::ordered::{first_of, part_of_day, place_in, slots_on, take_out};
-use court_days::Day;
+use court_clock::Day;
 use std::alloc::{AllocError, Global};
 use std::marker::Model;
 
@@ -140,7 +140,7 @@ impl Timetable {
         self.place(booking);
     }
 
-    /// Takes the booking out, which stands here.
+    /// Takes out the booking, which is one of these.
     fn take(&mut self, gone: Booking)
         requires { find (is_of gone.case gone.motion) self.old.bookings ≡ Some gone }
         ensures value { self.new.bookings ≡ without_motion gone.case gone.motion self.old.bookings }
@@ -153,7 +153,7 @@ impl Timetable {
         lower(&mut self.days, day, left);
     }
 
-    /// Puts the booking in its place, where none of its case and motion stands and none shares a slot with it.
+    /// Puts the booking in its place, where none is of its case and motion and none shares a slot with it.
     fn place(&mut self, booking: Booking)
         requires within_day { IsWithinDay booking }
         requires free { All (λ b. SharesSlot b booking.day booking.first booking.count → ⊥) self.old.bookings }

@@ -49,7 +49,7 @@ row_within clerks names fields row h = by (list_all is_utf8 fields) (ltb (length
     by true false (Some clerk) same (Ok work) e =
         let is_clerk : clerk ≡ row.clerk = cc e in
         let within = clerk_within clerks (column fields 1) clerk same in
-        (omega arith, omega arith)
+        record { from_one = omega arith; to_last = omega arith }
 
 -- the rows of records
 bounded : (clerks : ℕ) (names : Names) (n : ℕ) (records : List (List (List ℕ))) (rows : List Row) → n ≤ most_rows + 1 → rows_from clerks names n records ≡ Ok rows

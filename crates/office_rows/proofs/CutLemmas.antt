@@ -35,7 +35,7 @@ cut_is c text r h low = by r (split_once_first c text r h low)
     by None all = rw (not_below _ _ all) refl
     by (Some x) parts = rw (below _ _ parts.0, parts.1, parts.2) refl
 
--- a text in which no such byte stands is one part
+-- a text without such a byte is one part
 one_part : (p : ℕ → Bool) (text : List ℕ) → position_or_len p text ≡ length text → slice_split p text ≡ text ∷ []
 one_part p [] h = refl
 one_part p (b ∷ text) h = by (p b) h (one_part p text)
@@ -63,7 +63,7 @@ parts-uncut c text h = by (ltb (position_or_len (is_byte c) text) (length text))
         let most = within (is_byte c) text in
         one_part (is_byte c) text (grind (arith, nat_tests))
 
--- a text that is cut has the part before the cut, and those of the text behind it
+-- a text that is cut has the part before the cut, and those of the text after it
 pub parts-cut : (c : ℕ) (text first more : List ℕ) → cut_at c text ≡ Some (first, more) → slice_split (is_byte c) text ≡ first ∷ slice_split (is_byte c) more
 unfolding cut_at
 parts-cut c text first more h = by (ltb (position_or_len (is_byte c) text) (length text)) refl h

@@ -5,7 +5,7 @@ use Rattle.std.proofs.lemmas.Bool.{cases_Bool}
 use Rattle.std.proofs.lemmas.Bool.Decides.{Decides-eqb}
 use Rattle.std.proofs.lemmas.Slice.Eq.{ends_is, starts_is}
 
--- a text that is no front with these bytes behind it doesn't end with them
+-- a text that is no front followed by these bytes doesn't end with them
 pub ends_with-none : (text suffix : List ℕ) → ((front : List ℕ) → text ≢ front ++ suffix) → ends_with eqb text suffix ≡ false
 ends_with-none text suffix none =
     elim (cases_Bool (ends_with eqb text suffix)) [
@@ -13,7 +13,7 @@ ends_with-none text suffix none =
       | inr other ↦ other
     ]
 
--- a text that isn't these bytes with a rest behind them doesn't begin with them
+-- a text that isn't these bytes followed by a rest doesn't begin with them
 pub starts_with-none : (text prefix : List ℕ) → ((rest : List ℕ) → text ≢ prefix ++ rest) → starts_with eqb text prefix ≡ false
 starts_with-none text prefix none =
     elim (cases_Bool (starts_with eqb text prefix)) [

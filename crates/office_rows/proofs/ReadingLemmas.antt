@@ -114,7 +114,7 @@ explains_no_text a b kind.OutOfMemory able e h = cc e
 explains_no_text a b (kind.Serialize why) able e h = cc e
 explains_no_text a b (kind.Deserialize pos err) able e h = cc e
 
--- a record stands there, be it text or not
+-- there is a record, be it text or not
 pub another : {E : Type 0} (a b : Reader (Bor (List ℕ))) (fields : List (List ℕ)) (next : Next) → (next ≡ End → ⊥)
     → (◌≡◌ {A = Result Next E} (Ok next) (Ok Text) → TakesText a b fields) → (◌≡◌ {A = Result Next E} (Ok next) (Ok NotText) → MeetsNoText a) → (first : List (List ℕ)) × (later : List (List (List ℕ))) × (records_left a ≡ first ∷ later)
 another a b fields Text some text no_text = (fields, records_left b, (text refl).next)

@@ -12,7 +12,7 @@ use Rattle.office_rows.specs.Columns.{◌>>=◌}
 use Rattle.office_rows.specs.Names.{Names}
 use Rattle.office_rows.specs.Rows.{AnswersRow, AnswersRows, most_rows, row_of, rows_from}
 
--- the rows behind others that were read before them
+-- the rows after others that were read before them
 abbrev pub behind_rows : List Row → Result (List Row) (ℕ × RowCause) → Result (List Row) (ℕ × RowCause)
 behind_rows before (Ok rows) = Ok (before ++ rows)
 behind_rows before (Err fault) = Err fault

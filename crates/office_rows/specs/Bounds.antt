@@ -1,13 +1,18 @@
 -- What rows that were read come to: how many there may be, and whose.
-use Rattle.std.specs.Prelude.{◌≡◌, ◌≤◌, ℕ, List, length, Ok}
+use Rattle.std.specs.Prelude.{◌≡◌, ◌<◌, ◌≤◌, ℕ, List, length, Ok}
 use Rattle.std.specs.List.{All}
 use Rattle.office_rows.specs.declared.row.Row.{Row}
 use Rattle.office_rows.specs.Names.{Names}
 use Rattle.office_rows.specs.Rows.{rows_of}
 
--- the row is that of one of so many clerks
-abbrev pub IsOfClerk : ℕ → Row → Type 0
-IsOfClerk clerks row = (1 ≤ row.clerk) × (row.clerk ≤ clerks)
+-- this is the number of one of the clerks, who are numbered from 1
+pub record IsClerk (clerks clerk : ℕ) : Type 0 where
+  pub from_one : 0 < clerk
+  pub to_last : clerk ≤ clerks
+
+-- the row is that of one of the clerks
+abbrev pub IsOfClerk : (clerks : ℕ) → Row → Type 0
+IsOfClerk clerks row = IsClerk clerks row.clerk
 
 -- No more rows are read than the office takes, and each is that of one of the clerks.
 abbrev pub RowsAreBounded : Type 0

@@ -2,7 +2,7 @@
 use Rattle.std.specs.Prelude.{ℕ, ◌-◌, List, [], ℤ, Option, Result, Ok, Err, unwrap_or}
 use Rattle.std.specs.Option.{ok_or}
 use Rattle.csv.specs.Records.{field_at}
-use Rattle.court_days.specs.Words.{day_of_text}
+use Rattle.court_clock.specs.Words.{day_of_text}
 use Rattle.office_rows.specs.declared.fault.RowCause.{RowCause}
 use Rattle.office_rows.specs.declared.fault.RowCause.TheVariants.{BadField}
 use Rattle.office_rows.specs.Fields.Numbers.{number_of}

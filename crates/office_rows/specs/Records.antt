@@ -16,7 +16,7 @@ use Rattle.csv.specs.declared.reader.Trim.TheVariants as trim
 abbrev pub all_records : Config → State → List ℕ → List (List (List ℕ))
 all_records cfg s text = records_from cfg (length text + 2) s text
 
--- a reader over a slice that takes records of any number of fields, each as it stands, and no header
+-- a reader over a slice that takes records of any number of fields, each as it is, and no header
 pub record TakesAnyRow (r : Reader (Bor (List ℕ))) : Type 0 where
   pub whole : reader_trim r ≡ trim.None
   pub usual : reader_config r ≡ default_config
@@ -41,7 +41,7 @@ pub record MeetsNoText (old : Reader (Bor (List ℕ))) : Type 0 where
   pub next : records_left old ≡ fields ∷ later
   pub no_text : list_all is_utf8 fields ≡ false
 
--- an error that tells of a field that is no text
+-- an error that says that a field is no text
 abbrev pub tells_no_text : ErrorKind → Bool
 tells_no_text (kind.Utf8 pos err) = true
 tells_no_text (kind.Io err) = false

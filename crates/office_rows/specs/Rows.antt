@@ -28,7 +28,7 @@ row_of clerks names fields =
       work ← work_of names fields
       Ok (record { clerk = clerk; work = work })
 
--- a fault, told with the number of its row
+-- a fault, with the number of its row
 abbrev pub in_row : {A : Type 0} → ℕ → Result A RowCause → Result A (ℕ × RowCause)
 in_row number (Ok x) = Ok x
 in_row number (Err cause) = Err (number, cause)
@@ -37,7 +37,7 @@ in_row number (Err cause) = Err (number, cause)
 abbrev pub most_rows : ℕ
 most_rows = 100_000
 
--- the row that the record of this number spells, counted from 1: no more than so many are taken
+-- the row that the record of this number spells, counted from 1: there are only as many rows as the office takes
 abbrev pub numbered_row : ℕ → Names → ℕ → List (List ℕ) → Result Row (ℕ × RowCause)
 numbered_row clerks names number fields = in_row number (if nat_lt most_rows number then Err TooManyRows else row_of clerks names fields)
 

@@ -20,4 +20,4 @@ unfoldable pub use Rattle.office_rows.specs.Rows.{clerk_of, row_of, rows_from, r
 pub use Rattle.office_rows.specs.FirstFault.{AreSpelled, FirstFaultIsTold, IsFirstFault}
 pub use Rattle.office_rows.specs.Fault.{cause_text}
 pub use Rattle.office_rows.specs.Asked.{RowsAskByTheirWords, form_asking}
-pub use Rattle.office_rows.specs.Bounds.{IsOfClerk, RowsAreBounded}
+pub use Rattle.office_rows.specs.Bounds.{IsClerk, IsOfClerk, RowsAreBounded}

@@ -6,7 +6,7 @@ ghost use Rattle.office_rows.specs.Columns.{column, day_in, number_in};
 
 use crate::fault::RowCause;
 use crate::fields::numbers::number_of;
-use court_days::Day;
+use court_clock::Day;
 use csv::StringRecord;
 
 /// The field in a column, counted from 1; empty where the record has no such column.

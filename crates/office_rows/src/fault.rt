@@ -24,7 +24,7 @@ pub enum RowCause {
     TooManyRows,
 }
 
-/// Writes the number and the name, and behind `BadField` its column.
+/// Writes the number and the name, and after `BadField` its column.
 impl fmt::Display for RowCause {
     ghost use Rattle.std.specs.Prelude.{Some};
     ghost use Rattle.office_rows.specs.Fault.{cause_text};

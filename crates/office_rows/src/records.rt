@@ -20,9 +20,9 @@ use std::alloc::{AllocError, Global};
 /// How many rows the office takes.
 pub const MAX_ROWS: u32 = 100_000;
 
-/// The rows of a text in CSV, for a run with so many clerks. The text has no header; its records may differ in
-/// their number of fields; blank lines are skipped and not counted. Judges
-/// and rooms are numbered as the court's file has them. The first row that can't be read is the fault.
+/// The rows of a text in CSV, for a run with this number of clerks. The text has no header; its records may differ in
+/// their number of fields; blank lines are skipped and not counted. Judges and rooms are numbered as the court's file
+/// has them. The first row that can't be read is the fault.
 pub fn read_rows(
     alloc: Global,
     bytes: &[u8],
@@ -83,7 +83,7 @@ fn numbered_row(
     }
 }
 
-// The row that a record spells, for a run with so many clerks.
+// The row that a record spells, for a run with this number of clerks.
 #[tactic(auto, unfolding(crate::specs::Rows::row_of))]
 fn row_of(clerks: u8, court: &Court, fields: &StringRecord) -> Result<Row, RowCause>
     requires { list_all is_utf8 (fields_of fields.now) ≡ true }

@@ -1,6 +1,6 @@
 //! Rows.
 
-use court_days::Day;
+use court_clock::Day;
 use docket_rows::{Command, Query};
 use rule_periods::{Grant, Request};
 
@@ -22,6 +22,6 @@ pub enum Work {
     Query(Query),
 }
 
-/// Names types that stand inside a row. The checker finds them only where they have names, so a function that puts rows
-/// into a `Vec` has a variable of this type.
+/// Names the types inside a row. The checker finds them only where they have names, so a function that puts rows into a
+/// `Vec` has a variable of this type.
 pub(crate) type RowTypes = Option<(Work, Command, Query, Option<Day>, Grant, Request)>;

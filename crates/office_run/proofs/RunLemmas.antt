@@ -1,4 +1,4 @@
--- What rows are answered one after another, and what stands behind the replies.
+-- What rows are answered one after another, and what comes after the replies.
 use Rattle.std.proofs.Common.{◌≡◌, ◌+◌, ◌-◌, ◌<◌, ◌++◌, ℕ, zero, suc, List, [], ◌∷◌, length, take, get_or, append_assoc, refl, ap, ◌∙◌, arith}
 use Rattle.std.specs.List.{flat_map, range_with_len}
 use Rattle.std.proofs.lemmas.Grind.{take_at_read}

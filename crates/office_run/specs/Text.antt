@@ -18,7 +18,7 @@ abbrev pub reply_text : CourtView → Reply → List ℕ
 reply_text court (Made answer) = answer_text court.clock answer ++ 10 ∷ []
 reply_text court (Viewed view) = view_lines court view
 
--- what stands before a reply: the number of the row, counted from 1, and that of its clerk
+-- what comes before a reply: the number of the row, counted from 1, and that of its clerk
 abbrev pub row_numbers : (number clerk : ℕ) → List ℕ
 row_numbers number clerk = decimal number ++ codes " " ++ decimal clerk ++ codes " "
 
@@ -38,11 +38,11 @@ abbrev pub sheet_shown : CourtView → View → List ℕ
 sheet_shown court (view.Sheet sheet) = sheet_lines court sheet
 sheet_shown court _ = []
 
--- the sheets of so many cases from a first number on, where the parts are these
+-- the sheets of `count` cases from the first number on, where the parts are these
 unfoldable pub sheets_from : CourtView → Parts → (first count : ℕ) → List ℕ
 sheets_from court parts first count = flat_map (λ case. sheet_shown court (seen_by (bench_of court) parts (query.Sheet case))) (range_with_len first count)
 
--- the calendars of so many judges from a first number on
+-- the calendars of `count` judges from the first number on, where the parts are these
 unfoldable pub calendars_from : CourtView → Parts → (first count : ℕ) → List ℕ
 calendars_from court parts first count = flat_map (λ judge. calendar_lines court judge (parts.judge judge)) (range_with_len first count)
 

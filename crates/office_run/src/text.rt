@@ -1,9 +1,9 @@
 //! The text of a run.
 
-ghost use Rattle.std.specs.Prelude.{◌≡◌, ◌+◌, ◌++◌, ◌<◌, ◌≤◌, length, IfOk, OnOk, string_bytes};
+ghost use Rattle.std.specs.Prelude.{◌≡◌, ◌+◌, ◌<◌, ◌≤◌, length, IfOk, OnOk, string_bytes};
 ghost use Rattle.docket_rows.specs.Words.{Rows, bench_of, opening_rows, parts_of};
 ghost use Rattle.docket_core.specs.Words.{StandsFor, parts_held};
-ghost use Rattle.office_texts.specs.Words.{calendar_lines};
+ghost use Rattle.office_texts.specs.Words.{AddsText, calendar_lines};
 ghost use Rattle.office_run.specs.Replies.{Holds, docketed_after};
 ghost use Rattle.office_run.specs.Text.{calendars_from, closing_text, line_of, lines_from, reply_text, row_numbers, run_text, sheet_shown, sheets_from};
 
@@ -37,7 +37,7 @@ fn push_replies(
     rows: &[Row],
 ) -> Result<(), AllocError>
     requires { Holds (bench_of court.now) docket.old (opening_rows (bench_of court.now)) }
-    ensures text { OnOk result (string_bytes text.new ≡ string_bytes text.old ++ lines_from court.now (opening_rows (bench_of court.now)) 1 rows.now) }
+    ensures text { OnOk result (AddsText text.old text.new (lines_from court.now (opening_rows (bench_of court.now)) 1 rows.now)) }
     ensures docket { OnOk result (Holds (bench_of court.now) docket.new (docketed_after (bench_of court.now) (opening_rows (bench_of court.now)) rows.now)) }
 {
     let mut number = 1u64;
@@ -58,16 +58,16 @@ fn push_line(
     clerk: u8,
     reply: &Reply,
 ) -> Result<(), AllocError>
-    ensures { OnOk result (string_bytes text.new ≡ string_bytes text.old ++ line_of court.now number clerk reply.now) }
+    ensures { OnOk result (AddsText text.old text.new (line_of court.now number clerk reply.now)) }
 {
     push_numbers(text, number, clerk)?;
     push_reply(text, court, reply)
 }
 
-/// Adds what stands before a reply: the number of the row, counted from 1, and that of its clerk. `Err` says that memory
+/// Adds what comes before a reply: the number of the row, counted from 1, and that of its clerk. `Err` says that memory
 /// ran out.
 pub fn push_numbers(text: &mut String, number: u64, clerk: u8) -> Result<(), AllocError>
-    ensures { OnOk result (string_bytes text.new ≡ string_bytes text.old ++ row_numbers number clerk) }
+    ensures { OnOk result (AddsText text.old text.new (row_numbers number clerk)) }
 {
     push_number(text, number)?;
     text.push_str(" ")?;
@@ -77,7 +77,7 @@ pub fn push_numbers(text: &mut String, number: u64, clerk: u8) -> Result<(), All
 
 /// Adds the text of a reply, with the ends of its lines. `Err` says that memory ran out.
 pub fn push_reply(text: &mut String, court: &Court, reply: &Reply) -> Result<(), AllocError>
-    ensures { OnOk result (string_bytes text.new ≡ string_bytes text.old ++ reply_text court.now reply.now) }
+    ensures { OnOk result (AddsText text.old text.new (reply_text court.now reply.now)) }
 {
     match reply {
         Reply::Made(answer) => {
@@ -96,14 +96,14 @@ pub fn push_closing(
     docket: &Docket,
 ) -> Result<(), AllocError>
     requires court { docket.now.bench ≡ bench_of court.now }
-    ensures { (docketed : Rows) → StandsFor docket.now docketed → OnOk result (string_bytes text.new ≡ string_bytes text.old ++ closing_text court.now (parts_of docketed)) }
+    ensures { (docketed : Rows) → StandsFor docket.now docketed → OnOk result (AddsText text.old text.new (closing_text court.now (parts_of docketed))) }
 {
     push_sheets(alloc, text, court, docket, 1, 4_096)?;
     push_calendars(text, court, docket, 0, court.judges())?;
     Ok(())
 }
 
-/// Adds the sheets of the open ones of so many cases, from the first number on.
+/// Adds the sheets of those of `count` cases that are open, from the first number on.
 fn push_sheets(
     alloc: Global,
     text: &mut String,
@@ -114,7 +114,7 @@ fn push_sheets(
 ) -> Result<(), AllocError>
     requires court { docket.now.bench ≡ bench_of court.now }
     requires numbers { first + count ≤ 5_000 }
-    ensures { OnOk result (string_bytes text.new ≡ string_bytes text.old ++ sheets_from court.now (parts_held docket.now) first count) }
+    ensures { OnOk result (AddsText text.old text.new (sheets_from court.now (parts_held docket.now) first count)) }
 {
     for case in first..first + count {
         let view = docket.show(alloc, &Query::Sheet(case))?;
@@ -125,7 +125,7 @@ fn push_sheets(
 
 /// Adds the lines of a sheet, where the view is one.
 fn push_sheet_shown(text: &mut String, court: &Court, view: &View) -> Result<(), AllocError>
-    ensures { OnOk result (string_bytes text.new ≡ string_bytes text.old ++ sheet_shown court.now view.now) }
+    ensures { OnOk result (AddsText text.old text.new (sheet_shown court.now view.now)) }
 {
     match view {
         View::Sheet(sheet) => push_sheet(text, court, sheet),
@@ -133,7 +133,7 @@ fn push_sheet_shown(text: &mut String, court: &Court, view: &View) -> Result<(),
     }
 }
 
-/// Adds the calendars of so many judges, from the first number on. `Err` says that memory ran out.
+/// Adds the calendars of `count` judges, from the first number on. `Err` says that memory ran out.
 pub fn push_calendars(
     text: &mut String,
     court: &Court,
@@ -144,7 +144,7 @@ pub fn push_calendars(
     requires court { docket.now.bench ≡ bench_of court.now }
     requires numbers { first + count ≤ length court.now.judges }
     requires few { first + count ≤ 32 }
-    ensures { OnOk result (string_bytes text.new ≡ string_bytes text.old ++ calendars_from court.now (parts_held docket.now) first count) }
+    ensures { OnOk result (AddsText text.old text.new (calendars_from court.now (parts_held docket.now) first count)) }
 {
     for judge in first..first + count {
         push_judge(text, court, docket, judge)?;
@@ -161,7 +161,7 @@ fn push_judge(
 ) -> Result<(), AllocError>
     requires court { docket.now.bench ≡ bench_of court.now }
     requires judge { judge < length court.now.judges }
-    ensures { OnOk result (string_bytes text.new ≡ string_bytes text.old ++ calendar_lines court.now judge ((parts_held docket.now).judge judge)) }
+    ensures { OnOk result (AddsText text.old text.new (calendar_lines court.now judge ((parts_held docket.now).judge judge))) }
 {
     match docket.calendar(judge) {
         Some(calendar) => push_calendar(text, court, judge, calendar.all()),

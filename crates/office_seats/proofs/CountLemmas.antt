@@ -17,7 +17,7 @@ use Rattle.office_seats.specs.Places.{places_after, places_of, Within}
 use Rattle.office_seats.specs.Closed.{TallyView, numbers_of, calls_of, AreApart, IsClosed}
 use Rattle.office_seats.proofs.PlaceLemmas.{within_length, within_whole}
 
--- how often the number stands among these
+-- how often the number is among these
 abbrev often : ℕ → List ℕ → ℕ
 often k [] = 0
 often k (n ∷ ns) = (if k == n then 1 else 0) + often k ns
@@ -46,7 +46,7 @@ often_has k (n ∷ ns) some =
           (suc rest.0, omega (arith, rest.1), rest.2)
     ]) refl some
 
--- how many entries these clerks have together, where each stands once among them
+-- how many entries these clerks have together, where each is once among them
 abbrev total : {C A : Type 0} → (before : ℕ) → List ℕ → List (Entry C A) → ℕ
 total before [] h = 0
 total before (n ∷ ns) h = length (places_after before n h) + total before ns h

@@ -46,7 +46,7 @@ no_others n xs has few (suc k) among =
       | inr within ↦ (omega arith, within)
     ])
 
--- a number that stands again further on may be left out
+-- a number that comes again further on may be left out
 left_out : (before : List ℕ) (x : ℕ) (xs : List ℕ) → Contains xs x → (k : ℕ) → Contains (before ++ x ∷ xs) k → Contains (before ++ xs) k
 left_out [] x xs again k (zero, within, is) = subst (Contains xs) is again
 left_out [] x xs again k (suc i, within, is) = (i, omega (arith, within), is)

@@ -13,7 +13,7 @@ within_push (m ∷ ms) [] place w = absurd w
 within_push (m ∷ ms) (p ∷ ps) place (inl both) = inl (both.0, within_push ms ps place both.1)
 within_push (m ∷ ms) (p ∷ ps) place (inr w) = inr (within_push (m ∷ ms) ps place w)
 
--- more places behind those
+-- more places after those
 pub within_more : (mine places more : List ℕ) → Within mine places → Within mine (places ++ more)
 within_more [] places more w = tt
 within_more (m ∷ ms) [] more w = absurd w
@@ -63,7 +63,7 @@ module _ {Command Answer : Type 0} where
       let all : places_of clerk k ≡ places_of clerk h ++ places_after (0 + length h) clerk begins.0 = ap (places_of clerk) (sym begins.1) ∙ places_append 0 clerk h begins.0 in
       subst (Within mine) (sym all) (within_more mine (places_of clerk h) (places_after (0 + length h) clerk begins.0) w)
 
-  -- an entry of the clerk that comes next has its place behind those
+  -- an entry of the clerk that comes next has its place after those
   pub within_next : (clerk : ℕ) (mine : List ℕ) (h : List (Entry Command Answer)) (e : Entry Command Answer) → e.clerk ≡ clerk → Within mine (places_of clerk h) → Within (mine ++ (length h + 1) ∷ []) (places_of clerk (h ++ e ∷ []))
   within_next clerk mine h e own w =
       subst (Within (mine ++ (length h + 1) ∷ [])) (sym (places_push clerk h e own)) (within_push mine (places_of clerk h) (length h + 1) w)

@@ -14,7 +14,7 @@ use Rattle.shared_docket.specs.Words.{docket_rules}
 use Rattle.published_docket.specs.declared.known.Known.{Known}
 use Rattle.published_docket.specs.Words.{past}
 
--- of this history and this court, the journal is what is published, the store has its parts, and each entry was counted once
+-- the journal is what is published of this history and this court, the store has its parts, and each entry was counted once
 pub record IsBook (history : Book) (bench : Bench) (published : Known) (journal : List (Entry Command Answer)) (store : StoreView Bench PartId PartValue) (total : ℕ) : Type 0 where
   pub published_is : published ≡ record { parts = bench; trail = past history journal }
   pub owner : store.owner ≡ bench

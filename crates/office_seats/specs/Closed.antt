@@ -49,8 +49,8 @@ abbrev pub StaysOpen : (seats : ℕ) → List TallyView → CloseError → Type 
 StaysOpen seats tallies (MissingTally number) = IsFirstMissing seats tallies number
 StaysOpen seats tallies OutOfMemory = HasTallies seats tallies
 
--- the journal is legal, and that of a docket which one clerk gives its commands in order; what each seat had seen is a beginning of it;
--- the calls of each seat are its entries; and it has no others
+-- the journal is legal, and is that of a docket which one clerk gives its commands in order; what each seat had seen is a beginning of it;
+-- the calls of each seat are its entries; it has no other entries
 pub record IsClosed (bench : Bench) (tallies : List TallyView) (journal : List (Entry Command Answer)) : Type 0 where
   pub legal : is_legal (docket_rules bench) journal ≡ true
   pub sequential : IsSequential bench journal

@@ -64,7 +64,7 @@ module _ (bench : Bench) where
     Commits d (Err OutOfMemory) after = LacksMemory d after
     Commits d (Err NothingPrepared) after = ⊥
 
-    -- what this result of making a command, all of whose reads are made now, says; want of memory may come before all else
+    -- what this result of making a command says, where all its reads are made now; want of memory may come before all else
     abbrev pub MakesNow : (clerk : ℕ) → Command → Result Done PerformError → (after : List (Entry Command Answer)) → Type 0
     MakesNow clerk command (Ok done) after = IsMade clerk command done after
     MakesNow clerk command (Err perform.JournalFull) after = IsFull after

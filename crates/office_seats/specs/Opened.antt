@@ -17,7 +17,7 @@ IsLimit limit = limit ≤ 1000000
 abbrev pub open_seat : (limit number : ℕ) → SeatView
 open_seat limit number = record { number = number; limit = limit; seen = []; mine = []; draft = None }
 
--- so many of them, numbered from 1
+-- the first `count` of them, numbered from 1
 abbrev pub open_seats : (limit count : ℕ) → List SeatView
 open_seats limit zero = []
 open_seats limit (suc count) = open_seats limit count ++ open_seat limit (count + 1) ∷ []

@@ -1,8 +1,8 @@
--- Where the entries of a clerk stand in a history.
+-- The places of a clerk's entries in a history.
 use Rattle.std.specs.Prelude.{◌≡◌, ℕ, ◌+◌, ◌==◌, if◌then◌else◌, List, [], ◌∷◌, ◌⊎◌, ⊤}
 use Rattle.versioned_steps.specs.declared.entry.Entry.{Entry}
 
--- the places of the entries of this clerk, rising, where so many entries stand before these; the first place of all is 1
+-- the places of this clerk's entries, rising, where `before` entries come before these; the first place of all is 1
 abbrev pub places_after : {Command Answer : Type 0} → (before : ℕ) → (clerk : ℕ) → List (Entry Command Answer) → List ℕ
 places_after before clerk [] = []
 places_after before clerk (e ∷ es) =

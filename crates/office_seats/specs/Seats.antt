@@ -24,7 +24,7 @@ pub record SeatView : Type 0 where
   pub mine : List ℕ
   pub draft : Option DocketDraft
 
--- the seat is another's no more than before, and has seen no less
+-- the seat keeps its number and its limit, and has seen no less
 pub record Goes (old new : SeatView) : Type 0 where
   pub number : new.number ≡ old.number
   pub limit : new.limit ≡ old.limit

@@ -35,8 +35,8 @@ pub record IsOwn (bench : Bench) (seen : List (Entry Command Answer)) (number : 
   pub clerk : d.clerk ≡ number
   pub room : calls < capacity
 
--- what a seat keeps between two calls: it has seen a beginning of the office's history; its calls are entries of that, counted in its
--- share of the ledger
+-- what a seat keeps between two calls: it has seen a beginning of the office's history; its calls are entries of that beginning, and are
+-- counted in its share of the ledger
 pub record IsSeat (history : Book) (bench : Bench) (trail : Past) (reader : Option (Option Known)) (parts amount number : ℕ) (mine : List ℕ) (capacity : ℕ) (draft : Option DocketDraft) : Type 0 where
   pub book : trail.book ≡ history
   pub known : Option Known

@@ -68,7 +68,6 @@ fn entry_of(draft: &Draft<DocketParts>) -> Entry<Command, Answer>
 }
 
 /// A copy of what is written, which shares what it can. `Err` says that memory ran out.
-// A body that always found no memory would meet this contract, and no test of this crate refuses it yet.
 fn copy_writes(
     alloc: Global,
     writes: &[(PartId, PartValue)],
@@ -85,7 +84,6 @@ fn copy_writes(
 
 impl<L: Names> Book<L> {
     /// The book of an office without entries. `Err` says that memory ran out.
-    // A body that always found no memory would meet this contract, and no test of this crate refuses it yet.
     pub(crate) fn open<R: Wait>(
         rt: &R,
         alloc: Global,
@@ -112,7 +110,6 @@ impl<L: Names> Book<L> {
     }
 
     /// A reader of the docket. `Err` says that there are as many readers as can be, or that memory ran out.
-    // A body that always found no memory would meet this contract, and no test of this crate refuses it yet.
     pub(crate) fn reader<R: Wait>(&mut self, rt: &R) -> Result<DocketReader, AllocError>
         ensures same { self.new ≡ self.old }
         ensures knows { IfOk result (λ r. KnowsOf L.history L.bench (view r.place)) }
@@ -120,10 +117,9 @@ impl<L: Names> Book<L> {
         self.publisher.reader(rt)
     }
 
-    /// Finishes a prepared command as the next entry, where the journal takes one more and no part was touched after the
-    /// draft read it. All memory is taken before the entry is published, or readers are shown it later, so an error leaves
-    /// the journal as it was. The share counts the entry.
-    // A body that always found no memory would meet this contract, and no test of this crate refuses it yet.
+    /// Finishes a prepared command as the next entry, where the journal takes one more and no part was touched after
+    /// the draft read it. The memory is taken before the entry is published, so an error leaves the journal as it was.
+    /// Where there is none to show readers the entry, they are shown it later. The share counts the entry.
     pub(crate) fn commit<R: Wait>(
         &mut self,
         rt: &R,
@@ -162,9 +158,8 @@ impl<L: Names> Book<L> {
         Ok(Done { place, answer })
     }
 
-    /// Commits a seat's draft, where the journal goes on from what the seat has seen, which is then all of it. None where
-    /// it doesn't, which never happens: the seat has seen a beginning of this journal.
-    // A body that always found no memory would meet this contract, and no test of this crate refuses it yet.
+    /// Commits a seat's draft, where the journal goes on from what the seat has seen. The seat has then seen all of it.
+    /// None where it doesn't go on from that, which never happens: the seat has seen a beginning of this journal.
     pub(crate) fn settle<R: Wait>(
         &mut self,
         rt: &R,
@@ -193,7 +188,6 @@ impl<L: Names> Book<L> {
     }
 
     // Makes a command whole: all its parts are read now, so none of them can have been touched later.
-    // A body that always found no memory would meet this contract, and no test of this crate refuses it yet.
     fn make<R: Wait>(
         &mut self,
         rt: &R,
@@ -218,9 +212,8 @@ impl<L: Names> Book<L> {
         }
     }
 
-    /// Makes a seat's command whole, where the journal goes on from what the seat has seen, which is then all of it. None
-    /// where it doesn't, which never happens.
-    // A body that always found no memory would meet this contract, and no test of this crate refuses it yet.
+    /// Makes a seat's command whole, where the journal goes on from what the seat has seen. The seat has then seen all
+    /// of it. None where it doesn't go on from that, which never happens.
     pub(crate) fn settle_now<R: Wait>(
         &mut self,
         rt: &R,
@@ -248,9 +241,9 @@ impl<L: Names> Book<L> {
         Some(result)
     }
 
-    /// The journal, and the tallies of all seats are spent: as the ledger shows, their calls make it up. `Err` says that
-    /// memory ran out; all is then as it was. None where a tally has seen more than this book has, which never happens.
-    // A body that always found no memory would meet this contract, and no test of this crate refuses it yet.
+    /// Gives the journal, and spends the tallies of all seats, whose calls make it up, as the ledger shows. `Err` says
+    /// that memory ran out; all is then as it was. None where a tally has seen more than this book has, which never
+    /// happens.
     pub(crate) fn close(
         &mut self,
         alloc: Global,

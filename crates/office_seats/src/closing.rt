@@ -55,7 +55,7 @@ pub(crate) fn all_seen<L: Names>(tallies: &[Tally<L>], now: &Trail) -> bool
     true
 }
 
-/// Puts the parts of the ledger that the seats had to the rest of it, and spends the tallies.
+/// Adds the seats' parts of the ledger to the rest of it, and spends the tallies.
 pub(crate) fn merge_all<L: Names>(rest: &mut Share<L>, tallies: &mut Vec<Tally<L>>)
     requires { rest.old.parts ≤ L.parts }
     ensures parts { rest.new.parts ≡ rest.old.parts + length tallies.old.items }
@@ -68,7 +68,6 @@ pub(crate) fn merge_all<L: Names>(rest: &mut Share<L>, tallies: &mut Vec<Tally<L
 }
 
 /// A copy of the entries. `Err` says that memory ran out.
-// A body that always found no memory would meet this contract, and no test of this crate refuses it yet.
 pub(crate) fn copy_entries(
     alloc: Global,
     entries: &[Entry<Command, Answer>],
@@ -86,9 +85,8 @@ pub(crate) fn copy_entries(
     Ok(copies)
 }
 
-/// The journal of the book, and the tallies are spent, which are those of all seats. `Err` says that memory ran out; all
-/// is then as it was.
-// A body that always found no memory would meet this contract, and no test of this crate refuses it yet.
+/// Gives the journal of the book, and spends the tallies, which are those of all seats. `Err` says that memory ran out;
+/// all is then as it was.
 pub(crate) fn closed<L: Names, R: Wait>(
     rt: &R,
     alloc: Global,

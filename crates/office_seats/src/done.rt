@@ -2,7 +2,7 @@
 
 use docket_rows::Answer;
 
-/// A finished command: where its entry stands in the one history of the office, and its answer.
+/// A finished command: the place of its entry in the one history of the office, and its answer.
 #[derive(Clone, Copy, Debug, PartialEq, Eq)]
 pub struct Done {
     /// The place of the entry. The first one is at 1.

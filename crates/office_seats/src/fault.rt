@@ -18,8 +18,8 @@ pub enum OfficeError {
     /// 2: the journal is to take more than 1,000,000 entries.
     #[error("a journal takes at most 1,000,000 entries")]
     BadLimit,
-    /// 3: what is published gave a seat no place to read from, or no memory was left to make its reader, which can't be
-    /// told apart. It may come without cause.
+    /// 3: there was no place for a seat to read from, or no memory for its reader. The two can't be told apart. It may
+    /// come without cause.
     #[error("a seat got no place to read from")]
     NoReader,
     /// 4: no memory was left.
@@ -44,7 +44,7 @@ pub enum CommitError {
     /// 2: the journal has as many entries as it takes. The draft is kept.
     #[error("the journal is full")]
     JournalFull,
-    /// 3: an entry has touched this part after the draft read it, and the last one to do so stands at this place. It is
+    /// 3: an entry has touched this part after the draft read it, and this is the place of the last one to do so. It is
     /// the first such part in read order. The draft is dropped.
     #[error("a part was touched after it was read")]
     Stale(PartId, u64),

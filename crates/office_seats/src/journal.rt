@@ -45,7 +45,6 @@ impl Journal {
     }
 
     /// The docket of the court after the commands of the journal. `Err` says that memory ran out.
-    // A body that always found no memory would meet this contract, and no test of this crate refuses it yet.
     pub fn docket(&self, alloc: Global, court: &Court) -> Result<Docket, AllocError>
         ensures bench { IfOk result (λ d. d.bench ≡ bench_of court.now) }
         ensures rows { IfOk result (λ d. StandsFor d (rows_of (bench_of court.now) self.now)) }

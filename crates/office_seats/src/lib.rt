@@ -1,4 +1,5 @@
 //! Clerks in threads of their own: their seats, the office that they share, and its journal.
+//! What refuses a body that always answers want of memory is said in docs/PROMISES.md.
 #![tactic(auto)]
 
 mod book;

@@ -31,7 +31,6 @@ fn is_noted(shown: &Shown, trail: &mut Trail) -> bool
 
 // Notes how far the history has gone, and makes a draft of the command at this moment. None where what is seen is older than
 // what was seen before.
-// A body that always found no memory would meet this contract, and no test of this crate refuses it yet.
 fn read_at(
     alloc: Global,
     shown: &Shown,
@@ -56,7 +55,6 @@ fn read_at(
 
 /// A draft of the clerk's command, all of it read at one moment, up to which the seat has then seen the history. None where
 /// readers aren't shown yet what the seat has seen.
-// A body that always found no memory would meet this contract, and no test of this crate refuses it yet.
 pub(crate) fn looked<L: Names>(
     alloc: Global,
     reader: DocketReader,
@@ -81,7 +79,6 @@ pub(crate) fn looked<L: Names>(
 
 // Notes how far the history has gone, and what the query shows at this moment. None where what is seen is older than what
 // was seen before.
-// A body that always found no memory would meet this contract, and no test of this crate refuses it yet.
 fn show_at(
     alloc: Global,
     shown: &Shown,
@@ -103,7 +100,6 @@ fn show_at(
 
 /// What the query shows at one moment, up to which the seat has then seen the history. None where readers aren't shown yet
 /// what the seat has seen.
-// A body that always found no memory would meet this contract, and no test of this crate refuses it yet.
 pub(crate) fn showed<L: Names>(
     alloc: Global,
     reader: DocketReader,

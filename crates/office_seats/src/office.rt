@@ -63,8 +63,7 @@ fn end_book<L: Names, R: Wait>(rt: &R, book: Arc<Mutex<Book<L>>>) {
     }
 }
 
-// So many seats, numbered from 1. Each takes one part of the rest of the ledger.
-// A body that always found no memory would meet this contract, and no test of this crate refuses it yet.
+// The seats, numbered from 1. Each takes one part of the rest of the ledger.
 fn seats_of<L: Names, R: Wait>(
     rt: &R,
     alloc: Global,
@@ -105,10 +104,8 @@ fn seats_of<L: Names, R: Wait>(
 }
 
 impl<L: Names> Office<L> {
-    /// Opens an office for so many clerks, and gives their seats, numbered from 1 in this order. Its journal takes so many
-    /// entries at most. The blank has 64 parts, and the publisher was made of this court; they are spent also where an Err
-    /// comes.
-    // A body that always found no memory would meet this contract, and no test of this crate refuses it yet.
+    /// Opens an office, and gives its seats, numbered from 1 in this order. Its journal takes no more entries than the
+    /// limit. The blank has 64 parts, and the publisher was made of this court. Both are spent also where an Err comes.
     #[tactic(auto, using(crate::proofs::OpenedLemmas::late_refused))]
     pub fn new<R: Wait>(
         rt: &R,
@@ -145,10 +142,9 @@ impl<L: Names> Office<L> {
     }
 
     /// Closes the office, once all its seats were left, and gives the journal of all that their clerks finished: each
-    /// tally's calls are its entries of that number, and it has no others. `Err` gives back the office and the tallies; it
-    /// is `MissingTally` of the least number without a tally, or else `OutOfMemory`. The tallies are of seats of this
-    /// office, since `L` names it, and if no seat's is missing there is one of each.
-    // A body that always found no memory would meet this contract, and no test of this crate refuses it yet.
+    /// tally's calls are its entries of that number, and it has no others. `Err` gives back the office and the tallies.
+    /// It is `MissingTally` of the least number without a tally, or else `OutOfMemory`. The tallies are of seats of
+    /// this office, since `L` names it. If no seat's is missing there is one of each.
     pub fn close<R: Wait>(
         self,
         rt: &R,

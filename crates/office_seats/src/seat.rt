@@ -117,7 +117,6 @@ impl<L: Names> Seat<L> {
 
     // Reads all parts of a command at one moment, and decides it on them. The new draft takes the place of an older one. `Err`
     // says that memory ran out, and None that readers aren't shown yet what the seat has seen; an older draft then stays.
-    // A body that always found no memory would meet this contract, and no test of this crate refuses it yet.
     fn draw(&mut self, alloc: Global, command: Command) -> Option<Result<(), AllocError>>
         ensures goes { Goes self.old self.new }
         ensures mine { self.new.mine ≡ self.old.mine }
@@ -148,7 +147,6 @@ impl<L: Names> Seat<L> {
     /// Reads all parts of a command at one moment, and decides it on them. The new draft takes the place of an older one.
     /// `Err` says that memory ran out, now or before readers could be shown what the seat has seen; an older draft then
     /// stays.
-    // A body that always found no memory would meet this contract, and no test of this crate refuses it yet.
     pub fn prepare(&mut self, alloc: Global, command: Command) -> Result<(), AllocError>
         ensures goes { Goes self.old self.new }
         ensures mine { self.new.mine ≡ self.old.mine }
@@ -164,7 +162,6 @@ impl<L: Names> Seat<L> {
 
     /// What the query shows of the docket at one moment, or why it is refused. `Err` says that memory ran out, now or
     /// before readers could be shown what the seat has seen.
-    // A body that always found no memory would meet this contract, and no test of this crate refuses it yet.
     pub fn show(&mut self, alloc: Global, query: &Query) -> Result<View, AllocError>
         ensures goes { Goes self.old self.new }
         ensures mine { self.new.mine ≡ self.old.mine }
@@ -185,7 +182,6 @@ impl<L: Names> Seat<L> {
     /// Finishes the command of the draft, where the journal takes one more entry and no part was touched after the draft
     /// read it. An `Ok` and `Stale` spend the draft; the other errors keep it. A refusal by the docket is an answer of a
     /// finished command.
-    // A body that always found no memory would meet this contract, and no test of this crate refuses it yet.
     pub fn commit<R: Wait>(&mut self, rt: &R, alloc: Global) -> Result<Done, CommitError>
         ensures { SeatCommits L.bench self.old result self.new }
     {
@@ -219,7 +215,6 @@ impl<L: Names> Seat<L> {
 
     // Prepares and commits the command once. None where readers aren't shown yet what the seat has seen, or a part was
     // touched in between; nothing is finished then, and no draft is left.
-    // A body that always found no memory would meet this contract, and no test of this crate refuses it yet.
     fn try_once<R: Wait>(
         &mut self,
         rt: &R,
@@ -235,7 +230,7 @@ impl<L: Names> Seat<L> {
         match self.draw(alloc, *command) {
             Some(Ok(())) => {}
             Some(Err(AllocError)) => {
-                // It tells that what was seen is legal.
+                // Its contract says that what was seen is legal.
                 let _seen = self.seen();
                 return Some(Err(PerformError::OutOfMemory));
             }
@@ -254,7 +249,6 @@ impl<L: Names> Seat<L> {
 
     // Makes the command while it holds the lock, so that no part can be touched in between. An older
     // draft is dropped.
-    // A body that always found no memory would meet this contract, and no test of this crate refuses it yet.
     fn make<R: Wait>(
         &mut self,
         rt: &R,
@@ -285,11 +279,10 @@ impl<L: Names> Seat<L> {
         }
     }
 
-    /// Finishes a command. It is prepared and committed up to so many times, until no part was touched in between; then
-    /// it is made while no other clerk can finish one, so it is never stale, nor does it wait for readers to be shown what
-    /// the seat has seen. An older draft is dropped, and none is left.
-    /// A refusal by the docket is an answer of a finished command.
-    // A body that always found no memory would meet this contract, and no test of this crate refuses it yet.
+    /// Finishes a command. It is prepared and committed as often as is asked, until no part was touched in between.
+    /// After that it is made while no other clerk can finish one. So it is never stale, and it never waits for readers
+    /// to be shown what the seat has seen. An older draft is dropped, and none is left. A refusal by the docket is an
+    /// answer of a finished command.
     pub fn perform<R: Wait>(
         &mut self,
         rt: &R,

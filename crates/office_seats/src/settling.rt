@@ -19,8 +19,8 @@ use std::sync::ledger::Share;
 use std::sync::{Mutex, MutexGuard, Wait};
 use versioned_steps::Draft;
 
-/// Takes the lock of the book. It is held for some microseconds at a time, so who waits for it looks again soon, and yields
-/// the processor in between: to sleep and to be woken would take longer than the wait.
+/// Takes the lock of the book. It is held for some microseconds at a time. So a thread that waits for it looks again
+/// soon, and yields the processor in between; to sleep and be woken would take longer.
 fn taken<'b, L: Names, R: Wait>(rt: &R, book: &'b Mutex<Book<L>>) -> MutexGuard<'b, Book<L>> {
     let backoff = Backoff::new();
     for _ in rt.forever() {
@@ -33,7 +33,6 @@ fn taken<'b, L: Names, R: Wait>(rt: &R, book: &'b Mutex<Book<L>>) -> MutexGuard<
 }
 
 /// Commits a seat's draft at the end of the journal, all of which the seat has then seen.
-// A body that always found no memory would meet this contract, and no test of this crate refuses it yet.
 pub(crate) fn settled<L: Names, R: Wait>(
     rt: &R,
     alloc: Global,
@@ -61,7 +60,6 @@ pub(crate) fn settled<L: Names, R: Wait>(
 }
 
 /// Makes a seat's command whole at the end of the journal, all of which the seat has then seen.
-// A body that always found no memory would meet this contract, and no test of this crate refuses it yet.
 pub(crate) fn made<L: Names, R: Wait>(
     rt: &R,
     alloc: Global,

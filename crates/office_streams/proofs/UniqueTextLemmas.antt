@@ -1,7 +1,8 @@
 -- Two texts of one input are equal, since their courts are one.
 use Rattle.std.proofs.Common.{◌≡◌, ◌∙◌, ℕ, List, Result, Ok, Err, refl, sym, ap}
 use Rattle.court_days.specs.declared.fault.CourtFault.{CourtFault}
-use Rattle.court_days.specs.Words.{CourtFile, TextsNameClocks, court_in}
+use Rattle.court_clock.specs.Words.{TextsNameClocks}
+use Rattle.court_days.specs.Words.{CourtFile, court_in}
 use Rattle.office_rows.specs.declared.fault.RowCause.{RowCause}
 use Rattle.office_rows.specs.declared.row.Row.{Row}
 use Rattle.office_rows.specs.Words.{rows_of}

@@ -1,8 +1,9 @@
 -- What is printed is the same by each value of one court.
 use Rattle.std.proofs.Common.{◌≡◌, ◌++◌, ℕ, List, [], ◌∷◌, Option, Some, None, true, false, codes, decimal, refl, ap}
 use Rattle.std.specs.List.{flat_map}
-use Rattle.court_days.specs.Words.{ClockView, CourtView, IsSameCourt, IsSameCourtClock, day_text}
-use Rattle.court_days.proofs.CallerLemmas.{civil_of_alike}
+use Rattle.court_clock.specs.Words.{ClockView, IsSameCourtClock, day_text}
+use Rattle.court_days.specs.Words.{CourtView, IsSameCourt}
+use Rattle.court_clock.proofs.CallerLemmas.{civil_of_alike}
 use Rattle.rule6.specs.declared.timeliness.Shown.{Shown}
 use Rattle.rule6.specs.declared.timeliness.Shown.TheVariants as shown
 use Rattle.hearing_slots.specs.declared.booking.Booking.{Booking}

@@ -1,7 +1,7 @@
 -- The text of what a command is answered.
 use Rattle.std.specs.Prelude.{List, ℕ, true, false, ◌++◌, codes}
 use Rattle.std.specs.Fmt.{decimal}
-use Rattle.court_days.specs.Words.{ClockView}
+use Rattle.court_clock.specs.Words.{ClockView}
 use Rattle.docket_rows.specs.declared.answer.Answer.{Answer}
 use Rattle.docket_rows.specs.declared.answer.Answer.TheVariants.{Opened, Started, Filed, Extended, MotionEntered, Booked, Moved, Cancelled, HolidayEntered, OutageEntered, Refused}
 use Rattle.office_texts.specs.Refusals.{refusal_text}

@@ -2,7 +2,8 @@
 use Rattle.std.specs.Prelude.{ℕ, ℤ, ◌*◌, ◌/◌, ◌%◌, ◌==◌, List, [], ◌∷◌, ◌++◌, slice_get, unwrap_or, codes, if◌then◌else◌}
 use Rattle.std.specs.Fmt.{decimal}
 use Rattle.std.specs.List.{flat_map}
-use Rattle.court_days.specs.Words.{CourtView, day_text, minute_text}
+use Rattle.court_clock.specs.Words.{day_text, minute_text}
+use Rattle.court_days.specs.Words.{CourtView}
 use Rattle.hearing_slots.specs.declared.booking.Booking.{Booking}
 
 -- the name of that number; a number that the court hasn't, has no name

@@ -1,3 +1,4 @@
+pub mod Added
 pub mod Answers
 pub mod Calendars
 pub mod Periods

@@ -1,8 +1,8 @@
 -- The text of a period, as rows name it.
 use Rattle.std.specs.Prelude.{ℕ, Bool, true, false, List, ◌++◌, codes}
 use Rattle.std.specs.Fmt.{decimal}
-use Rattle.court_days.specs.declared.direction.Direction.{Direction}
-use Rattle.court_days.specs.declared.direction.Direction.TheVariants.{After, Before}
+use Rattle.court_clock.specs.declared.direction.Direction.{Direction}
+use Rattle.court_clock.specs.declared.direction.Direction.TheVariants.{After, Before}
 use Rattle.rule6.specs.declared.timeliness.Act.{Act}
 use Rattle.rule6.specs.declared.timeliness.Act.TheVariants.{Filing, Service}
 use Rattle.rule_periods.specs.declared.period.Entered.{Entered}

@@ -1,7 +1,7 @@
 -- The text of a refusal: its number, its name, and what it names.
 use Rattle.std.specs.Prelude.{ℕ, List, [], ◌++◌, codes}
 use Rattle.std.specs.Fmt.{decimal}
-use Rattle.court_days.specs.Words.{day_text}
+use Rattle.court_clock.specs.Words.{day_text}
 use Rattle.docket_rows.specs.declared.refusal.Refusal.{Refusal}
 use Rattle.docket_rows.specs.declared.refusal.Refusal.TheVariants.{ShortNotice, JudgeBusy, RoomBusy, HearingThatDay, NoticeLost}
 use Rattle.docket_rows.specs.Words.{refusal_number, refusal_name}

@@ -2,7 +2,8 @@
 use Rattle.std.specs.Prelude.{ℕ, ℤ, List, [], ◌∷◌, ◌++◌, Option, Some, None, codes}
 use Rattle.std.specs.Fmt.{decimal}
 use Rattle.std.specs.List.{flat_map}
-use Rattle.court_days.specs.Words.{ClockView, CourtView, day_text, minute_text}
+use Rattle.court_clock.specs.Words.{ClockView, day_text, minute_text}
+use Rattle.court_days.specs.Words.{CourtView}
 use Rattle.rule6.specs.declared.timeliness.Filing.{Filing}
 use Rattle.rule6.specs.declared.timeliness.Means.{Means}
 use Rattle.rule6.specs.declared.timeliness.Means.TheVariants.{Electronic, Paper}

@@ -1,7 +1,7 @@
 -- What is shown of a deadline.
 use Rattle.std.specs.Prelude.{ℕ, ◌/◌, ◌%◌, List, ◌∷◌, ◌++◌, Option, Some, None, codes}
 use Rattle.jiff_fmt.specs.Text.{pad2}
-use Rattle.court_days.specs.Words.{ClockView, CivilTime, civil_of, day_text}
+use Rattle.court_clock.specs.Words.{ClockView, CivilTime, civil_of, day_text}
 use Rattle.rule6.specs.declared.timeliness.Shown.{Shown}
 use Rattle.rule6.specs.declared.timeliness.Shown.TheVariants as shown
 

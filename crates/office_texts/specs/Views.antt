@@ -8,7 +8,7 @@ use Rattle.office_texts.specs.Refusals.{refusal_text}
 use Rattle.office_texts.specs.Sheets.{sheet_lines}
 use Rattle.office_texts.specs.Shown.{shown_text}
 
--- a line, and behind `sheet` and `calendar` the lines of the sheet and of that day's bookings
+-- a line; after `sheet` and `calendar` come the lines of the sheet and of that day's bookings
 unfoldable pub view_lines : CourtView → View → List ℕ
 view_lines court (view.Sheet s) = codes "sheet" ++ 10 ∷ sheet_lines court s
 view_lines court (view.Bookings bookings) = codes "calendar" ++ 10 ∷ booking_lines court bookings

@@ -1,4 +1,5 @@
 -- The words of clauses and definitions, for the crates above, from one place.
+pub use Rattle.office_texts.specs.Added.{AddsText}
 pub use Rattle.office_texts.specs.Shown.{time_text, end_text, shown_text}
 pub use Rattle.office_texts.specs.Refusals.{motion_named, refusal_detail}
 unfoldable pub use Rattle.office_texts.specs.Refusals.{refusal_text}

@@ -1,19 +1,20 @@
 //! What commands are answered.
 
-ghost use Rattle.std.specs.Prelude.{◌≡◌, ◌++◌, OnOk, string_bytes};
+ghost use Rattle.std.specs.Prelude.{OnOk};
+ghost use Rattle.office_texts.specs.Added.{AddsText};
 ghost use Rattle.office_texts.specs.Answers.{answer_text};
 
 use crate::numbers::push_number;
 use crate::refusals::push_refusal;
 use crate::shown::push_shown;
-use court_days::Clock;
+use court_clock::Clock;
 use docket_rows::Answer;
 use std::alloc::AllocError;
 
 /// Adds what a command is answered, without the end of its line. `Err` says that memory ran out.
 #[tactic(auto, unfolding(crate::specs::Answers::answer_text))]
 pub fn push_answer(text: &mut String, clock: &Clock, answer: &Answer) -> Result<(), AllocError>
-    ensures { OnOk result (string_bytes text.new ≡ string_bytes text.old ++ answer_text clock.now answer.now) }
+    ensures { OnOk result (AddsText text.old text.new (answer_text clock.now answer.now)) }
 {
     match answer {
         Answer::Opened => text.push_str("opened"),

@@ -1,10 +1,12 @@
 //! The lines of a judge's calendar.
 
-ghost use Rattle.std.specs.Prelude.{◌≡◌, ◌++◌, OnOk, string_bytes};
+ghost use Rattle.std.specs.Prelude.{◌≡◌, OnOk};
+ghost use Rattle.office_texts.specs.Added.{AddsText};
 ghost use Rattle.office_texts.specs.Calendars.{booking_line, booking_lines, calendar_lines, name_of, slot_text, slots_text, span_text};
 
 use crate::numbers::{push_minute, push_number};
-use court_days::{Court, Day};
+use court_clock::Day;
+use court_days::Court;
 use hearing_slots::Booking;
 use std::alloc::AllocError;
 use std::fmt::Write;
@@ -17,7 +19,7 @@ pub fn push_calendar(
     judge: u8,
     bookings: &[Booking],
 ) -> Result<(), AllocError>
-    ensures { OnOk result (string_bytes text.new ≡ string_bytes text.old ++ calendar_lines court.now judge bookings.now) }
+    ensures { OnOk result (AddsText text.old text.new (calendar_lines court.now judge bookings.now)) }
 {
     text.push_str("judge ")?;
     text.push_str(judge_name(court, judge))?;
@@ -31,7 +33,7 @@ pub(crate) fn push_bookings(
     court: &Court,
     bookings: &[Booking],
 ) -> Result<(), AllocError>
-    ensures { OnOk result (string_bytes text.new ≡ string_bytes text.old ++ booking_lines court.now bookings.now) }
+    ensures { OnOk result (AddsText text.old text.new (booking_lines court.now bookings.now)) }
 {
     for booking in bookings {
         push_booking(text, court, booking)?;
@@ -42,7 +44,7 @@ pub(crate) fn push_bookings(
 /// Adds the line of a booking.
 #[tactic(auto, unfolding(crate::specs::Calendars::booking_line))]
 fn push_booking(text: &mut String, court: &Court, booking: &Booking) -> Result<(), AllocError>
-    ensures { OnOk result (string_bytes text.new ≡ string_bytes text.old ++ booking_line court.now booking.now) }
+    ensures { OnOk result (AddsText text.old text.new (booking_line court.now booking.now)) }
 {
     let case = booking.case;
     let motion = booking.motion;
@@ -54,7 +56,7 @@ fn push_booking(text: &mut String, court: &Court, booking: &Booking) -> Result<(
 
 /// Adds the day of a hearing, when it begins, and how long it takes.
 pub(crate) fn push_span(text: &mut String, day: Day, first: u8, count: u8) -> Result<(), AllocError>
-    ensures { OnOk result (string_bytes text.new ≡ string_bytes text.old ++ span_text day first count) }
+    ensures { OnOk result (AddsText text.old text.new (span_text day first count)) }
 {
     write!(text, "{day} ")?;
     push_slot(text, first)?;
@@ -64,14 +66,14 @@ pub(crate) fn push_span(text: &mut String, day: Day, first: u8, count: u8) -> Re
 
 /// Adds when the slot begins: slot s begins at minute 15·s of the day.
 fn push_slot(text: &mut String, first: u8) -> Result<(), AllocError>
-    ensures { OnOk result (string_bytes text.new ≡ string_bytes text.old ++ slot_text first) }
+    ensures { OnOk result (AddsText text.old text.new (slot_text first)) }
 {
     push_minute(text, 15 * u16::from(first))
 }
 
 /// Adds how many slots a hearing takes: in half hours, or, where that isn't a whole number, in quarter hours.
 fn push_slots(text: &mut String, count: u8) -> Result<(), AllocError>
-    ensures { OnOk result (string_bytes text.new ≡ string_bytes text.old ++ slots_text count) }
+    ensures { OnOk result (AddsText text.old text.new (slots_text count)) }
 {
     if count % 2 == 0 {
         push_number(text, u64::from(count / 2))

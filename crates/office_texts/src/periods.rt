@@ -1,10 +1,11 @@
 //! Periods, as rows name them.
 
-ghost use Rattle.std.specs.Prelude.{◌≡◌, ◌++◌, OnOk, string_bytes};
+ghost use Rattle.std.specs.Prelude.{◌≡◌, OnOk};
+ghost use Rattle.office_texts.specs.Added.{AddsText};
 ghost use Rattle.office_texts.specs.Periods.{act_text, direction_text, entered_text, length_text, mark_text, period_text, start_text};
 
 use crate::numbers::push_number;
-use court_days::Direction;
+use court_clock::Direction;
 use rule_periods::{Entered, Length, Mark, Period};
 use rule6::Act;
 use std::alloc::AllocError;
@@ -12,7 +13,7 @@ use std::alloc::AllocError;
 /// Adds the code of a period that the Rules set, or the five words of one that a court enters.
 #[tactic(auto, unfolding(crate::specs::Periods::period_text))]
 pub(crate) fn push_period(text: &mut String, period: &Period) -> Result<(), AllocError>
-    ensures { OnOk result (string_bytes text.new ≡ string_bytes text.old ++ period_text period.now) }
+    ensures { OnOk result (AddsText text.old text.new (period_text period.now)) }
 {
     match period {
         Period::Rule(rule) => text.push_str(rule.code()),
@@ -22,7 +23,7 @@ pub(crate) fn push_period(text: &mut String, period: &Period) -> Result<(), Allo
 
 /// Adds the five words of a period that a court enters.
 fn push_entered(text: &mut String, entered: &Entered) -> Result<(), AllocError>
-    ensures { OnOk result (string_bytes text.new ≡ string_bytes text.old ++ entered_text entered.now) }
+    ensures { OnOk result (AddsText text.old text.new (entered_text entered.now)) }
 {
     push_length(text, entered.length)?;
     text.push_str("/")?;
@@ -36,7 +37,7 @@ fn push_entered(text: &mut String, entered: &Entered) -> Result<(), AllocError>
 }
 
 fn push_length(text: &mut String, length: Length) -> Result<(), AllocError>
-    ensures { OnOk result (string_bytes text.new ≡ string_bytes text.old ++ length_text length) }
+    ensures { OnOk result (AddsText text.old text.new (length_text length)) }
 {
     match length {
         Length::Days(days) => {

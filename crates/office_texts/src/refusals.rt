@@ -1,6 +1,7 @@
 //! Refusals.
 
-ghost use Rattle.std.specs.Prelude.{◌≡◌, ◌++◌, OnOk, string_bytes};
+ghost use Rattle.std.specs.Prelude.{OnOk};
+ghost use Rattle.office_texts.specs.Added.{AddsText};
 ghost use Rattle.office_texts.specs.Refusals.{motion_named, refusal_detail, refusal_text};
 
 use crate::numbers::push_number;
@@ -11,7 +12,7 @@ use std::fmt::Write;
 /// Adds the number and the name of a refusal, and the day or the motion that it names.
 #[tactic(auto, unfolding(crate::specs::Refusals::refusal_text))]
 pub(crate) fn push_refusal(text: &mut String, refusal: &Refusal) -> Result<(), AllocError>
-    ensures { OnOk result (string_bytes text.new ≡ string_bytes text.old ++ refusal_text refusal.now) }
+    ensures { OnOk result (AddsText text.old text.new (refusal_text refusal.now)) }
 {
     push_number(text, u64::from(refusal.number()))?;
     text.push_str(" ")?;
@@ -21,7 +22,7 @@ pub(crate) fn push_refusal(text: &mut String, refusal: &Refusal) -> Result<(), A
 
 /// Adds the day or the motion that the refusal names.
 fn push_detail(text: &mut String, refusal: &Refusal) -> Result<(), AllocError>
-    ensures { OnOk result (string_bytes text.new ≡ string_bytes text.old ++ refusal_detail refusal.now) }
+    ensures { OnOk result (AddsText text.old text.new (refusal_detail refusal.now)) }
 {
     match refusal {
         Refusal::ShortNotice(latest) => write!(text, " {latest}"),
@@ -35,7 +36,7 @@ fn push_detail(text: &mut String, refusal: &Refusal) -> Result<(), AllocError>
 
 /// Adds a case and one of its motions.
 fn push_motion(text: &mut String, case: u32, motion: u32) -> Result<(), AllocError>
-    ensures { OnOk result (string_bytes text.new ≡ string_bytes text.old ++ motion_named case motion) }
+    ensures { OnOk result (AddsText text.old text.new (motion_named case motion)) }
 {
     text.push_str(" ")?;
     push_number(text, u64::from(case))?;

@@ -2,11 +2,13 @@
 mod deadlines;
 mod motions;
 
-ghost use Rattle.std.specs.Prelude.{◌≡◌, ◌++◌, OnOk, string_bytes};
+ghost use Rattle.std.specs.Prelude.{OnOk};
 ghost use Rattle.std.specs.List.{flat_map};
+ghost use Rattle.office_texts.specs.Added.{AddsText};
 ghost use Rattle.office_texts.specs.Sheets.{case_line, deadline_line, motion_lines, sheet_lines};
 
-use court_days::{Clock, Court};
+use court_clock::Clock;
+use court_days::Court;
 pub use deadlines::push_deadline;
 use docket_rows::{Sheet, SheetDeadline, SheetMotion};
 use motions::push_motion;
@@ -16,7 +18,7 @@ use std::fmt::Write;
 /// Adds the lines of a sheet: its case, then its deadlines, then its motions. `Err` says that memory ran out.
 #[tactic(auto, unfolding(crate::specs::Sheets::sheet_lines))]
 pub fn push_sheet(text: &mut String, court: &Court, sheet: &Sheet) -> Result<(), AllocError>
-    ensures { OnOk result (string_bytes text.new ≡ string_bytes text.old ++ sheet_lines court.now sheet.now) }
+    ensures { OnOk result (AddsText text.old text.new (sheet_lines court.now sheet.now)) }
 {
     push_case(text, sheet)?;
     push_deadlines(text, court.clock(), sheet.deadlines.as_slice())?;
@@ -25,7 +27,7 @@ pub fn push_sheet(text: &mut String, court: &Court, sheet: &Sheet) -> Result<(),
 
 /// Adds the first line of a sheet, that of its case. `Err` says that memory ran out.
 pub fn push_case(text: &mut String, sheet: &Sheet) -> Result<(), AllocError>
-    ensures { OnOk result (string_bytes text.new ≡ string_bytes text.old ++ case_line sheet.now) }
+    ensures { OnOk result (AddsText text.old text.new (case_line sheet.now)) }
 {
     let case = sheet.case;
     let filed = sheet.filed;
@@ -38,7 +40,7 @@ fn push_deadlines(
     clock: &Clock,
     deadlines: &[SheetDeadline],
 ) -> Result<(), AllocError>
-    ensures { OnOk result (string_bytes text.new ≡ string_bytes text.old ++ flat_map (deadline_line clock.now) deadlines.now) }
+    ensures { OnOk result (AddsText text.old text.new (flat_map (deadline_line clock.now) deadlines.now)) }
 {
     for deadline in deadlines {
         push_deadline(text, clock, deadline)?;
@@ -52,7 +54,7 @@ pub fn push_motions(
     court: &Court,
     motions: &[SheetMotion],
 ) -> Result<(), AllocError>
-    ensures { OnOk result (string_bytes text.new ≡ string_bytes text.old ++ flat_map (motion_lines court.now) motions.now) }
+    ensures { OnOk result (AddsText text.old text.new (flat_map (motion_lines court.now) motions.now)) }
 {
     for motion in motions {
         push_motion(text, court, motion)?;

@@ -1,11 +1,12 @@
 //! What is shown of a deadline.
 
-ghost use Rattle.std.specs.Prelude.{◌≡◌, ◌++◌, ◌<◌, OnOk, None, string_bytes};
+ghost use Rattle.std.specs.Prelude.{◌≡◌, ◌<◌, OnOk, None};
 ghost use Rattle.jiff_fmt.specs.Text.{time_text as jiff_time_text};
-ghost use Rattle.court_days.specs.Words.{civil_of};
+ghost use Rattle.court_clock.specs.Words.{civil_of};
+ghost use Rattle.office_texts.specs.Added.{AddsText};
 ghost use Rattle.office_texts.specs.Shown.{end_text, shown_text, time_text};
 
-use court_days::{Clock, Instant};
+use court_clock::{Clock, Instant};
 use jiff::civil::Time;
 use rule6::Shown;
 use std::alloc::AllocError;
@@ -13,7 +14,7 @@ use std::fmt::Write;
 
 /// Adds what is shown of a deadline.
 pub(crate) fn push_shown(text: &mut String, clock: &Clock, shown: &Shown) -> Result<(), AllocError>
-    ensures { OnOk result (string_bytes text.new ≡ string_bytes text.old ++ shown_text clock.now shown.now) }
+    ensures { OnOk result (AddsText text.old text.new (shown_text clock.now shown.now)) }
 {
     match *shown {
         Shown::Last { day, act: _ } => write!(text, "last {day}"),
@@ -24,7 +25,7 @@ pub(crate) fn push_shown(text: &mut String, clock: &Clock, shown: &Shown) -> Res
 
 /// Adds the end of hours, as the court's clock shows it.
 fn push_end(text: &mut String, clock: &Clock, end: Instant) -> Result<(), AllocError>
-    ensures { OnOk result (string_bytes text.new ≡ string_bytes text.old ++ end_text (civil_of clock.now.zone end)) }
+    ensures { OnOk result (AddsText text.old text.new (end_text (civil_of clock.now.zone end))) }
 {
     match clock.civil_of(end) {
         Some((day, second)) => {

@@ -1,6 +1,7 @@
 //! What queries show.
 
-ghost use Rattle.std.specs.Prelude.{◌≡◌, ◌++◌, OnOk, string_bytes};
+ghost use Rattle.std.specs.Prelude.{OnOk};
+ghost use Rattle.office_texts.specs.Added.{AddsText};
 ghost use Rattle.office_texts.specs.Views.{view_lines};
 
 use crate::calendars::push_bookings;
@@ -11,11 +12,11 @@ use court_days::Court;
 use docket_rows::View;
 use std::alloc::AllocError;
 
-/// Adds what a query shows: a line, and behind it the lines of the sheet or of the bookings that were asked for. `Err`
+/// Adds what a query shows: a line, and after it the lines of the sheet or of the bookings that were asked for. `Err`
 /// says that memory ran out.
 #[tactic(auto, unfolding(crate::specs::Views::view_lines))]
 pub fn push_view(text: &mut String, court: &Court, view: &View) -> Result<(), AllocError>
-    ensures { OnOk result (string_bytes text.new ≡ string_bytes text.old ++ view_lines court.now view.now) }
+    ensures { OnOk result (AddsText text.old text.new (view_lines court.now view.now)) }
 {
     match view {
         View::Sheet(sheet) => {

@@ -40,7 +40,7 @@ pub fill_more : (x : Board) (pending : List Change) (trail : Past) → fold appl
 fill_more x pending trail same is =
     fold-append applied_to x pending (Grow trail ∷ []) ∙ (ap (λ y. applied_to y (Grow trail)) same ∙ ap (λ t. record x { trail = t }) is)
 
--- the last change tells how far the history went
+-- the last change says how far the history went
 pub grown_trail : (x : Board) (pending : List Change) (trail : Past) → (fold applied_to x (pending ++ Grow trail ∷ [])).trail ≡ trail
 grown_trail x pending trail = ap (λ (y : Board). y.trail) (fold-append applied_to x pending (Grow trail ∷ []))
 

@@ -83,7 +83,7 @@ admits x views h = record {
   known = λ j u e. ⊎_elim (h.known j u) (λ (same : None ≡ u). subst (Knows x) same tt) (at_snoc views None u j e);
 }
 
--- the one who publishes tells all that it knows
+-- the one who publishes says all that it knows
 pub forks : (seat : ℕ) (v : Option Known) → Forks Published seat v v v
 forks seat v x views h at = record {
   shown = h.shown;

@@ -34,7 +34,7 @@ pub record IsPublishing (k : Known) (h : HeldView) (e : Entry Command Answer) (w
   pub written : writes ≡ writes_on (docket_rules k.parts) (value_of (docket_rules k.parts) k.trail.log) e.command
   pub grown : t ≡ record k.trail { log = k.trail.log ++ e ∷ [] }
 
--- what holds of one who publishes is told of what its contracts see
+-- what holds of one who publishes is said of what its contracts see
 pub publishing : {kept : Option HeldView} {owed : List (PartId × PartValue)} {all : Bool} {head : Named} (k now : Known) → Keeps kept owed all head k.parts k.trail → k ≡ now → (x h : HeldView) (left : List (PartId × PartValue)) (e : Entry Command Answer) (writes : List (PartId × PartValue)) (s t : Past) → Some x ≡ kept
     → h.shown.parts ≡ x.shown.parts → AllShown h left k.trail
     → MayFollow (docket_rules now.parts) now.trail.log e → writes ≡ writes_on (docket_rules now.parts) (value_of (docket_rules now.parts) now.trail.log) e.command

@@ -37,7 +37,7 @@ same_seen bench small p q days cases judges (JudgeDay judge day) = elim (cases_B
 ]
 same_seen bench small p q days cases judges (Compute period event second service) = rw days refl
 
--- what stands in a part's slot is that of the rows after the history
+-- what a part's slot holds is that of the rows after the history
 stands : (x : Board) → IsShown x → (part : PartId) → HasSlot part → value_shown x part ≡ Some (part_value (parts_of (rows_of x.parts x.trail.log)) part)
 stands x shown part has =
     ap (option_map (λ (s : Slot). s.value)) (shown.slots.each part has)

@@ -21,7 +21,7 @@ days_shown x = option_and_then days_in (value_shown x Court)
 abbrev pub calendar_shown : Board → PartId → Option (List Booking)
 calendar_shown x part = option_and_then calendar_in (value_shown x part)
 
--- the parts, read off the slots; days that stood nowhere would be those of the court's file
+-- the parts, read from the slots; where no slot held the days, they would be those of the court's file
 abbrev pub parts_shown : Board → Parts
 parts_shown x = record {
   days = unwrap_or (days_shown x) x.parts.days;

@@ -1,4 +1,4 @@
--- Where each part of a docket stands, and what stands there.
+-- The slot of each part of a docket, and what it holds.
 use Rattle.std.specs.Prelude.{◌≡◌, ℕ, zero, suc, ◌+◌, ◌-◌, ◌<◌, ◌≤◌, nat_lt, List, [], ◌∷◌, ◌++◌, Some, slice_get, if◌then◌else◌}
 use Rattle.docket_rows.specs.declared.answer.Answer.{Answer}
 use Rattle.docket_rows.specs.declared.command.Command.{Command}
@@ -33,7 +33,7 @@ pub record IsSmall (bench : Bench) : Type 0 where
   pub judges : bench.judges ≤ 32
   pub rooms : bench.rooms ≤ 32
 
--- a part before any entry, and the first so many slots then
+-- a slot before any entry, and the first slots then
 abbrev pub opening_slot : Bench → ℕ → Slot
 opening_slot bench slot = record { version = 0; value = (docket_rules bench).opening (part_at slot) }
 
@@ -45,6 +45,6 @@ opening_slots bench (suc n) = opening_slots bench n ++ opening_slot bench n ∷ 
 abbrev pub slot_after : Bench → List (Entry Command Answer) → PartId → Slot
 slot_after bench log part = record { version = version_of (docket_rules bench) log part; value = value_of (docket_rules bench) log part }
 
--- each part that has a slot stands there as it is after the history
+-- the slot of each part holds the part as it is after the history
 pub record IsReplayed (bench : Bench) (log : List (Entry Command Answer)) (slots : List Slot) : Type 0 where
   pub each : (part : PartId) → HasSlot part → slice_get slots (slot_of part) ≡ Some (slot_after bench log part)

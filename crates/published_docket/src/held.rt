@@ -43,7 +43,7 @@ impl Drop for Held {
 }
 
 impl Held {
-    /// A writer for so many readers. `Err` says that memory ran out.
+    /// A writer for this number of readers. `Err` says that memory ran out.
     pub(crate) fn new(
         alloc: Global,
         first: Shown,
@@ -101,8 +101,8 @@ impl Held {
         Ok(())
     }
 
-    // Adds all changes of an entry: of the parts written, and that the history went on. `Err` says that memory ran out;
-    // what is left of the writes wasn't added, nor perhaps the history.
+    // Adds all changes of an entry: the parts written, and that the history went on. `Err` says that memory ran out.
+    // What is left of the writes wasn't added then, nor perhaps that the history went on.
     fn queue(
         &mut self,
         owed: &mut Vec<(PartId, PartValue)>,
@@ -166,7 +166,7 @@ impl Held {
         self.show(rt, owed, trail)
     }
 
-    // Adds so many changes that change nothing. `Err` says that memory ran out.
+    // Adds this number of changes that change nothing. `Err` says that memory ran out.
     #[tactic(auto, using(crate::proofs::ChangeLemmas::fill_more))]
     fn fill(&mut self, trail: &Trail, count: u32) -> Result<(), AllocError>
         requires { trail.now ≡ self.old.shown.trail }
@@ -179,8 +179,8 @@ impl Held {
         Ok(())
     }
 
-    /// Takes the memory for so many changes at once, and says whether there was any; readers see nothing new. The changes
-    /// are shown twice, so that both copies have taken them.
+    /// Takes the memory for this number of changes at once, and says whether there was enough. Readers see nothing new.
+    /// The changes are shown twice, so that both copies have taken them.
     pub(crate) fn warm<R: Wait>(
         self,
         rt: &R,

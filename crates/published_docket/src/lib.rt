@@ -1,4 +1,5 @@
 //! The docket as it is published: clerks in threads of their own read it without waiting, and one of them at a time publishes.
+//! What refuses a body that always answers want of memory is said in docs/PROMISES.md.
 #![tactic(auto)]
 
 mod change;

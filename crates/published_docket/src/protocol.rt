@@ -24,7 +24,8 @@ impl Protocol<Shown, Option<Known>> for Growing {
     ghost first = { None };
 }
 
-/// A reader takes what is published, or it is published: it goes on from all that was seen before, and is seen whole.
+/// A reader takes what is published, or something is published. It goes on from all that was seen before, and all of it
+/// is seen.
 pub struct See;
 
 impl Outcome<Shown, Option<Known>> for See {
@@ -33,7 +34,7 @@ impl Outcome<Shown, Option<Known>> for See {
     ghost then = { Sees };
 }
 
-// What the publisher knows it tells, and still knows.
+// The publisher says what it knows, and still knows it.
 pub(crate) struct Told;
 
 impl Split<Option<Known>> for Told {

@@ -45,9 +45,8 @@ impl Model for Publisher {
 }
 
 impl Publisher {
-    /// Publishes the docket of the court before any entry, for so many readers, and for one at least. Each place for a reader
-    /// costs time with every entry. `Err` says that memory ran out.
-    // A body that always found no memory would meet this contract, and no test of this crate refuses it yet.
+    /// Publishes the docket of the court before any entry, with places for this number of readers, and for one at
+    /// least. Each place costs time with every entry. `Err` says that memory ran out.
     pub fn new(alloc: Global, court: &Court, readers: u8) -> Result<Publisher, AllocError>
         ensures parts { IfOk result (λ p. p.parts ≡ bench_of court.now) }
         ensures log { IfOk result (λ p. p.trail.log ≡ []) }
@@ -82,10 +81,9 @@ impl Publisher {
         &self.parts
     }
 
-    /// Takes the memory for so many changes at once, twice: an entry makes one for each part that it writes, and one
-    /// more, and readers may still be reading what it changes. So no call that publishes takes any. `Err` says that memory
-    /// ran out.
-    // A body that always found no memory would meet this contract, and no test of this crate refuses it yet.
+    /// Takes the memory for this number of changes at once. It takes it twice, since readers may still be reading what
+    /// an entry changes. An entry makes a change for each part that it writes, and one more. So no call that publishes
+    /// takes any. `Err` says that memory ran out.
     pub fn warm<R: Wait>(&mut self, rt: &R, count: u32) -> Result<(), AllocError>
         ensures { self.new ≡ self.old }
     {
@@ -109,7 +107,6 @@ impl Publisher {
 
     /// A reader that has seen all that is published. `Err` says that there are as many readers as can be, or that memory
     /// ran out.
-    // A body that always found no memory would meet this contract, and no test of this crate refuses it yet.
     pub fn reader<R: Wait>(&mut self, rt: &R) -> Result<DocketReader, AllocError>
         ensures kept { self.new ≡ self.old }
         ensures known { IfOk result (λ r. view r.place ≡ Some self.old) }
@@ -132,7 +129,6 @@ impl Publisher {
     /// waits for the readers that read what was published before the last entry. Where memory runs out while readers are
     /// shown the entry, it is published all the same; they are shown it by the next call, before anything else. `Err` says
     /// that memory ran out for what was owed to them before; nothing is published then.
-    // A body that always found no memory would meet this contract, and no test of this crate refuses it yet.
     pub fn publish<R: Wait>(
         &mut self,
         rt: &R,

@@ -14,7 +14,6 @@ use versioned_steps::Draft;
 
 /// A draft of the clerk's command, with a copy of each part that it reads, as they all are at this moment, and its
 /// decision. `Err` says that memory ran out.
-// A body that always found no memory would meet this contract, and no test of this crate refuses it yet.
 pub fn read_all(
     alloc: Global,
     shown: &Shown,
@@ -39,7 +38,6 @@ pub fn read_all(
 
 /// What the query shows of the rows after the history that is seen, all at one moment, or why it is refused. No part is
 /// copied for it. `Err` says that memory ran out.
-// A body that always found no memory would meet this contract, and no test of this crate refuses it yet.
 #[tactic(auto, using(crate::proofs::SightLemmas::shown_view))]
 pub fn show(alloc: Global, shown: &Shown, query: &Query) -> Result<View, AllocError>
     requires { IsShown shown.now }

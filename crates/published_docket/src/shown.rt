@@ -90,7 +90,6 @@ impl Shown {
 
     /// A copy of the value of a part, which shares what it holds. `Err` says that memory ran out, or that there are as
     /// many copies as can be counted.
-    // A body that always found no memory would meet this contract, and no test of this crate refuses it yet.
     pub(crate) fn value(&self, alloc: Global, part: PartId) -> Result<PartValue, AllocError>
         requires shown { IsShown self.now }
         requires slot { HasSlot part }

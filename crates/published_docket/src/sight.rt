@@ -1,4 +1,4 @@
-//! The parts of what is published, where they stand: a query shows them without a copy.
+//! The published parts in their slots: a query shows them without a copy.
 
 ghost use Rattle.std.specs.Prelude.{◌≡◌, option_copied};
 ghost use Rattle.published_docket.specs.Sights.{calendar_shown, days_shown, value_shown};

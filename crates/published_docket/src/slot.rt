@@ -1,4 +1,4 @@
-//! Where one part of the docket stands.
+//! The slot of one part of the docket.
 
 use docket_rows::PartValue;
 

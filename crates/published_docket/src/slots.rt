@@ -21,7 +21,7 @@ pub(crate) fn slot_of(part: PartId) -> usize
     }
 }
 
-// The part that stands in the slot of that number.
+// The part whose slot has that number.
 fn part_at(slot: u32) -> PartId
     ensures { result ≡ part_at slot }
 {

@@ -11,8 +11,8 @@ use logbook::{Offer, Seen, Start, Word};
 use std::marker::Model;
 use versioned_steps::Entry;
 
-/// A beginning of the one history of an office, which was seen. It keeps no entry, only how many there are, so a copy
-/// takes no memory; two of one office are compared by their lengths.
+/// The beginning that was seen of an office's one history. It keeps only how many entries there are, so a copy takes no
+/// memory. Two of one office are compared by their lengths.
 #[derive(Drop)]
 pub struct Trail {
     count: u64,

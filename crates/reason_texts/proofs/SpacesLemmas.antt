@@ -1,4 +1,4 @@
--- Some spaces are one and those that follow, and how long what stands behind a text is.
+-- Some spaces are one and those that follow; and the length of a text that was added after another.
 use Rattle.std.proofs.lemmas.List.{length-append}
 use Rattle.std.proofs.Common.{◌≡◌, ◌<◌, ◌-◌, ◌++◌, ◌∙◌, ℕ, zero, suc, List, [], ◌∷◌, length, replicate, append_assoc, refl, sym, ap, arith}
 

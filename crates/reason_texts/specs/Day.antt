@@ -1,6 +1,6 @@
 -- The day that a reason is about.
 use Rattle.std.specs.Prelude.{ℕ, ◌==◌, ℤ, List, ◌++◌, Option, Some, None, codes, if◌then◌else◌}
-use Rattle.court_days.specs.Words.{ClockView, CivilTime, civil_of, day_text, weekday_of}
+use Rattle.court_clock.specs.Words.{ClockView, CivilTime, civil_of, day_text, weekday_of}
 use Rattle.rule_periods.specs.declared.grant.Grant.{Grant}
 use Rattle.rule_periods.specs.declared.grant.Grant.TheVariants.{ByDays, ByHours, Until}
 use Rattle.deadline_reasons.specs.declared.reason.Reason.{Reason}

@@ -2,6 +2,8 @@ pub mod Course
 pub mod Names
 pub mod Times
 pub mod Day
+pub mod Spaces
+pub mod OlderEvent
 pub mod What
 pub mod Section
 pub mod Line

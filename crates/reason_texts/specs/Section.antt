@@ -1,7 +1,7 @@
 -- The section of the Federal Rules of Civil Procedure by which a reason goes. What the Rules leave open is `ours`.
 use Rattle.std.specs.Prelude.{ℕ, Bool, true, false, List, [], ◌++◌, codes}
-use Rattle.court_days.specs.declared.direction.Direction.{Direction}
-use Rattle.court_days.specs.declared.direction.Direction.TheVariants.{After, Before}
+use Rattle.court_clock.specs.declared.direction.Direction.{Direction}
+use Rattle.court_clock.specs.declared.direction.Direction.TheVariants.{After, Before}
 use Rattle.deadline_reasons.specs.declared.reason.Cause.TheVariants.{FederalHoliday, StateHoliday}
 use Rattle.deadline_reasons.specs.declared.reason.Reason.{Reason}
 use Rattle.deadline_reasons.specs.declared.reason.Reason.TheVariants as reason

@@ -1,7 +1,7 @@
 -- Times of day.
 use Rattle.std.specs.Prelude.{ℕ, ◌/◌, ◌%◌, nat_lt, List, [], ◌∷◌, ◌++◌, Option, Some, None, if◌then◌else◌}
 use Rattle.std.specs.Fmt.{decimal}
-use Rattle.court_days.specs.Words.{CivilTime}
+use Rattle.court_clock.specs.Words.{CivilTime}
 
 -- a number with at least two digits
 unfoldable pub two_digits : ℕ → List ℕ

@@ -2,9 +2,10 @@
 use Rattle.std.specs.Prelude.{ℕ, ◌/◌, ℤ, pos, int_lt, unsigned_abs, List, [], ◌++◌, Option, None, unwrap_or, codes, if◌then◌else◌}
 use Rattle.std.specs.Fmt.{decimal}
 use Rattle.std.specs.Ordering.{int_eq}
-use Rattle.court_days.specs.declared.direction.Direction.{Direction}
-use Rattle.court_days.specs.declared.direction.Direction.TheVariants.{After, Before}
-use Rattle.court_days.specs.Words.{ClockView, OutageView, civil_of}
+use Rattle.court_clock.specs.declared.direction.Direction.{Direction}
+use Rattle.court_clock.specs.declared.direction.Direction.TheVariants.{After, Before}
+use Rattle.court_clock.specs.Words.{ClockView, civil_of}
+use Rattle.court_days.specs.Words.{OutageView}
 use Rattle.rule_periods.specs.declared.grant.Grant.{Grant}
 use Rattle.rule_periods.specs.declared.grant.Grant.TheVariants.{ByDays, ByHours, Until}
 use Rattle.rule6.specs.declared.service.ServiceKind.{ServiceKind}
@@ -42,19 +43,19 @@ kind_text ClerkD = codes "on the clerk"
 kind_text ElectronicE = codes "electronically"
 kind_text OtherF = codes "by other means"
 
--- the date to which a time is extended stands before it
+-- the date to which a time is extended is in the column before it
 abbrev pub grant_text : Grant → List ℕ
 grant_text (ByDays n) = codes "by " ++ decimal n ++ codes " days"
 grant_text (ByHours h) = codes "by " ++ decimal h ++ codes " hours"
 grant_text (Until day) = codes "to this day"
 
--- That the clocks were set forward or back meanwhile, where the clock is so many seconds further ahead at the end of the
--- hours than where they begin. Hours before an event end earlier than they begin.
+-- That the clocks were set forward or back meanwhile. The number is that of the seconds by which the clock is further
+-- ahead at the end of the hours than where they begin. Hours before an event end earlier than they begin.
 abbrev pub change_words : Direction → ℤ → List ℕ
 change_words After forward = if int_lt (pos 0) forward then codes ", clocks forward " else codes ", clocks back "
 change_words Before forward = if int_lt (pos 0) forward then codes ", clocks back " else codes ", clocks forward "
 
--- by how many whole minutes the clocks were changed, of so many seconds
+-- by how many whole minutes the clocks were changed, if they were
 abbrev pub change_text : Direction → ℤ → List ℕ
 change_text direction forward =
     if int_eq forward (pos 0) then [] else change_words direction forward ++ decimal (unsigned_abs forward / 60) ++ codes " min"
@@ -90,7 +91,7 @@ first_words (reason.UntilInstant instant) = codes "the time ends at "
 first_words reason.NotCovered = codes "a day that is needed isn't covered"
 first_words reason.Beyond = codes "beyond the days covered"
 
--- what it says of itself: how many days, which cause, what time
+-- what is particular to a reason: how many days, which cause, what time
 abbrev pub detail_text : ClockView → List NamedDay → Direction → Reason → List ℕ
 detail_text clock names direction (reason.Counted n day) = decimal n
 detail_text clock names direction (reason.PassedOver day cause) = cause_shown names day cause

@@ -6,5 +6,8 @@ unfoldable pub use Rattle.reason_texts.specs.Times.{two_digits, second_time, min
 pub use Rattle.reason_texts.specs.Day.{day_shown, day_column}
 unfoldable pub use Rattle.reason_texts.specs.What.{what_text}
 pub use Rattle.reason_texts.specs.Section.{section_text}
-pub use Rattle.reason_texts.specs.Line.{padded}
+pub use Rattle.reason_texts.specs.Spaces.{padded}
+pub use Rattle.reason_texts.specs.OlderEvent.{older_text, line_if_older, line_before}
+unfoldable pub use Rattle.reason_texts.specs.OlderEvent.{older_line}
+pub use Rattle.reason_texts.specs.Line.{lines_of}
 unfoldable pub use Rattle.reason_texts.specs.Line.{reason_line, reason_lines}

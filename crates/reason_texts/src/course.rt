@@ -1,34 +1,36 @@
-//! What a day is looked for, which decides the section that a reason cites.
+//! For what a day is looked for, which decides the section that a reason cites.
 
 ghost use Rattle.std.specs.Prelude.{◌≡◌};
-ghost use Rattle.reason_texts.specs.Course.{course_after, course_of, is_summons};
+ghost use Rattle.reason_texts.specs.Course.{course_after, course_of, first_day, is_summons, right_from_of};
 
-use court_days::Direction;
+use court_clock::{Day, Direction};
 use deadline_reasons::Reason;
 use rule_periods::{Period, RulePeriod};
 
-/// What a day is looked for.
+/// For what a day is looked for.
 #[derive(Clone, Copy, Debug, PartialEq, Eq)]
 pub enum Search {
     /// The last day of a period (Fed. R. Civ. P. 6(a)(1)(C)).
     LastDay,
-    /// A day until the same time of which hours are continued (6(a)(2)(C)).
+    /// A day to the same time of which hours are continued (6(a)(2)(C)).
     SameTime,
     /// An accessible day (6(a)(3)(A)).
     AccessibleDay,
-    /// An accessible day, until the same time of it (6(a)(3)(B)).
+    /// The same time on an accessible day (6(a)(3)(B)).
     AccessibleHour,
 }
 
 /// How far the reasons of a deadline have come.
 #[derive(Clone, Copy, Debug, PartialEq, Eq)]
 pub struct Course {
-    /// What a day is looked for.
+    /// For what a day is looked for.
     pub search: Search,
     /// Whether it is looked for among later days or earlier ones.
     pub direction: Direction,
     /// Whether the time is that to serve a summons, which is extended under Rule 4(m).
     pub summons: bool,
+    /// The day from which the period is right as it is applied. One that a court enters is right from the first day on.
+    pub right_from: Day,
 }
 
 impl Course {
@@ -40,12 +42,13 @@ impl Course {
             search: Search::LastDay,
             direction: period.direction(),
             summons: is_summons(period),
+            right_from: right_from_of(period),
         }
     }
 
-    /// The course behind a reason.
-    pub(crate) fn after(self, reason: &Reason) -> Course
-        ensures { result ≡ course_after self reason.now }
+    /// The course after a reason.
+    pub(crate) fn after(&self, reason: &Reason) -> Course
+        ensures { result ≡ course_after self.now reason.now }
     {
         match *reason {
             Reason::ThreeAdded(_) | Reason::Extended(_) => self.towards_later(Search::LastDay),
@@ -53,21 +56,23 @@ impl Course {
                 search: Search::SameTime,
                 direction: self.direction,
                 summons: self.summons,
+                right_from: self.right_from,
             },
             Reason::Inaccessible(_) => self.towards_later(Search::AccessibleDay),
             Reason::LastHour(_, _, _) => self.towards_later(Search::AccessibleHour),
-            _ => self,
+            _ => *self,
         }
     }
 
     /// The course where a day is looked for among later ones.
-    fn towards_later(self, search: Search) -> Course
-        ensures { result ≡ record { search = search; direction = Direction.After; summons = self.summons } }
+    fn towards_later(&self, search: Search) -> Course
+        ensures { result ≡ record { search = search; direction = Direction.After; summons = self.now.summons; right_from = self.now.right_from } }
     {
         Course {
             search,
             direction: Direction::After,
             summons: self.summons,
+            right_from: self.right_from,
         }
     }
 }
@@ -77,4 +82,24 @@ fn is_summons(period: &Period) -> bool
     ensures { result ≡ is_summons period.now }
 {
     matches!(period, Period::Rule(RulePeriod::Rule4m))
+}
+
+/// The day from which the period is right as it is applied.
+fn right_from_of(period: &Period) -> Day
+    ensures { result ≡ right_from_of period.now }
+{
+    match *period {
+        Period::Rule(rule) => rule.right_from(),
+        Period::Entered(_) => first_day(),
+    }
+}
+
+/// The first day that there is.
+fn first_day() -> Day
+    ensures { result ≡ first_day }
+{
+    match Day::new(-110_000) {
+        Some(day) => day,
+        None => unreachable!(),
+    }
 }

@@ -1,10 +1,10 @@
 //! The day that a reason is about.
 
 ghost use Rattle.std.specs.Prelude.{◌≡◌, ◌++◌, OnOk, option_map, string_bytes};
-ghost use Rattle.court_days.specs.Words.{civil_of};
+ghost use Rattle.court_clock.specs.Words.{civil_of};
 ghost use Rattle.reason_texts.specs.Day.{day_column, day_shown, day_of_civil, day_of_grant, weekday_name};
 
-use court_days::{Clock, Day, Instant};
+use court_clock::{Clock, Day, Instant};
 use deadline_reasons::Reason;
 use rule_periods::Grant;
 use std::alloc::AllocError;
@@ -66,7 +66,7 @@ pub(crate) fn push_day(text: &mut String, day: Option<Day>) -> Result<(), AllocE
     }
 }
 
-/// The name of a day of the week, of which 0 is Monday.
+/// The name of a day of the week, counted from 0 for Monday.
 fn weekday_name(weekday: u8) -> &'static str
     ensures { result.now ≡ weekday_name weekday }
 {

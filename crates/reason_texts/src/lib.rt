@@ -5,6 +5,7 @@ mod course;
 mod day;
 mod line;
 mod names;
+mod older_event;
 mod section;
 mod spaces;
 mod times;

@@ -2,25 +2,25 @@
 
 ghost use Rattle.std.specs.Prelude.{◌≡◌, ◌++◌, [], ◌∷◌, OnOk, codes, string_bytes};
 ghost use Rattle.reason_texts.specs.Day.{day_column, day_shown};
-ghost use Rattle.reason_texts.specs.Line.{padded, reason_line, reason_lines};
+ghost use Rattle.reason_texts.specs.Line.{lines_of, reason_line, reason_lines};
 ghost use Rattle.reason_texts.specs.Section.{section_text};
+ghost use Rattle.reason_texts.specs.Spaces.{padded};
 ghost use Rattle.reason_texts.specs.What.{what_text};
 
 use crate::course::Course;
 use crate::day::{day_shown, push_day};
 use crate::names::HolidayName;
+use crate::older_event::push_line_before;
 use crate::section::push_section;
-use crate::spaces::push_spaces;
+use crate::spaces::{WIDTH, push_spaces};
 use crate::what::push_what;
-use court_days::{Clock, Direction};
+use court_clock::{Clock, Direction};
 use deadline_reasons::Reason;
 use std::alloc::AllocError;
 
-// How wide what happened is, with the spaces behind it.
-const WIDTH: usize = 50;
-
-/// Adds a line for each reason, in their order, from the course before the first of them on. A holiday is called by the
-/// first of these names that its day has, if it has one. `Err` says that memory ran out.
+/// Adds a line for each reason, in their order, from the course before the first of them on, and one more where the event
+/// is an older one. A holiday is called by the first of these names that its day has, if it has one. `Err` says that
+/// memory ran out.
 pub fn push_reasons(
     text: &mut String,
     clock: &Clock,
@@ -32,10 +32,24 @@ pub fn push_reasons(
 {
     let mut here = course;
     for reason in reasons {
-        push_reason(text, clock, names, here, reason)?;
+        push_lines(text, clock, names, &here, reason)?;
         here = here.after(reason);
     }
     Ok(())
+}
+
+/// Adds the line of a reason, after that of an older event where there is one.
+fn push_lines(
+    text: &mut String,
+    clock: &Clock,
+    names: &[HolidayName],
+    course: &Course,
+    reason: &Reason,
+) -> Result<(), AllocError>
+    ensures { OnOk result (string_bytes text.new ≡ string_bytes text.old ++ lines_of clock.now names.now course.now reason.now) }
+{
+    push_line_before(text, course.right_from, reason)?;
+    push_reason(text, clock, names, course, reason)
 }
 
 /// Adds the line of a reason: two spaces, the weekday and the date, what happened, and the section of the Federal Rules
@@ -46,10 +60,10 @@ pub fn push_reason(
     text: &mut String,
     clock: &Clock,
     names: &[HolidayName],
-    course: Course,
+    course: &Course,
     reason: &Reason,
 ) -> Result<(), AllocError>
-    ensures { OnOk result (string_bytes text.new ≡ string_bytes text.old ++ reason_line clock.now names.now course reason.now) }
+    ensures { OnOk result (string_bytes text.new ≡ string_bytes text.old ++ reason_line clock.now names.now course.now reason.now) }
 {
     text.push_str("  ")?;
     push_day(text, day_shown(clock, reason))?;
@@ -76,8 +90,8 @@ fn push_padded(
 }
 
 /// Adds the section, and the end of the line.
-fn push_end(text: &mut String, course: Course, reason: &Reason) -> Result<(), AllocError>
-    ensures { OnOk result (string_bytes text.new ≡ string_bytes text.old ++ codes "  " ++ section_text course reason.now ++ 10 ∷ []) }
+fn push_end(text: &mut String, course: &Course, reason: &Reason) -> Result<(), AllocError>
+    ensures { OnOk result (string_bytes text.new ≡ string_bytes text.old ++ codes "  " ++ section_text course.now reason.now ++ 10 ∷ []) }
 {
     text.push_str("  ")?;
     push_section(text, course, reason)?;

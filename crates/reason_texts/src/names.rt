@@ -3,7 +3,7 @@
 ghost use Rattle.std.specs.Prelude.{◌≡◌, option_copied, string_bytes};
 ghost use Rattle.reason_texts.specs.Names.{name_on};
 
-use court_days::Day;
+use court_clock::Day;
 use std::marker::Model;
 
 /// A day, and the name of the holiday on it.

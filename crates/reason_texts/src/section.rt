@@ -4,25 +4,25 @@ ghost use Rattle.std.specs.Prelude.{◌≡◌, ◌++◌, OnOk, string_bytes};
 ghost use Rattle.reason_texts.specs.Section.{extended_by, holiday_section, looked_by, section_of, section_text};
 
 use crate::course::{Course, Search};
-use court_days::Direction;
+use court_clock::Direction;
 use deadline_reasons::{Cause, Reason};
 use std::alloc::AllocError;
 
 /// Adds the section by which a reason goes, and for a holiday that which says what one is.
 pub(crate) fn push_section(
     text: &mut String,
-    course: Course,
+    course: &Course,
     reason: &Reason,
 ) -> Result<(), AllocError>
-    ensures { OnOk result (string_bytes text.new ≡ string_bytes text.old ++ section_text course reason.now) }
+    ensures { OnOk result (string_bytes text.new ≡ string_bytes text.old ++ section_text course.now reason.now) }
 {
     text.push_str(section_of(course, reason))?;
     text.push_str(holiday_section(reason))
 }
 
 /// The section by which a reason goes.
-fn section_of(course: Course, reason: &Reason) -> &'static str
-    ensures { result.now ≡ section_of course reason.now }
+fn section_of(course: &Course, reason: &Reason) -> &'static str
+    ensures { result.now ≡ section_of course.now reason.now }
 {
     match *reason {
         Reason::Excluded(_) => "6(a)(1)(A)",
@@ -42,8 +42,8 @@ fn section_of(course: Course, reason: &Reason) -> &'static str
 }
 
 /// The section by which a day is looked for.
-fn looked_by(course: Course) -> &'static str
-    ensures { result.now ≡ looked_by course.search course.direction }
+fn looked_by(course: &Course) -> &'static str
+    ensures { result.now ≡ looked_by course.now.search course.now.direction }
 {
     match course.search {
         Search::LastDay => match course.direction {

@@ -1,10 +1,13 @@
-//! Spaces up to a column.
+//! Spaces up to the next column.
 
 ghost use Rattle.std.specs.Prelude.{◌≡◌, ◌++◌, [], ◌∷◌, OnOk, replicate, string_bytes};
 
 use std::alloc::AllocError;
 
-/// Adds so many spaces.
+/// How wide what happened is, with the spaces after it.
+pub(crate) const WIDTH: usize = 50;
+
+/// Adds this number of spaces.
 pub(crate) fn push_spaces(text: &mut String, count: usize) -> Result<(), AllocError>
     ensures { OnOk result (string_bytes text.new ≡ string_bytes text.old ++ replicate count 32) }
 {

@@ -1,10 +1,10 @@
 //! Times of day.
 
 ghost use Rattle.std.specs.Prelude.{◌≡◌, ◌++◌, OnOk, string_bytes};
-ghost use Rattle.court_days.specs.Words.{civil_of};
+ghost use Rattle.court_clock.specs.Words.{civil_of};
 ghost use Rattle.reason_texts.specs.Times.{minute_time, second_time, time_of_civil, two_digits};
 
-use court_days::{Clock, Instant};
+use court_clock::{Clock, Instant};
 use std::alloc::AllocError;
 use std::fmt::Write;
 

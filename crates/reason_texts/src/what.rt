@@ -5,7 +5,8 @@ ghost use Rattle.reason_texts.specs.What.{cause_shown, cause_text, change_text, 
 
 use crate::names::{HolidayName, name_on};
 use crate::times::{push_minute, push_time_at};
-use court_days::{Clock, Day, Direction, Instant, Outage};
+use court_clock::{Clock, Day, Direction, Instant};
+use court_days::Outage;
 use deadline_reasons::{Cause, Reason};
 use rule_periods::Grant;
 use rule6::ServiceKind;
@@ -54,7 +55,7 @@ fn first_words(reason: &Reason) -> &'static str
     }
 }
 
-/// Adds what a reason says of itself.
+/// Adds what is particular to a reason.
 fn push_detail(
     text: &mut String,
     clock: &Clock,
@@ -120,8 +121,8 @@ fn push_change(text: &mut String, direction: Direction, forward: i32) -> Result<
     write!(text, "{minutes} min")
 }
 
-/// That the clocks were set forward or back, where the clock is so many seconds further ahead at the end of the hours than
-/// where they begin. Hours before an event end earlier than they begin.
+/// That the clocks were set forward or back. `forward` is the number of seconds by which the clock is further ahead at the
+/// end of the hours than where they begin. Hours before an event end earlier than they begin.
 fn change_words(direction: Direction, forward: i32) -> &'static str
     ensures { result.now ≡ change_words direction forward }
 {

@@ -4,7 +4,8 @@ use Rattle.std.proofs.lemmas.Int.{ints}
 use Rattle.std.proofs.lemmas.Bool.{cases_Bool, false_from_ne_true}
 use Rattle.std.proofs.lemmas.Bool.Decides.{Decides-int_eq}
 use Rattle.std.specs.Ordering.{int_eq}
-use Rattle.court_days.specs.Words.{OutageView, ClockView, CivilTime, offset_seconds, shown_second, second_of, civil_time}
+use Rattle.court_clock.specs.Words.{ClockView, CivilTime, offset_seconds, shown_second, second_of, civil_time}
+use Rattle.court_days.specs.Words.{OutageView}
 use Rattle.rule6.specs.Access.{is_inside, meets_within, meets_last_hour, LastHourIsBySeconds}
 use Rattle.rule6.proofs.HourLemmas.{second_below, shown_is, is_instant}
 
@@ -52,7 +53,7 @@ outside_after clock o t after = false_from_ne_true (is_inside o (civil_time cloc
     let is = inside_is o (civil_time clock.zone t) inside in
     omega (arith, ints, shown_is clock t, after, is.on_its_day, is.not_after_it))
 
--- what is no instant lies inside no outage
+-- a number that is no instant lies inside no outage
 pub outside_beyond : (clock : ClockView) (o : OutageView) (t : ℤ) → neg_ℤ (pos 110_000) ≤ℤ o.day → o.day ≤ℤ pos 110_000 → t <ℤ neg_ℤ (pos 9_600_000_000) → is_inside o (civil_time clock.zone t) ≡ false
 outside_beyond clock o t low high beyond = false_from_ne_true (is_inside o (civil_time clock.zone t)) (λ inside.
     let is = inside_is o (civil_time clock.zone t) inside in
@@ -74,7 +75,7 @@ met_at clock o first (suc n) t low high inside = elim (cases_Bool (is_inside o (
   ]) (omega (arith, ints, high)) inside)
 ]
 
--- and none where none does
+-- and it finds none where none does
 pub met_nowhere : (clock : ClockView) (o : OutageView) (first : ℤ) (n : ℕ) → ((t : ℤ) → first ≤ℤ t → t <ℤ (first +ℤ pos n) → is_inside o (civil_time clock.zone t) ≡ false) → meets_within clock o first n ≡ false
 unfolding meets_within
 met_nowhere clock o first zero none = refl
@@ -130,7 +131,7 @@ stretch_meets clock end o first stop offset ordered within low some high steady 
           sym (met_at clock o (end -ℤ pos 3600) 3600 t (omega (arith, ints, low, after)) (omega (arith, ints, begins, high)) inside)
     ]
 
--- and one that doesn't isn't
+-- and one that doesn't overlap them isn't met
 pub stretch_misses : (clock : ClockView) (o : OutageView) (first stop offset t : ℤ) → offset_seconds clock.zone t ≡ offset → first ≤ℤ t → t <ℤ stop → ((stop +ℤ offset) ≤ℤ second_of o.day (60 * o.from)) ⊎ (second_of o.day (60 * o.to) ≤ℤ (first +ℤ offset)) → is_inside o (civil_time clock.zone t) ≡ false
 stretch_misses clock o first stop offset t same low high apart = elim apart [
   | inl before ↦ outside_before clock o t (omega (arith, ints, before, same, high))

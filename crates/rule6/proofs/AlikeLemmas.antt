@@ -1,9 +1,10 @@
 -- By two values that stand for one clock the same time is found, and the same acts are in time.
 use Rattle.std.proofs.Common.{◌≡◌, ◌∙◌, ◌*◌, ◌+ℤ◌, ◌-ℤ◌, ℕ, zero, suc, ℤ, pos, Bool, List, [], ◌∷◌, Option, Some, None, cond, option_and_then, refl, ap, int_le}
 use Rattle.std.specs.List.{list_any}
-use Rattle.court_days.specs.declared.direction.Direction.{Direction}
-use Rattle.court_days.specs.Words.{CivilTime, ClockView, DaysView, IsSameCourtClock, OutageView, civil_of, is_permitted, next_accessible, rolled}
-use Rattle.court_days.proofs.CallerLemmas.{civil_of_alike, civil_time_alike, instant_alike}
+use Rattle.court_clock.specs.declared.direction.Direction.{Direction}
+use Rattle.court_clock.specs.Words.{CivilTime, ClockView, IsSameCourtClock, civil_of}
+use Rattle.court_days.specs.Words.{DaysView, OutageView, is_permitted, next_accessible, rolled}
+use Rattle.court_clock.proofs.CallerLemmas.{civil_of_alike, civil_time_alike, instant_alike}
 use Rattle.rule6.specs.declared.timeliness.Act.TheVariants as act
 use Rattle.rule6.specs.declared.timeliness.Act.{Act}
 use Rattle.rule6.specs.declared.timeliness.Filing.{Filing}

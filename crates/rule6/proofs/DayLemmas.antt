@@ -2,9 +2,10 @@
 use Rattle.std.proofs.Common.{◌≡◌, ℕ, zero, suc, ℤ, pos, ◌+ℤ◌, ◌-ℤ◌, true, false, Option, Some, None, refl, sym, ◌∙◌, ap, arith}
 use Rattle.std.proofs.lemmas.Int.{ints}
 use Rattle.std.specs.Option.{option_and_then}
-use Rattle.court_days.specs.declared.direction.Direction.{Direction}
-use Rattle.court_days.specs.declared.direction.Direction.TheVariants.{After, Before}
-use Rattle.court_days.specs.Words.{DaysView, RolledIsNearest, counted_from, rolled}
+use Rattle.court_clock.specs.declared.direction.Direction.{Direction}
+use Rattle.court_clock.specs.declared.direction.Direction.TheVariants.{After, Before}
+use Rattle.court_clock.specs.Words.{counted_from}
+use Rattle.court_days.specs.Words.{DaysView, RolledIsNearest, rolled}
 use Rattle.rule6.specs.Days.{IsExpiry, IsNthDay, LastDayIsCounted, expiry_of, last_day_of}
 
 -- a search that goes on from what another found

@@ -5,8 +5,9 @@ use Rattle.std.proofs.lemmas.Bool.{cases_Bool}
 use Rattle.std.proofs.lemmas.Bool.Decides.{Decides-eqb, Decides-int_eq}
 use Rattle.std.specs.Ordering.{int_eq}
 use Rattle.std.specs.Option.{unwrap_or, option_and_then}
-use Rattle.court_days.specs.declared.direction.Direction.{Direction}
-use Rattle.court_days.specs.Words.{DaysView, ClockView, CivilTime, RolledIsNearest, InstantsAreEarliest, IsInstantOf, Shows, is_permitted, is_ruled, is_day_number, civil_time, civil_of, instant_of, rolled}
+use Rattle.court_clock.specs.declared.direction.Direction.{Direction}
+use Rattle.court_clock.specs.Words.{ClockView, CivilTime, InstantsAreEarliest, IsInstantOf, Shows, is_ruled, is_day_number, civil_time, civil_of, instant_of}
+use Rattle.court_days.specs.Words.{DaysView, RolledIsNearest, is_permitted, rolled}
 use Rattle.rule6.specs.Hours.{IsContinued, IsEndOfHours, EndOfHoursIsCounted, continued, end_of_hours_from, hours_from, same_time_on}
 use Rattle.rule6.proofs.HourLemmas.{second_below}
 use Rattle.rule6.proofs.DayLemmas.{found_twice}
@@ -59,7 +60,7 @@ one_instant clock day second a b is_a is_b = elim (shows_or_not clock day second
   | inr never ↦ is_a.shifted (λ t shown. never (is_a.shown t shown)) ∙ sym (is_b.shifted (λ t shown. never (is_a.shown t shown)))
 ]
 
--- an end that stands
+-- an end that is kept
 kept_end : (c : DaysView) (clock : ClockView) (direction : Direction) (t : ℤ) (shown : CivilTime) (end : ℤ) → continued c clock direction t shown ≡ Some end → is_permitted c direction shown.day ≡ true → end ≡ t
 kept_end c clock direction t shown end h permitted =
     let same : Some t ≡ Some end = rw permitted at h in

@@ -1,10 +1,10 @@
--- What the clock shows, in days and seconds, and that what is no instant shows no civil time.
+-- What the clock shows, in days and seconds. At a number that is no instant it shows no civil time.
 use Rattle.std.proofs.Common.{◌≡◌, ◌<◌, ℤ, pos, negsuc, neg_ℤ, ◌≤ℤ◌, ◌*ℤ◌, true, false, None, unsigned_abs, refl, arith}
 use Rattle.std.proofs.lemmas.Int.{ints}
 use Rattle.std.proofs.lemmas.Bool.{false_from_ne_true}
 use Rattle.std.specs.Int.{int_rem_euclid}
-use Rattle.court_days.specs.Words.{ClockView, IsInstantSecond, shown_second, second_of, is_day_number, civil_time, civil_of}
-use Rattle.court_days.proofs.CallerLemmas.{offset_in_range, shown_from_civil}
+use Rattle.court_clock.specs.Words.{ClockView, IsInstantSecond, shown_second, second_of, is_day_number, civil_time, civil_of}
+use Rattle.court_clock.proofs.CallerLemmas.{offset_in_range, shown_from_civil}
 
 rest_below : (z : ℤ) → unsigned_abs (int_rem_euclid z (pos 86_400)) < 86_400
 rest_below (pos n) = omega arith

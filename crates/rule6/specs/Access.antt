@@ -3,8 +3,9 @@ use Rattle.std.specs.Prelude.{◌≡◌, ◌↔◌, ◌<ℤ◌, ◌≤ℤ◌, �
 use Rattle.std.specs.List.{list_any}
 use Rattle.std.specs.Option.{option_and_then}
 use Rattle.std.specs.Ordering.{int_eq}
-use Rattle.court_days.specs.declared.direction.Direction.{Direction}
-use Rattle.court_days.specs.Words.{DaysView, OutageView, has_outage, ClockView, CivilTime, civil_time, civil_of, next_accessible}
+use Rattle.court_clock.specs.declared.direction.Direction.{Direction}
+use Rattle.court_clock.specs.Words.{ClockView, CivilTime, civil_time, civil_of}
+use Rattle.court_days.specs.Words.{DaysView, OutageView, has_outage, next_accessible}
 use Rattle.rule6.specs.Hours.{same_time_on}
 
 -- Where an outage lies on the last day for filing, the time is extended to the first accessible day that is

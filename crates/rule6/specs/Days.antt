@@ -1,9 +1,10 @@
 -- The last day of a period that is stated in days.
 use Rattle.std.specs.Prelude.{◌≡◌, ◌↔◌, ℕ, zero, suc, ℤ, pos, ◌+ℤ◌, ◌-ℤ◌, Bool, true, false, Option, Some}
 use Rattle.std.specs.Option.{option_and_then}
-use Rattle.court_days.specs.declared.direction.Direction.{Direction}
-use Rattle.court_days.specs.Words.{DaysView, IsRolled, counted_from, rolled}
-use Rattle.court_days.specs.declared.direction.Direction.TheVariants.{After, Before}
+use Rattle.court_clock.specs.declared.direction.Direction.{Direction}
+use Rattle.court_clock.specs.Words.{counted_from}
+use Rattle.court_days.specs.Words.{DaysView, IsRolled, rolled}
+use Rattle.court_clock.specs.declared.direction.Direction.TheVariants.{After, Before}
 
 -- The day of the event is excluded and every other day counts; a last day that isn't permitted gives way to the
 -- next one that is, in the direction of the period (Fed. R. Civ. P. 6(a)(1), (5)).
@@ -21,8 +22,8 @@ abbrev pub next_day : Direction → ℤ → ℤ
 next_day After d = d +ℤ pos 1
 next_day Before d = d -ℤ pos 1
 
--- d is the n-th day that is counted from an event: the day of the event is excluded, and of the days that follow
--- every one counts (6(a)(1)(A), (B))
+-- d is the n-th day that is counted from an event: the day of the event is excluded, and every day that follows counts
+-- (6(a)(1)(A), (B))
 abbrev pub IsNthDay : Direction → ℤ → ℕ → ℤ → Type 0
 IsNthDay direction event zero d = d ≡ event
 IsNthDay direction event (suc n) d = IsNthDay direction (next_day direction event) n d
@@ -46,6 +47,6 @@ abbrev pub IsLastDay : DaysView → ℤ → ℕ → Direction → Bool → ℤ �
 IsLastDay c event n direction false last = IsExpiry c event n direction last
 IsLastDay c event n direction true last = IsThreeDaysLater c event n direction last
 
--- what the last day means: it is counted so, and there is none only where no day is
+-- What the last day means: it is the day that is counted in this way, and there is none only where no day is counted.
 abbrev pub LastDayIsCounted : Type 0
 LastDayIsCounted = (c : DaysView) (event : ℤ) (n : ℕ) (direction : Direction) (added : Bool) (last : ℤ) → (last_day_of c event n direction added ≡ Some last) ↔ IsLastDay c event n direction added last

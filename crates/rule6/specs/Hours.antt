@@ -1,9 +1,10 @@
 -- The end of a period that is stated in hours.
 use Rattle.std.specs.Prelude.{◌≡◌, ◌↔◌, ℕ, ◌*◌, ℤ, pos, ◌+ℤ◌, ◌-ℤ◌, true, false, Option, Some, if◌then◌else◌, option_map}
 use Rattle.std.specs.Option.{option_and_then}
-use Rattle.court_days.specs.declared.direction.Direction.{Direction}
-use Rattle.court_days.specs.Words.{DaysView, IsRolled, is_permitted, ClockView, CivilTime, Shows, IsInstantOf, is_ruled, is_day_number, civil_of, instant_of, rolled}
-use Rattle.court_days.specs.declared.direction.Direction.TheVariants.{After, Before}
+use Rattle.court_clock.specs.declared.direction.Direction.{Direction}
+use Rattle.court_clock.specs.Words.{ClockView, CivilTime, Shows, IsInstantOf, is_ruled, is_day_number, civil_of, instant_of}
+use Rattle.court_days.specs.Words.{DaysView, IsRolled, is_permitted, rolled}
+use Rattle.court_clock.specs.declared.direction.Direction.TheVariants.{After, Before}
 
 -- the instant that lies h hours after an event, or before it: counting begins at once and every hour counts
 -- (Fed. R. Civ. P. 6(a)(2)(A), (B))
@@ -44,7 +45,7 @@ pub record IsEndOfHours (c : DaysView) (clock : ClockView) (event : ℤ) (h : �
   pub kept : is_permitted c direction shown.day ≡ true → end ≡ counted
   pub continued_else : is_permitted c direction shown.day ≡ false → IsContinued c clock direction shown end
 
--- what the end of hours means, on a clock as a court's file can name it: it is counted so, and there is none only
--- where no instant is
+-- What the end of hours means, on a clock that a court's file can name: it is the instant that is counted in this way,
+-- and there is none only where no instant is counted.
 abbrev pub EndOfHoursIsCounted : Type 0
 EndOfHoursIsCounted = (c : DaysView) (clock : ClockView) (event : ℤ) (h : ℕ) (direction : Direction) (end : ℤ) → is_ruled clock.zone ≡ true → (end_of_hours_from c clock event h direction ≡ Some end) ↔ IsEndOfHours c clock event h direction end

@@ -9,7 +9,7 @@ abbrev pub electronic_service_amended : ℤ
 electronic_service_amended = days_from_civil (pos 2016) 12 1
 
 -- Three days are added after service by mail, by leaving with the clerk and by other means consented to
--- (Fed. R. Civ. P. 6(d)), and before the amendment of 2016 after electronic service too.
+-- (Fed. R. Civ. P. 6(d)). Before the amendment of 2016 they are added after electronic service too.
 abbrev pub adds_three_days : ServiceKind → ℤ → Bool
 adds_three_days HandA served = false
 adds_three_days LeftB served = false

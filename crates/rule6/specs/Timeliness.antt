@@ -1,7 +1,7 @@
 -- Whether an act was done in time.
 use Rattle.std.specs.Prelude.{ℕ, ◌*◌, int_lt, int_le, nat_le, Bool, true, false, ◌&&◌, ◌||◌}
 use Rattle.std.specs.Ordering.{int_eq}
-use Rattle.court_days.specs.Words.{ClockView, instant_of}
+use Rattle.court_clock.specs.Words.{ClockView, instant_of}
 use Rattle.rule6.specs.declared.timeliness.Act.{Act}
 use Rattle.rule6.specs.declared.timeliness.Act.TheVariants as act
 use Rattle.rule6.specs.declared.timeliness.Means.{Means}

@@ -2,10 +2,11 @@
 
 ghost use Rattle.std.specs.Prelude.{◌≡◌, ◌<◌, ◌≤◌, ◌*◌, ◌<ℤ◌, ◌≤ℤ◌, ℤ, pos, neg_ℤ, true, false, ◌⊎◌};
 ghost use Rattle.std.specs.List.{list_any};
-ghost use Rattle.court_days.specs.Words.{offset_seconds, second_of, IsInstantSecond, IsDayNumber};
+ghost use Rattle.court_clock.specs.Words.{offset_seconds, second_of, IsInstantSecond, IsDayNumber};
 ghost use Rattle.rule6.specs.Access.{extended_day, extended_end, meets_last_hour};
 
-use court_days::{Clock, Day, Days, Direction, Instant, Outage};
+use court_clock::{Clock, Day, Direction, Instant};
+use court_days::{Days, Outage};
 
 /// The seconds of an hour.
 const HOUR: i64 = 3_600;
@@ -62,7 +63,7 @@ fn meets_an_outage(days: &Days, clock: &Clock, end: Instant) -> bool
 }
 
 /// Whether the outage meets the last hour before the end (Fed. R. Civ. P. 6(a)(3)(B)). The hour is taken in
-/// stretches through which the clock's offset stays as it is.
+/// stretches through which the clock's offset is the same.
 pub fn meets_last_hour(clock: &Clock, end: Instant, outage: Outage) -> bool
     ensures { result ≡ meets_last_hour clock.now end outage }
 {
@@ -79,7 +80,7 @@ pub fn meets_last_hour(clock: &Clock, end: Instant, outage: Outage) -> bool
     false
 }
 
-/// The end of the stretch from `from` on, at most up to `stop`, through which the clock's offset stays as it is,
+/// The end of the stretch from `from` on, at most up to `stop`, through which the clock's offset is the same,
 /// and that offset.
 fn stretch(clock: &Clock, from: i64, stop: i64) -> (i64, i64)
     requires instant { IsInstantSecond from }

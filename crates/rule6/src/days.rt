@@ -1,12 +1,14 @@
 //! The last day of a period that is stated in days.
 
 ghost use Rattle.std.specs.Prelude.{◌≡◌, ◌≤◌, false, IsTrue, IfSome, IfNone};
-ghost use Rattle.court_days.specs.Words.{is_covered, counted_from};
+ghost use Rattle.court_clock.specs.Words.{counted_from};
+ghost use Rattle.court_days.specs.Words.{is_covered};
 ghost use Rattle.rule6.specs.Days.{expiry_of, last_day_of};
 
-use court_days::{Day, Days, Direction};
+use court_clock::{Day, Direction};
+use court_days::Days;
 
-/// How many days are added after service by mail and the like (Fed. R. Civ. P. 6(d)).
+/// The days that are added after service by mail, on the clerk or by other means (Fed. R. Civ. P. 6(d)).
 const ADDED_DAYS: u32 = 3;
 
 /// The last day of a period of `n` days that is measured from the day `event` (Fed. R. Civ. P. 6(a)(1), (5)).

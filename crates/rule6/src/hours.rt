@@ -1,10 +1,11 @@
 //! The end of a period that is stated in hours.
 
 ghost use Rattle.std.specs.Prelude.{◌≡◌, ◌≤◌, IfSome, IfNone};
-ghost use Rattle.court_days.specs.Words.{IsInstantSecond};
+ghost use Rattle.court_clock.specs.Words.{IsInstantSecond};
 ghost use Rattle.rule6.specs.Hours.{hours_from, end_of_hours_from};
 
-use court_days::{Clock, Days, Direction, Instant};
+use court_clock::{Clock, Direction, Instant};
+use court_days::Days;
 
 /// The seconds of an hour.
 const HOUR: i64 = 3_600;

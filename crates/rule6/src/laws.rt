@@ -4,10 +4,11 @@ ghost use Rattle.rule6.specs.Access.{LastHourIsBySeconds};
 ghost use Rattle.rule6.specs.Hours.{EndOfHoursIsCounted};
 ghost use Rattle.rule6.specs.Days.{LastDayIsCounted};
 
-use court_days::{instants_are_earliest, rolled_is_nearest};
+use court_clock::instants_are_earliest;
+use court_days::rolled_is_nearest;
 
 /// The last day of a period is counted as Fed. R. Civ. P. 6(a)(1) and (5) say, with 6(d)'s three days where they are
-/// added, and there is none only where no day is counted so.
+/// added, and there is none only where no day is counted in this way.
 pub fn last_day_is_counted()
     ensures { LastDayIsCounted }
 {
@@ -15,7 +16,7 @@ pub fn last_day_is_counted()
 }
 
 /// The end of a period in hours is counted as Fed. R. Civ. P. 6(a)(2) and (5) say, and there is none only where no
-/// instant is counted so.
+/// instant is counted in this way.
 pub fn end_of_hours_is_counted()
     ensures { EndOfHoursIsCounted }
 {

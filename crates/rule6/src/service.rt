@@ -3,7 +3,7 @@
 ghost use Rattle.std.specs.Prelude.{◌≡◌};
 ghost use Rattle.rule6.specs.Service.{adds_three_days};
 
-use court_days::Day;
+use court_clock::Day;
 
 /// How a paper was served, by the paragraphs of Fed. R. Civ. P. 5(b)(2).
 #[derive(Clone, Copy, Debug, PartialEq, Eq)]

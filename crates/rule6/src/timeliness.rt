@@ -3,7 +3,7 @@
 ghost use Rattle.std.specs.Prelude.{◌≡◌, ◌<◌};
 ghost use Rattle.rule6.specs.Timeliness.{is_within_the_day, is_in_time};
 
-use court_days::{Clock, Day, Instant};
+use court_clock::{Clock, Day, Instant};
 
 /// What has to be done within a period.
 #[derive(Clone, Copy, Debug, PartialEq, Eq)]

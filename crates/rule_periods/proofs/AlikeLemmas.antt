@@ -1,9 +1,10 @@
 -- By two values that stand for one clock a deadline ends at the same time, and its time may be extended alike.
 use Rattle.std.proofs.Common.{◌≡◌, ◌∙◌, ◌*◌, ◌&&◌, ℕ, Bool, List, [], ◌∷◌, Option, None, cond, fold, option_map, refl, ap}
-use Rattle.court_days.specs.declared.direction.Direction.{Direction}
-use Rattle.court_days.specs.declared.direction.Direction.TheVariants.{After}
-use Rattle.court_days.specs.Words.{ClockView, DaysView, IsSameCourtClock, instant_of}
-use Rattle.court_days.proofs.CallerLemmas.{instant_alike}
+use Rattle.court_clock.specs.declared.direction.Direction.{Direction}
+use Rattle.court_clock.specs.declared.direction.Direction.TheVariants.{After}
+use Rattle.court_clock.specs.Words.{ClockView, IsSameCourtClock, instant_of}
+use Rattle.court_days.specs.Words.{DaysView}
+use Rattle.court_clock.proofs.CallerLemmas.{instant_alike}
 use Rattle.rule6.specs.declared.timeliness.Act.{Act}
 use Rattle.rule6.specs.declared.timeliness.Means.TheVariants.{Electronic}
 use Rattle.rule6.specs.declared.timeliness.Shown.{Shown}
@@ -19,11 +20,12 @@ use Rattle.rule_periods.specs.declared.period.Period.{Period}
 use Rattle.rule_periods.specs.declared.period.Period.TheVariants as period
 use Rattle.rule_periods.specs.Base.{base_of_period, end_of_length, kind_adds}
 use Rattle.rule_periods.specs.Deadline.{DeadlineRowView, with_grant}
+use Rattle.rule_periods.specs.Due.{act_due}
 use Rattle.rule_periods.specs.Event.{EventView}
 use Rattle.rule_periods.specs.Extended.{by_hours, extended_of, granted, granted_if_it_fits}
 use Rattle.rule_periods.specs.Extension.{extension_refusal, is_asked_in_time}
 use Rattle.rule_periods.specs.Grant.{grant_fits}
-use Rattle.rule_periods.specs.Period.{act_of, direction_of, is_in_hours}
+use Rattle.rule_periods.specs.Period.{direction_of, is_in_hours}
 use Rattle.rule_periods.specs.Showing.{access_direction, accessed, ends_certain, is_moved_by_access, shown_after, shown_end, shown_of}
 
 module _ (a b : ClockView) (same : IsSameCourtClock a b) where
@@ -77,8 +79,8 @@ module _ (a b : ClockView) (same : IsSameCourtClock a b) where
   shown_alike c row =
       let certain = ends_certain row.grants in
       let direction = access_direction (direction_of row.period) row.grants in
-      ap (shown_after c a (act_of row.period) certain direction) (extended_alike c row)
-      ∙ shown_after_alike c (act_of row.period) certain direction (extended_of c b row)
+      ap (shown_after c a (act_due row) certain direction) (extended_alike c row)
+      ∙ shown_after_alike c (act_due row) certain direction (extended_of c b row)
 
   -- a request
   pub asked_alike : (now : Shown) (asked : EventView) → is_asked_in_time a now asked ≡ is_asked_in_time b now asked

@@ -4,20 +4,22 @@ use Rattle.std.specs.List.{list_all}
 use Rattle.std.specs.Option.{option_map_or}
 use Rattle.std.proofs.lemmas.List.Folds.{list_all-append}
 use Rattle.std.proofs.lemmas.List.Sums.{fold_push}
-use Rattle.court_days.specs.declared.direction.Direction.{Direction}
-use Rattle.court_days.specs.Words.{DaysView, ClockView}
-use Rattle.court_days.specs.declared.direction.Direction.TheVariants.{After}
+use Rattle.court_clock.specs.declared.direction.Direction.{Direction}
+use Rattle.court_clock.specs.Words.{ClockView}
+use Rattle.court_days.specs.Words.{DaysView}
+use Rattle.court_clock.specs.declared.direction.Direction.TheVariants.{After}
 use Rattle.rule_periods.specs.declared.grant.Grant.{Grant}
 use Rattle.rule_periods.specs.declared.period.Period.{Period}
 use Rattle.rule_periods.specs.declared.period.Period.TheVariants as period
 use Rattle.rule_periods.specs.Base.{base_of, base_of_period, end_of_rule}
 use Rattle.rule_periods.specs.Deadline.{DeadlineRowView, with_grant}
+use Rattle.rule_periods.specs.Due.{act_due}
 use Rattle.rule_periods.specs.Extended.{extended_of, granted_if_it_fits}
 use Rattle.rule_periods.specs.Grant.{is_certain}
-use Rattle.rule_periods.specs.Period.{act_of, direction_of, is_in_hours}
+use Rattle.rule_periods.specs.Period.{direction_of, is_in_hours}
 use Rattle.rule_periods.specs.Showing.{ends_certain, access_direction, shown_after, shown_of}
 
--- a test that all pass, and one more
+-- a test that all pass, and one more passes
 pub all_push : (test : Grant → Bool) (grants : List Grant) (grant : Grant) → list_all test grants ≡ true → test grant ≡ true → list_all test (grants ++ grant ∷ []) ≡ true
 all_push test grants grant all one = rw (list_all-append test grants (grant ∷ []), all, one) refl
 
@@ -34,7 +36,7 @@ access_direction-push : (direction : Direction) (grants : List Grant) (grant : G
 access_direction-push direction [] grant = refl
 access_direction-push direction (g ∷ grants) grant = refl
 
--- the end before any extension doesn't rest on them
+-- the end before any extension doesn't depend on the extensions
 base_of-grants : (c : DaysView) (clock : ClockView) (row : DeadlineRowView) (grant : Grant) (period : Period) → base_of_period c clock (with_grant row grant) period ≡ base_of_period c clock row period
 unfolding base_of_period end_of_rule
 base_of-grants c clock row grant (period.Rule rule) = refl
@@ -49,7 +51,7 @@ extended_of-push c clock row grant =
     ∙ fold_push more (base_of c clock row) row.grants grant
 
 -- what is shown with one more extension is what is shown after it
-pub shown_of-push : (c : DaysView) (clock : ClockView) (row : DeadlineRowView) (grant : Grant) → shown_of c clock (with_grant row grant) ≡ shown_after c clock (act_of row.period) (is_certain grant) After (granted_if_it_fits c clock (is_in_hours row.period) (extended_of c clock row) grant)
+pub shown_of-push : (c : DaysView) (clock : ClockView) (row : DeadlineRowView) (grant : Grant) → shown_of c clock (with_grant row grant) ≡ shown_after c clock (act_due row) (is_certain grant) After (granted_if_it_fits c clock (is_in_hours row.period) (extended_of c clock row) grant)
 unfolding shown_of
 shown_of-push c clock row grant =
     let certain : ends_certain (row.grants ++ grant ∷ []) ≡ is_certain grant = ap (λ g. option_map_or is_certain g false) (last-push row.grants grant) in

@@ -2,3 +2,4 @@ pub mod AlikeLemmas
 pub mod CallerLemmas
 pub mod DeadlineLemmas
 pub mod NoticeLemmas
+pub mod RuleLemmas

@@ -1,7 +1,8 @@
 -- Looking back from a day that isn't covered.
 use Rattle.std.proofs.Common.{◌≡◌, ℤ, ◌≤ℤ◌, ◌<ℤ◌, Bool, None, refl, arith}
 use Rattle.std.proofs.lemmas.Int.{ints}
-use Rattle.court_days.specs.Words.{DaysView, latest_day, earlier_day}
+use Rattle.court_clock.specs.Words.{earlier_day}
+use Rattle.court_days.specs.Words.{DaysView, latest_day}
 use Rattle.court_days.proofs.CallerLemmas.{latest_ends}
 
 -- the search from a day is that from the last covered day at or before it

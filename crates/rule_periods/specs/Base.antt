@@ -1,8 +1,9 @@
 -- When the time of a deadline ends before any extension.
 use Rattle.std.specs.Prelude.{◌*◌, Bool, true, false, ◌&&◌, ℤ, option_map, Option, Some, None}
-use Rattle.court_days.specs.declared.direction.Direction.{Direction}
-use Rattle.court_days.specs.declared.direction.Direction.TheVariants.{After}
-use Rattle.court_days.specs.Words.{DaysView, ClockView, instant_of, later_day}
+use Rattle.court_clock.specs.declared.direction.Direction.{Direction}
+use Rattle.court_clock.specs.declared.direction.Direction.TheVariants.{After}
+use Rattle.court_clock.specs.Words.{ClockView, instant_of, later_day}
+use Rattle.court_days.specs.Words.{DaysView}
 use Rattle.rule6.specs.declared.service.ServiceKind.{ServiceKind}
 use Rattle.rule6.specs.Words.{last_day_of, end_of_hours_from, adds_three_days}
 use Rattle.rule_periods.specs.declared.expiry.Expiry.{Expiry}
@@ -16,7 +17,7 @@ use Rattle.rule_periods.specs.declared.rule.ServiceRule.{ServiceRule}
 use Rattle.rule_periods.specs.declared.rule.ServiceRule.TheVariants as service
 use Rattle.rule_periods.specs.Deadline.{DeadlineRowView}
 use Rattle.rule_periods.specs.Event.{EventView}
-use Rattle.rule_periods.specs.Rule.{terms_of}
+use Rattle.rule_periods.specs.Rule.{terms_of, service_rule_of}
 
 -- a kind of service that was given adds three days (Fed. R. Civ. P. 6(d))
 abbrev pub kind_adds : Option ServiceKind → ℤ → Bool
@@ -37,8 +38,9 @@ later_event event (Some second) = later_day event second
 -- when a period that the Rules set ends
 unfoldable pub end_of_rule : DaysView → DeadlineRowView → RulePeriod → Option Expiry
 end_of_rule c row rule =
-    option_map OnDay (last_day_of c (later_event row.event.day row.second) (terms_of rule).days After
-    (runs_from_service (terms_of rule).service && kind_adds row.service row.event.day))
+    let day = later_event row.event.day row.second in
+    option_map OnDay (last_day_of c day (terms_of rule day).days After
+    (runs_from_service (service_rule_of rule) && kind_adds row.service row.event.day))
 
 -- when an entered length ends that is measured from an event
 unfoldable pub end_of_length : DaysView → ClockView → EventView → Length → Direction → Bool → Option Expiry

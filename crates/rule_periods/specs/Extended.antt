@@ -1,8 +1,9 @@
 -- When the time of a deadline ends with the extensions that were granted.
 use Rattle.std.specs.Prelude.{ℕ, Bool, pos, ◌+ℤ◌, fold, option_map, Option, Some, None, if◌then◌else◌}
 use Rattle.std.specs.Option.{option_and_then}
-use Rattle.court_days.specs.declared.direction.Direction.TheVariants.{After}
-use Rattle.court_days.specs.Words.{DaysView, ClockView, rolled}
+use Rattle.court_clock.specs.declared.direction.Direction.TheVariants.{After}
+use Rattle.court_clock.specs.Words.{ClockView}
+use Rattle.court_days.specs.Words.{DaysView, rolled}
 use Rattle.rule6.specs.Words.{end_of_hours_from}
 use Rattle.rule_periods.specs.declared.expiry.Expiry.{Expiry}
 use Rattle.rule_periods.specs.declared.expiry.Expiry.TheVariants.{OnDay, AtInstant}
@@ -13,8 +14,8 @@ use Rattle.rule_periods.specs.Deadline.{DeadlineRowView}
 use Rattle.rule_periods.specs.Grant.{grant_fits}
 use Rattle.rule_periods.specs.Period.{is_in_hours}
 
--- So many days more, counted from the last day so far and rolled forward with the holidays of a period after an
--- event; so many hours more, counted as hours are (6(a)(2)), with those holidays too.
+-- An extension by days is counted from the last day so far and rolled forward, with the holidays of a period after an
+-- event. One by hours is counted as hours are (6(a)(2)), with those holidays too.
 abbrev pub by_days : DaysView → ℕ → Expiry → Option Expiry
 by_days c n (OnDay last) = option_map OnDay (rolled c (last +ℤ pos n) After)
 by_days c n (AtInstant end) = None
@@ -23,7 +24,7 @@ abbrev pub by_hours : DaysView → ClockView → ℕ → Expiry → Option Expir
 by_hours c clock h (OnDay last) = None
 by_hours c clock h (AtInstant end) = option_map AtInstant (end_of_hours_from c clock end h After)
 
--- when the time ends after one more extension; a date certain is the end whatever stood before
+-- when the time ends after one more extension; a date certain is the end, whatever the end was before
 abbrev pub granted : DaysView → ClockView → Option Expiry → Grant → Option Expiry
 granted c clock end (ByDays n) = option_and_then (by_days c n) end
 granted c clock end (ByHours h) = option_and_then (by_hours c clock h) end

@@ -1,6 +1,7 @@
 -- Whether the time may be extended (Fed. R. Civ. P. 6(b)).
 use Rattle.std.specs.Prelude.{Bool, true, false, ◌&&◌, not, int_lt, List, [], ◌∷◌, Option}
-use Rattle.court_days.specs.Words.{DaysView, is_covered, ClockView}
+use Rattle.court_clock.specs.Words.{ClockView}
+use Rattle.court_days.specs.Words.{DaysView, is_covered}
 use Rattle.rule6.specs.declared.timeliness.Means.TheVariants.{Electronic}
 use Rattle.rule6.specs.declared.timeliness.Shown.{Shown}
 use Rattle.rule6.specs.Words.{is_in_time}
@@ -13,10 +14,11 @@ use Rattle.rule_periods.specs.declared.refusal.PeriodRefusal.TheVariants.{BadDay
 use Rattle.rule_periods.specs.declared.rule.ExtensionRule.{ExtensionRule}
 use Rattle.rule_periods.specs.declared.rule.ExtensionRule.TheVariants.{WithoutFindings, GoodCause, Never}
 use Rattle.rule_periods.specs.Deadline.{DeadlineRowView, with_grant}
+use Rattle.rule_periods.specs.Due.{extension_due}
 use Rattle.rule_periods.specs.Event.{EventView}
 use Rattle.rule_periods.specs.FirstRefusal.{when, first_of}
 use Rattle.rule_periods.specs.Grant.{grant_fits, is_grant_length}
-use Rattle.rule_periods.specs.Period.{extension_of, is_in_hours}
+use Rattle.rule_periods.specs.Period.{is_in_hours}
 use Rattle.rule_periods.specs.Showing.{shown_of}
 
 -- the day until which an extension runs is covered
@@ -37,7 +39,7 @@ is_never WithoutFindings = false
 is_never GoodCause = false
 is_never Never = true
 
--- The findings of 6(b)(1) are asked for. An extension under 4(m) asks for none.
+-- The findings of 6(b)(1) are required. An extension under 4(m) requires none.
 abbrev pub asks_findings : ExtensionRule → Bool
 asks_findings WithoutFindings = false
 asks_findings GoodCause = true
@@ -47,7 +49,7 @@ asks_findings Never = false
 abbrev pub is_asked_in_time : ClockView → Shown → EventView → Bool
 is_asked_in_time clock now asked = is_in_time clock now (record { day = asked.day; minute = asked.minute; means = Electronic })
 
--- the second end lies later than the first
+-- the second end is later than the first
 abbrev pub is_later : Shown → Shown → Bool
 is_later (shown.Last d act) (shown.Last e act') = int_lt d e
 is_later (shown.Until t) (shown.Until u) = int_lt t u
@@ -61,7 +63,7 @@ abbrev pub extension_checks : DaysView → ClockView → DeadlineRowView → Req
 extension_checks c clock row request =
     let now = shown_of c clock row in
     let then = shown_of c clock (with_grant row request.grant) in
-    let rule = extension_of row.period in
+    let rule = extension_due row in
     let late = not (is_asked_in_time clock now request.asked) in
     (when (not (is_covered c request.asked.day && is_covered_grant c request.grant)) BadDay
     ∷ when (is_beyond now) Beyond

@@ -6,6 +6,7 @@ pub mod Start
 pub mod Grant
 pub mod Deadline
 pub mod Base
+pub mod Due
 pub mod Extended
 pub mod Showing
 pub mod Extension

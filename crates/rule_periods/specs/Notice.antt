@@ -1,6 +1,6 @@
 -- The day by which a motion and the notice of its hearing are served (Fed. R. Civ. P. 6(c)).
 use Rattle.std.specs.Prelude.{ℕ, ℤ, pos, ◌-ℤ◌, Option}
-use Rattle.court_days.specs.declared.direction.Direction.TheVariants.{Before}
+use Rattle.court_clock.specs.declared.direction.Direction.TheVariants.{Before}
 use Rattle.court_days.specs.Words.{DaysView, is_permitted, latest_day}
 
 -- The greatest covered day, at or before the day that lies n days before the hearing, that is no Saturday, Sunday or

@@ -1,7 +1,7 @@
 -- What a period is: its act, its side of the event, and how it may be extended.
 use Rattle.std.specs.Prelude.{ℕ, ℤ, Bool, true, false, nat_le, ◌&&◌, not, Option, Some, None, if◌then◌else◌}
-use Rattle.court_days.specs.declared.direction.Direction.{Direction}
-use Rattle.court_days.specs.declared.direction.Direction.TheVariants.{After, Before}
+use Rattle.court_clock.specs.declared.direction.Direction.{Direction}
+use Rattle.court_clock.specs.declared.direction.Direction.TheVariants.{After, Before}
 use Rattle.rule6.specs.declared.timeliness.Act.{Act}
 use Rattle.rule6.specs.declared.service.ServiceKind.{ServiceKind}
 use Rattle.rule_periods.specs.declared.period.Entered.{Entered}
@@ -15,14 +15,14 @@ use Rattle.rule_periods.specs.declared.rule.ExtensionRule.{ExtensionRule}
 use Rattle.rule_periods.specs.declared.rule.ExtensionRule.TheVariants.{GoodCause, Never}
 use Rattle.rule_periods.specs.declared.rule.ServiceRule.{ServiceRule}
 use Rattle.rule_periods.specs.declared.rule.ServiceRule.TheVariants as service
-use Rattle.rule_periods.specs.Rule.{terms_of}
+use Rattle.rule_periods.specs.Rule.{terms_of, service_rule_of, takes_second_day}
 
--- what must be done in time
-abbrev pub act_of : Period → Act
-act_of (period.Rule rule) = (terms_of rule).act
-act_of (period.Entered entered) = entered.act
+-- what must be done in time, by the day from which the period runs
+abbrev pub act_of : Period → ℤ → Act
+act_of (period.Rule rule) day = (terms_of rule day).act
+act_of (period.Entered entered) day = entered.act
 
--- on which side of its event it lies; the Rules' own periods are measured after
+-- on which side of its event it lies; the periods that the Rules set are measured after it
 abbrev pub direction_of : Period → Direction
 direction_of (period.Rule rule) = After
 direction_of (period.Entered entered) = entered.direction
@@ -38,9 +38,10 @@ extension_of_mark mark.Rule59d = Never
 extension_of_mark mark.Rule59e = Never
 extension_of_mark mark.Rule60b = Never
 
-abbrev pub extension_of : Period → ExtensionRule
-extension_of (period.Rule rule) = (terms_of rule).extension
-extension_of (period.Entered entered) = extension_of_mark entered.mark
+-- how it may be extended, by the day from which it runs
+abbrev pub extension_of : Period → ℤ → ExtensionRule
+extension_of (period.Rule rule) day = (terms_of rule day).extension
+extension_of (period.Entered entered) day = extension_of_mark entered.mark
 
 -- a length in hours
 abbrev pub is_hour_length : Length → Bool
@@ -72,7 +73,7 @@ abbrev pub is_after : Direction → Bool
 is_after After = true
 is_after Before = false
 
--- a value is there, or isn't
+-- a value is given
 abbrev pub is_given : {A : Type 0} → Option A → Bool
 is_given None = false
 is_given (Some x) = true
@@ -92,13 +93,13 @@ is_second_for false (Some d) = false
 is_second_for true None = false
 is_second_for true (Some d) = true
 
--- An entered period runs from service only if it is counted in days after it, with the kind of the service; else
--- no kind is given.
+-- An entered period may run from service only if it is counted in days after it, and then the kind of service is given.
+-- For another no kind is given.
 abbrev pub is_kind_for_entered : Entered → Option ServiceKind → Bool
 is_kind_for_entered entered kind =
     if entered.served then is_given kind && (is_after entered.direction && not (is_hour_length entered.length)) else not (is_given kind)
 
 -- the kind of service and the second day suit the period
 abbrev pub suits : Period → Option ℤ → Option ServiceKind → Bool
-suits (period.Rule rule) second kind = is_kind_for (terms_of rule).service kind && is_second_for (terms_of rule).second_day second
+suits (period.Rule rule) second kind = is_kind_for (service_rule_of rule) kind && is_second_for (takes_second_day rule) second
 suits (period.Entered entered) second kind = is_kind_for_entered entered kind && is_second_for false second

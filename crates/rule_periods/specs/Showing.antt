@@ -1,9 +1,10 @@
 -- What is shown of a deadline.
 use Rattle.std.specs.Prelude.{◌-◌, length, slice_get, Bool, false, not, List, [], ◌∷◌, option_map, Option, Some, None, if◌then◌else◌}
 use Rattle.std.specs.Option.{option_and_then, option_map_or}
-use Rattle.court_days.specs.declared.direction.Direction.{Direction}
-use Rattle.court_days.specs.declared.direction.Direction.TheVariants.{After}
-use Rattle.court_days.specs.Words.{DaysView, ClockView}
+use Rattle.court_clock.specs.declared.direction.Direction.{Direction}
+use Rattle.court_clock.specs.declared.direction.Direction.TheVariants.{After}
+use Rattle.court_clock.specs.Words.{ClockView}
+use Rattle.court_days.specs.Words.{DaysView}
 use Rattle.rule6.specs.declared.timeliness.Act.{Act}
 use Rattle.rule6.specs.declared.timeliness.Act.TheVariants.{Filing as ByFiling, Service as ByService}
 use Rattle.rule6.specs.declared.timeliness.Shown.{Shown}
@@ -13,9 +14,10 @@ use Rattle.rule_periods.specs.declared.expiry.Expiry.{Expiry}
 use Rattle.rule_periods.specs.declared.expiry.Expiry.TheVariants.{OnDay, AtInstant}
 use Rattle.rule_periods.specs.declared.grant.Grant.{Grant}
 use Rattle.rule_periods.specs.Deadline.{DeadlineRowView}
+use Rattle.rule_periods.specs.Due.{act_due}
 use Rattle.rule_periods.specs.Extended.{extended_of}
 use Rattle.rule_periods.specs.Grant.{is_certain}
-use Rattle.rule_periods.specs.Period.{act_of, direction_of}
+use Rattle.rule_periods.specs.Period.{direction_of}
 
 -- the last extension is to a date certain
 abbrev pub ends_certain : List Grant → Bool
@@ -32,7 +34,7 @@ abbrev pub accessed : DaysView → ClockView → Direction → Expiry → Option
 accessed c clock direction (OnDay last) = option_map OnDay (extended_day c last direction)
 accessed c clock direction (AtInstant end) = option_map AtInstant (extended_end c clock end direction)
 
--- inaccessibility moves only the time for filing, and no date certain
+-- inaccessibility moves the time for filing, unless it is a date certain; it doesn't move the time for service
 abbrev pub is_moved_by_access : Act → Bool → Bool
 is_moved_by_access ByFiling certain = not certain
 is_moved_by_access ByService certain = false
@@ -52,4 +54,4 @@ shown_after c clock act certain direction end =
 -- what is shown of a deadline: its last day or the end of its hours, or that no covered day qualifies
 unfoldable pub shown_of : DaysView → ClockView → DeadlineRowView → Shown
 shown_of c clock row =
-    shown_after c clock (act_of row.period) (ends_certain row.grants) (access_direction (direction_of row.period) row.grants) (extended_of c clock row)
+    shown_after c clock (act_due row) (ends_certain row.grants) (access_direction (direction_of row.period) row.grants) (extended_of c clock row)

@@ -1,5 +1,5 @@
 -- The words of clauses and definitions, for the crates above, from one place.
-pub use Rattle.rule_periods.specs.Rule.{terms_of, rule_code, rule_of_code, CodesNamePeriods}
+pub use Rattle.rule_periods.specs.Rule.{terms_of, right_from, service_rule_of, takes_second_day, rule_code, rule_of_code, CodesNamePeriods}
 pub use Rattle.rule_periods.specs.Event.{EventView}
 pub use Rattle.rule_periods.specs.Period.{act_of, direction_of, extension_of_mark, extension_of, is_hour_length, is_in_hours, is_days, is_hour_count, is_length, has_length, is_after, is_given, is_kind_for, is_second_for, is_kind_for_entered, suits}
 pub use Rattle.rule_periods.specs.FirstRefusal.{when, first_of}
@@ -9,6 +9,7 @@ pub use Rattle.rule_periods.specs.Grant.{is_grant_length, grant_fits, is_certain
 pub use Rattle.rule_periods.specs.Deadline.{DeadlineRowView, kept_filing, with_grant, with_filing, has_fitting_grants}
 pub use Rattle.rule_periods.specs.Base.{kind_adds, runs_from_service, later_event, base_of}
 unfoldable pub use Rattle.rule_periods.specs.Base.{end_of_rule, end_of_length, base_of_period}
+pub use Rattle.rule_periods.specs.Due.{runs_from, act_due, extension_due}
 pub use Rattle.rule_periods.specs.Extended.{by_days, by_hours, granted, granted_if_it_fits}
 unfoldable pub use Rattle.rule_periods.specs.Extended.{extended_of}
 pub use Rattle.rule_periods.specs.Showing.{ends_certain, access_direction, accessed, is_moved_by_access, shown_end}

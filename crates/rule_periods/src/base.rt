@@ -9,7 +9,8 @@ use crate::event::Event;
 use crate::expiry::Expiry;
 use crate::period::{Length, Period};
 use crate::rule::{RulePeriod, ServiceRule};
-use court_days::{Clock, Day, Days, Direction};
+use court_clock::{Clock, Day, Direction};
+use court_days::Days;
 use rule6::{ServiceKind, adds_three, end_of_hours, last_day};
 
 /// The end of the row's period, before any extension. None where no covered day qualifies.
@@ -41,7 +42,7 @@ fn end_of_rule(days: &Days, row: &DeadlineRow, rule: RulePeriod) -> Option<Expir
     let served = row.event().day();
     let event = later_event(served, row.second());
     let added = runs_from_service(rule.service_rule()) && kind_adds(row.service(), served);
-    let last = last_day(days, event, rule.days(), Direction::After, added)?;
+    let last = last_day(days, event, rule.days(event), Direction::After, added)?;
     Some(Expiry::OnDay(last))
 }
 

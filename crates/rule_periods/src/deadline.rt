@@ -9,7 +9,7 @@ ghost use Rattle.rule_periods.specs.Period.{suits, has_length};
 use crate::event::{Event, LAST_MINUTE};
 use crate::grant::Grant;
 use crate::period::Period;
-use court_days::Day;
+use court_clock::Day;
 use rule6::{Filing, ServiceKind};
 use std::alloc::{AllocError, Global};
 use std::marker::Model;

@@ -9,7 +9,7 @@ use crate::deadline::DeadlineRow;
 use crate::event::Event;
 use crate::grant::Grant;
 use crate::period::Period;
-use court_days::Day;
+use court_clock::Day;
 use rule6::{Filing, ServiceKind};
 use std::alloc::{AllocError, Global};
 use std::marker::Model;

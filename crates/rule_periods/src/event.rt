@@ -3,7 +3,7 @@
 ghost use Rattle.std.specs.Prelude.{◌≡◌, ◌<◌, min};
 ghost use Rattle.rule_periods.specs.Event.{EventView};
 
-use court_days::Day;
+use court_clock::Day;
 use std::marker::Model;
 
 /// The last minute of a day.

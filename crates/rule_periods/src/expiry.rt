@@ -1,6 +1,6 @@
 //! When a period ends, before anything is shown of it.
 
-use court_days::{Day, Instant};
+use court_clock::{Day, Instant};
 
 /// The end of a period in days, or of one in hours.
 #[derive(Clone, Copy, Debug, PartialEq, Eq)]

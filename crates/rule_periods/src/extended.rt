@@ -10,7 +10,8 @@ use crate::base::base;
 use crate::deadline::DeadlineRow;
 use crate::expiry::Expiry;
 use crate::grant::{Grant, grant_fits};
-use court_days::{Clock, Day, Days, Direction};
+use court_clock::{Clock, Day, Direction};
+use court_days::Days;
 use rule6::{end_of_hours, last_day};
 
 /// The end with every extension in turn.
@@ -48,7 +49,7 @@ pub(crate) fn granted(
     }
 }
 
-/// So many days more than a last day, rolled forward.
+/// The end of an extension by days, counted from a last day and rolled forward.
 #[tactic(auto, unfolding(rule6::specs::Days::last_day_of))]
 fn by_days(days: &Days, end: Expiry, n: u32) -> Option<Expiry>
     requires { is_grant_length (Grant.ByDays n) ≡ true }
@@ -63,7 +64,7 @@ fn by_days(days: &Days, end: Expiry, n: u32) -> Option<Expiry>
     }
 }
 
-/// So many hours more than an instant.
+/// The end of an extension by hours, counted from an instant.
 fn by_hours(days: &Days, clock: &Clock, end: Expiry, h: u32) -> Option<Expiry>
     requires { is_grant_length (Grant.ByHours h) ≡ true }
     ensures { result ≡ by_hours days.now clock.now h end }

@@ -9,13 +9,15 @@ ghost use Rattle.rule_periods.specs.Period.{is_in_hours};
 ghost use Rattle.rule_periods.specs.Showing.{shown_of};
 
 use crate::deadline::DeadlineRow;
+use crate::due::{act_due, extension_due};
 use crate::event::Event;
 use crate::extended::{extended, granted};
 use crate::grant::{Grant, Request, grant_fits, is_certain, is_grant_length};
 use crate::refusal::PeriodRefusal;
 use crate::rule::ExtensionRule;
 use crate::showing::{shown, shown_after};
-use court_days::{Clock, Day, Days, Direction, Instant};
+use court_clock::{Clock, Day, Direction, Instant};
+use court_days::Days;
 use rule6::{Act, Filing, Means, Shown, is_timely};
 
 /// Whether the request may be granted (Fed. R. Civ. P. 6(b); 4(m) for a period of that Rule). The first refusal that
@@ -32,12 +34,12 @@ pub fn may_extend(
     request: &Request,
 ) -> Result<(), PeriodRefusal>
     ensures refusal { result_err result ≡ extension_refusal days.now clock.now row.now request.now }
-    // What a row with the extension asks.
+    // A deadline with the extension requires these.
     ensures length { OnOk result (is_grant_length request.now.grant ≡ true) }
     ensures fits { OnOk result (grant_fits (is_in_hours row.now.period) request.now.grant ≡ true) }
 {
     let now = shown(days, clock, row);
-    let rule = row.period().extension_rule();
+    let rule = extension_due(row);
     if !(days.covered(request.asked.day()) && is_covered_grant(days, request.grant)) {
         return Err(PeriodRefusal::BadDay);
     }
@@ -79,7 +81,7 @@ pub fn shown_with(days: &Days, clock: &Clock, row: &DeadlineRow, grant: Grant) -
     ensures { result ≡ shown_of days.now clock.now (with_grant row.now grant) }
 {
     let hours = row.period().is_in_hours();
-    let act = row.period().act();
+    let act = act_due(row);
     let certain = is_certain(&grant);
     let so_far = extended(days, clock, row);
     let end = granted(days, clock, hours, so_far, grant);
@@ -93,14 +95,14 @@ fn is_never(rule: ExtensionRule) -> bool
     matches!(rule, ExtensionRule::Never)
 }
 
-/// Whether the findings of Rule 6(b)(1) are asked for.
+/// Whether the findings of Rule 6(b)(1) are required.
 fn asks_findings(rule: ExtensionRule) -> bool
     ensures { result ≡ asks_findings rule }
 {
     matches!(rule, ExtensionRule::GoodCause)
 }
 
-/// Whether the second end lies later than the first.
+/// Whether the second end is later than the first.
 fn is_later(now: &Shown, then: &Shown) -> bool
     ensures { result ≡ is_later now.now then.now }
 {

@@ -4,16 +4,16 @@ ghost use Rattle.std.specs.Prelude.{◌≡◌};
 ghost use Rattle.rule_periods.specs.Grant.{grant_fits, is_certain, is_grant_length};
 
 use crate::event::Event;
-use court_days::Day;
+use court_clock::Day;
 
 /// An extension that a court grants.
 #[derive(Clone, Copy, Debug, PartialEq, Eq)]
 pub enum Grant {
-    /// So many days more than the last day so far, for a period in days: 1 to 3,650.
+    /// By a number of days, 1 to 3,650, counted from the last day so far. It is for a period in days.
     ByDays(u32),
-    /// So many hours more than the end so far, for a period in hours: 1 to 8,760.
+    /// By a number of hours, 1 to 8,760, counted from the end so far. It is for a period in hours.
     ByHours(u32),
-    /// Until that day, for a period in days. A date certain isn't rolled.
+    /// Until that day, a date certain, which isn't rolled. It is for a period in days.
     Until(Day),
 }
 

@@ -4,6 +4,7 @@
 mod base;
 mod deadline;
 mod docket_row;
+mod due;
 mod event;
 mod expiry;
 mod extended;
@@ -20,6 +21,7 @@ mod start;
 pub use base::{kind_adds, later_event, runs_from_service};
 pub use deadline::{DeadlineRow, kept_filing};
 pub use docket_row::DocketRow;
+pub use due::{act_due, runs_from};
 pub use event::Event;
 pub use expiry::Expiry;
 pub use extension::{may_extend, shown_with};

@@ -1,10 +1,12 @@
 //! Notice of a hearing (Fed. R. Civ. P. 6(c)).
 
 ghost use Rattle.std.specs.Prelude.{◌≡◌, ◌≤◌, ◌≤ℤ◌, ◌-ℤ◌, pos, true};
-ghost use Rattle.court_days.specs.Words.{is_covered, is_permitted, latest_day, earlier_day};
+ghost use Rattle.court_clock.specs.Words.{earlier_day};
+ghost use Rattle.court_days.specs.Words.{is_covered, is_permitted, latest_day};
 ghost use Rattle.rule_periods.specs.Notice.{notice_of};
 
-use court_days::{Day, Days, Direction};
+use court_clock::{Day, Direction};
+use court_days::Days;
 
 /// The days before the hearing by which an opposing affidavit is served (Fed. R. Civ. P. 6(c)(2)).
 const AFFIDAVIT_DAYS: u32 = 7;

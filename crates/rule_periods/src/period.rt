@@ -4,7 +4,7 @@ ghost use Rattle.std.specs.Prelude.{◌≡◌};
 ghost use Rattle.rule_periods.specs.Period.{act_of, direction_of, extension_of, is_in_hours};
 
 use crate::rule::{ExtensionRule, RulePeriod};
-use court_days::Direction;
+use court_clock::{Day, Direction};
 use rule6::Act;
 
 /// The length of an entered period.
@@ -63,12 +63,12 @@ pub enum Period {
 }
 
 impl Period {
-    /// What must be done in time.
-    pub fn act(self) -> Act
-        ensures { result ≡ act_of self }
+    /// What must be done in time, where the period runs from that day.
+    pub fn act(self, day: Day) -> Act
+        ensures { result ≡ act_of self day }
     {
         match self {
-            Period::Rule(rule) => rule.act(),
+            Period::Rule(rule) => rule.act(day),
             Period::Entered(entered) => entered.act,
         }
     }
@@ -83,12 +83,12 @@ impl Period {
         }
     }
 
-    /// How the time may be extended.
-    pub fn extension_rule(self) -> ExtensionRule
-        ensures { result ≡ extension_of self }
+    /// How the time may be extended, where the period runs from that day.
+    pub fn extension_rule(self, day: Day) -> ExtensionRule
+        ensures { result ≡ extension_of self day }
     {
         match self {
-            Period::Rule(rule) => rule.extension_rule(),
+            Period::Rule(rule) => rule.extension_rule(day),
             Period::Entered(entered) => match entered.mark {
                 Mark::Plain => ExtensionRule::GoodCause,
                 _ => ExtensionRule::Never,

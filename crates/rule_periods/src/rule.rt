@@ -1,8 +1,10 @@
-//! The periods that the Federal Rules of Civil Procedure set, and the table of what each says.
+//! The periods that the Federal Rules of Civil Procedure set, the table of what they say of each, and from which day on
+//! it is right.
 
 ghost use Rattle.std.specs.Prelude.{◌≡◌, ◌≤◌};
-ghost use Rattle.rule_periods.specs.Rule.{terms_of, rule_code, rule_of_code};
+ghost use Rattle.rule_periods.specs.Rule.{right_from, rule_code, rule_of_code, service_rule_of, takes_second_day, terms_of};
 
+use court_clock::Day;
 use rule6::Act;
 
 /// Whether a kind of service (Fed. R. Civ. P. 5(b)(2)) goes with a period.
@@ -34,10 +36,6 @@ pub struct Terms {
     pub days: u32,
     /// What must be done in time.
     pub act: Act,
-    /// Whether a kind of service goes with the period.
-    pub service: ServiceRule,
-    /// Whether a second day goes with the period, the later of the two being its event.
-    pub second_day: bool,
     /// How the time may be extended.
     pub extension: ExtensionRule,
 }
@@ -72,8 +70,6 @@ pub enum RulePeriod {
 const RULE_4M: Terms = Terms {
     days: 90,
     act: Act::Service,
-    service: ServiceRule::None,
-    second_day: false,
     extension: ExtensionRule::WithoutFindings,
 };
 
@@ -81,8 +77,6 @@ const RULE_4M: Terms = Terms {
 const RULE_12A1AI: Terms = Terms {
     days: 21,
     act: Act::Service,
-    service: ServiceRule::None,
-    second_day: false,
     extension: ExtensionRule::GoodCause,
 };
 
@@ -90,8 +84,6 @@ const RULE_12A1AI: Terms = Terms {
 const RULE_12A1AII_US: Terms = Terms {
     days: 60,
     act: Act::Service,
-    service: ServiceRule::None,
-    second_day: false,
     extension: ExtensionRule::GoodCause,
 };
 
@@ -99,8 +91,6 @@ const RULE_12A1AII_US: Terms = Terms {
 const RULE_12A1AII_ABROAD: Terms = Terms {
     days: 90,
     act: Act::Service,
-    service: ServiceRule::None,
-    second_day: false,
     extension: ExtensionRule::GoodCause,
 };
 
@@ -108,8 +98,6 @@ const RULE_12A1AII_ABROAD: Terms = Terms {
 const RULE_12A1B: Terms = Terms {
     days: 21,
     act: Act::Service,
-    service: ServiceRule::Required,
-    second_day: false,
     extension: ExtensionRule::GoodCause,
 };
 
@@ -117,8 +105,6 @@ const RULE_12A1B: Terms = Terms {
 const RULE_12A1C: Terms = Terms {
     days: 21,
     act: Act::Service,
-    service: ServiceRule::Required,
-    second_day: false,
     extension: ExtensionRule::GoodCause,
 };
 
@@ -126,8 +112,6 @@ const RULE_12A1C: Terms = Terms {
 const RULE_12A2: Terms = Terms {
     days: 60,
     act: Act::Service,
-    service: ServiceRule::None,
-    second_day: false,
     extension: ExtensionRule::GoodCause,
 };
 
@@ -135,8 +119,6 @@ const RULE_12A2: Terms = Terms {
 const RULE_12A3: Terms = Terms {
     days: 60,
     act: Act::Service,
-    service: ServiceRule::None,
-    second_day: true,
     extension: ExtensionRule::GoodCause,
 };
 
@@ -144,8 +126,6 @@ const RULE_12A3: Terms = Terms {
 const RULE_59B: Terms = Terms {
     days: 28,
     act: Act::Filing,
-    service: ServiceRule::MayBeNoted,
-    second_day: false,
     extension: ExtensionRule::Never,
 };
 
@@ -153,15 +133,20 @@ const RULE_59B: Terms = Terms {
 const RULE_59E: Terms = Terms {
     days: 28,
     act: Act::Filing,
-    service: ServiceRule::MayBeNoted,
-    second_day: false,
     extension: ExtensionRule::Never,
 };
 
+/// 2009-12-01, from which day on every day counts.
+const COUNTING_AMENDED: i32 = 14_579;
+
+/// 2015-12-01, from which day on a summons is served within 90 days.
+const SUMMONS_AMENDED: i32 = 16_770;
+
 impl RulePeriod {
-    /// What the Rules say of the period.
-    pub fn terms(self) -> Terms
-        ensures { result ≡ terms_of self }
+    /// What the Rules say of the period where it runs from that day: the day of its event, or the later of two. The
+    /// terms are the same for every day, also for one before `right_from`.
+    pub fn terms(self, day: Day) -> Terms
+        ensures { result ≡ terms_of self day }
     {
         match self {
             RulePeriod::Rule4m => RULE_4M,
@@ -177,40 +162,59 @@ impl RulePeriod {
         }
     }
 
-    /// The length in days.
-    pub fn days(self) -> u32
-        ensures value { result ≡ (terms_of self).days }
-        ensures bound { (1 ≤ result) × (result ≤ 3650) }
+    /// The day from which `terms` has what the Rules say of a period that runs from that day, or from a later one.
+    #[tactic(auto, using(crate::proofs::RuleLemmas::counting_amended_is, crate::proofs::RuleLemmas::summons_amended_is))]
+    pub fn right_from(self) -> Day
+        ensures { result ≡ right_from self }
     {
-        self.terms().days
+        let number = match self {
+            RulePeriod::Rule4m => SUMMONS_AMENDED,
+            _ => COUNTING_AMENDED,
+        };
+        match Day::new(number) {
+            Some(day) => day,
+            None => unreachable!(),
+        }
     }
 
-    /// What must be done in time.
-    pub fn act(self) -> Act
-        ensures { result ≡ (terms_of self).act }
+    /// The length in days, where the period runs from that day.
+    pub fn days(self, day: Day) -> u32
+        ensures value { result ≡ (terms_of self day).days }
+        ensures bound { (1 ≤ result) × (result ≤ 3650) }
     {
-        self.terms().act
+        self.terms(day).days
+    }
+
+    /// What must be done in time, where the period runs from that day.
+    pub fn act(self, day: Day) -> Act
+        ensures { result ≡ (terms_of self day).act }
+    {
+        self.terms(day).act
+    }
+
+    /// How the time may be extended, where the period runs from that day.
+    pub fn extension_rule(self, day: Day) -> ExtensionRule
+        ensures { result ≡ (terms_of self day).extension }
+    {
+        self.terms(day).extension
     }
 
     /// Whether a kind of service goes with the period.
     pub fn service_rule(self) -> ServiceRule
-        ensures { result ≡ (terms_of self).service }
+        ensures { result ≡ service_rule_of self }
     {
-        self.terms().service
+        match self {
+            RulePeriod::Rule12a1B | RulePeriod::Rule12a1C => ServiceRule::Required,
+            RulePeriod::Rule59b | RulePeriod::Rule59e => ServiceRule::MayBeNoted,
+            _ => ServiceRule::None,
+        }
     }
 
-    /// Whether a second day goes with the period.
+    /// Whether a second day goes with the period, so that it runs from the later of the two.
     pub fn takes_second_day(self) -> bool
-        ensures { result ≡ (terms_of self).second_day }
+        ensures { result ≡ takes_second_day self }
     {
-        self.terms().second_day
-    }
-
-    /// How the time may be extended.
-    pub fn extension_rule(self) -> ExtensionRule
-        ensures { result ≡ (terms_of self).extension }
-    {
-        self.terms().extension
+        matches!(self, RulePeriod::Rule12a3)
     }
 
     /// The code by which rows and sheets name the period.

@@ -4,10 +4,12 @@ ghost use Rattle.std.specs.Prelude.{◌≡◌, Some};
 ghost use Rattle.rule_periods.specs.Showing.{ends_certain, access_direction, accessed, is_moved_by_access, shown_end, shown_after, shown_of};
 
 use crate::deadline::DeadlineRow;
+use crate::due::act_due;
 use crate::expiry::Expiry;
 use crate::extended::extended;
 use crate::grant::{Grant, is_certain};
-use court_days::{Clock, Days, Direction};
+use court_clock::{Clock, Direction};
+use court_days::Days;
 use rule6::{Act, Shown, extended_for_access, extended_for_access_hours};
 
 /// What is shown of a deadline (Fed. R. Civ. P. 6): the end of its period from its event, with the days that service
@@ -17,11 +19,11 @@ use rule6::{Act, Shown, extended_for_access, extended_for_access_hours};
 pub fn shown(days: &Days, clock: &Clock, row: &DeadlineRow) -> Shown
     ensures { result ≡ shown_of days.now clock.now row.now }
 {
-    let period = row.period();
+    let act = act_due(row);
     let certain = ends_certain(row.grants());
-    let direction = access_direction(period.direction(), row.grants());
+    let direction = access_direction(row.period().direction(), row.grants());
     let end = extended(days, clock, row);
-    shown_after(days, clock, period.act(), certain, direction, end)
+    shown_after(days, clock, act, certain, direction, end)
 }
 
 /// What is shown of an end after extensions, of which the last may be to a date certain. `direction` says whose

@@ -9,7 +9,8 @@ use crate::event::Event;
 use crate::period::{Entered, Length, Period};
 use crate::refusal::PeriodRefusal;
 use crate::rule::ServiceRule;
-use court_days::{Day, Days, Direction};
+use court_clock::{Day, Direction};
+use court_days::Days;
 use rule6::ServiceKind;
 
 /// Whether a deadline of that period can start with the event. The first refusal that applies: `BadDay` where the
@@ -24,7 +25,7 @@ pub fn check_start(
     service: Option<ServiceKind>,
 ) -> Result<(), PeriodRefusal>
     ensures refusal { result_err result ≡ start_refusal days.now period.now event second service }
-    // What a row of this period asks.
+    // A deadline of this period requires these.
     ensures suits { OnOk result (suits period.now second service ≡ true) }
     ensures length { OnOk result (has_length period.now ≡ true) }
 {

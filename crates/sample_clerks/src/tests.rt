@@ -6,7 +6,8 @@ ghost use Rattle.published_docket.specs.Words.{past};
 ghost use Rattle.clerk_workers.specs.Words.{AreOfClerks};
 
 use clerk_workers::{Gate, RowAnswer, run_clerks};
-use court_days::{Court, Day};
+use court_clock::Day;
+use court_days::Court;
 use docket_rows::{Answer, Command, Query, Refusal, View};
 use hearing_slots::Need;
 use office_rows::{Row, Work};
@@ -38,7 +39,7 @@ impl Signs {
         }
     }
 
-    /// Waits until the sign is no less than this, for so many turns at most.
+    /// Waits until the sign is no less than this, for 10,000,000 turns at most.
     fn wait_for(&self, sign: &AtomicU64, least: u64) {
         for _turn in 0..10_000_000u32 {
             if least <= sign.load(Ordering::SeqCst) {
@@ -133,7 +134,7 @@ impl Gate for HoldsNobody {
     fn after_answer(&self, _clerk: u8, _row: u32) {}
 }
 
-/// The answers of a new office of so many clerks to these rows, with a journal that takes so many entries.
+/// The answers to these rows of a new office with these seats, whose journal takes no more entries than the limit.
 fn answers_in<L: Names + Send + Sync, R: Threads + Wait + Sync + Abort, G: Gate>(
     rt: &R,
     alloc: Global,
@@ -162,7 +163,7 @@ fn answers_in<L: Names + Send + Sync, R: Threads + Wait + Sync + Abort, G: Gate>
     }
 }
 
-/// The same, where a seat may get no place to read from, which may come without cause, so it is tried up to eight times.
+/// The same, tried up to eight times: a seat may get no place to read from, without cause.
 fn answers_to<R: Threads + Wait + Sync + Abort, G: Gate>(
     rt: &R,
     alloc: Global,

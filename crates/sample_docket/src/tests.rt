@@ -1,6 +1,7 @@
 //! Lists of commands on a docket, and what it then shows. Whole runs show the rest.
 
-use court_days::{Court, Day, HolidayList};
+use court_clock::Day;
+use court_days::{Court, HolidayList};
 use docket_core::Docket;
 use docket_rows::{Answer, Command, Query, Refusal, Setting, Sheet, View};
 use hearing_slots::{Need, Panel};

@@ -1,6 +1,7 @@
 //! Reasons worked by hand over the calendars of their years, and from the Committee Note of 2009 to Rule 6(a).
 
-use court_days::{Court, Day, Days, Direction, Instant, Outage};
+use court_clock::{Day, Direction, Instant};
+use court_days::{Court, Days, Outage};
 use deadline_reasons::{Cause, Reason, derivations_end_in_what_is_shown, reasons_of};
 use rule_periods::{
     DeadlineRow, Entered, Event, Grant, Length, Mark, Period, RulePeriod, check_start,

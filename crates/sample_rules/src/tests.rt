@@ -5,7 +5,8 @@ mod clock;
 mod days;
 mod deadlines;
 
-use court_days::{Court, Day};
+use court_clock::Day;
+use court_days::Court;
 use std::alloc::Global;
 use std::process::Abort;
 use std::test::Fail;

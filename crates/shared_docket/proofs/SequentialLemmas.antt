@@ -69,7 +69,7 @@ module _ (bench : Bench) where
   pub history_lawful : (history : List (Entry Command Answer)) → AreLawful bench (rows_of bench history)
   history_lawful history = lawful_docket bench (commands_of history)
 
-  -- a run, cut in two after so many of its steps
+  -- a run, cut in two after some of its steps
   run_cut : (w : World PartId PartValue Command Answer) (steps : List (Step Command)) (outcomes : List (Outcome PartId Answer)) (after : World PartId PartValue Command Answer) → IsRun (docket_rules bench) w steps outcomes after → (made : ℕ)
       → (between : World PartId PartValue Command Answer) × IsRun (docket_rules bench) w (take made steps) (take made outcomes) between × IsRun (docket_rules bench) between (drop made steps) (drop made outcomes) after
   run_cut w steps outcomes after run zero = (w, refl, run)

@@ -16,7 +16,7 @@ use Rattle.versioned_steps.specs.declared.step.Outcome.{Outcome}
 use Rattle.shared_docket.specs.DocketRules.{docket_rules}
 use Rattle.shared_docket.specs.Sequential.{IsSequential, rows_of}
 
--- a run of so many clerks, cut short once that many of its steps were made: what is finished by then is as claimed
+-- a run of these clerks, cut short once `made` of its steps were made: what is finished by then is as claimed
 pub record HoldsAfter (claim : List (Entry Command Answer) → Type 0) (bench : Bench) (clerks : ℕ) (steps : List (Step Command)) (outcomes : List (Outcome PartId Answer)) (end : World PartId PartValue Command Answer) (made : ℕ) : Type 0 where
   pub between : World PartId PartValue Command Answer
   pub so_far : IsRun (docket_rules bench) (opening_world clerks) (take made steps) (take made outcomes) between
@@ -30,8 +30,8 @@ AlwaysHolds claim =
     (bench : Bench) (clerks : ℕ) (steps : List (Step Command)) (outcomes : List (Outcome PartId Answer)) (end : World PartId PartValue Command Answer) →
     IsRun (docket_rules bench) (opening_world clerks) steps outcomes end → (made : ℕ) → HoldsAfter (claim bench) bench clerks steps outcomes end made
 
--- what clerks share after a history is one docket: each answer is that of the step on the rows of those before it, and
--- each part holds what it holds of the rows after all of them
+-- what clerks share after a history is one docket: each entry is answered as the step of the docket after the entries before it, and each
+-- part is that of the docket after all of them
 pub record IsOneDocket (bench : Bench) (history : List (Entry Command Answer)) : Type 0 where
   pub answers : IsSequential bench history
   pub parts : (part : PartId) → value_of (docket_rules bench) history part ≡ part_value (parts_of (rows_of bench history)) part
@@ -40,8 +40,8 @@ pub record IsOneDocket (bench : Bench) (history : List (Entry Command Answer)) :
 abbrev pub LegalIsOneDocket : Type 0
 LegalIsOneDocket = (bench : Bench) (history : List (Entry Command Answer)) → is_legal (docket_rules bench) history ≡ true → IsOneDocket bench history
 
--- the sheet of a case, as the parts show it that clerks share, has just the deadlines that are docketed in the case, each
--- with the end that the rules give it by the days as they are docketed then
+-- the sheet of a case, as the shared parts show it, has just the deadlines that are docketed in the case; the end of each is what the rules
+-- give by the days that are docketed then
 abbrev pub ShowDeadlines : Bench → List (Entry Command Answer) → Type 0
 ShowDeadlines bench history =
     (parts : Parts) → ((part : PartId) → part_value parts part ≡ value_of (docket_rules bench) history part) →
@@ -60,8 +60,8 @@ HearingsHaveNotice = AlwaysHolds (λ bench history. AllHaveNotice (rows_of bench
 abbrev pub DeadlinesAreShown : Type 0
 DeadlinesAreShown = AlwaysHolds ShowDeadlines
 
--- The steps that were answered Finished are, in their order, the entries of the history at the places 1, 2, 3 and so on:
--- by clerk, the command that this clerk began last, place and answer. The clerks have begun nothing before.
+-- The steps that were answered Finished are, in their order, the entries of the history at the places 1, 2, 3 and so on, each with its
+-- clerk, the command that this clerk began last, its place and its answer. Before the first step no clerk has begun anything.
 abbrev pub FinishedStandOnce : Type 0
 FinishedStandOnce =
     (bench : Bench) (clerks : ℕ) (steps : List (Step Command)) (outcomes : List (Outcome PartId Answer)) (end : World PartId PartValue Command Answer) →

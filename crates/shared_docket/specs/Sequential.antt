@@ -28,7 +28,7 @@ rows_of bench history = docket_after bench (commands_of history)
 abbrev pub IsSequential : Bench → List (Entry Command Answer) → Type 0
 IsSequential bench history = map (λ (e : Entry Command Answer). e.answer) history ≡ step_answers bench (opening_rows bench) (commands_of history)
 
--- so many of the steps led to a world whose history is legal, and whose rows are lawful
+-- the first `made` steps led to a world whose history is legal and whose rows are lawful
 pub record IsLawfulAfter (bench : Bench) (clerks : ℕ) (steps : List (Step Command)) (outcomes : List (Outcome PartId Answer)) (made : ℕ) : Type 0 where
   pub world : World PartId PartValue Command Answer
   pub run : IsRun (docket_rules bench) (opening_world clerks) (take made steps) (take made outcomes) world

@@ -43,8 +43,9 @@ pub fn every_deadline_is_that_of_the_rules()
     deadlines_are_shown_by_the_days_as_docketed();
 }
 
-/// Each finished command stands once: a clerk who is answered a place and an answer finds this command there in the history,
-/// with that answer; no two are answered one place, and what nobody was told to be finished stands nowhere.
+/// Each finished command is one entry: a clerk who is answered a place and an answer finds this command at that place
+/// of the history, with that answer. No two are answered one place. What nobody was answered as finished is not in the
+/// history.
 pub fn each_finished_command_stands_once()
     ensures { FinishedStandOnce }
 {}

@@ -1,4 +1,5 @@
 //! The docket that clerks share: its rules over parts, and all interleavings of their small steps.
+//! What refuses a body that always answers want of memory is said in docs/PROMISES.md.
 #![tactic(auto)]
 
 mod laws;

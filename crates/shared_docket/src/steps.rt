@@ -13,10 +13,9 @@ use docket_rows::Command;
 use std::alloc::{AllocError, Global};
 use versioned_steps::{Step, World, run_steps};
 
-/// Makes these steps of that many clerks, who share the docket of this court, from the empty history on. An Err comes only
-/// where the parts, the list of clerks or the list of outcomes found no memory; a step that finds none has the outcome
-/// NoMemory, and the next one is made.
-// A body that always found no memory would meet this contract, and no test of this crate refuses it yet.
+/// Makes these steps of the clerks who share the docket of this court, from the empty history on. An Err comes only
+/// where there was no memory for the parts, the list of clerks or the list of outcomes. A step without memory has the
+/// outcome NoMemory, and the next one is made.
 #[tactic(auto, using(crate::proofs::SequentialLemmas::legal_sequential, crate::proofs::SequentialLemmas::legal_values, crate::proofs::SequentialLemmas::lawful_after_each))]
 pub fn docket_steps(
     alloc: Global,

@@ -5,7 +5,8 @@ use Rattle.std.proofs.lemmas.List.{get_or-set_other, get_or-set_same, length-set
 use Rattle.std.proofs.lemmas.List.Elements.{All-head, All-tail}
 use Rattle.office_rows.specs.declared.row.Row.{Row}
 use Rattle.clerk_workers.specs.declared.answer.RowAnswer.{RowAnswer}
-use Rattle.clerk_workers.specs.Words.{AreAsMany, AreMerged, AreOfClerks, IsClerk, answers_of, list_at, works_of}
+use Rattle.office_rows.specs.Words.{IsClerk}
+use Rattle.clerk_workers.specs.Words.{AreAsMany, AreMerged, AreOfClerks, answers_of, list_at, works_of}
 use Rattle.clerk_workers.proofs.CallerLemmas.{answers_other, answers_own, works_append, works_other, works_own}
 use Rattle.shared_run.proofs.HoldLemmas.{first_of}
 
@@ -82,7 +83,7 @@ module _ (row : Row) (rows : List Row) (lists : List (List RowAnswer)) (clerk : 
     first_left =
         at_each (λ other. other < length left → length (list_at other left) ≡ length (works_of (other + 1) rows)) place (λ lt. many_here) many_elsewhere
 
-    -- and it stands before them
+    -- and it comes before them
     pub first_merged : merged (row ∷ rows) lists ≡ answer ∷ merged rows left
     first_merged = ap (λ (list : List RowAnswer). take 1 list ++ merged rows (set lists place (drop 1 list))) next
 

@@ -5,7 +5,8 @@ use Rattle.court_days.specs.Words.{CourtView}
 use Rattle.office_rows.specs.declared.row.Row.{Row}
 use Rattle.office_run.specs.Words.{row_numbers}
 use Rattle.clerk_workers.specs.declared.answer.RowAnswer.{RowAnswer}
-use Rattle.clerk_workers.specs.Words.{AllHold, AreAsMany, AreOfClerks, IsClerk, list_at}
+use Rattle.office_rows.specs.Words.{IsClerk}
+use Rattle.clerk_workers.specs.Words.{AllHold, AreAsMany, AreOfClerks, list_at}
 use Rattle.clerk_workers.proofs.CallerLemmas.{held_long}
 use Rattle.shared_run.specs.Lines.{HoldTexts, TextsView}
 use Rattle.shared_run.specs.Merged.{IsMergedText, IsNext}

@@ -11,7 +11,8 @@ use Rattle.versioned_steps.specs.declared.entry.Entry.{Entry}
 use Rattle.office_seats.specs.Words.{AreOfSeats, IsClosed, IsOpened, SeatView, TallyView, numbers_of, open_seat, open_seats}
 use Rattle.office_rows.specs.declared.row.Row.{Row}
 use Rattle.clerk_workers.specs.declared.answer.RowAnswer.{RowAnswer}
-use Rattle.clerk_workers.specs.Words.{AllNoted, AllWorked, AreInOrder, AreNoted, HasRun, HasWorked, History, IsClerk, answers_of, works_of}
+use Rattle.office_rows.specs.Words.{IsClerk}
+use Rattle.clerk_workers.specs.Words.{AllNoted, AllWorked, AreInOrder, AreNoted, HasRun, HasWorked, History, answers_of, works_of}
 use Rattle.clerk_workers.proofs.CallerLemmas.{are_noted, noted_long, open_in_order, open_long}
 use Rattle.shared_run.specs.Run.{IsSharedRun}
 use Rattle.shared_run.proofs.RunLemmas.{HaveWorked, shared_run}

@@ -16,7 +16,8 @@ use Rattle.office_rows.specs.declared.row.Work.{Work}
 use Rattle.office_rows.specs.declared.row.Work.TheVariants as work
 use Rattle.clerk_workers.specs.declared.answer.RowAnswer.{RowAnswer}
 use Rattle.clerk_workers.specs.declared.answer.RowAnswer.TheVariants.{Made, JournalFull, Viewed}
-use Rattle.clerk_workers.specs.Words.{AreAnswered, HasWorked, History, IsAnsweredAt, IsClerk, answers_of, place_told, places_told, works_of}
+use Rattle.office_rows.specs.Words.{IsClerk}
+use Rattle.clerk_workers.specs.Words.{AreAnswered, HasWorked, History, IsAnsweredAt, answers_of, place_told, places_told, works_of}
 use Rattle.clerk_workers.proofs.CallerLemmas.{are_answered_later}
 use Rattle.shared_run.specs.Calls.{Call, calls_by, call_told, calls_told}
 use Rattle.shared_run.specs.Run.{AreGiven, IsTold, IsSharedRun}
@@ -37,7 +38,7 @@ none_between low high (n ∷ ns) le all =
     absurd (omega (arith, le, between.0, between.1))
 
 module _ (bench : Bench) (limit clerk : ℕ) (journal : History) where
-  -- the places that answers tell come after what was seen before, and none is past the limit
+  -- the places that answers name come after what was seen before, and none is past the limit
   told_between : (before : History) (works : List Work) (answers : List RowAnswer) → AreAnswered bench limit clerk journal before works answers → All (IsBetween (length before) limit) (places_told answers)
   told_between before [] [] are = All-nil (IsBetween (length before) limit)
   told_between before [] (answer ∷ answers) are = absurd are
@@ -55,7 +56,7 @@ module _ (bench : Bench) (limit clerk : ℕ) (journal : History) where
   told_between before (work.Query query ∷ works) (Viewed view ∷ answers) are =
       lower_between (length before) (length are.0) limit (places_told answers) (prefix_length before are.0 are.1.later) (told_between are.0 works answers are.2)
 
-  -- so after an answer that the journal is full no call is told
+  -- so after an answer that the journal is full no place is named
   none_after_full : (before : History) (works : List Work) (first later : List RowAnswer) → AreAnswered bench limit clerk journal before works (first ++ JournalFull ∷ later) → places_told later ≡ []
   none_after_full before [] [] later are = absurd are
   none_after_full before [] (answer ∷ first) later are = absurd are
@@ -64,7 +65,7 @@ module _ (bench : Bench) (limit clerk : ℕ) (journal : History) where
   none_after_full before (work.Query query ∷ works) [] later are = absurd are.1.says
   none_after_full before (w ∷ works) (answer ∷ first) later are = none_after_full are.0 works first later are.2
 
-  -- what came since the moment before, of which just the call that the answer tells is the clerk's, where it has as many
+  -- what came since the moment before, of which the clerk's is just the call that the answer names, where it has as many
   record CameSince (before : History) (w : Work) (answer : RowAnswer) (moment : History) : Type 0 where
     since : History
     moment_is : before ++ since ≡ moment
@@ -103,7 +104,7 @@ module _ (bench : Bench) (limit clerk : ℕ) (journal : History) where
   as_many : (h : History) → length (places_of clerk h) ≡ length (calls_by clerk h)
   as_many h = as_many_places clerk 0 h
 
-  -- where the answers tell all places of the clerk that come after those up to a moment: the places and the calls at the next moment
+  -- where the answers name all places of the clerk after those up to a moment: the places and the calls at the next moment
   module _ (before moment : History) (w : Work) (answer : RowAnswer) (told : List ℕ) (is : IsAnsweredAt bench limit clerk journal before w answer moment) (above : All (λ n. length moment < n) told) (placed : places_of clerk before ++ (place_told answer ++ told) ≡ places_of clerk journal) where
     places_at : places_of clerk moment ≡ places_of clerk before ++ place_told answer
     places_at =
@@ -130,7 +131,7 @@ module _ (bench : Bench) (limit clerk : ℕ) (journal : History) where
         let same : length (calls_by clerk came.since) ≡ length (place_told answer) = omega (arith, long, placed_long, as_many moment, as_many before) in
         all ∙ ap (λ (cs : List Call). calls_by clerk before ++ cs) (came.calls_are same)
 
-  -- a clerk whose answers tell all its places in the journal that come after a moment
+  -- a clerk whose answers name all its places in the journal that come after a moment
   record HasTold (before : History) (earlier : List Call) (works : List Work) (answers : List RowAnswer) : Type 0 where
     given : AreGiven bench limit journal clerk before earlier works answers
     calls : calls_by clerk journal ≡ earlier ++ calls_told works answers
@@ -156,14 +157,14 @@ module _ (bench : Bench) (limit clerk : ℕ) (journal : History) where
         calls = rest.calls ∙ append_assoc earlier (call_told w answer) (calls_told works answers);
       }
 
-  -- a clerk whose answers tell all its places in the journal
+  -- a clerk whose answers name all its places in the journal
   pub is_told : (works : List Work) (answers : List RowAnswer) → AreAnswered bench limit clerk journal [] works answers → places_told answers ≡ places_of clerk journal → IsTold bench limit journal clerk works answers
   is_told works answers are placed =
       let told = has_told [] [] works answers (journal, refl) refl placed are in
       let P : List RowAnswer → Type 0 = λ those. AreAnswered bench limit clerk journal [] works those in
       record { calls = told.calls; given = told.given; full = λ first later same. none_after_full [] works first later (subst P same are) }
 
--- each clerk of so many has worked on its rows at a seat of its own, was given its answers among these, and left one of these tallies
+-- each of the clerks has worked on its rows at a seat of its own, was given its answers among these, and left one of these tallies
 abbrev pub HaveWorked : (bench : Bench) (clerks limit : ℕ) (rows : List Row) (answers : List RowAnswer) (tallies : List TallyView) → Type 0
 HaveWorked bench clerks limit rows answers tallies =
     (clerk : ℕ) → IsClerk clerks clerk → (tally : TallyView) × Contains tallies tally × HasWorked bench (open_seat limit clerk) (works_of clerk rows) (answers_of clerk rows answers) tally

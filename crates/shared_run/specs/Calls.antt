@@ -1,4 +1,4 @@
--- The finished calls of a clerk: as a journal has them, and as the answers to the clerk's rows tell them.
+-- The finished calls of a clerk: as a journal has them, and as the answers to the clerk's rows name them.
 use Rattle.std.specs.Prelude.{ℕ, ◌==◌, if◌then◌else◌, List, [], ◌∷◌, ◌++◌}
 use Rattle.docket_rows.specs.declared.answer.Answer.{Answer}
 use Rattle.docket_rows.specs.declared.command.Command.{Command}
@@ -19,14 +19,14 @@ calls_by clerk [] = []
 calls_by clerk (e ∷ es) =
     if e.clerk == clerk then (record { command = e.command; answer = e.answer }) ∷ calls_by clerk es else calls_by clerk es
 
--- the call that the answer to a row tells: a query is none, nor is a command that the journal had no room for
+-- the finished call that the answer to a row names: none for a query, and none for a command that the journal had no room for
 abbrev pub call_told : Work → RowAnswer → List Call
 call_told (work.Command command) (Made done) = (record { command = command; answer = done.answer }) ∷ []
 call_told (work.Command command) JournalFull = []
 call_told (work.Command command) (Viewed view) = []
 call_told (work.Query query) answer = []
 
--- the calls that the answers to a clerk's rows tell, in order
+-- the finished calls that the answers to a clerk's rows name, in order
 abbrev pub calls_told : List Work → List RowAnswer → List Call
 calls_told [] answers = []
 calls_told (w ∷ works) [] = []

@@ -10,7 +10,8 @@ use Rattle.office_rows.specs.declared.row.Row.{Row}
 use Rattle.office_rows.specs.declared.row.Work.{Work}
 use Rattle.clerk_workers.specs.declared.answer.RowAnswer.{RowAnswer}
 use Rattle.clerk_workers.specs.declared.answer.RowAnswer.TheVariants.{JournalFull}
-use Rattle.clerk_workers.specs.Words.{History, IsAnsweredAt, IsClerk, answers_of, places_told, works_of}
+use Rattle.office_rows.specs.Words.{IsClerk}
+use Rattle.clerk_workers.specs.Words.{History, IsAnsweredAt, answers_of, places_told, works_of}
 use Rattle.shared_run.specs.Calls.{Call, calls_by, call_told, calls_told}
 
 module _ (bench : Bench) (limit : ℕ) (journal : History) (clerk : ℕ) where
@@ -28,15 +29,15 @@ module _ (bench : Bench) (limit : ℕ) (journal : History) (clerk : ℕ) where
       let calls = earlier ++ call_told w answer in
       (moment : History) × IsGivenAt before calls w answer moment × AreGiven moment calls works answers
 
-  -- the journal tells the same of the clerk as the answers to its rows: its entries are the commands that were finished, in order, with
-  -- these answers; and once the clerk is answered that the journal is full, no later answer tells a call
+  -- the journal and the answers to the clerk's rows agree: its entries of the clerk are the commands that were finished, in order, with
+  -- these answers; and after an answer that the journal is full no command was finished
   pub record IsTold (works : List Work) (answers : List RowAnswer) : Type 0 where
     pub calls : calls_by clerk journal ≡ calls_told works answers
     pub given : AreGiven [] [] works answers
     pub full : (first later : List RowAnswer) → answers ≡ first ++ JournalFull ∷ later → places_told later ≡ []
 
--- so many clerks shared an office, whose journal takes so many entries; these are their rows, the answers to them, and the journal: legal,
--- with the answers of one clerk's docket to the same commands, and with no entry of anyone else
+-- the clerks shared an office, whose journal takes no more entries than the limit. These are their rows, the answers to them, and the
+-- journal. It is legal, has the answers of one clerk's docket to the same commands, and has no entry of anyone else
 pub record IsSharedRun (bench : Bench) (clerks limit : ℕ) (rows : List Row) (answers : List RowAnswer) (journal : History) : Type 0 where
   pub legal : is_legal (docket_rules bench) journal ≡ true
   pub sequential : IsSequential bench journal

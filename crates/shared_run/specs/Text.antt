@@ -17,7 +17,7 @@ row_text court (Made done) = answer_text court.clock done.answer ++ 10 ∷ []
 row_text court JournalFull = codes "journal full" ++ 10 ∷ []
 row_text court (Viewed view) = view_lines court view
 
--- the answer to the row of that number, counted from 1: the number, the clerk's, and the text
+-- the answer to a row: the number of the row, counted from 1, the number of its clerk, and the text
 unfoldable pub answer_line : CourtView → (number clerk : ℕ) → RowAnswer → List ℕ
 answer_line court number clerk answer = row_numbers number clerk ++ row_text court answer
 
@@ -28,7 +28,7 @@ answer_lines court number (row ∷ rows) [] = []
 answer_lines court number (row ∷ rows) (answer ∷ answers) =
     answer_line court number row.clerk answer ++ answer_lines court (number + 1) rows answers
 
--- the text of some run of so many clerks, whose journal takes so many entries
+-- the text of some run of these clerks, whose journal takes no more entries than the limit
 pub record IsSharedText (court : CourtView) (clerks limit : ℕ) (rows : List Row) (text : List ℕ) : Type 0 where
   pub answers : List RowAnswer
   pub journal : History

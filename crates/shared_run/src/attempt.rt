@@ -22,7 +22,6 @@ use std::sync::{Arc, Wait};
 use std::thread::Threads;
 
 // Opens an office. None where one of its seats got no place to read from.
-// A body that always found no memory would meet this contract, and no test of this crate refuses it yet.
 fn opened<L: Names, R: Wait>(
     rt: &R,
     alloc: Global,
@@ -50,10 +49,9 @@ fn opened<L: Names, R: Wait>(
     }
 }
 
-/// Opens an office, lets its clerks do all rows, closes it, and gives the bytes of the text of the run. None where one of its
-/// seats got no place to read from; no row is done then. Conditions: the blank and the publisher are those that `L` names, of
-/// this court, and the rest as for a run.
-// A body that always found no memory would meet this contract, and no test of this crate refuses it yet.
+/// Opens an office, lets its clerks do all rows, closes it, and gives the bytes of the text of the run. None where one
+/// of its seats got no place to read from; no row is done then. Conditions: `L` names the blank and the publisher, the
+/// publisher is of this court, and the others are those of a run.
 pub(crate) fn attempt<L: Names + NamesCourt + Send + Sync, R: Threads + Wait + Sync, G: Gate>(
     rt: &R,
     alloc: Global,

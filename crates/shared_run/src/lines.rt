@@ -1,7 +1,8 @@
 //! The text of a clerk's answers.
 
-ghost use Rattle.std.specs.Prelude.{◌≡◌, ◌++◌, [], All, IfOk, OnOk, length, string_bytes};
+ghost use Rattle.std.specs.Prelude.{◌≡◌, [], All, IfOk, OnOk, length};
 ghost use Rattle.std.specs.Arc.{arc_value};
+ghost use Rattle.office_texts.specs.Words.{AddsText};
 ghost use Rattle.shared_run.specs.Lines.{HoldLines};
 ghost use Rattle.shared_run.specs.Text.{row_text};
 
@@ -64,7 +65,6 @@ impl Lines {
 impl<L: Names + NamesCourt> Notes<L> for Lines {
     ghost hold = { HoldLines L.court };
 
-    // A body that always found no memory would meet this contract, and no test of this crate refuses it yet.
     fn add(&mut self, answer: RowAnswer) -> Result<(), AllocError> {
         self.text.clear();
         push_row_answer(&mut self.text, &self.court, &answer)?;
@@ -74,8 +74,7 @@ impl<L: Names + NamesCourt> Notes<L> for Lines {
     }
 }
 
-/// Lines for so many clerks, none of whom has begun. `Err` says that memory ran out.
-// A body that always found no memory would meet this contract, and no test of this crate refuses it yet.
+/// Lines for each of the clerks, none of whom has begun. `Err` says that memory ran out.
 pub(crate) fn lines_for(
     alloc: Global,
     court: &Arc<Court>,
@@ -92,9 +91,8 @@ pub(crate) fn lines_for(
 }
 
 /// Adds the text of an answer, with the ends of its lines.
-// A body that always found no memory would meet this contract, and no test of this crate refuses it yet.
 fn push_row_answer(text: &mut String, court: &Court, answer: &RowAnswer) -> Result<(), AllocError>
-    ensures { OnOk result (string_bytes text.new ≡ string_bytes text.old ++ row_text court.now answer.now) }
+    ensures { OnOk result (AddsText text.old text.new (row_text court.now answer.now)) }
 {
     match answer {
         RowAnswer::Made(done) => {

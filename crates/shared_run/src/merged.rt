@@ -14,7 +14,6 @@ use office_run::push_numbers;
 use std::alloc::{AllocError, Global};
 
 // What is left of each clerk's lines before any is taken.
-// A body that always found no memory would meet this contract, and no test of this crate refuses it yet.
 fn all_left<'a>(alloc: Global, lines: &'a [Lines]) -> Result<Vec<Rest<'a>>, AllocError>
     ensures { IfOk result (λ left. left.items ≡ map (λ each. each.texts) lines.now) }
 {
@@ -37,8 +36,8 @@ fn next_text<'a>(left: &mut Vec<Rest<'a>>, clerk: u8) -> &'a [u8]
     left[place].next()
 }
 
-// How many bytes the lines of so many rows have at most, where no row has a number of more than eight digits, and so many
-// bytes more. It serves to take the memory of the whole text at once, so no clause says it.
+// A bound on the bytes of the whole text: the lines of all clerks, the numbers before each row, none of which has more
+// than eight digits, and `more` bytes. It serves to take the memory of the whole text at once, so no clause says it.
 fn whole_len(lines: &[Lines], rows: usize, more: usize) -> usize {
     let mut len = rows.saturating_mul(12).saturating_add(more);
     for each in lines {
@@ -47,9 +46,8 @@ fn whole_len(lines: &[Lines], rows: usize, more: usize) -> usize {
     len
 }
 
-/// The answer to each row in turn, from the lines of all clerks, of whom the first has the first ones; there is room for so
-/// many bytes more. `Err` says that memory ran out.
-// A body that always found no memory would meet this contract, and no test of this crate refuses it yet.
+/// The answer to each row in turn, from the lines of all clerks, of whom the first has the first ones. There is room
+/// for `more` bytes after it. `Err` says that memory ran out.
 pub(crate) fn answers_text(
     alloc: Global,
     lines: &[Lines],

@@ -16,12 +16,11 @@ use std::sync::ledger::Blank;
 use std::sync::{Arc, Wait};
 use std::thread::Threads;
 
-/// The bytes of the text of a run: the answer to each row in turn, from so many clerks who share an office, each in a thread
-/// of its own, and whose journal takes so many entries; then the sheets of all open cases and the calendars of all judges.
-/// The gate is told of each row. `Err` says that memory ran out, that a thread couldn't be started, or that eight offices in
-/// turn had no place for a clerk to read from. Conditions: 1 to 64 clerks, 0 to 1,000,000 entries, and each row is of one of
-/// these clerks.
-// A body that always found no memory would meet this contract, and no test of this crate refuses it yet.
+/// The bytes of the text of a run: the answer to each row in turn, then the sheets of all open cases and the calendars
+/// of all judges. The clerks share an office, each works in a thread of its own, and the journal takes no more entries
+/// than the limit. The gate is called for each row. `Err` says that memory ran out, that a thread couldn't be started,
+/// or that eight offices in turn had no place for a clerk to read from. Conditions: 1 to 64 clerks, 0 to 1,000,000
+/// entries, and each row is of one of these clerks.
 pub fn run_shared<R: Threads + Wait + Sync, G: Gate>(
     rt: &R,
     alloc: Global,

@@ -19,7 +19,6 @@ use std::alloc::{AllocError, Global};
 
 /// The answer to each row in turn, from the lines of all clerks, then the sheets and the calendars of the docket after the
 /// journal. `Err` says that memory ran out.
-// A body that always found no memory would meet this contract, and no test of this crate refuses it yet.
 pub(crate) fn text_of(
     alloc: Global,
     court: &Court,

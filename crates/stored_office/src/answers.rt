@@ -1,6 +1,7 @@
 //! The text of what the calls of a seat are answered. A call that finds no memory is made once more.
 use anyhow::Result;
-use court_days::{Clock, Court};
+use court_clock::Clock;
+use court_days::Court;
 use docket_rows::{Command, PartId, Query};
 use office_seats::{CommitError, Done, Names, PerformError, Seat};
 use office_texts::{push_answer, push_number, push_view};

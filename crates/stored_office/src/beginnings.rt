@@ -1,12 +1,12 @@
-//! The journal of clerks who did rows, beside the commands of these rows.
+//! The journal of clerks who did rows, compared with the commands of these rows.
 use docket_rows::{Answer, Command};
 use office_rows::{Row, Work};
 use office_texts::push_number;
 use std::alloc::AllocError;
 use versioned_steps::Entry;
 
-/// Adds a line for each of so many clerks: how many of the clerk's commands the journal has, and how many there are, if its
-/// entries of this clerk are the first of these commands, in their order; else that they aren't.
+/// Adds a line for each clerk: how many of the clerk's commands the journal has, and how many there are, where its
+/// entries of this clerk are the first of these commands, in their order. Else the line says that they aren't.
 pub fn push_beginnings(
     text: &mut String,
     clerks: u8,
@@ -25,7 +25,7 @@ pub fn push_beginnings(
     Ok(())
 }
 
-/// Adds how many of so many commands the journal has.
+/// Adds how many of all the commands the journal has.
 fn push_count(text: &mut String, count: u64, all: u64) -> Result<(), AllocError> {
     text.push_str(": ")?;
     push_number(text, count)?;
@@ -52,7 +52,7 @@ fn beginning_of(clerk: u8, entries: &[Entry<Command, Answer>], rows: &[Row]) -> 
     Some(count)
 }
 
-/// The clerk's first command among the rows from this place on, and the place behind it. The first row's place is 0.
+/// The clerk's first command among the rows from this place on, and the place after it. The first row's place is 0.
 fn next_command(clerk: u8, rows: &[Row], from: usize) -> Option<(Command, usize)> {
     for place in from..rows.len() {
         let row = &rows[place];

@@ -1,6 +1,7 @@
 //! The calls of seats, as lines spell them.
 use anyhow::{Context, Result, bail};
-use court_days::{Court, Day};
+use court_clock::Day;
+use court_days::Court;
 use docket_rows::{Command, Query};
 use office_rows::{Row, RowError, Work, read_rows};
 use rule_periods::{Grant, Request};
@@ -9,14 +10,14 @@ use std::alloc::Global;
 // The checker finds these types only where they have names, so a function that takes a row apart names them.
 type RowTypes = Option<(Work, Command, Query, Option<Day>, Grant, Request)>;
 
-/// One call. Seats are told by their numbers.
+/// One call. Seats are named by their numbers.
 #[derive(Clone, Copy)]
 pub enum Call {
     /// `prepare ROW`: the row's clerk prepares its command.
     Prepare(u8, Command),
     /// `commit SEAT`
     Commit(u8),
-    /// `perform TRIES ROW`: the row's clerk performs its command, with so many tries.
+    /// `perform TRIES ROW`: the row's clerk performs its command, with up to `TRIES` tries.
     Perform(u8, Command, u32),
     /// `show ROW`: the row's clerk is shown what its query asks for.
     Show(u8, Query),

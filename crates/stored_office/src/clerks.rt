@@ -28,9 +28,10 @@ impl Gate for HoldsNobody {
     fn after_answer(&self, _clerk: u8, _row: u32) {}
 }
 
-/// Opens an office for this court, whose clerks do these rows, and closes it with the tallies that they leave, also where a
-/// clerk found no memory. It adds how the run came out, and of each clerk how many of its commands were finished, if these
-/// are its first ones. What finds no memory before a row is done, or behind the last one, is done once more.
+/// Opens an office for this court, lets its clerks do these rows, and closes it with the tallies that they leave, also
+/// where a clerk found no memory. It adds how the run came out, and of each clerk how many of its commands were
+/// finished, if these are its first ones. What finds no memory before a row is done, or after the last one, is done
+/// once more.
 pub fn push_clerks<R: Threads + Wait + Eprint + Sync>(
     rt: &R,
     alloc: Global,
@@ -54,7 +55,7 @@ pub fn push_clerks<R: Threads + Wait + Eprint + Sync>(
     bail!("no office was opened in {TRIES} tries")
 }
 
-/// The rows of so many clerks.
+/// The rows, which are of these clerks.
 fn rows_in(alloc: Global, court: &Court, clerks: u8, lines: &str) -> Result<Vec<Row>>
     ensures { IfOk result (λ rows. AreOfClerks clerks rows.items) }
 {

@@ -19,8 +19,8 @@ use std::sync::ledger::Blank;
 use std::thread;
 use std::thread::Threads;
 
-/// Opens an office for this court, whose clerks each perform so many commands in a thread of their own, closes it, and adds
-/// what is found of its journal. None of that rests on which thread was first.
+/// Opens an office for this court, whose clerks each perform their commands in a thread of their own, closes it, and
+/// adds what is found of its journal. None of that rests on which thread was first.
 pub fn push_crowd<R: Threads + Wait + Eprint + Sync>(
     rt: &R,
     alloc: Global,

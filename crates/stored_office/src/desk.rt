@@ -46,7 +46,7 @@ impl<L: Names> Desk<L> {
     }
 }
 
-/// Where the seat of that number stands.
+/// The place of the seat of that number.
 fn place_of<L: Names>(seats: &[Seat<L>], number: u8) -> Option<usize>
     ensures { IfSome result (λ place. place < length seats.now) }
 {

@@ -15,7 +15,7 @@ use std::marker::Brand;
 use std::sync::Wait;
 use std::sync::ledger::Blank;
 
-/// How often an office is opened anew where one of its seats got no place to read from, which may come without cause.
+/// How often an office is opened again where one of its seats got no place to read from, which may come without cause.
 pub const TRIES: u32 = 8;
 
 /// How an office is opened.
@@ -27,8 +27,8 @@ pub struct Opening {
     pub number: u32,
 }
 
-/// Opens an office for this court, and adds these lines, each of which is a call of one of its seats, with what it is
-/// answered.
+/// Opens an office for this court, and adds these lines, each of which is a call of one of its seats, followed by what
+/// it is answered.
 pub fn push_office<R: Wait + Eprint>(
     rt: &R,
     alloc: Global,

@@ -18,8 +18,9 @@ const FIRST: u32 = 20;
 /// alone take more than 50.
 const PAGES: u64 = 4096;
 
-/// Opens an office as often as the opening's number says, makes the calls of these lines in each, and adds how often that
-/// was, and whether the program then had no more memory than after the first ones. It can tell under Linux alone.
+/// Opens an office as often as the opening's number says, and makes the calls of these lines in each. It adds how often
+/// that was, and whether the program then had no more memory than after the first ones. It can say so under Linux
+/// alone.
 pub fn push_reopened<R: Wait + Eprint + Files + AllocGlobal>(
     rt: &R,
     alloc: Global,
@@ -42,7 +43,7 @@ pub fn push_reopened<R: Wait + Eprint + Files + AllocGlobal>(
     Ok(())
 }
 
-/// Opens so many offices one after another, and makes the calls in each; what they are answered is dropped.
+/// Opens this number of offices one after another, and makes the calls in each; what they are answered is dropped.
 fn open_again<R: Wait + Eprint>(
     rt: &R,
     alloc: Global,

@@ -1,8 +1,10 @@
-//! The journal of clerks who worked in threads of their own, beside a docket that is given its commands one by one.
+//! The journal of clerks who worked in threads of their own, compared with a docket that is given its commands one by
+//! one.
 use crate::dockets::push_docket;
 use crate::work::{Task, command_at};
 use anyhow::Result;
-use court_days::{Court, Day};
+use court_clock::Day;
+use court_days::Court;
 use docket_core::Docket;
 use docket_rows::{Answer, Command};
 use office_seats::{Done, Journal};
@@ -64,8 +66,8 @@ fn opened(entries: &[Filed]) -> u64 {
     count
 }
 
-/// Whether each clerk's entries are that clerk's commands, so many and in their order, at the places and with the answers that
-/// the clerk was given.
+/// Whether each clerk's entries are all of that clerk's commands, in their order, at the places and with the answers
+/// that the clerk was given.
 fn are_own(entries: &[Filed], done: &[Vec<Done>], task: Task) -> bool {
     let mut clerk = 0u8;
     for finished in done {

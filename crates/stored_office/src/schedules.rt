@@ -11,8 +11,8 @@ use std::rt::Files;
 use std::sync::Wait;
 use std::thread::Threads;
 
-/// For each schedule of the input its lines, each with what it was answered behind it. An error says what is wrong with the
-/// input, or that memory ran out.
+/// For each schedule of the input its lines, each followed by what it was answered. An error says what is wrong with
+/// the input, or that memory ran out.
 pub fn run_all<R: Threads + Wait + Eprint + Files + AllocGlobal + Sync>(
     rt: &R,
     alloc: Global,
@@ -30,7 +30,7 @@ pub fn run_all<R: Threads + Wait + Eprint + Files + AllocGlobal + Sync>(
     Ok(text)
 }
 
-/// Adds the schedule's lines, each with what it was answered behind it.
+/// Adds the schedule's lines, each followed by what it was answered.
 fn push_schedule<R: Threads + Wait + Eprint + Files + AllocGlobal + Sync>(
     rt: &R,
     alloc: Global,

@@ -1,5 +1,6 @@
 //! What a clerk does in a thread of their own.
-use court_days::{Court, Day};
+use court_clock::Day;
+use court_days::Court;
 use docket_rows::{Answer, Command, Query, Setting, View};
 use hearing_slots::{Need, Panel};
 use office_seats::{Done, Names, Seat, Tally};
@@ -30,7 +31,7 @@ pub struct Task {
     pub each_case: u32,
 }
 
-/// Performs so many commands, each of those that `command_at` names, and leaves the seat.
+/// Performs the commands of the task, each as `command_at` names it, and leaves the seat.
 pub fn work<L: Names, R: Wait>(rt: &R, alloc: Global, seat: Seat<L>, task: Task) -> Worked<L> {
     let mut seat = seat;
     let mut done = Vec::new(alloc);
@@ -133,7 +134,7 @@ fn panel(drawn: u32) -> Panel {
     }
 }
 
-/// So many days after 1 August 2025, 500 at the most.
+/// The day this many days after 1 August 2025, 500 at the most.
 fn day(after: u32) -> Day {
     Day::new(20_301 + after.min(500) as i32).unwrap()
 }

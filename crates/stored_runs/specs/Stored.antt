@@ -12,8 +12,8 @@ abbrev pub told : (written : List ℕ) → Result (Unit {0}) OfficeFault → Lis
 told written (Ok done) = written
 told written (Err fault) = written ++ fault_text fault ++ 10 ∷ []
 
--- The line with the run's name is added, and what a run of an office of so many clerks, whose journal takes so many
--- entries, writes and answers for that input.
+-- The line with the run's name is added, and what a run of an office writes and answers for that input, with these clerks and a journal of
+-- no more entries than `journal`.
 pub record AppendsRun (clerks journal : ℕ) (old new name input : List ℕ) : Type 0 where
   pub answer : Result (Unit {0}) OfficeFault
   pub written : List ℕ

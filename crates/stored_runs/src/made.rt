@@ -9,8 +9,8 @@ use std::alloc::{AllocError, Global};
 use std::sync::Wait;
 use std::thread::Threads;
 
-/// Adds the line `%%%% NAME`, and then a line that tells of what a run of the office with these options writes for the
-/// input that the text stands for, or the line of the fault with which it ends. `Err` says that memory ran out.
+/// Adds the line `%%%% NAME`, and then a line with the sum of what a run of the office with these options writes for
+/// the input that the text stands for, or the line of the fault with which it ends. `Err` says that memory ran out.
 pub fn push_made<H: Threads + Wait + Sync>(
     rt: &H,
     alloc: Global,

@@ -11,10 +11,10 @@ use named::push_named;
 use std::io;
 use std::io::Write;
 
-/// Does each run that standard input holds: after a line `%%%% NAME`, and the words of its command line after the name, a
-/// whole input, whose last line end is that before the next such line. For each it writes that line, and then what the
-/// run writes or the line of its fault. After a line `%%%% made NAME` stand lines from which the input is made, and it
-/// writes how much the run writes. What stands before the first such line is passed over.
+/// Does each run that standard input holds: after a line `%%%% NAME`, and the words of its command line after the name,
+/// a whole input, whose last line end is that before the next such line. For each it writes that line, and then what
+/// the run writes or the line of its fault. After a line `%%%% made NAME` come lines from which the input is made, and
+/// it writes how much the run writes. What comes before the first such line is passed over.
 fn main(rt: HostRuntime) -> io::Result<()> {
     let input = io::read_to_string(rt.alloc(), rt.stdin())?;
     let mut output = Vec::new(rt.alloc());

@@ -9,10 +9,10 @@ use std::thread::Threads;
 
 // No clause says how a line is cut into words; what is stored to be written shows it.
 
-/// Adds the run of that input whose line is `NAME WORD WORD ..`: the words after the name are those of the command line,
-/// each after a space. Where these give no options, the text that says so stands in the place of what a run writes. Where
-/// `made ` stands before the name, the input is made from that text, and what the run writes is told by its sum. `Err` says
-/// that memory ran out.
+/// Adds the run of that input whose line is `NAME WORD WORD ..`: the words after the name are those of the command
+/// line, each after a space. Where these give no options, the text that says so is written in place of what a run
+/// writes. Where `made ` comes before the name, the input is made from that text, and the sum of what the run writes is
+/// written. `Err` says that memory ran out.
 pub fn push_named<H: Threads + Wait + Sync>(
     rt: &H,
     alloc: Global,

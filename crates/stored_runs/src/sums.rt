@@ -1,10 +1,10 @@
-//! What is told of a text that is too large to be stored.
+//! The sum of a text that is too large to be stored.
 
 use hex::encode;
 use sha2::{Digest, Sha256};
 use std::alloc::{AllocError, Global};
 
-/// Adds a line that tells of the text: how many lines and bytes it has, and its digest by SHA-256.
+/// Adds a line that sums up the text: how many lines and bytes it has, and its digest by SHA-256.
 pub fn push_sum(alloc: Global, output: &mut Vec<u8>, text: &[u8]) -> Result<(), AllocError> {
     let lines = lines_in(text);
     let bytes = text.len();

@@ -5,7 +5,7 @@ use Rattle.docket_rows.specs.declared.command.Command.{Command}
 use Rattle.versioned_steps.specs.declared.step.Step.{Step}
 use Rattle.versioned_steps.specs.declared.step.Step.TheVariants.{Begin, Read, Commit, Discard}
 
--- A step is spelled by its clerk and a letter, and a begin by the number of the command behind it, which counts from 1.
+-- A step is spelled by its clerk and a letter. After the letter of a begin comes the number of the command, counted from 1.
 abbrev pub IsSpelled : List Command → Step Command → List ℕ → Type 0
 IsSpelled commands (Begin clerk command) word =
     (place : ℕ) × (slice_get commands place ≡ Some command) × (word ≡ decimal clerk ++ codes "b" ++ decimal (place + 1))

@@ -4,7 +4,8 @@ ghost use Rattle.std.specs.Prelude.{IfOk};
 ghost use Rattle.stored_steps.specs.Commands.{AreAsked, AreCommands};
 
 use anyhow::{Result, bail};
-use court_days::{Court, Day};
+use court_clock::Day;
+use court_days::Court;
 use docket_rows::Command;
 use office_rows::{Row, RowError, Work, read_rows};
 use rule_periods::{Grant, Request};

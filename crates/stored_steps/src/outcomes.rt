@@ -3,16 +3,16 @@
 ghost use Rattle.std.specs.Prelude.{◌≡◌, ◌++◌, OnOk, string_bytes};
 ghost use Rattle.stored_steps.specs.Told.{AddsRun, outcome_text, part_at, part_text, told};
 
-use court_days::{Clock, Court};
+use court_clock::Clock;
+use court_days::Court;
 use docket_rows::{Answer, Command, PartId};
 use office_texts::{push_answer, push_number};
 use shared_docket::docket_steps;
 use std::alloc::{AllocError, Global};
 use versioned_steps::{Outcome, Step};
 
-/// Makes these steps of that many clerks, who share the docket of this court, from the empty history on, and adds a line
-/// for each, with its outcome. `Err` says that memory ran out.
-// A body that always found no memory would meet this contract; the program's stored run refuses it.
+/// Makes these steps of the clerks who share the docket of this court, from the empty history on, and adds a line for
+/// each, with its outcome. `Err` says that memory ran out.
 pub fn push_run(
     alloc: Global,
     text: &mut String,

@@ -5,7 +5,7 @@ ghost use Rattle.std.specs.Fmt.{decimal};
 ghost use Rattle.stored_steps.specs.Spelling.{IsSpelled};
 
 use anyhow::{Result, bail};
-use court_days::Day;
+use court_clock::Day;
 use docket_rows::Command;
 use itoa::Buffer;
 use rule_periods::{Grant, Request};

@@ -3,7 +3,7 @@
 pub use Rattle.versioned_steps.proofs.HistoryLemmas.{legal_empty, value_empty, version_empty, value_push, version_push, legal_push, legal_before, legal_prefix, legal_last, version_most, unchanged_after, unchanged}
 pub use Rattle.versioned_steps.proofs.TouchLemmas.{version_is_last_touch, fresh_untouched, untouched_fresh}
 pub use Rattle.versioned_steps.proofs.RunLemmas.{run_legal, legal_serial}
--- Runs: each finished command stands once.
+-- Runs: each finished command is one entry.
 pub use Rattle.versioned_steps.proofs.FinishedLemmas.{finished_once}
 -- Reads and drafts: as the history grows, all at one moment, and what a fresh draft may become.
 pub use Rattle.versioned_steps.proofs.ReadLemmas.{read_now_is, read_longer, fresh_value, reads_now, may_follow, may_follow_writes, staged_writes, draft_add}

@@ -22,7 +22,7 @@ set_same [] k x at = refl
 set_same (y ∷ ys) zero x at = ap (λ z. z ∷ ys) (sym (same_Some y x at))
 set_same (y ∷ ys) (suc k) x at = ap (λ l. y ∷ l) (set_same ys k x at)
 
--- what stands in a list after one element was exchanged: the new one, or what stood there before
+-- what a list has at a place once one element was exchanged: the new one, or what was there before
 pub get_set : {X : Type 0} (xs : List X) (i : ℕ) (x : X) (j : ℕ) (y : X) → slice_get (slice_set xs i x) j ≡ Some y → ((j ≡ i) × (x ≡ y)) ⊎ (slice_get xs j ≡ Some y)
 get_set [] i x j y at = inr at
 get_set (z ∷ zs) zero x zero y at = inl (refl, same_Some x y at)

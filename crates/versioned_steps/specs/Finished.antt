@@ -1,4 +1,4 @@
--- What the steps of a run finished, as their outcomes tell it, and the entries of a history beside their places.
+-- What the steps of a run finished, as their outcomes say, and the entries of a history with their places.
 use Rattle.std.specs.Prelude.{ℕ, ◌+◌, ◌==◌, if◌then◌else◌, Option, Some, List, [], ◌∷◌, ◌++◌}
 use Rattle.versioned_steps.specs.World.{clerk_of}
 use Rattle.versioned_steps.specs.declared.entry.Entry.{Entry}
@@ -7,7 +7,7 @@ use Rattle.versioned_steps.specs.declared.step.Step.TheVariants.{Begin}
 use Rattle.versioned_steps.specs.declared.step.Outcome.{Outcome}
 use Rattle.versioned_steps.specs.declared.step.Outcome.TheVariants.{Began, Finished}
 
--- a finished command, None where its clerk had begun none, with its place in the history, counted from 1, and its answer
+-- a finished command, its place in the history, counted from 1, and its answer; the command is None where its clerk had begun none
 pub record Finish (Command Answer : Type 0) : Type 0 where
   pub clerk : ℕ
   pub command : Option Command
@@ -36,7 +36,7 @@ module _ {Part Command Answer : Type 0} where
   finishes begun (step ∷ steps) [] = []
   finishes begun (step ∷ steps) (outcome ∷ outcomes) = finish_of begun step outcome ++ finishes (begun_then begun step outcome) steps outcomes
 
--- the entries of a history, the first of which stands at this place
+-- the entries of a history with their places, where the first one has this place
 abbrev pub entered : {Command Answer : Type 0} → ℕ → List (Entry Command Answer) → List (Finish Command Answer)
 entered place [] = []
 entered place (e ∷ es) = record { clerk = e.clerk; command = Some e.command; place = place; answer = e.answer } ∷ entered (place + 1) es

@@ -14,7 +14,7 @@ module _ {Part Value Command Answer : Type 0} (r : Rules Part Value Command Answ
   abbrev pub written : (Part → Value) → List (Part × Value) → Part → Value
   written values writes part = unwrap_or (write_to part writes) (values part)
 
-  -- what a command has read after at most so many further reads of these values
+  -- what a command has read after further reads of these values, no more than this number
   unfoldable pub reads_from : ℕ → (Part → Value) → Command → List (Part × Value) → List (Part × Value)
   reads_from zero values command reads = reads
   reads_from (suc more) values command reads =
@@ -44,7 +44,8 @@ module _ {Part Value Command Answer : Type 0} (r : Rules Part Value Command Answ
   abbrev pub value_of : List (Entry Command Answer) → Part → Value
   value_of history = values_after r.opening history
 
-  -- the place of the last entry that touches the part, where `place` entries stood before these and `last` was the last to touch it
+  -- the place of the last entry that touches the part, where `place` entries come before these and `last` is the place of the last of them
+  -- to touch it
   unfoldable pub last_touch : (Part → Value) → ℕ → ℕ → List (Entry Command Answer) → Part → ℕ
   last_touch values place last [] part = last
   last_touch values place last (e ∷ es) part =
@@ -70,7 +71,7 @@ module _ {Part Value Command Answer : Type 0} (r : Rules Part Value Command Answ
   abbrev pub TouchesAt : List (Entry Command Answer) → ℕ → Part → Type 0
   TouchesAt history place part = IfSome (slice_get history (place - 1)) (λ e. touches (value_of (take (place - 1) history)) e.command part ≡ true)
 
-  -- the last entry that touches the part stands at this place; at 0 there is none
+  -- this is the place of the last entry that touches the part, or 0 where there is none
   pub record IsLastTouch (history : List (Entry Command Answer)) (part : Part) (place : ℕ) : Type 0 where
     pub in_history : place ≤ length history
     pub touched : 0 < place → TouchesAt history place part

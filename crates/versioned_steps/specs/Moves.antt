@@ -1,4 +1,4 @@
--- What the calls behind the steps do, to the draft in one clerk's hand and to the history, and what every step keeps.
+-- What the calls that the steps make do to the draft in one clerk's hand and to the history, and what every step keeps.
 use Rattle.std.specs.Prelude.{◌≡◌, ℕ, ◌+◌, [], ◌∷◌, ◌++◌, ◌⊎◌, length, Option, IfSome, List, All}
 use Rattle.versioned_steps.specs.Rules.{Rules, AreAllReadsOf}
 use Rattle.versioned_steps.specs.History.{answer_on, value_of}

@@ -7,8 +7,8 @@ use Rattle.versioned_steps.specs.History.{value_of, version_of}
 use Rattle.versioned_steps.specs.declared.entry.Entry.{Entry}
 use Rattle.versioned_steps.specs.declared.slot.Slot.{Slot}
 
--- what contracts see of a store: whose rules it follows, how many entries were finished, what the last of them wrote where it isn't
--- yet among the others, and the parts that were written before, each with its version and value
+-- what contracts see of a store: whose rules it follows, how many entries were finished, and the parts that were written, each with its
+-- version and value; what the last entry wrote may still be apart from the others
 pub record StoreView (Owner Part Value : Type 0) : Type 0 where
   pub owner : Owner
   pub length : ℕ

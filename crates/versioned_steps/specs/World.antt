@@ -32,7 +32,7 @@ clerk_of (ReadNext clerk) = clerk
 clerk_of (Commit clerk) = clerk
 clerk_of (Discard clerk) = clerk
 
--- the outcomes that NoMemory may stand in for
+-- the outcomes in whose place NoMemory may come
 abbrev pub TakesMemory : {Part Answer : Type 0} → Outcome Part Answer → Type 0
 TakesMemory Began = ⊤
 TakesMemory (ReadPart part version) = ⊤
@@ -121,7 +121,7 @@ module _ {Part Value Command Answer : Type 0} (r : Rules Part Value Command Answ
   abbrev pub IsStep : World Part Value Command Answer → Step Command → Outcome Part Answer → World Part Value Command Answer → Type 0
   IsStep w step outcome after = IsStepOf w step (slice_get w.hands (clerk_of step)) outcome after
 
-  -- these steps, one after another, may have these outcomes, one each, and lead from the one world to the other
+  -- made one after another, these steps may have these outcomes, one each, and lead from the first world to the second
   abbrev pub IsRun : World Part Value Command Answer → List (Step Command) → List (Outcome Part Answer) → World Part Value Command Answer → Type 0
   IsRun w [] [] after = after ≡ w
   IsRun w (step ∷ steps) (outcome ∷ outcomes) after = (between : World Part Value Command Answer) × IsStep w step outcome between × IsRun between steps outcomes after

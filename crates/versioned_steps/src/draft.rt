@@ -16,7 +16,7 @@ pub struct ReadNote {
 }
 
 /// A command of a clerk, the parts read for it so far, and its decision once it is settled. The parts are copied one by
-/// one, and other commands may be finished in between. What was read lies in memory of `A`.
+/// one, and other commands may be finished in between. What was read is in memory of `A`.
 #[derive(Drop)]
 pub struct Draft<P: Parted, A: Allocator = Global> {
     clerk: u32,
@@ -103,7 +103,6 @@ impl<P: Parted, A: Allocator + Copy> Draft<P, A> {
     #[tactic(auto, using(crate::proofs::DraftLemmas::with_notes_push))]
     /// Adds a read of the next part: its value and version, and the length of the history, all at one moment. A decision
     /// made before is dropped. An Err leaves the draft as it was.
-    // A body that always found no memory would meet this contract; the tests call it with ample memory.
     pub fn add(
         &mut self,
         parts: &P,
@@ -129,7 +128,6 @@ impl<P: Parted, A: Allocator + Copy> Draft<P, A> {
 
     #[tactic(auto, using(crate::proofs::DraftLemmas::copies_of_noted))]
     /// Decides on what was read. An Err leaves the draft as it was.
-    // A body that always found no memory would meet this contract; the tests call it with ample memory.
     pub fn settle(&mut self, alloc: Global, parts: &P) -> Result<(), AllocError>
         requires { (P.rules parts.now).next_part self.old.command (copies_of self.old.reads) ≡ None }
         ensures ok { OnOk result (self.new ≡ record self.old {

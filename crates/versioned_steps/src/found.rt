@@ -20,7 +20,7 @@ pub(crate) fn value_written<T: Eq + Copy, V>(writes: &[(T, V)], part: T) -> Opti
     None
 }
 
-// Puts one write, which has this version, to the slots, where there is room for it.
+// Puts one write of this version into the slots, which have room for it.
 fn put<T: Eq + Hash + Copy, V: Drop, A: Allocator + Clone>(
     older: &mut Slots<T, V, A>,
     write: (T, V),
@@ -37,9 +37,8 @@ fn put<T: Eq + Hash + Copy, V: Drop, A: Allocator + Clone>(
     }
 }
 
-/// Puts the recent writes, which all have this version, to the older slots. Every part is found as before, also after an
-/// Err, where some of the writes may be left.
-// A body that always found no memory would meet this contract; the tests call it with ample memory.
+/// Puts the recent writes, which all have this version, among the older slots. Every part is found as before, also
+/// after an Err, which may leave some of the writes.
 pub(crate) fn put_away<T: Eq + Hash + Copy, V: Drop, A: Allocator + Clone>(
     recent: &mut Vec<(T, V), A>,
     older: &mut Slots<T, V, A>,

@@ -12,7 +12,7 @@ ghost use Rattle.versioned_steps.specs.Serial.{IsSerial};
 use crate::parted::Parted;
 
 /// Every legal history is a serial one: its commands in order, each decided alone, give the same answers and the same
-/// parts. What is finished in any run of any clerks from a legal history on, as from the empty one, is legal.
+/// parts. Whatever clerks finish in a run from a legal history on is legal; the empty history is legal.
 pub fn serial_history<P: Parted>()
     ensures legal { (parts : P) (history : List (Entry P.Command P.Answer)) → is_legal (P.rules parts) history ≡ true → IsSerial (P.rules parts) history }
     ensures run { (parts : P) (before after : World P.Part P.Value P.Command P.Answer) (steps : List (Step P.Command)) (outcomes : List (Outcome P.Part P.Answer)) →
@@ -36,9 +36,10 @@ pub fn fresh_means_untouched<P: Parted>()
         IsFresh (P.rules parts) history x }
 {}
 
-/// Each finished command stands once in the history, and nothing else does: the steps that were answered Finished are, in
-/// their order, its entries at the places 1, 2, 3 and so on, each with the step's clerk, the command that this clerk began
-/// last, the place that was answered and the answer. So no two steps are answered one place.
+/// Each finished command is one entry of the history, and there are no other entries: the steps that were answered
+/// Finished are, in their order, its entries at the places 1, 2, 3 and so on. Each entry has the step's clerk, the
+/// command that this clerk began last, the place that was answered and the answer. So no two steps are answered one
+/// place.
 pub fn finished_commands_stand_once<P: Parted>()
     ensures { (parts : P) (clerks : ℕ) (steps : List (Step P.Command)) (outcomes : List (Outcome P.Part P.Answer)) (after : World P.Part P.Value P.Command P.Answer) →
         IsRun (P.rules parts) (opening_world clerks) steps outcomes after → finishes (λ _. None) steps outcomes ≡ entered 1 after.history }

@@ -1,4 +1,5 @@
 //! Optimistic commit over any parts, and all its interleavings.
+//! What refuses a body that always answers want of memory is said in docs/PROMISES.md.
 #![tactic(auto)]
 
 mod decision;

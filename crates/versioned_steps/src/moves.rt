@@ -82,7 +82,6 @@ pub(crate) fn discard<P: Parted, A: Allocator + Copy>(
 }
 
 /// The command is decided, and becomes the next entry. An Err leaves the history and what was read.
-// A body that always found no memory would meet this contract; the tests call it with ample memory.
 fn finish<P: Parted, A: Allocator + Copy>(
     alloc: Global,
     store: &mut Store<P, A>,
@@ -109,7 +108,6 @@ fn finish<P: Parted, A: Allocator + Copy>(
 }
 
 /// The entry that a settled draft becomes, of this clerk.
-// A body that always found no memory would meet this contract; the tests call it with ample memory.
 fn entry_of<P: Parted, A: Allocator + Copy>(
     alloc: Global,
     parts: &P,

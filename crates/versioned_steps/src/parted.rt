@@ -8,7 +8,7 @@ use std::hash::Hash;
 
 /// Commands over parts.
 ///
-/// Its calls compute the functions of `rules`, whose laws every `impl` proves: the decision rests on the parts read alone;
+/// The calls compute the functions of `rules`, whose laws every `impl` proves: the decision rests on the parts read alone;
 /// the parts written are among those read, each once; reading ends after a stated number of parts.
 pub trait Parted: Drop {
     /// The name of a part.

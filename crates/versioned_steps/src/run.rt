@@ -23,9 +23,8 @@ pub struct World<P: Parted, A: Allocator = Global> {
     pub outcomes: Vec<Outcome<P::Part, P::Answer>, A>,
 }
 
-/// Makes these steps of that many clerks, from the empty history on. An Err comes only where the list of clerks or the
-/// list of outcomes found no memory; a step that finds none has the outcome NoMemory, and the next one is made.
-// A body that always found no memory would meet this contract; the tests call it with ample memory.
+/// Makes these steps of the clerks, from the empty history on. An Err comes only where there was no memory for the list
+/// of clerks or the list of outcomes. A step without memory has the outcome NoMemory, and the next one is made.
 pub fn run_steps<P: Parted>(
     alloc: Global,
     parts: P,
@@ -48,7 +47,6 @@ pub fn run_steps<P: Parted>(
 }
 
 /// `run_steps` with store, history, drafts and outcomes in memory of `heap`. The parts' own calls still take theirs of `alloc`.
-// A body that always found no memory would meet this contract; the tests call it with ample memory.
 pub fn run_steps_in<P: Parted, A: Allocator + Copy>(
     alloc: Global,
     heap: A,

@@ -36,7 +36,6 @@ impl<P: Parted, A: Allocator> Model for State<P, A> {
 
 impl<P: Parted, A: Allocator + Copy> State<P, A> {
     /// No entry, and nobody has a command in hand.
-    // A body that always found no memory would meet this contract; the tests call it with ample memory.
     pub fn open(heap: A, parts: P, clerks: u32) -> Result<State<P, A>, AllocError>
         ensures { IfOk result (λ s. s ≡ record { owner = parts; world = opening_world clerks }) }
     {

@@ -44,8 +44,8 @@ impl<P: Parted, A: Allocator> Change<P, A> {
     }
 }
 
-/// The store, in memory of `A`. What the entry finished last wrote is kept as it came, since finishing takes no memory;
-/// staging the next entry puts it to the older parts.
+/// The store, in memory of `A`. What the last entry wrote is kept as it came, since finishing takes no memory; staging
+/// the next entry puts it among the older parts.
 #[derive(Drop)]
 pub struct Store<P: Parted, A: Allocator = Global> {
     parts: P,
@@ -104,7 +104,6 @@ impl<P: Parted, A: Allocator + Copy> Store<P, A> {
     }
 
     // A copy of the value of a part: its opening value where it was never written.
-    // A body that always found no memory would meet this contract; the tests call it with ample memory.
     fn value(&self, alloc: Global, part: P::Part) -> Result<P::Value, AllocError>
         ensures { IfOk result (λ value. value ≡ (slot_of (P.rules self.now.owner) self.now part).value) }
     {
@@ -118,7 +117,6 @@ impl<P: Parted, A: Allocator + Copy> Store<P, A> {
     }
 
     /// The version of a part and a copy of its value, as they are after the history.
-    // A body that always found no memory would meet this contract; the tests call it with ample memory.
     pub fn read(&self, alloc: Global, part: P::Part) -> Result<(u64, P::Value), AllocError>
         ensures version { (h : List (Entry P.Command P.Answer)) → Replays (P.rules self.now.owner) h self.now →
             IfOk result (λ x. x.0 ≡ version_of (P.rules self.now.owner) h part) }
@@ -131,7 +129,6 @@ impl<P: Parted, A: Allocator + Copy> Store<P, A> {
 
     /// A draft of this command with all that it reads, every part as it now is, and its decision. The command is spent, also
     /// where an Err comes.
-    // A body that always found no memory would meet this contract; the tests call it with ample memory.
     pub fn prepare(
         &self,
         alloc: Global,
@@ -173,8 +170,8 @@ impl<P: Parted, A: Allocator + Copy> Store<P, A> {
         None
     }
 
-    /// The first part that the draft has read, in read order, which an entry has touched since, and its version now; none
-    /// where every read is fresh. It needs the reads alone, and takes no memory.
+    /// The first part in read order that an entry has touched since the draft read it, with its version now. None where
+    /// every read is fresh. It needs the reads alone, and takes no memory.
     pub fn check(&self, draft: &Draft<P, A>) -> Option<Stale<P::Part>>
         ensures first { (h : List (Entry P.Command P.Answer)) → Replays (P.rules self.now.owner) h self.now →
             result ≡ first_stale (version_of (P.rules self.now.owner) h) draft.now.reads }
@@ -187,7 +184,6 @@ impl<P: Parted, A: Allocator + Copy> Store<P, A> {
     }
 
     // Puts what the last entry wrote to the older parts.
-    // A body that always found no memory would meet this contract; the tests call it with ample memory.
     fn put_away(&mut self) -> Result<(), AllocError>
         ensures owner { self.new.owner ≡ self.old.owner }
         ensures length { self.new.length ≡ self.old.length }
@@ -199,8 +195,8 @@ impl<P: Parted, A: Allocator + Copy> Store<P, A> {
 
     /// Takes all the memory that finishing a settled draft needs. The parts, their versions and the length stay, also
     /// after an Err.
-    // A body that always found no memory would meet this contract; the tests call it with ample memory. So would one that
-    // stages twice and drops the first change: it answers the same, since staging leaves all that a change rests on.
+    // A body that stages twice and drops the first change would meet this contract: it answers the same, since staging
+    // leaves all that a change rests on.
     pub fn stage(&mut self, alloc: Global, draft: &Draft<P, A>) -> Result<Change<P, A>, AllocError>
         requires settled { IsSome draft.now.decision }
         requires room { self.old.length + 1 < 2 ^ 64 }
@@ -238,7 +234,6 @@ impl<P: Parted, A: Allocator + Copy> Store<P, A> {
 
     /// Stages and finishes a settled draft that `check` finds fresh, and gives its entry's place, from 1. An Err leaves
     /// the store as it was.
-    // A body that always found no memory would meet this contract; the tests call it with ample memory.
     pub fn apply(&mut self, alloc: Global, draft: &Draft<P, A>) -> Result<u64, AllocError>
         requires settled { IsSome draft.now.decision }
         requires room { self.old.length + 1 < 2 ^ 64 }
@@ -256,7 +251,6 @@ impl<P: Parted, A: Allocator + Copy> Store<P, A> {
 }
 
 // A copy of these writes.
-// A body that always found no memory would meet this contract; the tests call it with ample memory.
 fn copy_writes<P: Parted, A: Allocator>(
     parts: &P,
     alloc: Global,

@@ -5,7 +5,7 @@ use Rattle.court_days.specs.declared.fault.CourtFault.TheVariants.{BadZone, NotT
 use Rattle.court_days.specs.declared.key.Key.TheVariants as key
 use Rattle.court_days.specs.Court.{CourtFile, CourtView, IsSameCourt, court_in, court_of, days_at, file_of, hours_at, toml_of, zone_at}
 use Rattle.court_days.specs.Court.Reading.{◌>>=◌, names_at, text_at}
-use Rattle.court_days.specs.Clock.Zone.{TextsNameClocks, Zone, zone_of_text, zone_view}
+use Rattle.court_clock.specs.Words.{TextsNameClocks, Zone, zone_of_text, zone_view}
 use Rattle.court_days.specs.Days.{DaysView}
 
 pub record IsNamed (zone : Zone) : Type 0 where

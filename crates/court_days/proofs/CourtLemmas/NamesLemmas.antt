@@ -25,7 +25,7 @@ named keys name = sym (any-map string_bytes (bytes_eq name) keys)
 pub numbered : (keys : List (String Global)) (name : List ℕ) → position (λ k. bytes_eq name (string_bytes k)) keys ≡ position (bytes_eq name) (map string_bytes keys)
 numbered keys name = rw (position_or_len-map string_bytes (bytes_eq name) keys, length-map) refl
 
--- a new name goes behind the others
+-- a new name goes after the others
 pub added : (keys new : List (String Global)) (key : String Global) (name : List ℕ) → string_bytes key ≡ name → list_any (bytes_eq name) (map string_bytes keys) ≡ false
     → new ≡ insert_key string_eq keys key → map string_bytes new ≡ map string_bytes keys ++ name ∷ []
 added keys new key name is absent inserted =

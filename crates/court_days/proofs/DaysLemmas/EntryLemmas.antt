@@ -2,13 +2,13 @@
 use Rattle.std.proofs.Common.{◌≡◌, ◌<◌, ◌≤ℤ◌, inl, inr, ℕ, ◌==◌, ℤ, pos, ◌+ℤ◌, ◌-ℤ◌, true, false, List, get_or, Option, Some, None, IfSome, refl, sym, ap, ◌∙◌, arith}
 use Rattle.std.proofs.lemmas.Int.{ints}
 use Rattle.std.proofs.lemmas.Bool.{cases_Bool}
-use Rattle.court_days.specs.declared.direction.Direction.{Direction}
-use Rattle.court_days.specs.declared.direction.Direction.TheVariants.{After, Before}
+use Rattle.court_clock.specs.Words.{IsDayNumber, counted_from, days_through}
+use Rattle.court_clock.specs.declared.direction.Direction.{Direction}
+use Rattle.court_clock.specs.declared.direction.Direction.TheVariants.{After, Before}
 use Rattle.court_days.specs.declared.holiday_list.HolidayList.{HolidayList}
 use Rattle.court_days.specs.declared.holiday_list.HolidayList.TheVariants.{Federal, State}
-use Rattle.court_days.specs.Day.{IsDayNumber, counted_from}
 use Rattle.court_days.specs.Days.{DaysView, OutageView, IsSpan, is_covered, is_permitted, add_holiday}
-use Rattle.court_days.specs.Days.Search.{earliest_day, latest_day, days_through}
+use Rattle.court_days.specs.Days.Search.{earliest_day, latest_day}
 use Rattle.court_days.specs.Days.Rolled.{rolled}
 use Rattle.court_days.specs.Days.Table.{entry_day, with_outages, day_at, IsTable}
 use Rattle.court_days.proofs.DaysLemmas.SearchLemmas.{earliest_finds, latest_finds, covered_after_from, covered_before_to}

@@ -4,12 +4,12 @@ use Rattle.std.proofs.lemmas.Int.{ints}
 use Rattle.std.proofs.lemmas.Bool.{cases_Bool, cases_lt, cases_eq}
 use Rattle.std.specs.Ordering.{int_eq}
 use Rattle.std.specs.Cmp.{int_eq_equiv}
-use Rattle.court_days.specs.declared.direction.Direction.{Direction}
-use Rattle.court_days.specs.declared.direction.Direction.TheVariants.{After, Before}
+use Rattle.court_clock.specs.Words.{days_through}
+use Rattle.court_clock.specs.declared.direction.Direction.{Direction}
+use Rattle.court_clock.specs.declared.direction.Direction.TheVariants.{After, Before}
 use Rattle.court_days.specs.declared.holiday_list.HolidayList.{HolidayList}
 use Rattle.court_days.specs.declared.holiday_list.HolidayList.TheVariants.{Federal, State}
 use Rattle.court_days.specs.Days.{DaysView, is_covered, is_among, is_permitted, add_date, add_holiday}
-use Rattle.court_days.specs.Days.Search.{days_through}
 use Rattle.court_days.specs.Days.Table.{day_at, IsTable, next_entry, last_entry, AreEntries, closed_at, permitted_at, counts_in}
 use Rattle.court_days.proofs.DaysLemmas.DatesLemmas.{among-push}
 use Rattle.court_days.proofs.DaysLemmas.TableLemmas.{last_entry-joins, last_entry-next, last_entry-zero, entries-agree, entries_of_table, table_of_entries}
@@ -33,7 +33,7 @@ closed_here test at =
     and_false true = refl
     and_false false = refl
 
--- up to the closed place the entries stay
+-- before the closed place the entries stay
 last_entry-closed : (test : ℕ → Bool) (at n : ℕ) → n ≤ at → last_entry (closed_at at test) n ≡ last_entry test n
 last_entry-closed test at n h = last_entry-joins (closed_at at test) test 0 n (omega arith) (last_entry-zero (closed_at at test) ∙ sym (last_entry-zero test)) (λ k _ below. closed_other test at k (λ same. omega (arith, same, below, h)))
 
@@ -81,7 +81,7 @@ is_permitted_place test old k made within none = elim (cases_Bool (test k)) [
       | inr is ↦ (let clash : suc last ≡ 0 = rw is at zero_entry in absurd (omega (arith, clash)))
     ]
 
--- each place behind it whose entry wasn't zero takes the next one too
+-- each place after it whose entry wasn't zero takes the next one too
 closes_next : (test : ℕ → Bool) (old : List ℕ) (at k last : ℕ) → AreEntries test old → k < length old → at < k → (get_or old k 0 ≡ 0 → ⊥) → last ≡ last_entry (closed_at at test) k → next_entry false last ≡ next_entry (closed_at at test k) (last_entry (closed_at at test) k)
 closes_next test old at k last made within behind some so_far =
     let closed : closed_at at test k ≡ false = closed_other test at k (λ same. omega (arith, same, behind)) ∙ not_permitted test old k made within some in
@@ -98,7 +98,7 @@ mend_goes_on test old entries at n last k made within whole behind some so_far d
 pub mend_goes_on_last : (test : ℕ → Bool) (old : List ℕ) (at n last : ℕ) → AreEntries test old → n < length old → at < n → (get_or old n 0 ≡ 0 → ⊥) → last ≡ last_entry (closed_at at test) n → next_entry false last ≡ last_entry (closed_at at test) (n + 1)
 mend_goes_on_last test old at n last made within behind some so_far = closes_next test old at n last made within behind some so_far ∙ sym (last_entry-next (closed_at at test) n)
 
--- behind a permitted day the entries stay
+-- after a permitted day the entries stay
 stays_behind : (test : ℕ → Bool) (old : List ℕ) (at n k : ℕ) → AreEntries test old → n < length old → at < n → get_or old n 0 ≡ 0 → n ≤ k → k < length old → get_or old k 0 ≡ next_entry (closed_at at test k) (last_entry (closed_at at test) k)
 stays_behind test old at n k made within behind none low high =
     let permitted : test n ≡ true = is_permitted_place test old n made within none in

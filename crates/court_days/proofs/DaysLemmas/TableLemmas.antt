@@ -3,21 +3,21 @@ use Rattle.std.proofs.Common.{add-one, ◌≡◌, ◌⊎◌, inl, inr, ◌<◌, 
 use Rattle.std.proofs.lemmas.Int.{ints}
 use Rattle.std.proofs.lemmas.Bool.{cases_Bool, cases_lt}
 use Rattle.std.proofs.lemmas.List.{get_or_append_left, get_or_push, length_push}
-use Rattle.court_days.specs.declared.direction.Direction.{Direction}
-use Rattle.court_days.specs.declared.direction.Direction.TheVariants.{After, Before}
-use Rattle.court_days.specs.Day.{counted_from}
+use Rattle.court_clock.specs.Words.{counted_from, days_through}
+use Rattle.court_clock.specs.declared.direction.Direction.{Direction}
+use Rattle.court_clock.specs.declared.direction.Direction.TheVariants.{After, Before}
+use Rattle.court_clock.proofs.CallerLemmas.{place_from_first, place_from_last}
 use Rattle.court_days.specs.Days.{DaysView, is_covered, is_permitted}
-use Rattle.court_days.specs.Days.Search.{days_through}
 use Rattle.court_days.specs.Days.Rolled.{rolled}
 use Rattle.court_days.specs.Days.Table.{day_at, entry_day, IsTable, next_entry, last_entry, AreEntries, permitted_at}
-use Rattle.court_days.proofs.DaysLemmas.SearchLemmas.{covered_from_bounds, earliest_skips, earliest_finds, earliest_stops, latest_skips, latest_finds, latest_stops, place_from_first, place_from_last}
+use Rattle.court_days.proofs.DaysLemmas.SearchLemmas.{covered_from_bounds, earliest_skips, earliest_finds, earliest_stops, latest_skips, latest_finds, latest_stops}
 
 -- places of the table are covered days
 pub place_is_covered : (c : DaysView) (direction : Direction) (k : ℕ) → k < days_through c.from c.to → is_covered c (day_at c direction k) ≡ true
 place_is_covered c After k h = covered_from_bounds c (c.to -ℤ pos k) (place_from_last c.from c.to k h) (omega (arith, ints))
 place_is_covered c Before k h = covered_from_bounds c (c.from +ℤ pos k) (omega (arith, ints)) (place_from_first c.from c.to k h)
 
--- what rolling does at a place, by what it does at the place before it
+-- what rolling does at a place, from what it does at the place before it
 rolled_permitted : (c : DaysView) (direction : Direction) (k : ℕ) → k < days_through c.from c.to → permitted_at c direction k ≡ true → rolled c (day_at c direction k) direction ≡ Some (day_at c direction k)
 unfolding rolled
 rolled_permitted c After k h permitted =
@@ -47,7 +47,7 @@ rolled_closed c Before k h closed =
     let before = place_is_covered c Before k (omega arith) in
     rw (covered, before) (sym (latest_skips c (is_permitted c Before) (c.from +ℤ pos (suc k)) (c.from +ℤ pos k) covered closed (omega (arith, ints))))
 
--- an entry is no distance beyond the end of the span
+-- no entry leads beyond the end of the span
 pub last_entry-bound : (test : ℕ → Bool) (n : ℕ) → (last_entry test n ≡ 65535) ⊎ (last_entry test n < n)
 unfolding last_entry
 last_entry-bound test zero = inl refl

@@ -1,17 +1,16 @@
--- What stands at each key of a court's file, or its fault.
+-- What a court's file says at each of its keys, or its fault.
 use Rattle.std.specs.Prelude.{◌≡◌, ℕ, zero, suc, nat_le, ◌&&◌, ◌||◌, ◌==◌, not, Bool, ℤ, int_le, List, [], ◌∷◌, ◌++◌, length, Result, Ok, Err, if◌then◌else◌}
 use Rattle.std.specs.Option.{ok_or}
 use Rattle.std.specs.List.{list_any, list_all}
 use Rattle.std.specs.Char.{is_ascii_digit, is_ascii_alphabetic}
 use Rattle.std.specs.Str.{bytes_eq}
 use Rattle.toml.specs.Data.{Data, as_str, as_array, Items, no_items, item, Members, get_member}
+use Rattle.court_clock.specs.Words.{day_of_text, minute_of_text}
 use Rattle.court_days.specs.declared.key.Key.{Key}
 use Rattle.court_days.specs.declared.fault.CourtFault.{CourtFault}
 use Rattle.court_days.specs.declared.fault.CourtFault.TheVariants.{NotToml, Missing, WrongKind, BadDate, BadZone, BadHours, BadSpan, BadName, TwiceNamed, TooMany, OutOfMemory}
 use Rattle.court_days.specs.Days.{add_date}
-use Rattle.court_days.specs.Day.Date.{day_of_text}
 use Rattle.court_days.specs.Key.{key_name}
-use Rattle.court_days.specs.Clock.Minute.{minute_of_text}
 
 -- one step of reading, and the next where it has no fault
 infixl 10 ◌>>=◌
@@ -23,7 +22,7 @@ abbrev pub ◌>>=◌ : {A B : Type 0} → Result A CourtFault → (A → Result 
 abbrev pub must : Bool → CourtFault → Result (Unit {0}) CourtFault
 must test fault = if test then Ok tt else Err fault
 
--- what stands at a key
+-- the value at a key
 abbrev pub value_at : Key → Members → Result Data CourtFault
 value_at k file = ok_or (get_member (key_name k) file) (Missing k)
 
@@ -47,7 +46,7 @@ abbrev pub item_count : Items → ℕ
 item_count no_items = zero
 item_count (item d ds) = suc (item_count ds)
 
--- the list at a key, of at most so many items
+-- the list at a key, which may have at most that many items
 unfoldable pub list_at : Key → ℕ → Members → Result Items CourtFault
 list_at k most file = do
   value ← value_at k file
@@ -71,11 +70,11 @@ date_of_item k value = do
   text ← text_of k value
   ok_or (day_of_text text) (BadDate text)
 
--- a date, if it lies in the span
+-- the dates and one more, if it is in the span
 abbrev pub keep_date : ℤ → ℤ → ℤ → List ℤ → List ℤ
 keep_date from to d dates = if int_le from d && int_le d to then add_date d dates else dates
 
--- the dates and that of an item, if it lies in the span
+-- the dates and that of an item, if it is in the span
 unfoldable pub and_date : Key → ℤ → ℤ → List ℤ → Data → Result (List ℤ) CourtFault
 and_date k from to dates value = do
   d ← date_of_item k value

@@ -1,7 +1,7 @@
 -- The day to which a period runs whose last day may be a Saturday, Sunday or legal holiday.
 use Rattle.std.specs.Prelude.{◌≡◌, ◌↔◌, ◌≤ℤ◌, ◌+ℤ◌, ℤ, pos, true, Option, Some, None, if◌then◌else◌}
-use Rattle.court_days.specs.declared.direction.Direction.{Direction}
-use Rattle.court_days.specs.declared.direction.Direction.TheVariants.{After, Before}
+use Rattle.court_clock.specs.declared.direction.Direction.{Direction}
+use Rattle.court_clock.specs.declared.direction.Direction.TheVariants.{After, Before}
 use Rattle.court_days.specs.Days.{DaysView, is_covered, is_permitted, is_open}
 use Rattle.court_days.specs.Days.Search.{earliest_day, latest_day}
 
@@ -16,7 +16,7 @@ rolled c d Before = if is_covered c d then latest_day c (is_permitted c Before) 
 unfoldable pub next_accessible : DaysView → Direction → ℤ → Option ℤ
 next_accessible c direction d = earliest_day c (is_open c direction true) (d +ℤ pos 1)
 
--- e lies at d or further on in the direction
+-- e is d, or further on in the direction
 abbrev pub IsAtOrBeyond : Direction → ℤ → ℤ → Type 0
 IsAtOrBeyond After d e = d ≤ℤ e
 IsAtOrBeyond Before d e = e ≤ℤ d

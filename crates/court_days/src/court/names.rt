@@ -45,7 +45,7 @@ impl Names {
         self.names.contains(name)
     }
 
-    /// Adds a name behind the others. After an `Err` the names are as before.
+    /// Adds a name after the others. After an `Err` the names are unchanged.
     pub(crate) fn add(&mut self, alloc: Global, name: &str) -> Result<(), AllocError>
         requires { is_named self.old name.now ≡ false }
         ensures ok { OnOk result (self.new ≡ self.old ++ name.now ∷ []) }

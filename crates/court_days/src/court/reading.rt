@@ -1,21 +1,20 @@
-//! What stands at each key of a court's file.
+//! What a court's file says at each of its keys.
 
 ghost use Rattle.std.specs.Prelude.{◌≡◌, ◌≤◌, ◌<◌, ◌+◌, [], length, IfOk, OnOk};
 ghost use Rattle.std.specs.List.{list_all};
 ghost use Rattle.toml.specs.View.{view, table_view, array_view, items_view};
 ghost use Rattle.court_days.specs.Court.Reading.{Gives, value_at, text_at, minute_at, date_at, list_at, text_of, date_of_item, dates_at, and_date, and_name, names_at, is_name, is_name_byte, each_item};
 
-use crate::clock::minute::minute_from_text;
 use crate::court::names::Names;
-use crate::day::Day;
 use crate::days::dates::Dates;
 use crate::fault::{CourtFault, FaultText};
 use crate::key::Key;
+use court_clock::{Day, minute_from_text};
 use std::alloc::Global;
 use toml::value::Array;
 use toml::{Table, Value};
 
-/// The most dates that a holiday list may have, as it is written.
+/// The most dates that a holiday list may have in the file, where a date may be written twice.
 const MOST_DATES: usize = 4096;
 
 /// The most judges, or rooms, that a court may have.
@@ -64,7 +63,7 @@ pub(crate) fn date_at(alloc: Global, file: &Table, key: Key) -> Result<Day, Cour
     }
 }
 
-/// The list at a key, of at most so many items.
+/// The list at a key, which may have at most `most` items.
 #[tactic(auto, unfolding(crate::specs::Court::Reading::list_at), using(crate::proofs::CourtLemmas::ReadingLemmas::counts))]
 pub(crate) fn list_at(file: &Table, key: Key, most: usize) -> Result<&Array, CourtFault>
     ensures value { Gives (λ v. array_view v.now) result (list_at key most (table_view file.now)) }
@@ -102,7 +101,7 @@ fn date_of_item(alloc: Global, value: &Value, key: Key) -> Result<Day, CourtFaul
     }
 }
 
-/// Adds the date of an item, if it lies in the span. After an `Err` the dates are as before.
+/// Adds the date of an item, if it is in the span. After an `Err` the dates are unchanged.
 #[tactic(auto, unfolding(crate::specs::Court::Reading::and_date))]
 fn add_date(
     alloc: Global,
@@ -121,7 +120,7 @@ fn add_date(
     Ok(())
 }
 
-/// The dates at a key that lie in the span, each once.
+/// The dates at a key that are in the span, each once.
 #[tactic(auto, unfolding(crate::specs::Court::Reading::dates_at))]
 pub(crate) fn dates_at(
     alloc: Global,
@@ -152,7 +151,7 @@ fn dates_of(
     Ok(dates)
 }
 
-/// Adds the name of an item. After an `Err` the names are as before.
+/// Adds the name of an item. After an `Err` the names are unchanged.
 #[tactic(auto, unfolding(crate::specs::Court::Reading::and_name))]
 fn add_name(alloc: Global, names: &mut Names, value: &Value, key: Key) -> Result<(), CourtFault>
     ensures value { Gives (λ _. names.new) result (and_name key names.old (view value.now)) }

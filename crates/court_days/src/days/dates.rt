@@ -6,7 +6,7 @@ ghost use Rattle.std.specs.List.{IsDistinct};
 ghost use Rattle.court_days.specs.Days.{is_among, add_date};
 ghost use Rattle.court_days.specs.Days.Marks.{AreMarked};
 
-use crate::day::Day;
+use court_clock::Day;
 use std::alloc::{AllocError, Global};
 use std::marker::Model;
 
@@ -63,7 +63,7 @@ impl Dates {
         }
     }
 
-    /// Adds the day, unless it is there already. After an `Err` the dates are as before.
+    /// Adds the day, unless it is there already. After an `Err` the dates are unchanged.
     pub(crate) fn add(&mut self, day: Day) -> Result<(), AllocError>
         ensures ok { OnOk result (self.new ≡ add_date day self.old) }
         ensures err { OnErr result (self.new ≡ self.old) }
@@ -90,7 +90,7 @@ impl Dates {
     }
 }
 
-/// Which of so many days from the first the day is.
+/// The place of the day among the `count` days from `first` on, counted from 0. None where it is none of them.
 fn place_of(day: Day, first: Day, count: usize) -> Option<usize>
     ensures within { IfSome result (λ k. k < count) }
     ensures some { IfSome result (λ k. day ≡ first +ℤ pos k) }

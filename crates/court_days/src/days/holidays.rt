@@ -4,15 +4,13 @@ ghost use Rattle.std.specs.Prelude.{◌≡◌, ◌≤ℤ◌, ◌<◌, [], length
 ghost use Rattle.std.specs.Ordering.{int_eq};
 ghost use Rattle.std.specs.List.{IsDistinct};
 ghost use Rattle.std.specs.Arc.{arc_value};
-ghost use Rattle.court_days.specs.Day.{IsDayNumber};
+ghost use Rattle.court_clock.specs.Words.{IsDayNumber, days_through};
 ghost use Rattle.court_days.specs.Days.{DaysView, IsSpan, is_covered, is_holiday, is_among, dates_of, add_date, add_holiday};
-ghost use Rattle.court_days.specs.Days.Search.{days_through};
 ghost use Rattle.court_days.specs.Days.Table.{day_at, permitted_at};
 
-use crate::day::Day;
 use crate::days::dates::Dates;
-use crate::direction::Direction;
 use crate::holiday_list::HolidayList;
+use court_clock::{Day, Direction};
 use std::alloc::{AllocError, Global};
 use std::marker::Model;
 use std::sync::Arc;
@@ -36,7 +34,7 @@ impl Model for Holidays {
 }
 
 impl Holidays {
-    /// The days from the one to the other, with these holidays.
+    /// The days from the first to the last, with these holidays.
     pub(crate) fn new(
         alloc: Global,
         from: Day,
@@ -82,7 +80,7 @@ impl Holidays {
         (self.to.number() - self.from.number()) as usize + 1
     }
 
-    /// Whether the day lies in the span, both ends included.
+    /// Whether the day is in the span, both ends included.
     pub(crate) fn covered(&self, day: Day) -> bool
         ensures value { result ≡ is_covered self.now day }
         ensures span { IsSpan self.now.from self.now.to }
@@ -92,7 +90,7 @@ impl Holidays {
     }
 
     /// The place of a covered day in the table of rolled days.
-    #[tactic(auto, using(crate::proofs::DaysLemmas::SearchLemmas::distance_within, crate::proofs::DaysLemmas::SearchLemmas::covered_after_from, crate::proofs::DaysLemmas::SearchLemmas::covered_before_to))]
+    #[tactic(auto, using(court_clock::proofs::CallerLemmas::distance_within, crate::proofs::DaysLemmas::SearchLemmas::covered_after_from, crate::proofs::DaysLemmas::SearchLemmas::covered_before_to))]
     pub(crate) fn place_of(&self, day: Day, direction: Direction) -> Option<usize>
         ensures within { IfSome result (λ k. k < days_through self.now.from self.now.to) }
         ensures some { IfSome result (λ k. day ≡ day_at self.now direction k) }
@@ -108,7 +106,7 @@ impl Holidays {
     }
 
     /// The day at a place of the table of rolled days.
-    #[tactic(auto, using(crate::proofs::DaysLemmas::SearchLemmas::place_from_last, crate::proofs::DaysLemmas::SearchLemmas::place_from_first, crate::proofs::DaysLemmas::SearchLemmas::covered_from_bounds))]
+    #[tactic(auto, using(court_clock::proofs::CallerLemmas::place_from_last, court_clock::proofs::CallerLemmas::place_from_first, crate::proofs::DaysLemmas::SearchLemmas::covered_from_bounds))]
     fn day_at(&self, place: usize, direction: Direction) -> Day
         requires { place < days_through self.now.from self.now.to }
         ensures value { result ≡ day_at self.now direction place }
@@ -131,7 +129,7 @@ impl Holidays {
         day.weekday() < 5 && !self.is_holiday(day, direction)
     }
 
-    /// Whether the day stands in the list.
+    /// Whether the day is in the list.
     pub(crate) fn in_list(&self, list: HolidayList, day: Day) -> bool
         ensures { result ≡ is_among (dates_of self.now list) day }
     {
@@ -163,7 +161,7 @@ impl Holidays {
         }
     }
 
-    /// The same days with one more date in a holiday list, which keeps a date that it has already once.
+    /// The same days with one more date in a holiday list. A date that the list has already is kept once.
     pub(crate) fn with(
         &self,
         alloc: Global,
@@ -180,7 +178,7 @@ impl Holidays {
         Ok(holidays)
     }
 
-    /// The same days, which share the lists.
+    /// The same days. Both share the lists.
     pub(crate) fn copy(&self) -> Result<Holidays, AllocError>
         ensures { IfOk result (λ h. h ≡ self.now) }
     {

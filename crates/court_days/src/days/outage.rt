@@ -3,7 +3,7 @@
 ghost use Rattle.std.specs.Prelude.{◌≡◌, ◌↔◌, ◌<◌, ◌≤◌, ℕ, IsSome, IfSome};
 ghost use Rattle.court_days.specs.Days.{OutageView};
 
-use crate::day::Day;
+use court_clock::Day;
 use std::marker::Model;
 
 /// A span of minutes on one day in which the clerk's office was inaccessible (Fed. R. Civ. P. 6(a)(3)).

@@ -5,13 +5,13 @@ ghost use Rattle.std.specs.Ordering.{int_eq};
 ghost use Rattle.std.specs.List.{list_any};
 ghost use Rattle.court_days.specs.Days.{OutageView, is_among, has_outage};
 
-use crate::day::Day;
 use crate::days::dates::Dates;
 use crate::days::outage::Outage;
+use court_clock::Day;
 use std::alloc::{AllocError, Global};
 use std::marker::Model;
 
-/// Outages in the order in which they were entered, and the days on which one lies.
+/// Outages in the order in which they were entered, and the days that have one.
 #[derive(Debug, Drop)]
 pub(crate) struct Outages {
     outages: Vec<Outage>,
@@ -27,7 +27,7 @@ impl Model for Outages {
 }
 
 impl Outages {
-    /// No outages, of a span from the first day to the last.
+    /// No outages, for a span from the first day to the last.
     pub(crate) fn empty(alloc: Global, first: Day, last: Day) -> Result<Outages, AllocError>
         ensures { IfOk result (λ o. o ≡ []) }
     {
@@ -37,7 +37,7 @@ impl Outages {
         })
     }
 
-    /// Whether one of them lies on the day.
+    /// Whether one of them is on the day.
     pub(crate) fn lie_on(&self, day: Day) -> bool
         ensures { result ≡ list_any (λ o. int_eq o.day day) self.now }
     {

@@ -1,24 +1,22 @@
 //! The table of rolled days for one direction. A place of it is a covered day, counted from the end of the span at
-//! which rolling ends, and its entry is how far the day lies from the one to which it rolls.
+//! which rolling ends, and its entry is how many days the day is away from the one to which it rolls.
 
 ghost use Rattle.std.specs.Prelude.{◌≡◌, ◌<◌, ◌≤◌, ℕ, Bool, true, length, IfOk, IfSome, IfNone};
 ghost use Rattle.std.specs.Arc.{arc_value};
-ghost use Rattle.court_days.specs.Day.{IsDayNumber};
+ghost use Rattle.court_clock.specs.Words.{IsDayNumber, days_through};
 ghost use Rattle.court_days.specs.Days.{add_holiday};
-ghost use Rattle.court_days.specs.Days.Search.{days_through};
 ghost use Rattle.court_days.specs.Days.Table.{IsTable, day_at, next_entry, last_entry, AreEntries, closed_at, counts_in, entry_day};
 
-use crate::day::Day;
 use crate::days::holidays::{Holidays, numbered};
-use crate::direction::Direction;
 use crate::holiday_list::HolidayList;
+use court_clock::{Day, Direction};
 use std::alloc::{AllocError, Global};
 use std::sync::Arc;
 
 /// The entry of a day that rolls to no covered day. Other entries are below the number of days of a span.
 const NONE: u16 = 65_535;
 
-/// The entry at a place by that at the place before it, which is the next day in the direction.
+/// The entry at a place, from the entry at the place before it, which is the next day in the direction.
 fn next_entry(permitted: bool, last: u16) -> u16
     ensures { result ≡ next_entry permitted last }
 {
@@ -144,7 +142,7 @@ fn last_before(entries: &[u16], at: usize) -> u16
     if at == 0 { NONE } else { entries[at - 1] }
 }
 
-/// The day for which the entry of a day stands.
+/// The day to which a day rolls, from its entry.
 pub(crate) fn entry_day(day: Day, direction: Direction, entry: u16) -> Option<Day>
     requires { IfSome (entry_day direction day entry) IsDayNumber }
     ensures { result ≡ entry_day direction day entry }

@@ -6,7 +6,7 @@ use std::alloc::{AllocError, Global};
 use std::fmt;
 use std::marker::Model;
 
-/// A text of the court's file that a fault names, as it stands there.
+/// A text of the court's file that a fault names, byte for byte.
 #[derive(Debug, Drop)]
 pub struct FaultText {
     text: String,
@@ -35,7 +35,7 @@ impl FaultText {
     }
 }
 
-/// Writes the text as it is.
+/// Writes the text unchanged.
 impl fmt::Display for FaultText {
     ghost output = { λ t. Some t };
 

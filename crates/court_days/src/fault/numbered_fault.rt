@@ -4,7 +4,7 @@ use crate::fault::CourtFault;
 use std::fmt;
 
 /// A fault, to be written as its number, its name, and the key or the text that it names, as `2 Missing zone`. The
-/// numbers and names stand here alone: the fault's own message is this text.
+/// numbers and names are written here alone: the fault's own message is this text.
 #[derive(Clone, Copy)]
 pub struct NumberedFault<'a> {
     /// The fault.

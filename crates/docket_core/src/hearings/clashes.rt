@@ -5,7 +5,7 @@ ghost use Rattle.rule_periods.specs.Words.{first_of};
 ghost use Rattle.hearing_slots.specs.Words.{first_conflict};
 
 use crate::sight::Sight;
-use court_days::Day;
+use court_clock::Day;
 use hearing_slots::{Booking, Calendar};
 
 /// When a hearing is held: some slots of a day.
@@ -16,7 +16,7 @@ pub(crate) struct Span {
     pub(crate) count: u8,
 }
 
-/// The first booking of a calendar that clashes; no calendar has none.
+/// The first booking of a calendar that clashes. Where there is no calendar there is none.
 #[tactic(auto, unfolding(hearing_slots::specs::Words::first_conflict))]
 fn conflict_in(
     calendar: Option<&Calendar>,

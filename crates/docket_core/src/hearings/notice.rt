@@ -1,11 +1,12 @@
 //! The notice of a hearing (Fed. R. Civ. P. 6(c)(1)).
 
 ghost use Rattle.std.specs.Prelude.{◌≡◌};
-ghost use Rattle.court_days.specs.Words.{later_day};
+ghost use Rattle.court_clock.specs.Words.{later_day};
 ghost use Rattle.docket_rows.specs.Words.{last_service, lacks_last_service, missed_service, lacks_notice};
 
 use crate::motions::is_notice_length;
-use court_days::{Day, Days};
+use court_clock::Day;
+use court_days::Days;
 use hearing_slots::{Booking, Need};
 use rule_periods::notice_day;
 

@@ -25,7 +25,7 @@ pub(crate) fn has_judges(rules: &DocketRules, panel: &[u8]) -> bool
     }
 }
 
-/// Whether no judge stands twice.
+/// Whether no judge is named twice.
 fn is_distinct(panel: &[u8]) -> bool
     ensures { result ≡ is_distinct panel.now }
 {

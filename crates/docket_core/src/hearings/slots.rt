@@ -3,7 +3,8 @@
 ghost use Rattle.std.specs.Prelude.{◌≡◌};
 ghost use Rattle.docket_rows.specs.Words.{fits_day, is_court_day, is_within_hours};
 
-use court_days::{Clock, Day, Days, Direction};
+use court_clock::{Clock, Day, Direction};
+use court_days::Days;
 
 /// Whether the hearing takes a slot, and none past the last of its day.
 pub(crate) fn fits_day(first: u8, count: u32) -> bool

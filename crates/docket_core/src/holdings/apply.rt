@@ -5,24 +5,22 @@ ghost use Rattle.docket_rows.specs.Words.{refusal, answered, part_value};
 ghost use Rattle.docket_rows.specs.declared.part.PartId.{PartId};
 
 use super::{Holdings, calendars, cases};
-use crate::answers::answer_if_made;
-use crate::case_changes::case_of;
-use crate::judgement::refusal;
-use crate::rebooking::{Rebooking, rebooking_of};
+use crate::commands::{answer_if_made, case_of, refusal};
+use crate::rebooking::rebooking_of;
 use crate::writes::days_written;
-use docket_rows::{Answer, Command};
+use docket_rows::{Answer, Command, Rebooking};
 use std::alloc::{AllocError, Global};
 
 impl Holdings {
     ghost use Rattle.docket_core.specs.Docket.{parts_held};
     ghost use Rattle.docket_core.specs.Memory.{takes_memory};
-    ghost use Rattle.docket_rows.specs.Words.{part_after};
-    ghost use Rattle.docket_core.specs.Changes.{IsAfter, CanChangeRecord, case_after, rebooked_docket};
-    ghost use Rattle.docket_core.specs.Rebooking.{CanChangeAll, judge_change, room_change};
+    ghost use Rattle.docket_rows.specs.Words.{part_after, case_after, judge_change, room_change};
+    ghost use Rattle.docket_core.specs.Changes.{IsAfter, CanChangeRecord, rebooked_docket};
+    ghost use Rattle.docket_core.specs.Rebooking.{CanChangeAll};
 
     /// Decides the command on the docket as it is, and changes the docket in place where the command isn't refused. A
-    /// command about a case copies neither the case nor its deadlines, and a hearing that is booked behind all others
-    /// of a judge moves no booking. `Err` says that memory ran out, and leaves the docket as it was.
+    /// command about a case copies neither the case nor its deadlines, and a hearing that is booked after all others of
+    /// a judge moves no booking. `Err` says that memory ran out, and leaves the docket as it was.
     #[tactic(auto, unfolding(docket_rows::specs::Words::answered))]
     pub fn apply(&mut self, alloc: Global, command: &Command) -> Result<Answer, AllocError>
         ensures bench { self.new.bench ≡ self.old.bench }

@@ -1,9 +1,11 @@
 //! The calendars of a docket, changed in place when a hearing is booked, moved or cancelled.
 
 ghost use Rattle.std.specs.Prelude.{◌≡◌, ◌≤◌, ◌+◌, length, IfOk, IfErr, OnOk, OnErr, if◌then◌else◌};
-ghost use Rattle.docket_core.specs.Rebooking.{CanChange, CanChangeAll, calendar_after, calendars_after, judge_change, room_change};
+ghost use Rattle.docket_rows.specs.Words.{judge_change, room_change};
+ghost use Rattle.docket_core.specs.Rebooking.{CanChange, CanChangeAll, calendar_after, calendars_after};
 
-use crate::rebooking::{Change, Rebooking};
+use crate::rebooking::{judge_change, room_change};
+use docket_rows::{Change, Rebooking};
 use hearing_slots::{Calendar, OpenCalendar};
 use std::alloc::{AllocError, Global};
 use std::mem;
@@ -53,7 +55,7 @@ fn rebook_rooms(
     let Some((room, rest)) = rooms.split_first_mut() else {
         return Ok(());
     };
-    let change = rebooking.of_room(number);
+    let change = room_change(rebooking, number);
     if let Change::Stays = change {
         return rebook_rooms(alloc, rebooking, number + 1, rest);
     }
@@ -82,7 +84,7 @@ pub(crate) fn rebook(
     let Some((judge, rest)) = judges.split_first_mut() else {
         return rebook_rooms(alloc, rebooking, 0, rooms);
     };
-    let change = rebooking.of_judge(number);
+    let change = judge_change(rebooking, number);
     if let Change::Stays = change {
         return rebook(alloc, rebooking, number + 1, rest, rooms);
     }

@@ -1,11 +1,11 @@
 //! The cases of a docket, changed in place.
 
 ghost use Rattle.std.specs.Prelude.{◌≡◌, true, None, set, get_or, IfSome, OnOk, OnErr};
-ghost use Rattle.docket_rows.specs.Words.{set_hearing};
-ghost use Rattle.docket_core.specs.Changes.{CanChangeRecord, case_after, with_case};
+ghost use Rattle.docket_rows.specs.Words.{case_after, set_hearing};
+ghost use Rattle.docket_core.specs.Changes.{CanChangeRecord, with_case};
 ghost use Rattle.docket_core.specs.Memory.{takes_memory};
 
-use crate::case_changes::change_case;
+use crate::commands::change_case;
 use docket_rows::{CaseRecord, Command, Hearing};
 use std::alloc::{AllocError, Global};
 

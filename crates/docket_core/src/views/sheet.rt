@@ -1,12 +1,13 @@
 //! The sheet of a case.
 
 ghost use Rattle.std.specs.Prelude.{◌≡◌, ◌<◌, ◌≤◌, length, map, option_map, IfOk, IfSome};
-ghost use Rattle.docket_rows.specs.Words.{numbered_deadlines, numbered_motions, state_of, sheet_of, sheet_deadline, sheet_hearing, sheet_motion};
+ghost use Rattle.docket_rows.specs.Words.{numbered_deadlines, numbered_motions, most_deadlines, most_motions, state_of, sheet_of, sheet_deadline, sheet_hearing, sheet_motion};
 
 use crate::rules::DocketRules;
 use crate::seen::{is_beyond, shown_now};
 use crate::sight::Sight;
-use court_days::{Clock, Days};
+use court_clock::Clock;
+use court_days::Days;
 use docket_rows::{
     CaseRecord, Hearing, MotionRecord, Sheet, SheetDeadline, SheetDeadlines, SheetHearing,
     SheetMotion, SheetMotions, State,
@@ -15,7 +16,7 @@ use rule_periods::{DocketRow, affidavit_day};
 use rule6::{Filing, Shown, is_timely};
 use std::alloc::{AllocError, Global};
 
-/// Whether a deadline was met whose time ends so.
+/// Whether a deadline was met, by when its time ends.
 fn state_of(clock: &Clock, shown: &Shown, filed: Option<Filing>) -> State
     requires { IfSome filed (λ f. f.minute < 1440) }
     ensures { result ≡ state_of clock.now shown.now filed }
@@ -61,7 +62,7 @@ fn sheet_deadlines<S: Sight>(
     sight: &S,
     rows: &[DocketRow],
 ) -> Result<Vec<SheetDeadline>, AllocError>
-    requires { length rows.now ≤ 64 }
+    requires { length rows.now ≤ most_deadlines }
     ensures { IfOk result (λ list. list.items ≡ map (sheet_deadline rules.now (S.parts sight.now)) (numbered_deadlines 1 rows.now)) }
 {
     let mut list = Vec::new(alloc);
@@ -92,7 +93,7 @@ fn sheet_motions(
     days: &Days,
     motions: &[MotionRecord],
 ) -> Result<Vec<SheetMotion>, AllocError>
-    requires { length motions.now ≤ 64 }
+    requires { length motions.now ≤ most_motions }
     ensures { IfOk result (λ list. list.items ≡ map (sheet_motion days.now) (numbered_motions 1 motions.now)) }
 {
     let mut list = Vec::new(alloc);

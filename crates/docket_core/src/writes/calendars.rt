@@ -2,12 +2,12 @@
 
 ghost use Rattle.std.specs.Prelude.{◌≡◌, [], Some, IfOk, unwrap_or, option_copied};
 ghost use Rattle.hearing_slots.specs.Words.{IsWithinDay, IsFree, with_booking, without_motion};
-ghost use Rattle.docket_rows.specs.Words.{judge_written, room_written};
-ghost use Rattle.docket_core.specs.Rebooking.{CanChange, CanRebook, changed_by};
+ghost use Rattle.docket_rows.specs.Words.{changed_by, judge_written, room_written};
+ghost use Rattle.docket_core.specs.Rebooking.{CanChange, CanRebook};
 
-use crate::rebooking::{Change, rebooking_of};
+use crate::rebooking::{judge_change, rebooking_of, room_change};
 use crate::sight::Sight;
-use docket_rows::Command;
+use docket_rows::{Change, Command};
 use hearing_slots::{Booking, Calendar};
 use std::alloc::{AllocError, Global};
 
@@ -71,7 +71,7 @@ pub(crate) fn judge_written<S: Sight>(
     ensures { IfOk result (λ c. c ≡ judge_written (S.parts sight.now) command.now judge) }
 {
     match rebooking_of(sight, command) {
-        Some(rebooking) => changed_by(alloc, sight.judge(judge), &rebooking.of_judge(judge)),
+        Some(rebooking) => changed_by(alloc, sight.judge(judge), &judge_change(&rebooking, judge)),
         None => Ok(None),
     }
 }
@@ -87,7 +87,7 @@ pub(crate) fn room_written<S: Sight>(
     ensures { IfOk result (λ c. c ≡ room_written (S.parts sight.now) command.now room) }
 {
     match rebooking_of(sight, command) {
-        Some(rebooking) => changed_by(alloc, sight.room(room), &rebooking.of_room(room)),
+        Some(rebooking) => changed_by(alloc, sight.room(room), &room_change(&rebooking, room)),
         None => Ok(None),
     }
 }

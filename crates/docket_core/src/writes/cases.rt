@@ -4,7 +4,7 @@ ghost use Rattle.std.specs.Prelude.{◌≡◌, IfOk, option_copied};
 ghost use Rattle.docket_rows.specs.Words.{case_written};
 ghost use Rattle.docket_core.specs.Changes.{CanChangeCase};
 
-use crate::case_changes::{case_of, change_case};
+use crate::commands::{case_of, change_case};
 use crate::sight::Sight;
 use docket_rows::{CaseRecord, Command};
 use std::alloc::{AllocError, Global};

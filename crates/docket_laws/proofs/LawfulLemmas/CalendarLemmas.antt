@@ -1,4 +1,4 @@
--- What holds of the bookings of a calendar holds of the hearings behind them.
+-- What holds of the bookings of a calendar holds of their hearings.
 use Rattle.std.proofs.Common.{◌≡◌, ℕ, ◌+◌, ◌<◌, ◌==◌, nat_eq, nat_lt, Bool, true, false, List, [], ◌∷◌, get_or, map, filter, None, refl, subst, arith}
 use Rattle.std.specs.List.{All, list_all, range_with_len}
 use Rattle.std.proofs.lemmas.Bool.{and_parts, ltb-true}

@@ -7,10 +7,11 @@ use Rattle.std.proofs.lemmas.Bool.{cases_Bool, or_parts}
 use Rattle.std.proofs.lemmas.Bool.Decides.{nat_tests}
 use Rattle.std.proofs.lemmas.List.Elements.{Contains-get_or}
 use Rattle.std.proofs.lemmas.List.Folds.{list_any-append}
-use Rattle.court_days.specs.declared.direction.Direction.TheVariants.{After}
+use Rattle.court_clock.specs.declared.direction.Direction.TheVariants.{After}
 use Rattle.court_days.specs.declared.holiday_list.HolidayList.{HolidayList}
 use Rattle.court_days.specs.declared.holiday_list.HolidayList.TheVariants.{Federal, State}
-use Rattle.court_days.specs.Words.{DaysView, OutageView, add_date, add_holiday, add_outage, is_among, is_permitted, later_day, latest_day}
+use Rattle.court_clock.specs.Words.{later_day}
+use Rattle.court_days.specs.Words.{DaysView, OutageView, add_date, add_holiday, add_outage, is_among, is_permitted, latest_day}
 use Rattle.rule_periods.specs.Words.{notice_of}
 use Rattle.hearing_slots.specs.declared.need.Need.{Need}
 use Rattle.hearing_slots.specs.declared.need.Need.TheVariants as need

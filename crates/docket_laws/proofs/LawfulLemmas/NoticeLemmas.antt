@@ -3,7 +3,8 @@ use Rattle.std.proofs.Common.{◌≡◌, ℤ, ◌≤ℤ◌, int_lt, true, false,
 use Rattle.std.specs.Option.{IsSomeAnd, option_and_then}
 use Rattle.std.proofs.lemmas.Bool.{cases_Bool}
 use Rattle.std.proofs.lemmas.Int.{ints}
-use Rattle.court_days.specs.Words.{DaysView, later_day}
+use Rattle.court_clock.specs.Words.{later_day}
+use Rattle.court_days.specs.Words.{DaysView}
 use Rattle.rule_periods.specs.Words.{notice_of}
 use Rattle.hearing_slots.specs.declared.need.Need.{Need}
 use Rattle.hearing_slots.specs.declared.need.Need.TheVariants as need

@@ -49,7 +49,7 @@ module _ {X : Type 0} (number : X → ℕ) where
       let place : first.0 ≡ second.0 = omega (arith, here, there, same) in
       sym first.2 ∙ ap (λ k. get_or xs k x) place ∙ get_or_default xs second.0 x y second.1 ∙ second.2
 
-  -- the same of the rows that pass a test, with one more behind all
+  -- the same of the rows that pass a test, with one more after them
   pub numbered_in_more : (mine : X → Bool) (xs : List X) (x : X) → AreNumbered (filter mine xs) → (mine x ≡ true → number x ≡ length (filter mine xs) + 1) → AreNumbered (filter mine (xs ++ x ∷ []))
   numbered_in_more mine xs x h next = elim (cases_Bool (mine x)) [
     | inl passes ↦

@@ -3,12 +3,13 @@
 ghost use Rattle.std.specs.Prelude.{◌≡◌, ◌<◌, ◌==◌, ◌+◌, true, None, length, find, map, is_ok, option_map, IfSome, IfOk, if◌then◌else◌};
 ghost use Rattle.rule_periods.specs.Words.{grant_fits, is_grant_length, is_in_hours, with_grant, with_filing};
 ghost use Rattle.docket_rows.specs.Cases.{NumberedDeadline, NumberedMotion, numbered_deadlines, numbered_motions};
+ghost use Rattle.docket_rows.specs.Limits.{most_deadlines, most_motions};
 ghost use Rattle.docket_rows.specs.Writes.{add_deadline, change_deadline, add_motion, set_hearing};
 
 use super::CaseRecord;
 use crate::hearing::Hearing;
 use crate::motion::MotionRecord;
-use court_days::Day;
+use court_clock::Day;
 use hearing_slots::Need;
 use rule_periods::{DocketRow, Grant};
 use rule6::Filing;
@@ -18,7 +19,7 @@ impl CaseRecord {
     /// Adds a deadline. An error leaves the case as it was.
     #[tactic(auto, using(crate::proofs::NumberedLemmas::push_deadline, crate::proofs::NumberedLemmas::count_deadlines))]
     pub fn add_deadline(&mut self, row: DocketRow) -> Result<(), AllocError>
-        requires { length self.old.deadlines < 64 }
+        requires { length self.old.deadlines < most_deadlines }
         ensures { self.new ≡ (if is_ok result then add_deadline row self.old else self.old) }
     {
         self.deadlines.push(row)?;
@@ -44,7 +45,7 @@ impl CaseRecord {
     /// Adds a motion, with no hearing. An error leaves the case as it was.
     #[tactic(auto, using(crate::proofs::NumberedLemmas::push_motion, crate::proofs::NumberedLemmas::count_motions))]
     pub fn add_motion(&mut self, served: Day, need: Need) -> Result<(), AllocError>
-        requires { length self.old.motions < 64 }
+        requires { length self.old.motions < most_motions }
         ensures { self.new ≡ (if is_ok result then add_motion (record { number = length self.old.motions + 1; served = served; need = need; hearing = None }) self.old else self.old) }
     {
         self.motions.push(MotionRecord {

@@ -6,7 +6,7 @@ use Rattle.std.specs.List.{before_first, after_first, position_or_len}
 abbrev pub is_byte : ℕ → ℕ → Bool
 is_byte mark b = b == mark
 
--- the text before the first such byte, and the text behind it
+-- the text before the first such byte, and the text after it
 unfoldable pub cut_at : ℕ → List ℕ → Option (List ℕ × List ℕ)
 cut_at mark text =
     if nat_lt (position_or_len (is_byte mark) text) (length text)

@@ -15,6 +15,6 @@ unfoldable pub panel_named : List (List ℕ) → List ℕ → Option (List ℕ)
 panel_named names field =
     if nat_le (length (joined_names field)) 3 then Some (map (number_named names) (joined_names field)) else None
 
--- how many slots of 15 minutes: a number of them with `q` behind it, or else a number of half hours
+-- how many slots of 15 minutes: a number of them followed by `q`, or else a number of half hours
 unfoldable pub slots_of : List ℕ → Option ℕ
 slots_of text = option_or (count_of 113 text) (option_map (λ n. 2 * n) (number_of text))

@@ -14,6 +14,6 @@ is_number text =
 unfoldable pub number_of : List ℕ → Option ℕ
 number_of text = if is_number text then Some (digits_value 10 text) else None
 
--- a number with this unit behind it
+-- a number followed by this unit
 unfoldable pub count_of : ℕ → List ℕ → Option ℕ
 count_of unit text = if ends_with nat_eq text (unit ∷ []) then number_of (take (length text - 1) text) else None

@@ -2,8 +2,8 @@
 use Rattle.std.specs.Prelude.{◌≡◌, ℕ, Bool, true, false, List, codes, Option, Some, None, option_map, if◌then◌else◌}
 use Rattle.std.specs.Option.{option_and_then, option_or}
 use Rattle.std.specs.Str.{bytes_eq}
-use Rattle.court_days.specs.declared.direction.Direction.{Direction}
-use Rattle.court_days.specs.declared.direction.Direction.TheVariants.{After, Before}
+use Rattle.court_clock.specs.declared.direction.Direction.{Direction}
+use Rattle.court_clock.specs.declared.direction.Direction.TheVariants.{After, Before}
 use Rattle.rule6.specs.declared.timeliness.Act.{Act}
 use Rattle.rule6.specs.declared.timeliness.Act.TheVariants.{Filing, Service}
 use Rattle.rule_periods.specs.declared.period.Entered.{Entered}
@@ -22,7 +22,7 @@ infixl 10 ◌>>=◌
 abbrev ◌>>=◌ : {A B : Type 0} → Option A → (A → Option B) → Option B
 found >>= more = option_and_then more found
 
--- a number of days, with `d` behind it, or of hours, with `h`
+-- a number of days followed by `d`, or of hours followed by `h`
 unfoldable pub length_of : List ℕ → Option Length
 length_of text = option_or (option_map Days (count_of 100 text)) (option_map Hours (count_of 104 text))
 

@@ -2,7 +2,7 @@
 use Rattle.std.specs.Prelude.{ℕ, ◌==◌, ◌/◌, ◌%◌, List, [], ◌∷◌, codes, ℤ, Option, Some, None, option_map, if◌then◌else◌}
 use Rattle.std.specs.Option.{option_and_then}
 use Rattle.std.specs.Str.{bytes_eq}
-use Rattle.court_days.specs.Words.{day_of_text, minute_of_text}
+use Rattle.court_clock.specs.Words.{day_of_text, minute_of_text}
 
 -- the day that a field says, which may be empty: then there is none
 unfoldable pub day_if_given : List ℕ → Option (Option ℤ)

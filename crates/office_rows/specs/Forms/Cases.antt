@@ -1,6 +1,6 @@
 -- Rows about cases and their deadlines.
 use Rattle.std.specs.Prelude.{ℕ, ◌==◌, not, List, length, Result, Ok, Err, if◌then◌else◌}
-use Rattle.court_days.specs.Words.{minute_of_text}
+use Rattle.court_clock.specs.Words.{minute_of_text}
 use Rattle.docket_rows.specs.declared.command.Command.TheVariants.{OpenCase, Start, FileAct, Extend}
 use Rattle.office_rows.specs.declared.fault.RowCause.{RowCause}
 use Rattle.office_rows.specs.declared.fault.RowCause.TheVariants.{WrongCount}

@@ -1,6 +1,6 @@
 -- Rows about holidays and outages of the clerk's office.
 use Rattle.std.specs.Prelude.{ℕ, ◌==◌, not, List, length, Result, Ok, Err, if◌then◌else◌}
-use Rattle.court_days.specs.Words.{minute_of_text}
+use Rattle.court_clock.specs.Words.{minute_of_text}
 use Rattle.docket_rows.specs.declared.command.Command.TheVariants.{Holiday, Inaccessible}
 use Rattle.office_rows.specs.declared.fault.RowCause.{RowCause}
 use Rattle.office_rows.specs.declared.fault.RowCause.TheVariants.{WrongCount}

@@ -5,7 +5,7 @@ ghost use Rattle.office_rows.specs.Fields.Grants.{grant_of, more_time, need_of};
 
 use crate::fields::numbers::number_of;
 use crate::fields::period::length_of;
-use court_days::Day;
+use court_clock::Day;
 use hearing_slots::Need;
 use rule_periods::{Grant, Length};
 

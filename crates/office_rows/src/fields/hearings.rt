@@ -45,7 +45,7 @@ pub fn room_named(court: &Court, name: &str) -> u8
     court.room(name).unwrap_or(court.rooms())
 }
 
-/// How many slots of 15 minutes: a number of half hours, or one of quarter hours with `q` behind it.
+/// How many slots of 15 minutes: a number of half hours, or a number of quarter hours followed by `q`.
 #[tactic(auto, unfolding(crate::specs::Fields::Hearings::slots_of))]
 pub fn slots_of(text: &str) -> Option<u32>
     ensures { result ≡ slots_of text.now }

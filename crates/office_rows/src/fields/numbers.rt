@@ -37,7 +37,7 @@ fn has_digits_only(text: &[u8]) -> bool
     text.iter().all(|byte| byte.is_ascii_digit())
 }
 
-/// A number with this unit, an ASCII character, behind it.
+/// A number followed by this unit, an ASCII character.
 #[tactic(auto, unfolding(crate::specs::Fields::Numbers::count_of))]
 pub fn count_of(text: &str, unit: char) -> Option<u32>
     requires { unit < 128 }

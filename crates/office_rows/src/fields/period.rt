@@ -5,7 +5,7 @@ ghost use Rattle.office_rows.specs.Fields.Period.{length_of, direction_of, act_o
 
 use crate::fields::cut::cut_at;
 use crate::fields::numbers::count_of;
-use court_days::Direction;
+use court_clock::Direction;
 use rule_periods::{Entered, Length, Mark, Period, RulePeriod};
 use rule6::Act;
 
@@ -38,7 +38,7 @@ fn entered_of(text: &str) -> Option<Entered>
     })
 }
 
-/// A number of days, with `d` behind it, or of hours, with `h`.
+/// A number of days followed by `d`, or of hours followed by `h`.
 #[tactic(auto, unfolding(crate::specs::Fields::Period::length_of))]
 pub fn length_of(text: &str) -> Option<Length>
     ensures { result ≡ length_of text.now }

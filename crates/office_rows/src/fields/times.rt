@@ -3,7 +3,7 @@
 ghost use Rattle.std.specs.Prelude.{◌≡◌, ◌≤◌, ◌<◌, IfSome};
 ghost use Rattle.office_rows.specs.Fields.Times.{day_if_given, ending_minute, minute_or_midnight, slot_at};
 
-use court_days::{Day, minute_from_text};
+use court_clock::{Day, minute_from_text};
 
 /// The day that a field says; an empty field says none.
 #[tactic(auto, unfolding(crate::specs::Fields::Times::day_if_given))]

@@ -10,7 +10,7 @@ use crate::fields::choices::{is_so, means_of};
 use crate::fields::grants::grant_of;
 use crate::forms::periods::measured_from;
 use crate::row::Work;
-use court_days::minute_from_text;
+use court_clock::minute_from_text;
 use csv::StringRecord;
 use docket_rows::Command;
 use rule_periods::{Event, Request};

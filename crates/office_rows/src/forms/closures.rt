@@ -9,7 +9,7 @@ use crate::fault::RowCause;
 use crate::fields::choices::list_of;
 use crate::fields::times::ending_minute;
 use crate::row::Work;
-use court_days::minute_from_text;
+use court_clock::minute_from_text;
 use csv::StringRecord;
 use docket_rows::Command;
 

@@ -9,7 +9,7 @@ use crate::fault::RowCause;
 use crate::fields::choices::kind_if_given;
 use crate::fields::period::period_of;
 use crate::fields::times::{day_if_given, minute_or_midnight};
-use court_days::Day;
+use court_clock::Day;
 use csv::StringRecord;
 use rule_periods::{Event, Period};
 use rule6::ServiceKind;

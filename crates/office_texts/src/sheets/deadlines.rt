@@ -1,12 +1,13 @@
 //! A deadline of a sheet.
 
-ghost use Rattle.std.specs.Prelude.{◌≡◌, ◌++◌, ◌<◌, OnOk, IfSome, string_bytes};
+ghost use Rattle.std.specs.Prelude.{◌≡◌, ◌<◌, OnOk, IfSome};
+ghost use Rattle.office_texts.specs.Added.{AddsText};
 ghost use Rattle.office_texts.specs.Sheets.{act_done_text, deadline_line, means_text, state_text, state_word};
 
 use crate::numbers::push_minute;
 use crate::periods::push_period;
 use crate::shown::push_shown;
-use court_days::Clock;
+use court_clock::Clock;
 use docket_rows::{SheetDeadline, State};
 use rule6::{Filing, Means};
 use std::alloc::AllocError;
@@ -20,7 +21,7 @@ pub fn push_deadline(
     clock: &Clock,
     deadline: &SheetDeadline,
 ) -> Result<(), AllocError>
-    ensures { OnOk result (string_bytes text.new ≡ string_bytes text.old ++ deadline_line clock.now deadline.now) }
+    ensures { OnOk result (AddsText text.old text.new (deadline_line clock.now deadline.now)) }
 {
     let number = deadline.number;
     let period = deadline.row.period();
@@ -36,7 +37,7 @@ pub fn push_deadline(
 /// Adds whether the deadline was met, and by which act.
 fn push_state(text: &mut String, state: State, filed: Option<Filing>) -> Result<(), AllocError>
     requires { IfSome filed (λ f. f.minute < 1440) }
-    ensures { OnOk result (string_bytes text.new ≡ string_bytes text.old ++ state_text state filed) }
+    ensures { OnOk result (AddsText text.old text.new (state_text state filed)) }
 {
     text.push_str(state_word(state))?;
     push_act_done(text, filed)
@@ -57,7 +58,7 @@ fn state_word(state: State) -> &'static str
 /// Adds when and how the act was done, if one is recorded.
 fn push_act_done(text: &mut String, filed: Option<Filing>) -> Result<(), AllocError>
     requires { IfSome filed (λ f. f.minute < 1440) }
-    ensures { OnOk result (string_bytes text.new ≡ string_bytes text.old ++ act_done_text filed) }
+    ensures { OnOk result (AddsText text.old text.new (act_done_text filed)) }
 {
     match filed {
         None => Ok(()),

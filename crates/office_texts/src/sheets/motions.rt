@@ -1,11 +1,13 @@
 //! A motion of a sheet, and its hearing.
 
-ghost use Rattle.std.specs.Prelude.{◌≡◌, ◌++◌, OnOk, string_bytes};
+ghost use Rattle.std.specs.Prelude.{OnOk};
+ghost use Rattle.office_texts.specs.Added.{AddsText};
 ghost use Rattle.office_texts.specs.Sheets.{affidavits_text, hearing_line, hearing_line_if_set, motion_lines, need_text, panel_text, service_text};
 
 use crate::calendars::{judge_name, push_span, room_name};
 use crate::numbers::push_number;
-use court_days::{Court, Day};
+use court_clock::Day;
+use court_days::Court;
 use docket_rows::{SheetHearing, SheetMotion};
 use hearing_slots::Need;
 use std::alloc::AllocError;
@@ -18,7 +20,7 @@ pub(super) fn push_motion(
     court: &Court,
     motion: &SheetMotion,
 ) -> Result<(), AllocError>
-    ensures { OnOk result (string_bytes text.new ≡ string_bytes text.old ++ motion_lines court.now motion.now) }
+    ensures { OnOk result (AddsText text.old text.new (motion_lines court.now motion.now)) }
 {
     let served = motion.served;
     let number = motion.number;
@@ -30,7 +32,7 @@ pub(super) fn push_motion(
 
 /// Adds what notice a motion needs.
 fn push_need(text: &mut String, need: Need) -> Result<(), AllocError>
-    ensures { OnOk result (string_bytes text.new ≡ string_bytes text.old ++ need_text need) }
+    ensures { OnOk result (AddsText text.old text.new (need_text need)) }
 {
     match need {
         Need::ExParte => text.push_str("exparte"),
@@ -43,7 +45,7 @@ fn push_hearing_if_set(
     court: &Court,
     hearing: Option<SheetHearing>,
 ) -> Result<(), AllocError>
-    ensures { OnOk result (string_bytes text.new ≡ string_bytes text.old ++ hearing_line_if_set court.now hearing) }
+    ensures { OnOk result (AddsText text.old text.new (hearing_line_if_set court.now hearing)) }
 {
     match hearing {
         None => Ok(()),
@@ -54,7 +56,7 @@ fn push_hearing_if_set(
 /// Adds the line of a hearing.
 #[tactic(auto, unfolding(crate::specs::Sheets::hearing_line))]
 fn push_hearing(text: &mut String, court: &Court, sheet: &SheetHearing) -> Result<(), AllocError>
-    ensures { OnOk result (string_bytes text.new ≡ string_bytes text.old ++ hearing_line court.now sheet.now) }
+    ensures { OnOk result (AddsText text.old text.new (hearing_line court.now sheet.now)) }
 {
     let hearing = sheet.hearing;
     let judges = hearing.judges;
@@ -70,7 +72,7 @@ fn push_hearing(text: &mut String, court: &Court, sheet: &SheetHearing) -> Resul
 
 /// Adds the names of a panel's judges, in its order, joined by `+`.
 fn push_panel(text: &mut String, court: &Court, panel: &[u8]) -> Result<(), AllocError>
-    ensures { OnOk result (string_bytes text.new ≡ string_bytes text.old ++ panel_text court.now.judges panel.now) }
+    ensures { OnOk result (AddsText text.old text.new (panel_text court.now.judges panel.now)) }
 {
     match panel {
         [] => Ok(()),
@@ -85,7 +87,7 @@ fn push_panel(text: &mut String, court: &Court, panel: &[u8]) -> Result<(), Allo
 
 /// Adds when the notice of a hearing was served, and by when affidavits can be.
 fn push_service(text: &mut String, notice: Day, affidavits: Option<Day>) -> Result<(), AllocError>
-    ensures { OnOk result (string_bytes text.new ≡ string_bytes text.old ++ service_text notice affidavits) }
+    ensures { OnOk result (AddsText text.old text.new (service_text notice affidavits)) }
 {
     write!(text, " notice {notice}")?;
     push_affidavits(text, affidavits)
@@ -93,7 +95,7 @@ fn push_service(text: &mut String, notice: Day, affidavits: Option<Day>) -> Resu
 
 /// Adds the last day to serve an opposing affidavit (Fed. R. Civ. P. 6(c)(2)), or that there is none.
 fn push_affidavits(text: &mut String, day: Option<Day>) -> Result<(), AllocError>
-    ensures { OnOk result (string_bytes text.new ≡ string_bytes text.old ++ affidavits_text day) }
+    ensures { OnOk result (AddsText text.old text.new (affidavits_text day)) }
 {
     match day {
         None => text.push_str(" affidavits none"),

@@ -78,8 +78,8 @@ fn each_call_of_the_parts_is_refused_once(rt: HostRuntime) -> Result<(), Fail> {
     Ok(())
 }
 
-/// The first step that finds no memory in a heap of so many blocks of 16 bytes. `usize::MAX` where there is none for the
-/// lists of clerks and outcomes.
+/// The first step that finds no memory in a heap of this many blocks of 16 bytes. `usize::MAX` where there is none for
+/// the lists of clerks and outcomes.
 fn refused_in(
     rt: &(impl AllocGlobal + Abort),
     steps: &[Step<Add>],
@@ -116,7 +116,7 @@ fn used_by(rt: &(impl AllocGlobal + Abort), refused: usize, blocks: usize) -> Re
     Ok(heap.used())
 }
 
-/// The lists and maps of store, history and drafts lie in a heap that is too small for one growth after another: both
+/// The lists and maps of store, history and drafts are in a heap that is too small for one growth after another: both
 /// lists of the first draft of each clerk; the history and the writes at the first commit; at the second the slots, in
 /// three blocks, and the writes.
 #[test]
@@ -131,7 +131,7 @@ fn each_growth_is_refused_once(rt: HostRuntime) -> Result<(), Fail> {
         if i == usize::MAX {
             continue;
         }
-        // What the step took before it was refused tells which growth that was.
+        // What the step took before it was refused shows which growth that was.
         let growth = (i, used_by(&rt, i, blocks)?);
         if growth != last {
             growths = growths.saturating_add(1);

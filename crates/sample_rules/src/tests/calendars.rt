@@ -1,7 +1,7 @@
 //! Calendars that are live side by side, and changes in place for which there is no memory.
 
 use super::day;
-use court_days::Day;
+use court_clock::Day;
 use hearing_slots::{Booking, Calendar, Need, Panel};
 use std::alloc::{AllocError, Global};
 use std::process::Abort;

@@ -2,7 +2,7 @@
 //! the same.
 
 use super::court_in;
-use court_days::{Clock, Day, Instant, minute_from_text};
+use court_clock::{Clock, Day, Instant, minute_from_text};
 use std::alloc::Global;
 use std::process::Abort;
 use std::test::Fail;

@@ -1,7 +1,8 @@
 //! Days whose lists grow.
 
 use super::{court, day};
-use court_days::{Day, Days, Direction, HolidayList, Outage};
+use court_clock::{Day, Direction};
+use court_days::{Days, HolidayList, Outage};
 use std::alloc::Global;
 use std::process::Abort;
 use std::test::Fail;

@@ -1,7 +1,8 @@
 //! Deadlines, the instants at which they end, and notice of hearings on any day.
 
 use super::{court, day};
-use court_days::{Clock, Court, Day, Days, Direction, Instant, Outage};
+use court_clock::{Clock, Day, Direction, Instant};
+use court_days::{Court, Days, Outage};
 use rule_periods::{
     DeadlineRow, DocketRow, Event, Grant, Period, PeriodRefusal, Request, RulePeriod, check_start,
     may_extend, notice_day, shown,

@@ -1,6 +1,6 @@
 use Rattle.std.proofs.lemmas.Bool.{both_ways}
 use Rattle.toml.specs.View.{table_view}
-use Rattle.court_days.proofs.CourtLemmas.ReadingLemmas.{toml_of-text, toml_of-none}
+use Rattle.court_days.proofs.CallerLemmas.{toml_of-text, toml_of-none}
 use Rattle.deadline_memo.proofs.names.holiday_names.Goals as goal
 
 pub returns-in-Ok : goal.returns-in-Ok

@@ -1,6 +1,5 @@
-use Rattle.std.proofs.Common.{false, [], ◌∙◌, ap, subst}
+use Rattle.std.proofs.Common.{false, [], subst}
 use Rattle.rule6.specs.declared.timeliness.Shown.TheVariants as shown
-use Rattle.rule_periods.specs.Words.{act_of}
 use Rattle.deadline_reasons.specs.Derivation.{Lead}
 use Rattle.deadline_reasons.specs.Leading.{with_day}
 use Rattle.deadline_reasons.specs.Standing.{ToCome, Unstarted, Runs, Ended}
@@ -14,9 +13,9 @@ returns-in_default-shutting_outage c =
     let row = c.args.row.now in
     let day = c.in-Some.day in
     let rest : ToCome = record { three = false; grants = [] } in
-    let act = c.act.ensures ∙ ap act_of c.period.ensures.value in (
-      shown.Last day c.act.result,
+    let act = c.act_due.ensures in (
+      shown.Last day c.act_due.result,
       λ start.
           let here = subst (λ last. Lead days clock row Unstarted c.args.reasons.now.items (with_day last rest)) c.in-Some.is start in
-          c.in_ok-push-2.ensures.leads days clock row (Runs day rest) (Ended (shown.Last day c.act.result)) here (closing_follows days clock row day c.act.result c.closing.result _ act c.in_default-shutting_outage.ensures.none c.closing.ensures),
+          c.in_ok-push-2.ensures.leads days clock row (Runs day rest) (Ended (shown.Last day c.act_due.result)) here (closing_follows days clock row day c.act_due.result c.closing.result _ act c.in_default-shutting_outage.ensures.none c.closing.ensures),
     )

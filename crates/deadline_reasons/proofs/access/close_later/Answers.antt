@@ -1,7 +1,7 @@
 use Rattle.std.proofs.Common.{◌≡◌, true, false, [], IfSome, refl, ◌∙◌, ap, subst, rules, SFits, w32, to_z-of_z}
 use Rattle.court_days.specs.Words.{is_open}
 use Rattle.rule6.specs.declared.timeliness.Shown.TheVariants as shown
-use Rattle.rule_periods.specs.Words.{act_of}
+use Rattle.rule_periods.specs.Words.{act_due}
 use Rattle.deadline_reasons.specs.Derivation.{Lead}
 use Rattle.deadline_reasons.specs.Leading.{sought}
 use Rattle.deadline_reasons.specs.Follows.{Closes}
@@ -37,13 +37,13 @@ returns c =
     let begins = to_z-of_z fits ∙ c.day_later.ensures in
     let looks = c.for_access-look.ensures ∙ ap for_access c.access_holidays.ensures in
     let next = ap (λ d. Looking d look AccessibleDay) begins ∙ ap (λ l. Looking (day_later days c.args.last) l AccessibleDay) looks in
-    let act = c.act.ensures ∙ ap act_of c.period.ensures.value in
+    let act = c.act_due.ensures in
     let closes = subst (λ a. Closes clock a day c.closing.result (Ended (shown.Last day a))) act c.closing.ensures in (
-      shown.Last day (act_of row.period),
+      shown.Last day (act_due row),
       λ start.
           let shut = c.in_ok-push.ensures.leads days clock row (Runs c.args.last (record { three = false; grants = [] })) _ start (c.requires.access, c.requires.outage, c.requires.day, next) in
           let found = subst (λ f. Lead days clock row Unstarted c.look_for.new.reasons.items (sought look AccessibleDay f)) c.in-Some.is (c.in_ok-found.ensures.leads clock row AccessibleDay shut) in
           let passes = subst (λ f. IfSome f (λ d. is_open days look.holidays look.accessible d ≡ true)) c.in-Some.is c.in_ok-found.ensures.found in
           let moved = c.in_ok-push-3.ensures.leads days clock row (Looking day look AccessibleDay) (Moved day) found (passes, (refl, refl)) in
-          c.in_ok-push-4.ensures.leads days clock row (Moved day) (Ended (shown.Last day (act_of row.period))) moved closes,
+          c.in_ok-push-4.ensures.leads days clock row (Moved day) (Ended (shown.Last day (act_due row))) moved closes,
     )

@@ -1,5 +1,5 @@
 use Rattle.std.proofs.Common.{false, drop}
-use Rattle.court_days.specs.Words.{ClockView}
+use Rattle.court_clock.specs.Words.{ClockView}
 use Rattle.deadline_reasons.specs.Leading.{LeadsOn, with_day}
 use Rattle.deadline_reasons.proofs.by_days.extend_all.Given as goal
 

@@ -1,5 +1,5 @@
 use Rattle.std.proofs.Common.{true, false, refl, subst}
-use Rattle.court_days.specs.declared.direction.Direction.TheVariants.{After}
+use Rattle.court_clock.specs.declared.direction.Direction.TheVariants.{After}
 use Rattle.deadline_reasons.specs.Derivation.{Lead}
 use Rattle.deadline_reasons.specs.Leading.{with_day}
 use Rattle.deadline_reasons.specs.Standing.{ToCome, Unstarted, Counting, Runs}

@@ -1,6 +1,6 @@
 use Rattle.std.proofs.Common.{◌≡◌, true, ◌&&◌, [], Some, refl, sym, ◌∙◌, ap, subst, rules, SFits, w32, to_z-of_z}
 use Rattle.std.specs.List.{list_any}
-use Rattle.court_days.specs.Words.{civil_of}
+use Rattle.court_clock.specs.Words.{civil_of}
 use Rattle.rule6.specs.declared.timeliness.Shown.TheVariants as shown
 use Rattle.rule6.specs.Words.{meets_last_hour}
 use Rattle.deadline_reasons.specs.Derivation.{Lead}

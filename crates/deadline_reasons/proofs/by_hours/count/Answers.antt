@@ -1,5 +1,5 @@
 use Rattle.std.proofs.Common.{◌+ℤ◌, refl, sym, ◌∙◌, ap, rules, SFits, w32, to_z-of_z}
-use Rattle.court_days.specs.Words.{IsInstantSecond, offset_seconds}
+use Rattle.court_clock.specs.Words.{IsInstantSecond, offset_seconds}
 use Rattle.rule6.specs.Words.{hours_from}
 use Rattle.rule6.proofs.CallerLemmas.{no_civil_time}
 use Rattle.deadline_reasons.specs.Standing.{CountingHours, HoursEnd, Nowhere}

@@ -1,5 +1,5 @@
 use Rattle.std.proofs.Common.{◌≡◌, Some, sym, ◌∙◌, ap, rules, SFits, w32, to_z-of_z}
-use Rattle.court_days.specs.Words.{civil_of}
+use Rattle.court_clock.specs.Words.{civil_of}
 use Rattle.deadline_reasons.specs.Standing.{Hour, HoursEnd, Looking}
 use Rattle.deadline_reasons.proofs.DerivationLemmas.{if_ok}
 use Rattle.deadline_reasons.proofs.by_hours.end_hours.Goals as goal

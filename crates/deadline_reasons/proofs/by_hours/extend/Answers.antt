@@ -1,5 +1,5 @@
 use Rattle.std.proofs.Common.{◌∷◌, refl, subst}
-use Rattle.court_days.specs.declared.direction.Direction.TheVariants.{After}
+use Rattle.court_clock.specs.declared.direction.Direction.TheVariants.{After}
 use Rattle.rule_periods.specs.declared.grant.Grant.TheVariants.{ByHours}
 use Rattle.deadline_reasons.specs.Derivation.{Lead}
 use Rattle.deadline_reasons.specs.Leading.{with_instant}

@@ -1,7 +1,8 @@
 use Rattle.std.proofs.Common.{◌+ℤ◌, ◌-ℤ◌, pos, unsigned_abs, ℤ}
-use Rattle.court_days.specs.declared.direction.Direction.{Direction}
-use Rattle.court_days.specs.declared.direction.Direction.TheVariants.{After, Before}
-use Rattle.court_days.specs.Words.{DaysView, ClockView}
+use Rattle.court_clock.specs.declared.direction.Direction.{Direction}
+use Rattle.court_clock.specs.declared.direction.Direction.TheVariants.{After, Before}
+use Rattle.court_clock.specs.Words.{ClockView}
+use Rattle.court_days.specs.Words.{DaysView}
 use Rattle.rule_periods.specs.Words.{DeadlineRowView}
 use Rattle.deadline_reasons.specs.Leading.{LeadsOn}
 use Rattle.deadline_reasons.specs.Standing.{Aim, Looking}

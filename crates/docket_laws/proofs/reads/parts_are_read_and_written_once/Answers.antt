@@ -1,5 +1,6 @@
-use Rattle.docket_laws.proofs.ReadsWritten.{written_read}
+use Rattle.docket_laws.proofs.ReadsEnd.{read_once}
+use Rattle.docket_laws.proofs.ReadsWritten.{written_read, written_once}
 use Rattle.docket_laws.proofs.reads.parts_are_read_and_written_once.Goals as goal
 
-pub returns-clause-among : goal.returns-clause-among
-returns-clause-among c = written_read
+pub returns : goal.returns
+returns c = record { read = read_once; among = written_read; written = written_once }

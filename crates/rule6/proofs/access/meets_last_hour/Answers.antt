@@ -1,7 +1,7 @@
 use Rattle.std.proofs.Common.{◌⊎◌, inl, inr, ℤ, ◌*◌, ◌+ℤ◌, ◌≤ℤ◌, ◌<ℤ◌, int_le, arith}
 use Rattle.std.proofs.lemmas.Int.{ints, clamps}
 use Rattle.std.proofs.lemmas.Bool.{cases_Bool}
-use Rattle.court_days.specs.Words.{second_of}
+use Rattle.court_clock.specs.Words.{second_of}
 use Rattle.rule6.proofs.AccessLemmas.{outside_beyond, stretch_meets, stretch_misses, hour_misses}
 use Rattle.rule6.proofs.access.meets_last_hour.Goals as goal
 

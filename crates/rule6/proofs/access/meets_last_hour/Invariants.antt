@@ -1,5 +1,5 @@
 use Rattle.std.proofs.Common.{◌≡◌, ℤ, pos, neg_ℤ, ◌-ℤ◌, ◌≤ℤ◌, ◌<ℤ◌, false, unsigned_abs}
-use Rattle.court_days.specs.Words.{civil_time}
+use Rattle.court_clock.specs.Words.{civil_time}
 use Rattle.rule6.specs.Access.{is_inside}
 use Rattle.rule6.proofs.access.meets_last_hour.Given as goal
 

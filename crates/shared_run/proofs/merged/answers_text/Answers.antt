@@ -3,7 +3,8 @@ use Rattle.std.proofs.lemmas.List.{length-map}
 use Rattle.std.proofs.lemmas.List.Elements.{All-get_or}
 use Rattle.office_rows.specs.declared.row.Row.{Row}
 use Rattle.office_run.specs.Words.{row_numbers}
-use Rattle.clerk_workers.specs.Words.{AreOfClerks, IsClerk}
+use Rattle.office_rows.specs.Words.{IsClerk}
+use Rattle.clerk_workers.specs.Words.{AreOfClerks}
 use Rattle.clerk_workers.proofs.CallerLemmas.{held_long}
 use Rattle.shared_run.specs.Lines.{HoldLines}
 use Rattle.shared_run.specs.Text.{answer_lines}
@@ -12,7 +13,7 @@ use Rattle.shared_run.proofs.MergedLemmas.{merged}
 use Rattle.shared_run.proofs.MergedTextLemmas.{all_written, at_next, line_more, merged_text, next_has}
 use Rattle.shared_run.proofs.merged.answers_text.Goals as goal
 
--- the row at a place is of one of so many clerks
+-- the row at a place is of one of the clerks
 row_of : (rows : List Row) (clerks count i : ℕ) (row : Row) → AreOfClerks clerks rows → count ≡ clerks → i < length rows → row ≡ get_or rows i row → IsClerk count row.clerk
 row_of rows clerks count i row all same lt at =
     let P : ℕ → Type 0 = λ n. IsClerk n row.clerk in

@@ -3,7 +3,7 @@ use Rattle.clerk_workers.specs.Words.{AreInOrder, AreOfClerks}
 use Rattle.clerk_workers.proofs.CallerLemmas.{open_in_order, open_long}
 use Rattle.stored_office.proofs.clerks.is_done.Goals as goal
 
--- the seats of a new office stand in the order of their numbers, and there are as many as were asked for
+-- the seats of a new office are in the order of their numbers, and there are as many as were asked for
 pub tallies_of-requires-clause-in_order : goal.tallies_of-requires-clause-in_order
 tallies_of-requires-clause-in_order g c κs within =
     let opened = c.in-Ok.ensures in

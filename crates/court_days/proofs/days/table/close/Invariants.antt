@@ -2,7 +2,7 @@ use Rattle.std.proofs.Common.{◌≡◌, ◌<◌, ◌≤◌, ◌-◌, ℕ, Bool,
 use Rattle.court_days.specs.Days.Table.{next_entry, last_entry, AreEntries, closed_at}
 use Rattle.court_days.proofs.days.table.close.Given as goal
 
--- the places so far are mended, and those behind them as they were
+-- the places so far are mended, and those after them are unchanged
 abbrev pub invariant-run : goal.invariant-run
 invariant-run l = record {
   within : l.place ≤ length l.entries;

@@ -1,7 +1,7 @@
 use Rattle.std.proofs.Common.{◌≡◌, ◌∙◌, [], ◌∷◌, Some, None, false, eqb, lit<, sym}
 use Rattle.std.specs.List.{starts_with}
 use Rattle.std.proofs.lemmas.Str.Pattern.{strip_prefix_char}
-use Rattle.court_days.specs.Words.{day_of_text}
+use Rattle.court_clock.specs.Words.{day_of_text}
 use Rattle.office_rows.specs.Fields.Grants.{grant_of}
 use Rattle.office_rows.proofs.EndLemmas.{starts_with-none}
 use Rattle.office_rows.proofs.fields.grants.grant_of.Goals as goal

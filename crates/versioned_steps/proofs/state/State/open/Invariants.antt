@@ -1,7 +1,7 @@
 use Rattle.std.proofs.Common.{◌≡◌, ◌≤◌, None, replicate, vec_capacity}
 use Rattle.versioned_steps.proofs.state.State.open.Given as goal
 
--- that many clerks have nothing in hand, and there is room for all
+-- the clerks so far have nothing in hand, and there is room for all
 abbrev pub invariant-loop-clerk : goal.invariant-loop-clerk
 invariant-loop-clerk g l = record {
   idle : l.drafts.items ≡ replicate l._clerk None;

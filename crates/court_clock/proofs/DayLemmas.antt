@@ -1,0 +1,5 @@
+-- Days and their dates.
+pub mod SpanLemmas
+pub mod SearchLemmas
+pub mod DateLemmas
+pub mod TextLemmas

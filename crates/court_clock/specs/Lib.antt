@@ -1,0 +1,3 @@
+pub mod Day
+pub mod Clock
+pub mod Words

@@ -1,3 +1,0 @@
--- Days and their dates.
-pub mod DateLemmas
-pub mod TextLemmas

@@ -1,9 +1,0 @@
-use Rattle.std.proofs.Common.{◌≤◌, ◌-◌, length}
-use Rattle.court_days.proofs.clock.stretch.stretch_at.Given as goal
-
--- what is left to search lies within the list
-abbrev pub invariant-halves : goal.invariant-halves
-invariant-halves l = l.high ≤ length l.stretches
-
-abbrev pub decreases-halves : goal.decreases-halves
-decreases-halves l = l.high - l.low

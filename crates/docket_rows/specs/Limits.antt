@@ -1,0 +1,24 @@
+-- How much a docket holds at most.
+use Rattle.std.specs.Prelude.{ℕ}
+
+-- the greatest number of a case, of which the least is 1
+abbrev pub last_case : ℕ
+last_case = 4096
+
+-- the deadlines and the motions of a case
+abbrev pub most_deadlines : ℕ
+most_deadlines = 64
+
+abbrev pub most_motions : ℕ
+most_motions = 64
+
+-- the extensions of a deadline
+abbrev pub most_grants : ℕ
+most_grants = 32
+
+-- the dates of a list of holidays, and the outages of the clerk's office
+abbrev pub most_dates : ℕ
+most_dates = 4096
+
+abbrev pub most_outages : ℕ
+most_outages = 512

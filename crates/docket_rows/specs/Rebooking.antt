@@ -1,0 +1,76 @@
+-- What a booking, a move or a cancellation does to the calendars of judges and rooms.
+use Rattle.std.specs.Prelude.{ℕ, ◌==◌, Bool, true, false, List, Option, Some, None, if◌then◌else◌}
+use Rattle.std.specs.Option.{option_and_then, option_map_or}
+use Rattle.court_clock.specs.Words.{later_day}
+use Rattle.hearing_slots.specs.declared.booking.Booking.{Booking}
+use Rattle.hearing_slots.specs.declared.need.Need.TheVariants.{ExParte}
+use Rattle.hearing_slots.specs.Words.{with_booking, without_motion}
+use Rattle.docket_rows.specs.declared.command.Command.{Command}
+use Rattle.docket_rows.specs.declared.command.Command.TheVariants.{Book, MoveHearing, Cancel}
+use Rattle.docket_rows.specs.declared.hearing.Hearing.{Hearing}
+use Rattle.docket_rows.specs.declared.hearing.Setting.{Setting}
+use Rattle.docket_rows.specs.declared.rebooking.Change.{Change}
+use Rattle.docket_rows.specs.declared.rebooking.Change.TheVariants.{Stays, Put, TakeOut}
+use Rattle.docket_rows.specs.declared.rebooking.Placement.{Placement}
+use Rattle.docket_rows.specs.declared.rebooking.Rebooking.{Rebooking}
+use Rattle.docket_rows.specs.Cases.{NumberedMotion}
+use Rattle.docket_rows.specs.Hearings.{hearing_asked}
+use Rattle.docket_rows.specs.Parts.{Parts, sits, first_judge}
+use Rattle.docket_rows.specs.Seen.{has_one, motion_in, hearing_in}
+
+-- the booking of the hearing that is asked for: `other` is the number of its room in a judge's calendar, and of its first
+-- judge in the room's
+abbrev pub booking_of : Parts → (other : ℕ) → Setting → Booking
+booking_of parts other s = record {
+  case = s.case;
+  motion = s.motion;
+  other = other;
+  day = s.day;
+  first = s.first;
+  count = s.count;
+  need = option_map_or (λ (m : NumberedMotion). m.need) (motion_in parts s.case s.motion) ExParte;
+  served = option_map_or (λ (m : NumberedMotion). later_day m.served s.notice) (motion_in parts s.case s.motion) s.notice;
+}
+
+-- a hearing that is asked for, with its bookings
+abbrev pub placement_of : Parts → Setting → Placement
+placement_of parts s = record {
+  hearing = hearing_asked s;
+  with_room = booking_of parts s.room s;
+  with_judge = booking_of parts (first_judge s.judges) s;
+}
+
+-- which hearing of its motion a command takes off the calendar, and which it puts on it; none where the command is no
+-- booking, no move and no cancellation
+abbrev pub rebooking_of : Parts → Command → Option Rebooking
+rebooking_of parts (Book s) = Some (record { case = s.case; motion = s.motion; before = None; after = Some (placement_of parts s) })
+rebooking_of parts (MoveHearing s) =
+    Some (record { case = s.case; motion = s.motion; before = hearing_in parts s.case s.motion; after = Some (placement_of parts s) })
+rebooking_of parts (Cancel case motion) = Some (record { case = case; motion = motion; before = hearing_in parts case motion; after = None })
+rebooking_of parts _ = None
+
+-- a calendar after its change, where it doesn't stay as it is
+abbrev pub changed_by : Change → List Booking → Option (List Booking)
+changed_by Stays bookings = None
+changed_by (Put b) bookings = Some (with_booking b bookings)
+changed_by (TakeOut case motion) bookings = Some (without_motion case motion bookings)
+
+-- the change of a calendar that may have the motion's hearing now: the booking that belongs into it is put in, and where
+-- none does, the one that it has is taken out
+abbrev pub change_to : (case motion : ℕ) → (has_one_now : Bool) → Option Booking → Change
+change_to case motion has_one_now (Some b) = Put b
+change_to case motion true None = TakeOut case motion
+change_to case motion false None = Stays
+
+-- the change of the calendar of a judge, and of a room
+abbrev pub judge_change : Rebooking → (judge : ℕ) → Change
+judge_change r judge =
+    change_to r.case r.motion
+    (has_one (λ (h : Hearing). sits judge h.judges) r.before)
+    (option_and_then (λ (p : Placement). if sits judge p.hearing.judges then Some p.with_room else None) r.after)
+
+abbrev pub room_change : Rebooking → (room : ℕ) → Change
+room_change r room =
+    change_to r.case r.motion
+    (has_one (λ (h : Hearing). h.room == room) r.before)
+    (option_and_then (λ (p : Placement). if p.hearing.room == room then Some p.with_judge else None) r.after)
