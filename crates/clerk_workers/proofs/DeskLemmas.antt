@@ -2,10 +2,10 @@
 use Rattle.std.proofs.Common.{◌≡◌, List, [], ◌∷◌, ◌++◌, length, map, reverse, All, refl, ap, sym, ◌∙◌, append_assoc, append-nil, subst, arith}
 use Rattle.std.proofs.lemmas.List.{map-append, reverse-append}
 use Rattle.std.proofs.lemmas.List.Elements.{All-nil, All-cons, All-head, All-tail}
-use Rattle.docket_rows.specs.Words.{Bench}
+use Rattle.docket_rows.specs.Words.{CourtSetup}
 use Rattle.office_rows.specs.declared.row.Row.{Row}
-use Rattle.clerk_workers.specs.declared.answer.RowAnswer.{RowAnswer}
-use Rattle.clerk_workers.specs.declared.state.State.{State}
+use Rattle.clerk_workers.specs.declared.answer.SharedReply.{SharedReply}
+use Rattle.clerk_workers.specs.declared.progress.Progress.{Progress}
 use Rattle.clerk_workers.specs.Desks.{AreUnderWay, AreWorked, DeskView, HiredView, IsIn, IsReady, IsWorked, begun_at}
 
 -- what is taken from a list one after another, the last first, and put after others
@@ -17,20 +17,20 @@ turned_more f others xs x =
 pub begun_more : {K : Type 0} (others : List (DeskView K)) (hired : List (HiredView K)) (clerk : HiredView K) → others ++ begun_at (hired ++ clerk ∷ []) ≡ (others ++ clerk.desk ∷ []) ++ begun_at hired
 begun_more {K} others hired clerk = turned_more (λ (h : HiredView K). h.desk) others hired clerk
 
-module _ {K : Type 0} (hold : K → List RowAnswer → Type 0) (bench : Bench) (rows : List Row) where
+module _ {K : Type 0} (hold : K → List SharedReply → Type 0) (setup : CourtSetup) (rows : List Row) where
   -- one more desk
-  pub worked_push : (old new : List (DeskView K)) (o n : DeskView K) → AreWorked hold bench rows old new → IsWorked hold bench rows o n → AreWorked hold bench rows (old ++ o ∷ []) (new ++ n ∷ [])
+  pub worked_push : (old new : List (DeskView K)) (o n : DeskView K) → AreWorked hold setup rows old new → IsWorked hold setup rows o n → AreWorked hold setup rows (old ++ o ∷ []) (new ++ n ∷ [])
   worked_push [] [] o n are is = (is, tt)
   worked_push [] (d ∷ new) o n are is = absurd are
   worked_push (d ∷ old) [] o n are is = absurd are
   worked_push (d ∷ old) (e ∷ new) o n are is = (are.0, worked_push old new o n are.1 is)
 
   -- desks whose clerks haven't begun
-  pub worked_ready : (desks : List (DeskView K)) → All (IsReady hold) desks → AreWorked hold bench rows desks desks
+  pub worked_ready : (desks : List (DeskView K)) → All (IsReady hold) desks → AreWorked hold setup rows desks desks
   worked_ready [] ready = tt
   worked_ready (d ∷ desks) ready =
       let first : IsReady hold d = All-head (IsReady hold) d desks ready in
-      let P : State → Type 0 = λ s. IsIn hold bench rows s d.seat d.seat d.notes in
+      let P : Progress → Type 0 = λ s. IsIn hold setup rows s d.seat d.seat d.notes in
       (subst P (sym first.waiting) refl, worked_ready desks (All-tail (IsReady hold) d desks ready))
 
 -- what holds of all holds of one more, and of all but the last, and of the last
@@ -48,26 +48,26 @@ pub all_first : {X : Type 0} (P : X → Type 0) (xs ys : List X) → All P (xs +
 all_first P [] ys all = All-nil P
 all_first P (x ∷ xs) ys all = All-cons P x xs (All-head P x (xs ++ ys) all) (all_first P xs ys (All-tail P x (xs ++ ys) all))
 
-pub others_ready : {K : Type 0} (hold : K → List RowAnswer → Type 0) (all others : List (DeskView K)) (desk : DeskView K) → all ≡ others ++ desk ∷ [] → All (IsReady hold) all → All (IsReady hold) others
+pub others_ready : {K : Type 0} (hold : K → List SharedReply → Type 0) (all others : List (DeskView K)) (desk : DeskView K) → all ≡ others ++ desk ∷ [] → All (IsReady hold) all → All (IsReady hold) others
 others_ready hold all others desk same ready = (all_but_last (IsReady hold) others desk (subst (All (IsReady hold)) same ready)).0
 
-module _ {K : Type 0} (hold : K → List RowAnswer → Type 0) (bench : Bench) (rows : List Row) (old : List (DeskView K)) where
+module _ {K : Type 0} (hold : K → List SharedReply → Type 0) (setup : CourtSetup) (rows : List Row) (old : List (DeskView K)) where
   -- the clerk who was hired last is done
-  pub way_joined : (now next : List (DeskView K)) (hired left : List (HiredView K)) (clerk : HiredView K) (desk : DeskView K) → hired ≡ left ++ clerk ∷ [] → next ≡ now ++ desk ∷ [] → IsWorked hold bench clerk.rows clerk.desk desk → AreUnderWay hold bench rows old now hired → AreUnderWay hold bench rows old next left
+  pub way_joined : (now next : List (DeskView K)) (hired left : List (HiredView K)) (clerk : HiredView K) (desk : DeskView K) → hired ≡ left ++ clerk ∷ [] → next ≡ now ++ desk ∷ [] → IsWorked hold setup clerk.rows clerk.desk desk → AreUnderWay hold setup rows old now hired → AreUnderWay hold setup rows old next left
   way_joined now next hired left clerk desk popped pushed is way =
       let each = all_but_last (λ (h : HiredView K). h.rows ≡ rows) left clerk (subst (All (λ (h : HiredView K). h.rows ≡ rows)) popped way.same_rows) in
-      let P : List Row → Type 0 = λ rs. IsWorked hold bench rs clerk.desk desk in
-      let Q : List (DeskView K) → Type 0 = λ ds. AreWorked hold bench rows (way.others ++ clerk.desk ∷ []) ds in
+      let P : List Row → Type 0 = λ rs. IsWorked hold setup rs clerk.desk desk in
+      let Q : List (DeskView K) → Type 0 = λ ds. AreWorked hold setup rows (way.others ++ clerk.desk ∷ []) ds in
       record {
         others = way.others ++ clerk.desk ∷ [];
-        worked = subst Q (sym pushed) (worked_push hold bench rows way.others now clerk.desk desk way.worked (subst P each.1 is));
+        worked = subst Q (sym pushed) (worked_push hold setup rows way.others now clerk.desk desk way.worked (subst P each.1 is));
         all = way.all ∙ (ap (λ (hs : List (HiredView K)). way.others ++ begun_at hs) popped ∙ begun_more way.others left clerk);
         same_rows = each.0;
       }
 
   -- all are done
-  pub way_done : (now : List (DeskView K)) (hired : List (HiredView K)) → length hired ≡ 0 → AreUnderWay hold bench rows old now hired → AreWorked hold bench rows old now
+  pub way_done : (now : List (DeskView K)) (hired : List (HiredView K)) → length hired ≡ 0 → AreUnderWay hold setup rows old now hired → AreWorked hold setup rows old now
   way_done now [] none way =
-      let P : List (DeskView K) → Type 0 = λ ds. AreWorked hold bench rows ds now in
+      let P : List (DeskView K) → Type 0 = λ ds. AreWorked hold setup rows ds now in
       subst P (sym (way.all ∙ append-nil way.others)) way.worked
   way_done now (clerk ∷ hired) none way = absurd (omega (arith, none))

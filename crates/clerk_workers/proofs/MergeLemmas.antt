@@ -4,25 +4,25 @@ use Rattle.std.proofs.lemmas.Bool.Decides.{Decides-eqb}
 use Rattle.std.proofs.lemmas.List.{get_or-map, get_or-set_other, get_or-set_same, length-map, length-set, map-set, reverse-append}
 use Rattle.office_rows.specs.declared.row.Row.{Row}
 use Rattle.office_rows.specs.Words.{IsClerk, IsOfClerk}
-use Rattle.clerk_workers.specs.declared.answer.RowAnswer.{RowAnswer}
+use Rattle.clerk_workers.specs.declared.answer.SharedReply.{SharedReply}
 use Rattle.clerk_workers.specs.Merged.{AreFromTheLast, IsTaken, list_at}
 use Rattle.clerk_workers.specs.Rows.{AreOfClerks, answers_of, works_of}
 use Rattle.clerk_workers.proofs.DeskLemmas.{all_but_last, all_first}
 use Rattle.clerk_workers.proofs.RowLemmas.{answers_other, answers_own, works_append, works_other, works_own}
 
 -- a list with one answer fewer is put back
-pub taken : {V : Type 0} (f : V → List RowAnswer) (lists : List V) (place : ℕ) (old new : V) (answer : RowAnswer) → place < length lists → old ≡ get_or lists place old → f old ≡ f new ++ answer ∷ [] → IsTaken (map f lists) (map f (set lists place new)) place answer
+pub taken : {V : Type 0} (f : V → List SharedReply) (lists : List V) (place : ℕ) (old new : V) (answer : SharedReply) → place < length lists → old ≡ get_or lists place old → f old ≡ f new ++ answer ∷ [] → IsTaken (map f lists) (map f (set lists place new)) place answer
 taken f lists place old new answer lt at popped =
     let put : map f (set lists place new) ≡ set (map f lists) place (f new) = map-set f lists place new in
     let short : place < length (map f lists) = omega (arith, lt, length-map lists f) in
     let now : list_at place (map f (set lists place new)) ≡ f new = ap (list_at place) put ∙ get_or-set_same (map f lists) place (f new) [] short in
     record {
       as_long = length-map (set lists place new) f ∙ (length-set lists place new ∙ sym (length-map lists f));
-      here = get_or-map f lists place old [] lt ∙ (ap f (sym at) ∙ (popped ∙ ap (λ (others : List RowAnswer). others ++ answer ∷ []) (sym now)));
+      here = get_or-map f lists place old [] lt ∙ (ap f (sym at) ∙ (popped ∙ ap (λ (others : List SharedReply). others ++ answer ∷ []) (sym now)));
       elsewhere = λ other differs. sym (ap (list_at other) put ∙ get_or-set_other (map f lists) place other (f new) [] differs);
     }
 
-module _ (all rest before : List Row) (row : Row) (first now : List (List RowAnswer)) (taken : List RowAnswer) (last : rest ≡ before ++ row ∷ []) (way : AreFromTheLast all rest first now taken) where
+module _ (all rest before : List Row) (row : Row) (first now : List (List SharedReply)) (taken : List SharedReply) (last : rest ≡ before ++ row ∷ []) (way : AreFromTheLast all rest first now taken) where
   -- the next row is of one of the clerks
   pub next_clerk : (clerks : ℕ) → AreOfClerks clerks all → IsClerk clerks row.clerk
   next_clerk clerks each =
@@ -42,7 +42,7 @@ module _ (all rest before : List Row) (row : Row) (first now : List (List RowAns
       let many = way.as_many place (omega (arith, lt, way.as_long)) in
       omega (arith, many, one, rows_left (place + 1))
 
-  module _ (place : ℕ) (own : row.clerk ≡ place + 1) (new : List (List RowAnswer)) (answer : RowAnswer) (took : IsTaken now new place answer) where
+  module _ (place : ℕ) (own : row.clerk ≡ place + 1) (new : List (List SharedReply)) (answer : SharedReply) (took : IsTaken now new place answer) where
     as_many_here : place < length new → length (list_at place new) ≡ length (works_of (place + 1) before)
     as_many_here lt =
         let one : length (works_of (place + 1) (row ∷ [])) ≡ 1 = ap length (works_own (place + 1) row own) in
@@ -57,7 +57,7 @@ module _ (all rest before : List Row) (row : Row) (first now : List (List RowAns
         let long : length (list_at other now) ≡ length (list_at other new) = ap length (took.elsewhere other differs) in
         omega (arith, many, none, long, rows_left (other + 1))
 
-    abbrev told : List RowAnswer
+    abbrev told : List SharedReply
     told = reverse (taken ++ answer ∷ [])
 
     turned : told ≡ answer ∷ reverse taken
@@ -68,14 +68,14 @@ module _ (all rest before : List Row) (row : Row) (first now : List (List RowAns
         let later = answers_of (place + 1) way.later (reverse taken) in
         let mine : answers_of (place + 1) (row ∷ way.later) told ≡ answer ∷ later =
         ap (answers_of (place + 1) (row ∷ way.later)) turned ∙ answers_own (place + 1) row way.later answer (reverse taken) own in
-        way.lists place lt ∙ (ap (λ (others : List RowAnswer). others ++ later) took.here ∙ (append_assoc (list_at place new) (answer ∷ []) later ∙ ap (λ (others : List RowAnswer). list_at place new ++ others) (sym mine)))
+        way.lists place lt ∙ (ap (λ (others : List SharedReply). others ++ later) took.here ∙ (append_assoc (list_at place new) (answer ∷ []) later ∙ ap (λ (others : List SharedReply). list_at place new ++ others) (sym mine)))
 
     lists_elsewhere : (other : ℕ) → (other ≡ place → ⊥) → other < length first → list_at other first ≡ list_at other new ++ answers_of (other + 1) (row ∷ way.later) told
     lists_elsewhere other differs lt =
         let later = answers_of (other + 1) way.later (reverse taken) in
         let none : answers_of (other + 1) (row ∷ way.later) told ≡ later =
         ap (answers_of (other + 1) (row ∷ way.later)) turned ∙ answers_other (other + 1) row way.later answer (reverse taken) (λ is. differs (omega (arith, is, own))) in
-        way.lists other lt ∙ (ap (λ (others : List RowAnswer). others ++ later) (took.elsewhere other differs) ∙ ap (λ (others : List RowAnswer). list_at other new ++ others) (sym none))
+        way.lists other lt ∙ (ap (λ (others : List SharedReply). others ++ later) (took.elsewhere other differs) ∙ ap (λ (others : List SharedReply). list_at other new ++ others) (sym none))
 
     -- the answer to the next row is taken
     pub from_more : AreFromTheLast all before first new (taken ++ answer ∷ [])

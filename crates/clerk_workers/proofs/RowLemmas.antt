@@ -4,7 +4,7 @@ use Rattle.std.proofs.lemmas.Bool.Decides.{Decides-eqb}
 use mathlib.Core.List.{IsPrefix}
 use Rattle.office_rows.specs.declared.row.Row.{Row}
 use Rattle.office_rows.specs.declared.row.Work.{Work}
-use Rattle.clerk_workers.specs.declared.answer.RowAnswer.{RowAnswer}
+use Rattle.clerk_workers.specs.declared.answer.SharedReply.{SharedReply}
 use Rattle.clerk_workers.specs.Rows.{answers_of, works_of}
 
 module _ (clerk : ℕ) where
@@ -34,10 +34,10 @@ module _ (clerk : ℕ) where
   works_begin first rows begins = (works_of clerk begins.0, sym (works_append first begins.0) ∙ ap (works_of clerk) begins.1)
 
   -- the answers at a row of the clerk's and after it, and at one of another's
-  pub answers_own : (row : Row) (rows : List Row) (answer : RowAnswer) (answers : List RowAnswer) → row.clerk ≡ clerk → answers_of clerk (row ∷ rows) (answer ∷ answers) ≡ answer ∷ answers_of clerk rows answers
+  pub answers_own : (row : Row) (rows : List Row) (answer : SharedReply) (answers : List SharedReply) → row.clerk ≡ clerk → answers_of clerk (row ∷ rows) (answer ∷ answers) ≡ answer ∷ answers_of clerk rows answers
   answers_own row rows answer answers own = let is : (row.clerk == clerk) ≡ true = (Decides-eqb row.clerk clerk).1 own in rw is
 
-  pub answers_other : (row : Row) (rows : List Row) (answer : RowAnswer) (answers : List RowAnswer) → (row.clerk ≡ clerk → ⊥) → answers_of clerk (row ∷ rows) (answer ∷ answers) ≡ answers_of clerk rows answers
+  pub answers_other : (row : Row) (rows : List Row) (answer : SharedReply) (answers : List SharedReply) → (row.clerk ≡ clerk → ⊥) → answers_of clerk (row ∷ rows) (answer ∷ answers) ≡ answers_of clerk rows answers
   answers_other row rows answer answers other =
       (elim (row.clerk == clerk) as (λ b. (row.clerk == clerk) ≡ b → (if b then answer ∷ answers_of clerk rows answers else answers_of clerk rows answers) ≡ answers_of clerk rows answers) [
         | true ↦ λ is. absurd (other ((Decides-eqb row.clerk clerk).0 is))

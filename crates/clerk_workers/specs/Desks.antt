@@ -1,11 +1,11 @@
 -- The desks of clerks at work.
 use Rattle.std.specs.Prelude.{◌≡◌, List, [], ◌∷◌, ◌++◌, map, reverse, All, ⊤}
-use Rattle.docket_rows.specs.Words.{Bench}
+use Rattle.docket_rows.specs.Words.{CourtSetup}
 use Rattle.office_seats.specs.Words.{SeatView, TallyView}
 use Rattle.office_rows.specs.declared.row.Row.{Row}
-use Rattle.clerk_workers.specs.declared.answer.RowAnswer.{RowAnswer}
-use Rattle.clerk_workers.specs.declared.state.State.{State}
-use Rattle.clerk_workers.specs.declared.state.State.TheVariants.{Waiting, Done, Stopped}
+use Rattle.clerk_workers.specs.declared.answer.SharedReply.{SharedReply}
+use Rattle.clerk_workers.specs.declared.progress.Progress.{Progress}
+use Rattle.clerk_workers.specs.declared.progress.Progress.TheVariants.{Waiting, Done, Stopped}
 use Rattle.clerk_workers.specs.Noted.{HasNoted}
 use Rattle.clerk_workers.specs.Rows.{works_of}
 use Rattle.clerk_workers.specs.Worked.{HasStopped, tally_of}
@@ -14,7 +14,7 @@ use Rattle.clerk_workers.specs.Worked.{HasStopped, tally_of}
 pub record DeskView (K : Type 0) : Type 0 where
   pub seat : SeatView
   pub notes : K
-  pub state : State
+  pub progress : Progress
 
 -- what contracts see of a clerk's thread: the desk at which its clerk began, and the rows of all clerks
 pub record HiredView (K : Type 0) : Type 0 where
@@ -36,22 +36,22 @@ module _ {K : Type 0} where
   abbrev pub begun_at : List (HiredView K) → List (DeskView K)
   begun_at hired = reverse (map (λ (h : HiredView K). h.desk) hired)
 
-module _ {K : Type 0} (hold : K → List RowAnswer → Type 0) where
+module _ {K : Type 0} (hold : K → List SharedReply → Type 0) where
   -- the clerk hasn't begun, and its notes hold nothing
   pub record IsReady (desk : DeskView K) : Type 0 where
     pub empty : hold desk.notes []
-    pub waiting : desk.state ≡ Waiting
+    pub waiting : desk.progress ≡ Waiting
 
-  module _ (bench : Bench) (rows : List Row) where
-    -- what the state of a desk says of it, where its clerk began at this seat
-    abbrev pub IsIn : State → (start seat : SeatView) → K → Type 0
+  module _ (setup : CourtSetup) (rows : List Row) where
+    -- what the progress of a desk says of it, where its clerk began at this seat
+    abbrev pub IsIn : Progress → (start seat : SeatView) → K → Type 0
     IsIn Waiting start seat notes = seat ≡ start
-    IsIn Done start seat notes = HasNoted hold bench start (works_of start.number rows) notes (tally_of seat)
-    IsIn Stopped start seat notes = HasStopped bench start (works_of start.number rows) (tally_of seat)
+    IsIn Done start seat notes = HasNoted hold setup start (works_of start.number rows) notes (tally_of seat)
+    IsIn Stopped start seat notes = HasStopped setup start (works_of start.number rows) (tally_of seat)
 
     -- the clerk of the first desk has gone as far as the second one says
     abbrev pub IsWorked : (old new : DeskView K) → Type 0
-    IsWorked old new = IsIn new.state old.seat new.seat new.notes
+    IsWorked old new = IsIn new.progress old.seat new.seat new.notes
 
     -- so for each of several desks
     abbrev pub AreWorked : (old new : List (DeskView K)) → Type 0

@@ -3,7 +3,7 @@ use Rattle.std.specs.Prelude.{ℕ, ◌==◌, if◌then◌else◌, List, [], ◌�
 use Rattle.office_rows.specs.declared.row.Row.{Row}
 use Rattle.office_rows.specs.declared.row.Work.{Work}
 use Rattle.office_rows.specs.Words.{IsOfClerk}
-use Rattle.clerk_workers.specs.declared.answer.RowAnswer.{RowAnswer}
+use Rattle.clerk_workers.specs.declared.answer.SharedReply.{SharedReply}
 
 -- what the clerk asks for, row after row
 abbrev pub works_of : (clerk : ℕ) → List Row → List Work
@@ -11,7 +11,7 @@ works_of clerk [] = []
 works_of clerk (row ∷ rows) = if row.clerk == clerk then row.work ∷ works_of clerk rows else works_of clerk rows
 
 -- the answers to the clerk's rows, where these are the answers to all rows
-abbrev pub answers_of : (clerk : ℕ) → List Row → List RowAnswer → List RowAnswer
+abbrev pub answers_of : (clerk : ℕ) → List Row → List SharedReply → List SharedReply
 answers_of clerk [] answers = []
 answers_of clerk (row ∷ rows) [] = []
 answers_of clerk (row ∷ rows) (answer ∷ answers) =

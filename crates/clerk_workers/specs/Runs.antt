@@ -2,10 +2,10 @@
 use Rattle.std.specs.Prelude.{◌≡◌, ℕ, ◌+◌, List, [], ◌∷◌, length, ⊤}
 use Rattle.std.specs.declared.result.Result.{Result}
 use Rattle.std.specs.declared.result.Result.TheVariants.{Ok, Err}
-use Rattle.docket_rows.specs.Words.{Bench}
+use Rattle.docket_rows.specs.Words.{CourtSetup}
 use Rattle.office_seats.specs.Words.{SeatView, TallyView}
 use Rattle.office_rows.specs.declared.row.Row.{Row}
-use Rattle.clerk_workers.specs.declared.answer.RowAnswer.{RowAnswer}
+use Rattle.clerk_workers.specs.declared.answer.SharedReply.{SharedReply}
 use Rattle.clerk_workers.specs.declared.outcome.Ran.{Ran}
 use Rattle.clerk_workers.specs.declared.outcome.RunFault.{RunFault}
 use Rattle.clerk_workers.specs.declared.outcome.RunFault.TheVariants.{NotStarted, Stopped}
@@ -20,17 +20,17 @@ AreNumbered first (seat ∷ seats) = (seat.number ≡ first) × AreNumbered (fir
 abbrev pub AreInOrder : List SeatView → Type 0
 AreInOrder seats = AreNumbered 1 seats
 
-module _ (bench : Bench) (rows : List Row) where
+module _ (setup : CourtSetup) (rows : List Row) where
   -- each clerk did all its rows, and was given the answers to these; there is one tally for each seat, in order
-  abbrev pub AllWorked : (answers : List RowAnswer) → List SeatView → List TallyView → Type 0
+  abbrev pub AllWorked : (answers : List SharedReply) → List SeatView → List TallyView → Type 0
   AllWorked answers [] [] = ⊤
   AllWorked answers [] (tally ∷ tallies) = ⊥
   AllWorked answers (seat ∷ seats) [] = ⊥
   AllWorked answers (seat ∷ seats) (tally ∷ tallies) =
-      HasWorked bench seat (works_of seat.number rows) (answers_of seat.number rows answers) tally × AllWorked answers seats tallies
+      HasWorked setup seat (works_of seat.number rows) (answers_of seat.number rows answers) tally × AllWorked answers seats tallies
 
   -- all rows are answered
-  pub record HasRun (seats : List SeatView) (answers : List RowAnswer) (tallies : List TallyView) : Type 0 where
+  pub record HasRun (seats : List SeatView) (answers : List SharedReply) (tallies : List TallyView) : Type 0 where
     pub as_many : length answers ≡ length rows
     pub worked : AllWorked answers seats tallies
 
@@ -39,7 +39,7 @@ module _ (bench : Bench) (rows : List Row) where
   AllStopped [] [] = ⊤
   AllStopped [] (tally ∷ tallies) = ⊥
   AllStopped (seat ∷ seats) [] = ⊥
-  AllStopped (seat ∷ seats) (tally ∷ tallies) = HasStopped bench seat (works_of seat.number rows) tally × AllStopped seats tallies
+  AllStopped (seat ∷ seats) (tally ∷ tallies) = HasStopped setup seat (works_of seat.number rows) tally × AllStopped seats tallies
 
   -- what this result of a run on these seats says
   abbrev pub Runs : {L : Type 0} → (seats : List SeatView) → Result (Ran L) (RunFault L) → Type 0

@@ -5,7 +5,7 @@ use office_seats::Done;
 
 /// What a row of a clerk is answered.
 #[derive(Debug, Drop)]
-pub enum RowAnswer {
+pub enum SharedReply {
     /// The command was finished; its answer may be a refusal by the docket.
     Made(Done),
     /// The journal has as many entries as it takes, so the command wasn't finished.

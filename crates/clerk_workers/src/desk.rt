@@ -3,33 +3,33 @@
 ghost use Rattle.std.specs.Prelude.{[]};
 ghost use Rattle.clerk_workers.specs.Desks.{IsIn, IsReady, IsWorked};
 
-use crate::gate::Gate;
 use crate::notes::Notes;
-use crate::state::State;
+use crate::progress::Progress;
 use crate::worker::serve;
+use clerk_gates::Gate;
 use office_rows::Row;
-use office_seats::{Names, Seat};
+use office_seats::{NamesOffice, Seat};
 use std::alloc::Global;
 use std::marker::Model;
 use std::sync::{OnceLock, Wait};
 
 /// A clerk's seat, and what it noted of the answers to its rows so far.
 #[derive(Drop)]
-pub(crate) struct Desk<L: Names, K: Notes<L>> {
+pub(crate) struct Desk<L: NamesOffice, K: Notes<L>> {
     pub(crate) seat: Seat<L>,
     pub(crate) notes: K,
-    pub(crate) state: State,
+    pub(crate) progress: Progress,
 }
 
-impl<L: Names, K: Notes<L>> Model for Desk<L, K> {
+impl<L: NamesOffice, K: Notes<L>> Model for Desk<L, K> {
     ghost use Rattle.clerk_workers.specs.Desks.{DeskView};
 
     ghost Value = { DeskView K };
 
-    ghost view = { λ d. record { seat = d.seat; notes = d.notes; state = d.state } };
+    ghost view = { λ d. record { seat = d.seat; notes = d.notes; progress = d.progress } };
 }
 
-impl<L: Names, K: Notes<L>> Desk<L, K> {
+impl<L: NamesOffice, K: Notes<L>> Desk<L, K> {
     /// Waits for the word to start. Where that is no, the desk stays as it is; else the clerk does all its rows, as far as
     /// there is memory.
     pub(crate) fn work<R: Wait, G: Gate>(
@@ -41,7 +41,7 @@ impl<L: Names, K: Notes<L>> Desk<L, K> {
         start: &OnceLock<bool>,
     ) -> Desk<L, K>
         requires { IsReady K.hold self }
-        ensures { IsWorked K.hold L.bench rows.now self result }
+        ensures { IsWorked K.hold L.setup rows.now self result }
     {
         if !*start.wait(rt) {
             return self;
@@ -49,14 +49,14 @@ impl<L: Names, K: Notes<L>> Desk<L, K> {
         let Desk {
             seat,
             notes,
-            state: _,
+            progress: _,
         } = self;
         worked(rt, alloc, seat, notes, rows, gate)
     }
 }
 
 // The desk of a clerk after all its rows, or those before memory ran out.
-fn worked<L: Names, K: Notes<L>, R: Wait, G: Gate>(
+fn worked<L: NamesOffice, K: Notes<L>, R: Wait, G: Gate>(
     rt: &R,
     alloc: Global,
     mut seat: Seat<L>,
@@ -65,18 +65,18 @@ fn worked<L: Names, K: Notes<L>, R: Wait, G: Gate>(
     gate: &G,
 ) -> Desk<L, K>
     requires { K.hold notes [] }
-    ensures { IsIn K.hold L.bench rows.now result.state seat result.seat result.notes }
+    ensures { IsIn K.hold L.setup rows.now result.progress seat result.seat result.notes }
 {
     match serve(rt, alloc, &mut seat, &mut notes, rows, gate) {
         Ok(()) => Desk {
             seat,
             notes,
-            state: State::Done,
+            progress: Progress::Done,
         },
         Err(_) => Desk {
             seat,
             notes,
-            state: State::Stopped,
+            progress: Progress::Stopped,
         },
     }
 }

@@ -5,11 +5,11 @@ ghost use Rattle.clerk_workers.specs.Desks.{DeskView, IsReady, notes_at, seats_a
 
 use crate::desk::Desk;
 use crate::notes::Notes;
-use crate::state::State;
-use office_seats::{Names, Seat, Tally};
+use crate::progress::Progress;
+use office_seats::{NamesOffice, Seat, Tally};
 
 /// Puts each seat at a desk with notes of its own, the last seat first.
-pub(crate) fn seat_all<L: Names, K: Notes<L>>(
+pub(crate) fn seat_all<L: NamesOffice, K: Notes<L>>(
     seats: &mut Vec<Seat<L>>,
     notes: &mut Vec<K>,
     desks: &mut Vec<Desk<L, K>>,
@@ -32,13 +32,13 @@ pub(crate) fn seat_all<L: Names, K: Notes<L>>(
         desks.push_reserved(Desk {
             seat,
             notes,
-            state: State::Waiting,
+            progress: Progress::Waiting,
         });
     }
 }
 
 /// Takes all seats from their desks, and puts them after the others, the last desk's first.
-pub(crate) fn unseat_all<L: Names, K: Notes<L>>(
+pub(crate) fn unseat_all<L: NamesOffice, K: Notes<L>>(
     desks: &mut Vec<Desk<L, K>>,
     seats: &mut Vec<Seat<L>>,
 )
@@ -49,14 +49,14 @@ pub(crate) fn unseat_all<L: Names, K: Notes<L>>(
         let Desk {
             seat,
             notes: _,
-            state: _,
+            progress: _,
         } = desk;
         seats.push_reserved(seat);
     }
 }
 
 /// Lets all clerks leave their seats, and collects their tallies and notes, the last desk's first.
-pub(crate) fn leave_all<L: Names, K: Notes<L>>(
+pub(crate) fn leave_all<L: NamesOffice, K: Notes<L>>(
     desks: &mut Vec<Desk<L, K>>,
     tallies: &mut Vec<Tally<L>>,
     notes: &mut Vec<K>,
@@ -72,20 +72,20 @@ pub(crate) fn leave_all<L: Names, K: Notes<L>>(
         let Desk {
             seat,
             notes: kept,
-            state: _,
+            progress: _,
         } = desk;
         tallies.push_reserved(seat.leave());
         notes.push_reserved(kept);
     }
 }
 
-/// Whether all desks are in that state.
-pub(crate) fn all_are<L: Names, K: Notes<L>>(desks: &[Desk<L, K>], state: State) -> bool
-    ensures yes { result ≡ true → All (λ (d : DeskView K). d.state ≡ state) desks.now }
-    ensures no { result ≡ false → All (λ (d : DeskView K). d.state ≡ state) desks.now → ⊥ }
+/// Whether all desks are in that progress.
+pub(crate) fn all_are<L: NamesOffice, K: Notes<L>>(desks: &[Desk<L, K>], progress: Progress) -> bool
+    ensures yes { result ≡ true → All (λ (d : DeskView K). d.progress ≡ progress) desks.now }
+    ensures no { result ≡ false → All (λ (d : DeskView K). d.progress ≡ progress) desks.now → ⊥ }
 {
     for desk in desks {
-        if desk.state != state {
+        if desk.progress != progress {
             return false;
         }
     }

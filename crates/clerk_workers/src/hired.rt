@@ -5,10 +5,10 @@ ghost use Rattle.clerk_workers.specs.Desks.{IsReady, IsWorked};
 
 use crate::desk::Desk;
 use crate::duty::Duty;
-use crate::gate::Gate;
 use crate::notes::Notes;
+use clerk_gates::Gate;
 use office_rows::Row;
-use office_seats::Names;
+use office_seats::NamesOffice;
 use std::alloc::Global;
 use std::marker::Model;
 use std::snapshot::Snapshot;
@@ -17,11 +17,11 @@ use std::thread::{PromisedHandle, Scope, Threads};
 
 /// The thread of a clerk.
 #[derive(Drop)]
-pub(crate) struct Hired<'e, L: Names, K: Notes<L>> {
+pub(crate) struct Hired<'e, L: NamesOffice, K: Notes<L>> {
     handle: PromisedHandle<Desk<L, K>, Duty<'e, L, K>>,
 }
 
-impl<'e, L: Names, K: Notes<L>> Model for Hired<'e, L, K> {
+impl<'e, L: NamesOffice, K: Notes<L>> Model for Hired<'e, L, K> {
     ghost use Rattle.clerk_workers.specs.Desks.{HiredView};
 
     ghost Value = { HiredView K };
@@ -29,10 +29,10 @@ impl<'e, L: Names, K: Notes<L>> Model for Hired<'e, L, K> {
     ghost view = { λ h. record { desk = h.handle.promise.desk.value; rows = h.handle.promise.rows.now } };
 }
 
-impl<'e, L: Names, K: Notes<L>> Hired<'e, L, K> {
+impl<'e, L: NamesOffice, K: Notes<L>> Hired<'e, L, K> {
     /// Waits until the clerk is done, and gives its desk.
     pub(crate) fn join<R: Threads>(self, rt: &R) -> Desk<L, K>
-        ensures { IsWorked K.hold L.bench self.entry.rows self.entry.desk result }
+        ensures { IsWorked K.hold L.setup self.entry.rows self.entry.desk result }
     {
         let Hired { handle } = self;
         handle.join(rt)
@@ -44,7 +44,7 @@ impl<'e, L: Names, K: Notes<L>> Hired<'e, L, K> {
 pub(crate) fn hire<
     's,
     'e: 's,
-    L: Names + Send + Sync + 'e,
+    L: NamesOffice + Send + Sync + 'e,
     K: Notes<L> + 'e,
     R: Threads + Wait + Sync + 'e,
     G: Gate + 'e,
@@ -59,7 +59,7 @@ pub(crate) fn hire<
 ) -> Result<Hired<'e, L, K>, Desk<L, K>>
     requires { IsReady K.hold desk }
     ensures hired { IfOk result (λ h. h ≡ record { desk = desk; rows = rows.now }) }
-    ensures refused { IfErr result (λ d. IsWorked K.hold L.bench rows.now desk d) }
+    ensures refused { IfErr result (λ d. IsWorked K.hold L.setup rows.now desk d) }
 {
     let duty = Duty {
         desk: Snapshot::of(&desk),
@@ -67,7 +67,7 @@ pub(crate) fn hire<
     };
     let job = move || -> Desk<L, K>
         requires { IsReady K.hold desk }
-        ensures { IsWorked K.hold L.bench rows.entry.now desk result }
+        ensures { IsWorked K.hold L.setup rows.entry.now desk result }
     { desk.work(rt, alloc, rows, gate, start) };
     match scope.spawn_with(duty, job) {
         Ok(handle) => Ok(Hired { handle }),

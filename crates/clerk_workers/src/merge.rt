@@ -4,11 +4,11 @@ ghost use Rattle.std.specs.Prelude.{◌≡◌, ◌-◌, ◌<◌, ◌≤◌, [], 
 ghost use Rattle.clerk_workers.specs.Merged.{AreAsMany, AreMerged, IsTaken, list_at};
 ghost use Rattle.clerk_workers.specs.Rows.{AreOfClerks};
 
-use crate::answer::RowAnswer;
+use crate::answer::SharedReply;
 use office_rows::Row;
 
 // Takes the last answer of the clerk, who has one.
-fn take_last(lists: &mut Vec<Vec<RowAnswer>>, clerk: u8) -> RowAnswer
+fn take_last(lists: &mut Vec<Vec<SharedReply>>, clerk: u8) -> SharedReply
     requires from_one { 0 < clerk }
     requires to_last { clerk ≤ length lists.old.items }
     requires some { 0 < length (list_at (clerk - 1) (map (λ list. list.items) lists.old.items)) }
@@ -22,7 +22,7 @@ fn take_last(lists: &mut Vec<Vec<RowAnswer>>, clerk: u8) -> RowAnswer
 }
 
 /// Puts the answers of all clerks into the order of the rows, for which there is room. The first list is that of clerk 1.
-pub(crate) fn merge(answers: &mut Vec<RowAnswer>, lists: &mut Vec<Vec<RowAnswer>>, rows: &[Row])
+pub(crate) fn merge(answers: &mut Vec<SharedReply>, lists: &mut Vec<Vec<SharedReply>>, rows: &[Row])
     requires empty { answers.old.items ≡ [] }
     requires room { length rows.now ≤ vec_capacity answers.old }
     requires clerks { AreOfClerks (length lists.old.items) rows.now }

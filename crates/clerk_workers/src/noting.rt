@@ -6,20 +6,20 @@ ghost use Rattle.clerk_workers.specs.Noted.{RunsNoting};
 
 use crate::desk::Desk;
 use crate::desks::{all_are, leave_all, seat_all, unseat_all};
-use crate::gate::Gate;
 use crate::notes::Notes;
 use crate::outcome::{Noted, RunFault};
-use crate::state::State;
+use crate::progress::Progress;
 use crate::workers::at_work;
+use clerk_gates::Gate;
 use office_rows::Row;
-use office_seats::{Names, Seat, Tally};
+use office_seats::{NamesOffice, Seat, Tally};
 use std::alloc::Global;
 use std::snapshot::Snapshot;
 use std::sync::Wait;
 use std::thread::Threads;
 
 // The result of a run, by how far the clerks came who began at the first desks. The lists are empty, and have room.
-fn outcome<L: Names, K: Notes<L>>(
+fn outcome<L: NamesOffice, K: Notes<L>>(
     start: &Snapshot<Vec<Desk<L, K>>>,
     mut desks: Vec<Desk<L, K>>,
     mut seats: Vec<Seat<L>>,
@@ -27,17 +27,17 @@ fn outcome<L: Names, K: Notes<L>>(
     mut tallies: Vec<Tally<L>>,
     rows: &[Row],
 ) -> Result<Noted<L, K>, RunFault<L>>
-    requires worked { AreWorked K.hold L.bench rows.now start.now.value.items desks.items }
+    requires worked { AreWorked K.hold L.setup rows.now start.now.value.items desks.items }
     requires seats { (seats.items ≡ []) × (length start.now.value.items ≤ vec_capacity seats) }
     requires notes { (notes.items ≡ []) × (length start.now.value.items ≤ vec_capacity notes) }
     requires tallies { (tallies.items ≡ []) × (length start.now.value.items ≤ vec_capacity tallies) }
-    ensures { RunsNoting K.hold L.bench rows.now (seats_at start.now.value.items) result }
+    ensures { RunsNoting K.hold L.setup rows.now (seats_at start.now.value.items) result }
 {
-    if all_are(desks.as_slice(), State::Waiting) {
+    if all_are(desks.as_slice(), Progress::Waiting) {
         unseat_all(&mut desks, &mut seats);
         return Err(RunFault::NotStarted { seats });
     }
-    let done = all_are(desks.as_slice(), State::Done);
+    let done = all_are(desks.as_slice(), Progress::Done);
     leave_all(&mut desks, &mut tallies, &mut notes);
     if done {
         Ok(Noted { notes, tallies })
@@ -52,7 +52,7 @@ fn outcome<L: Names, K: Notes<L>>(
 /// full is an answer, and the clerk goes on with its next row. A clerk that finds no memory stops; the others go on.
 /// All clerks begin together; where a thread can't be made for each of them, none does. Conditions: there are notes for
 /// each seat, and they hold nothing.
-pub fn run_noting<L: Names + Send + Sync, K: Notes<L>, R: Threads + Wait + Sync, G: Gate>(
+pub fn run_noting<L: NamesOffice + Send + Sync, K: Notes<L>, R: Threads + Wait + Sync, G: Gate>(
     rt: &R,
     alloc: Global,
     mut seats: Vec<Seat<L>>,
@@ -62,7 +62,7 @@ pub fn run_noting<L: Names + Send + Sync, K: Notes<L>, R: Threads + Wait + Sync,
 ) -> Result<Noted<L, K>, RunFault<L>>
     requires as_many { length notes.items ≡ length seats.items }
     requires empty { All (λ n. K.hold n []) notes.items }
-    ensures { RunsNoting K.hold L.bench rows.now seats.items result }
+    ensures { RunsNoting K.hold L.setup rows.now seats.items result }
 {
     let Ok(tallies) = Vec::with_capacity(alloc, seats.len()) else {
         return Err(RunFault::NotStarted { seats });

@@ -4,23 +4,23 @@ ghost use Rattle.std.specs.Prelude.{◌≡◌, [], All, IfOk, length};
 ghost use Rattle.clerk_workers.specs.Rows.{AreOfClerks};
 ghost use Rattle.clerk_workers.specs.Runs.{AreInOrder, Runs};
 
-use crate::answer::RowAnswer;
-use crate::gate::Gate;
+use crate::answer::SharedReply;
 use crate::merge::merge;
 use crate::noting::run_noting;
 use crate::outcome::{Noted, Ran, RunFault};
+use clerk_gates::Gate;
 use office_rows::Row;
-use office_seats::{Names, Seat};
+use office_seats::{NamesOffice, Seat};
 use std::alloc::{AllocError, Global};
 use std::sync::Wait;
 use std::thread::Threads;
 
 // A list for the answers to each seat's clerk, with room for as many as it has rows. `Err` says that memory ran out.
-fn lists_for<L: Names>(
+fn lists_for<L: NamesOffice>(
     alloc: Global,
     seats: &[Seat<L>],
     rows: &[Row],
-) -> Result<Vec<Vec<RowAnswer>>, AllocError>
+) -> Result<Vec<Vec<SharedReply>>, AllocError>
     ensures as_many { IfOk result (λ lists. length lists.items ≡ length seats.now) }
     ensures empty { IfOk result (λ lists. All (λ list. list.items ≡ []) lists.items) }
 {
@@ -33,7 +33,7 @@ fn lists_for<L: Names>(
 }
 
 /// Lets each clerk do its rows, as `run_noting` does, and gives the answers in the order of the rows.
-pub fn run_clerks<L: Names + Send + Sync, R: Threads + Wait + Sync, G: Gate>(
+pub fn run_clerks<L: NamesOffice + Send + Sync, R: Threads + Wait + Sync, G: Gate>(
     rt: &R,
     alloc: Global,
     seats: Vec<Seat<L>>,
@@ -42,7 +42,7 @@ pub fn run_clerks<L: Names + Send + Sync, R: Threads + Wait + Sync, G: Gate>(
 ) -> Result<Ran<L>, RunFault<L>>
     requires in_order { AreInOrder seats.items }
     requires clerks { AreOfClerks (length seats.items) rows.now }
-    ensures { Runs L.bench rows.now seats.items result }
+    ensures { Runs L.setup rows.now seats.items result }
 {
     let Ok(mut answers) = Vec::with_capacity(alloc, rows.len()) else {
         return Err(RunFault::NotStarted { seats });

@@ -9,26 +9,26 @@ ghost use Rattle.clerk_workers.specs.Noted.{HasNoted, IsNoted};
 ghost use Rattle.clerk_workers.specs.Steps.{Answers, FinishesNothing, HasLeft};
 ghost use Rattle.clerk_workers.specs.Worked.{HasStopped, tally_of};
 
-use crate::answer::RowAnswer;
-use crate::gate::Gate;
+use crate::answer::SharedReply;
 use crate::notes::Notes;
+use clerk_gates::Gate;
 use docket_rows::{Command, Query};
 use office_rows::{Row, Work};
-use office_seats::{CommitError, Names, PerformError, Seat};
+use office_seats::{CommitError, NamesOffice, PerformError, Seat};
 use std::alloc::{AllocError, Global};
 use std::sync::Wait;
 
 // Prepares the command, lets the gate hold it, and commits it. None where a part was touched in between; nothing is
 // finished then.
-fn attempt<L: Names, R: Wait, G: Gate>(
+fn attempt<L: NamesOffice, R: Wait, G: Gate>(
     rt: &R,
     alloc: Global,
     seat: &mut Seat<L>,
     number: u32,
     command: &Command,
     gate: &G,
-) -> Option<Result<RowAnswer, AllocError>>
-    ensures answers { IfSome result (λ r. Answers L.bench seat.old (work.Command command.now) r seat.new) }
+) -> Option<Result<SharedReply, AllocError>>
+    ensures answers { IfSome result (λ r. Answers L.setup seat.old (work.Command command.now) r seat.new) }
     ensures stale { IfNone result (FinishesNothing seat.old seat.new) }
 {
     let Ok(()) = seat.prepare(alloc, *command) else {
@@ -38,8 +38,8 @@ fn attempt<L: Names, R: Wait, G: Gate>(
     let result = seat.commit(rt, alloc);
     seat.discard();
     match result {
-        Ok(done) => Some(Ok(RowAnswer::Made(done))),
-        Err(CommitError::JournalFull) => Some(Ok(RowAnswer::JournalFull)),
+        Ok(done) => Some(Ok(SharedReply::Made(done))),
+        Err(CommitError::JournalFull) => Some(Ok(SharedReply::JournalFull)),
         Err(CommitError::OutOfMemory) => Some(Err(AllocError)),
         Err(CommitError::Stale(_, _)) => None,
         Err(CommitError::NothingPrepared) => unreachable!(),
@@ -47,31 +47,31 @@ fn attempt<L: Names, R: Wait, G: Gate>(
 }
 
 // Makes the command while no other clerk can finish one.
-fn make<L: Names, R: Wait>(
+fn make<L: NamesOffice, R: Wait>(
     rt: &R,
     alloc: Global,
     seat: &mut Seat<L>,
     command: &Command,
-) -> Result<RowAnswer, AllocError>
-    ensures { Answers L.bench seat.old (work.Command command.now) result seat.new }
+) -> Result<SharedReply, AllocError>
+    ensures { Answers L.setup seat.old (work.Command command.now) result seat.new }
 {
     match seat.perform(rt, alloc, *command, 0) {
-        Ok(done) => Ok(RowAnswer::Made(done)),
-        Err(PerformError::JournalFull) => Ok(RowAnswer::JournalFull),
+        Ok(done) => Ok(SharedReply::Made(done)),
+        Err(PerformError::JournalFull) => Ok(SharedReply::JournalFull),
         Err(PerformError::OutOfMemory) => Err(AllocError),
     }
 }
 
 // Finishes a command: up to eight times optimistically, then with no clerk beside it.
-fn finish<L: Names, R: Wait, G: Gate>(
+fn finish<L: NamesOffice, R: Wait, G: Gate>(
     rt: &R,
     alloc: Global,
     seat: &mut Seat<L>,
     number: u32,
     command: &Command,
     gate: &G,
-) -> Result<RowAnswer, AllocError>
-    ensures { Answers L.bench seat.old (work.Command command.now) result seat.new }
+) -> Result<SharedReply, AllocError>
+    ensures { Answers L.setup seat.old (work.Command command.now) result seat.new }
 {
     for _try in 0..8 {
         if let Some(result) = attempt(rt, alloc, seat, number, command, gate) {
@@ -82,25 +82,29 @@ fn finish<L: Names, R: Wait, G: Gate>(
 }
 
 // Shows what a query asks for.
-fn view<L: Names>(alloc: Global, seat: &mut Seat<L>, query: &Query) -> Result<RowAnswer, AllocError>
-    ensures { Answers L.bench seat.old (work.Query query.now) result seat.new }
+fn view<L: NamesOffice>(
+    alloc: Global,
+    seat: &mut Seat<L>,
+    query: &Query,
+) -> Result<SharedReply, AllocError>
+    ensures { Answers L.setup seat.old (work.Query query.now) result seat.new }
 {
     match seat.show(alloc, query) {
-        Ok(view) => Ok(RowAnswer::Viewed(view)),
+        Ok(view) => Ok(SharedReply::Viewed(view)),
         Err(error) => Err(error),
     }
 }
 
 // Answers what a row asks for.
-fn answer<L: Names, R: Wait, G: Gate>(
+fn answer<L: NamesOffice, R: Wait, G: Gate>(
     rt: &R,
     alloc: Global,
     seat: &mut Seat<L>,
     number: u32,
     work: &Work,
     gate: &G,
-) -> Result<RowAnswer, AllocError>
-    ensures { Answers L.bench seat.old work.now result seat.new }
+) -> Result<SharedReply, AllocError>
+    ensures { Answers L.setup seat.old work.now result seat.new }
 {
     match work {
         Work::Command(command) => finish(rt, alloc, seat, number, command, gate),
@@ -109,7 +113,7 @@ fn answer<L: Names, R: Wait, G: Gate>(
 }
 
 // Does the row if it is the clerk's, and notes its answer; rows of others are passed over. The row's number counts from 1.
-fn take_row<L: Names, K: Notes<L>, R: Wait, G: Gate>(
+fn take_row<L: NamesOffice, K: Notes<L>, R: Wait, G: Gate>(
     rt: &R,
     alloc: Global,
     seat: &mut Seat<L>,
@@ -118,8 +122,8 @@ fn take_row<L: Names, K: Notes<L>, R: Wait, G: Gate>(
     row: &Row,
     gate: &G,
 ) -> Result<(), AllocError>
-    ensures noted { (start : SeatView) (rows : List Row) → IsNoted K.hold L.bench start rows notes.old seat.old → OnOk result (IsNoted K.hold L.bench start (rows ++ row.now ∷ []) notes.new seat.new) }
-    ensures stopped { (start : SeatView) (rows : List Row) → IsNoted K.hold L.bench start rows notes.old seat.old → OnErr result (HasLeft L.bench start (rows ++ row.now ∷ []) seat.new) }
+    ensures noted { (start : SeatView) (rows : List Row) → IsNoted K.hold L.setup start rows notes.old seat.old → OnOk result (IsNoted K.hold L.setup start (rows ++ row.now ∷ []) notes.new seat.new) }
+    ensures stopped { (start : SeatView) (rows : List Row) → IsNoted K.hold L.setup start rows notes.old seat.old → OnErr result (HasLeft L.setup start (rows ++ row.now ∷ []) seat.new) }
 {
     let clerk = seat.number();
     if row.clerk != clerk {
@@ -132,7 +136,7 @@ fn take_row<L: Names, K: Notes<L>, R: Wait, G: Gate>(
 
 /// Does all rows of the seat's clerk, in order, and notes their answers. `Err` says that memory ran out; the rows that
 /// were done are then the first ones of the clerk.
-pub(crate) fn serve<L: Names, K: Notes<L>, R: Wait, G: Gate>(
+pub(crate) fn serve<L: NamesOffice, K: Notes<L>, R: Wait, G: Gate>(
     rt: &R,
     alloc: Global,
     seat: &mut Seat<L>,
@@ -141,8 +145,8 @@ pub(crate) fn serve<L: Names, K: Notes<L>, R: Wait, G: Gate>(
     gate: &G,
 ) -> Result<(), AllocError>
     requires { K.hold notes.old [] }
-    ensures served { OnOk result (HasNoted K.hold L.bench seat.old (works_of seat.old.number rows.now) notes.new (tally_of seat.new)) }
-    ensures stopped { OnErr result (HasStopped L.bench seat.old (works_of seat.old.number rows.now) (tally_of seat.new)) }
+    ensures served { OnOk result (HasNoted K.hold L.setup seat.old (works_of seat.old.number rows.now) notes.new (tally_of seat.new)) }
+    ensures stopped { OnErr result (HasStopped L.setup seat.old (works_of seat.old.number rows.now) (tally_of seat.new)) }
 {
     let mut number = 0u32;
     for row in rows {

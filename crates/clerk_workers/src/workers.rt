@@ -5,11 +5,11 @@ ghost use Rattle.office_rows.specs.declared.row.Row.{Row};
 ghost use Rattle.clerk_workers.specs.Desks.{AreUnderWay, AreWorked, DeskView, IsReady};
 
 use crate::desk::Desk;
-use crate::gate::Gate;
 use crate::hired::{Hired, hire};
 use crate::notes::Notes;
+use clerk_gates::Gate;
 use office_rows::Row;
-use office_seats::Names;
+use office_seats::NamesOffice;
 use std::alloc::Global;
 use std::sync::{OnceLock, Wait};
 use std::thread;
@@ -20,7 +20,7 @@ use std::thread::{Scope, Threads};
 fn hire_all<
     's,
     'e: 's,
-    L: Names + Send + Sync + 'e,
+    L: NamesOffice + Send + Sync + 'e,
     K: Notes<L> + 'e,
     R: Threads + Wait + Sync + 'e,
     G: Gate + 'e,
@@ -37,7 +37,7 @@ fn hire_all<
     requires ready { All (IsReady K.hold) desks.old.items }
     requires none { hired.old.items ≡ [] }
     requires room { length desks.old.items ≤ vec_capacity hired.old }
-    ensures way { AreUnderWay K.hold L.bench rows.now desks.old.items desks.new.items hired.new.items }
+    ensures way { AreUnderWay K.hold L.setup rows.now desks.old.items desks.new.items hired.new.items }
     ensures room { length desks.new.items + length hired.new.items ≤ vec_capacity desks.new }
 {
     while let Some(desk) = desks.pop() {
@@ -53,13 +53,13 @@ fn hire_all<
 }
 
 // Waits until all hired clerks are done, and puts their desks after the others, in the order that they had.
-fn join_all<'e, L: Names, K: Notes<L>, R: Threads>(
+fn join_all<'e, L: NamesOffice, K: Notes<L>, R: Threads>(
     rt: &R,
     desks: &mut Vec<Desk<L, K>>,
     hired: &mut Vec<Hired<'e, L, K>>,
 )
     requires room { length desks.old.items + length hired.old.items ≤ vec_capacity desks.old }
-    ensures { (rows : List Row) (start : List (DeskView K)) → AreUnderWay K.hold L.bench rows start desks.old.items hired.old.items → AreWorked K.hold L.bench rows start desks.new.items }
+    ensures { (rows : List Row) (start : List (DeskView K)) → AreUnderWay K.hold L.setup rows start desks.old.items hired.old.items → AreWorked K.hold L.setup rows start desks.new.items }
 {
     while let Some(clerk) = hired.pop() {
         desks.push_reserved(clerk.join(rt));
@@ -70,7 +70,7 @@ fn join_all<'e, L: Names, K: Notes<L>, R: Threads>(
 fn in_scope<
     's,
     'e: 's,
-    L: Names + Send + Sync + 'e,
+    L: NamesOffice + Send + Sync + 'e,
     K: Notes<L> + 'e,
     R: Threads + Wait + Sync + 'e,
     G: Gate + 'e,
@@ -84,7 +84,7 @@ fn in_scope<
     start: &'e OnceLock<bool>,
 ) -> Vec<Desk<L, K>>
     requires { All (IsReady K.hold) desks.items }
-    ensures { AreWorked K.hold L.bench rows.now desks.items result.items }
+    ensures { AreWorked K.hold L.setup rows.now desks.items result.items }
 {
     let Ok(mut hired) = Vec::with_capacity(alloc, desks.len()) else {
         return desks;
@@ -97,7 +97,7 @@ fn in_scope<
 
 /// Lets the clerks of all desks do their rows, each in a thread of its own, and gives the desks back in the same order.
 /// Where a thread can't be made for each of them, none of the clerks begins.
-pub(crate) fn at_work<L: Names + Send + Sync, K: Notes<L>, R: Threads + Wait + Sync, G: Gate>(
+pub(crate) fn at_work<L: NamesOffice + Send + Sync, K: Notes<L>, R: Threads + Wait + Sync, G: Gate>(
     rt: &R,
     alloc: Global,
     desks: Vec<Desk<L, K>>,
@@ -105,7 +105,7 @@ pub(crate) fn at_work<L: Names + Send + Sync, K: Notes<L>, R: Threads + Wait + S
     gate: &G,
 ) -> Vec<Desk<L, K>>
     requires { All (IsReady K.hold) desks.items }
-    ensures { AreWorked K.hold L.bench rows.now desks.items result.items }
+    ensures { AreWorked K.hold L.setup rows.now desks.items result.items }
 {
     let word = OnceLock::new();
     let start = &word;
@@ -114,7 +114,7 @@ pub(crate) fn at_work<L: Names + Send + Sync, K: Notes<L>, R: Threads + Wait + S
         rt,
         move |scope| -> Vec<Desk<L, K>>
             requires { All (IsReady K.hold) desks.items }
-            ensures { AreWorked K.hold L.bench rows.entry.now desks.items result.items }
+            ensures { AreWorked K.hold L.setup rows.entry.now desks.items result.items }
         { in_scope(scope, rt, alloc, desks, rows, gate, start) },
     )
 }

@@ -1,5 +1,3 @@
 -- A court's file.
-pub mod ReadingLemmas
-pub mod NamesLemmas
 pub mod NamedZoneLemmas
 pub mod OpeningLemmas

@@ -1,17 +1,15 @@
 -- A court's file: what is read from it, or its first fault.
-pub mod Names
 pub mod Reading
-use Rattle.std.specs.Prelude.{◌≡◌, ℕ, nat_lt, nat_le, ◌&&◌, Bool, ℤ, int_le, List, [], Option, None, Result, Ok, Err, if◌then◌else◌}
+use Rattle.std.specs.Prelude.{◌≡◌, ℕ, nat_lt, nat_le, ◌&&◌, Bool, ℤ, int_le, List, [], Result, Ok}
 use Rattle.std.specs.Option.{ok_or}
-use Rattle.std.specs.Str.{is_utf8}
 use Rattle.toml.specs.Data.{Members}
-use Rattle.toml.specs.Parse.{parse_document}
 use Rattle.court_clock.specs.Words.{ClockView, IsSameCourtClock, Zone, days_through, zone_of_text, zone_view}
-use Rattle.court_days.specs.declared.key.Key.TheVariants as key
-use Rattle.court_days.specs.declared.fault.CourtFault.{CourtFault}
-use Rattle.court_days.specs.declared.fault.CourtFault.TheVariants.{NotToml, BadZone, BadHours, BadSpan}
+use Rattle.court_file_text.specs.declared.key.Key.TheVariants as key
+use Rattle.court_file_text.specs.declared.fault.CourtFault.{CourtFault}
+use Rattle.court_file_text.specs.declared.fault.CourtFault.TheVariants.{NotToml, BadZone, BadHours, BadSpan}
 use Rattle.court_days.specs.Days.{DaysView}
-use Rattle.court_days.specs.Court.Reading.{◌>>=◌, must, text_at, minute_at, date_at, dates_at, names_at}
+use Rattle.court_file_text.specs.Words.{◌>>=◌, must, toml_of, text_at, minute_at, date_at, names_at}
+use Rattle.court_days.specs.Court.Reading.{dates_at}
 
 -- what a court's file says
 pub record CourtFile : Type 0 where
@@ -84,10 +82,6 @@ court_of file = do
   judges ← names_at key.Judges file
   rooms ← names_at key.Rooms file
   Ok (record { zone = zone; opens = hours.0; closes = hours.1; days = days; judges = judges; rooms = rooms })
-
--- the TOML document that the bytes are
-abbrev pub toml_of : List ℕ → Option Members
-toml_of bytes = if is_utf8 bytes then parse_document bytes else None
 
 -- the court whose file the bytes are
 unfoldable pub court_in : List ℕ → Result CourtFile CourtFault

@@ -5,8 +5,5 @@ pub use Rattle.court_days.specs.Days.Search.{IsEarliestDay, IsLatestDay, Earlies
 unfoldable pub use Rattle.court_days.specs.Days.Search.{earliest_day, latest_day}
 pub use Rattle.court_days.specs.Days.Rolled.{IsAtOrBeyond, IsRolled, RolledIsNearest}
 unfoldable pub use Rattle.court_days.specs.Days.Rolled.{rolled, next_accessible}
-pub use Rattle.court_days.specs.Key.{key_name}
-pub use Rattle.court_days.specs.Fault.{court_fault_text}
-pub use Rattle.court_days.specs.Court.{CourtFile, CourtView, IsSameCourt, file_of, toml_of, FilesNameNoOutages}
+pub use Rattle.court_days.specs.Court.{CourtFile, CourtView, IsSameCourt, file_of, FilesNameNoOutages}
 unfoldable pub use Rattle.court_days.specs.Court.{court_of, court_in}
-pub use Rattle.court_days.specs.Court.Names.{name_index}

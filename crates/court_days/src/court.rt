@@ -5,22 +5,18 @@ ghost use Rattle.toml.specs.View.{table_view};
 ghost use Rattle.jiff.specs.Words.{plain_zone};
 ghost use Rattle.court_clock.specs.Words.{is_ruled, zone_view};
 ghost use Rattle.court_days.specs.Court.{CourtView, file_of, court_of, court_in, zone_at, hours_at, days_at, is_span};
-ghost use Rattle.court_days.specs.Court.Reading.{Gives};
-ghost use Rattle.court_days.specs.Court.Names.{name_index};
+ghost use Rattle.court_file_text.specs.Words.{Gives, name_index};
 
-use crate::court::names::Names;
-use crate::court::reading::{date_at, dates_at, minute_at, names_at, text_at};
+use crate::court::reading::dates_at;
 use crate::days::Days;
 use crate::days::holidays::Holidays;
-use crate::fault::CourtFault;
-use crate::key::Key;
 use court_clock::{Clock, Day, zone_from_text};
+use court_file_text::{CourtFault, Key, Names, date_at, minute_at, names_at, text_at};
 use jiff::tz::TimeZone;
 use std::alloc::Global;
 use std::marker::Model;
 use toml::Table;
 
-mod names;
 mod reading;
 
 /// The most days that a calendar may cover.

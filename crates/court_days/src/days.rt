@@ -31,7 +31,7 @@ use table::{and_holiday, entry_day, table_of};
 /// table says how far each covered day is from the day to which it rolls. The lists, the tables and the outages are
 /// shared, so that days that are made from others copy only what changes.
 #[derive(Debug, Drop)]
-struct Held {
+struct DayRecord {
     holidays: Holidays,
     after: Arc<Vec<u16>>,
     before: Arc<Vec<u16>>,
@@ -42,7 +42,7 @@ struct Held {
 /// because threads that change the same counter wait for each other.
 #[derive(Debug, Drop)]
 pub struct Days {
-    held: Arc<Held>,
+    held: Arc<DayRecord>,
 }
 
 impl Model for Days {
@@ -62,7 +62,7 @@ impl Days {
         let after = table_of(alloc, &holidays, Direction::After)?;
         let before = table_of(alloc, &holidays, Direction::Before)?;
         let outages = Outages::empty(alloc, holidays.from(), holidays.to())?;
-        let held = Held {
+        let held = DayRecord {
             holidays,
             after: Arc::new(alloc, after)?,
             before: Arc::new(alloc, before)?,
@@ -229,11 +229,11 @@ impl Days {
     ) -> Result<Days, AllocError>
         ensures { IfOk result (λ d. d ≡ add_holiday self.now list day) }
     {
-        let held: &Held = &self.held;
+        let held: &DayRecord = &self.held;
         let holidays = &held.holidays;
         let after = and_holiday(alloc, &held.after, holidays, Direction::After, list, day)?;
         let before = and_holiday(alloc, &held.before, holidays, Direction::Before, list, day)?;
-        let more = Held {
+        let more = DayRecord {
             holidays: holidays.with(alloc, list, day)?,
             after,
             before,
@@ -248,9 +248,9 @@ impl Days {
     pub fn with_outage(&self, alloc: Global, outage: Outage) -> Result<Days, AllocError>
         ensures { IfOk result (λ d. d ≡ add_outage self.now outage) }
     {
-        let held: &Held = &self.held;
+        let held: &DayRecord = &self.held;
         let outages = held.outages.with(alloc, outage)?;
-        let more = Held {
+        let more = DayRecord {
             holidays: held.holidays.copy()?,
             after: held.after.clone()?,
             before: held.before.clone()?,

@@ -1,16 +1,12 @@
-//! A court's file, and which of its days are open.
+//! A court, from its file, and which of its days are open.
 #![tactic(auto)]
 
 mod court;
 mod days;
-mod fault;
 mod holiday_list;
-mod key;
 mod laws;
 
 pub use court::Court;
 pub use days::{Days, Outage};
-pub use fault::{CourtFault, FaultText, NumberedFault};
 pub use holiday_list::HolidayList;
-pub use key::Key;
 pub use laws::{earliest_is_least, files_name_no_outages, latest_is_greatest, rolled_is_nearest};

@@ -3,26 +3,10 @@
 //! output.
 #![tactic(auto)]
 
-mod command;
-mod memo;
-mod names;
-mod program;
-mod reasons;
-mod replies;
-mod run;
-mod sheets;
+use memo_program::DeadlineMemo;
+use office_program::{Ended, run_on_process};
 
-use office_options::words_of;
-use office_streams::Watched;
-use program::run_program;
-use std::io;
-use std::process::ExitCode;
-
-/// Runs the program on the process's own streams and words, and ends with its status.
-fn main(rt: HostRuntime) -> ExitCode {
-    let words = words_of(&rt);
-    let mut reader = Watched::new(rt.stdin());
-    let mut writer = Watched::new(io::writer(&rt));
-    let mut errors = Watched::new(rt.stderr());
-    ExitCode::from(run_program(rt.alloc(), words, &mut reader, &mut writer, &mut errors))
+/// Runs the program on the process's own words and streams, and ends with its status.
+fn main(rt: HostRuntime) -> Ended {
+    run_on_process(&rt, &rt, &DeadlineMemo)
 }

@@ -11,7 +11,7 @@ use Rattle.docket_rows.specs.declared.part.PartId.TheVariants.{Court, Judge, Roo
 use Rattle.docket_rows.specs.declared.part.PartValue.TheVariants as value
 use Rattle.docket_rows.specs.declared.rebooking.Rebooking.{Rebooking}
 use Rattle.docket_rows.specs.declared.refusal.Refusal.{Refusal}
-use Rattle.docket_rows.specs.Words.{Bench, Parts, changed, part_value, refusal, open_case_refusal, open_case_checks, book_refusal, move_refusal, hearing_checks, days_written, case_of, case_after, booking_of, rebooking_of, changed_by, judge_change, room_change, first_judge, sits, last_case, is_case_number}
+use Rattle.docket_rows.specs.Words.{CourtSetup, Parts, changed, part_value, refusal, open_case_refusal, open_case_checks, book_refusal, move_refusal, hearing_checks, days_written, case_of, case_after, booking_of, rebooking_of, changed_by, judge_change, room_change, first_judge, sits, last_case, is_case_number}
 use Rattle.rule_periods.specs.Words.{first_of}
 use Rattle.hearing_slots.specs.declared.booking.Booking.{Booking}
 use Rattle.docket_laws.proofs.CallerLemmas.{none_of, when-not-None}
@@ -22,22 +22,22 @@ use Rattle.docket_core.proofs.CaseLemmas.{case_changed}
 use Rattle.docket_core.proofs.RebookingLemmas.{calendar_of, nothing_to_take, nothing_taken, same_rebooking, to_set}
 
 -- a case that is opened has a place; other commands open none
-opens_in_place : (bench : Bench) (parts : Parts) (command : Command) (n count : ℕ) → refusal bench parts command ≡ None → Some n ≡ case_of command → count ≡ last_case + 1 → count ≤ n → case_after command None ≡ None
+opens_in_place : (setup : CourtSetup) (parts : Parts) (command : Command) (n count : ℕ) → refusal setup parts command ≡ None → Some n ≡ case_of command → count ≡ last_case + 1 → count ≤ n → case_after command None ≡ None
 unfolding open_case_refusal
-opens_in_place bench parts (OpenCase case filed) n count made is all beyond =
+opens_in_place setup parts (OpenCase case filed) n count made is all beyond =
     let number : is_case_number case ≡ true = when-not-None _ _ (none_of (open_case_checks parts case filed) made).0 in
     let same : n ≡ case = ap (λ o. unwrap_or o n) is in
     absurd (grind (arith, nat_tests))
-opens_in_place bench parts _ n count made is all beyond = refl
+opens_in_place setup parts _ n count made is all beyond = refl
 
 -- a command that changes no days and no calendar changes its case
-pub only_case_changed : (bench : Bench) (d : DocketView) (command : Command) (n : ℕ) → refusal bench (parts_held d) command ≡ None → length d.cases ≡ last_case + 1 → days_written d.days command ≡ None → rebooking_of (parts_held d) command ≡ None → Some n ≡ case_of command → IsAfter d command (record d { cases = set d.cases n (case_after command (get_or d.cases n None)) })
-only_case_changed bench d command n made places days calendars is Court = rw days refl
-only_case_changed bench d command n made places days calendars is (Judge j) = rw calendars refl
-only_case_changed bench d command n made places days calendars is (Room k) = rw calendars refl
-only_case_changed bench d command n made places days calendars is (Case i) =
+pub only_case_changed : (setup : CourtSetup) (d : DocketView) (command : Command) (n : ℕ) → refusal setup (parts_held d) command ≡ None → length d.cases ≡ last_case + 1 → days_written d.days command ≡ None → rebooking_of (parts_held d) command ≡ None → Some n ≡ case_of command → IsAfter d command (record d { cases = set d.cases n (case_after command (get_or d.cases n None)) })
+only_case_changed setup d command n made places days calendars is Court = rw days refl
+only_case_changed setup d command n made places days calendars is (Judge j) = rw calendars refl
+only_case_changed setup d command n made places days calendars is (Room k) = rw calendars refl
+only_case_changed setup d command n made places days calendars is (Case i) =
     rw (sym is)
-    (case_changed command d.cases n i (λ beyond. opens_in_place bench (parts_held d) command n (length d.cases) made is places beyond))
+    (case_changed command d.cases n i (λ beyond. opens_in_place setup (parts_held d) command n (length d.cases) made is places beyond))
 
 -- Calendars
 
@@ -54,12 +54,12 @@ pub record IsInCourt (d : DocketView) (s : Setting) : Type 0 where
   pub judges : (j : ℕ) → length d.judges ≤ j → sits j s.judges ≡ false
   pub room : (r : ℕ) → length d.rooms ≤ r → (s.room == r) ≡ false
 
-in_court : (d : DocketView) (s : Setting) (line : Option Refusal) (except : Option (ℕ × ℕ)) → length d.judges ≡ d.bench.judges → length d.rooms ≡ d.bench.rooms → first_of (hearing_checks d.bench (parts_held d) s line except) ≡ None → IsInCourt d s
+in_court : (d : DocketView) (s : Setting) (line : Option Refusal) (except : Option (ℕ × ℕ)) → length d.judges ≡ d.setup.judges → length d.rooms ≡ d.setup.rooms → first_of (hearing_checks d.setup (parts_held d) s line except) ≡ None → IsInCourt d s
 in_court d s line except judges rooms h =
-    let n = none_of (hearing_checks d.bench (parts_held d) s line except) h in
-    let room : nat_lt s.room d.bench.rooms ≡ true = when-not-None _ _ n.1.1.1.0 in
+    let n = none_of (hearing_checks d.setup (parts_held d) s line except) h in
+    let room : nat_lt s.room d.setup.rooms ≡ true = when-not-None _ _ n.1.1.1.0 in
     record {
-      judges = λ j beyond. not_sitting d.bench.judges j s.judges (when-not-None _ _ n.1.1.0) (rw judges at beyond);
+      judges = λ j beyond. not_sitting d.setup.judges j s.judges (when-not-None _ _ n.1.1.0) (rw judges at beyond);
       room = λ r beyond. grind (arith, nat_tests);
     }
 
@@ -75,7 +75,7 @@ stays_in_court d s before court = record {
 }
 
 -- nor does a cancellation
-pub stays_when_made : (d : DocketView) (command : Command) (r : Rebooking) → refusal d.bench (parts_held d) command ≡ None → length d.judges ≡ d.bench.judges → length d.rooms ≡ d.bench.rooms → Some r ≡ rebooking_of (parts_held d) command → StaysInCourt d r
+pub stays_when_made : (d : DocketView) (command : Command) (r : Rebooking) → refusal d.setup (parts_held d) command ≡ None → length d.judges ≡ d.setup.judges → length d.rooms ≡ d.setup.rooms → Some r ≡ rebooking_of (parts_held d) command → StaysInCourt d r
 unfolding book_refusal move_refusal
 stays_when_made d (Book s) r made judges rooms is = same_rebooking (StaysInCourt d) r _ is (stays_in_court d s _ (in_court d s _ _ judges rooms made))
 stays_when_made d (MoveHearing s) r made judges rooms is = same_rebooking (StaysInCourt d) r _ is (stays_in_court d s _ (in_court d s _ _ judges rooms made))
@@ -95,7 +95,7 @@ CaseIsAfter d command case r =
     value.Case (get_or (rebooked_docket r d).cases case None) ≡ unwrap_or (changed (parts_held d) command (Case case)) (part_value (parts_held d) (Case case))
 
 -- a booking, a move and a cancellation change their calendars, and the case
-pub hearing_changed : (d : DocketView) (command : Command) (r : Rebooking) → refusal d.bench (parts_held d) command ≡ None → length d.judges ≡ d.bench.judges → length d.rooms ≡ d.bench.rooms → Some r ≡ rebooking_of (parts_held d) command → IsAfter d command (rebooked_docket r d)
+pub hearing_changed : (d : DocketView) (command : Command) (r : Rebooking) → refusal d.setup (parts_held d) command ≡ None → length d.judges ≡ d.setup.judges → length d.rooms ≡ d.setup.rooms → Some r ≡ rebooking_of (parts_held d) command → IsAfter d command (rebooked_docket r d)
 hearing_changed d command r made judges rooms is (Judge j) =
     rw (sym is)
     (ap value.Calendar (calendar_of (judge_change r) d.judges j ((stays_when_made d command r made judges rooms is).judges j))

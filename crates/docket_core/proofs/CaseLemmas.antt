@@ -6,24 +6,25 @@ use Rattle.std.proofs.lemmas.List.{get_or-set_other}
 use Rattle.docket_rows.specs.declared.command.Command.{Command}
 use Rattle.docket_rows.specs.declared.command.Command.TheVariants.{OpenCase, Start, Extend, Motion, Book, MoveHearing}
 use Rattle.docket_rows.specs.declared.part.PartValue.TheVariants as value
-use Rattle.docket_rows.specs.Words.{Bench, Parts, CaseRecordView, refusal, case_of, case_after}
+use Rattle.docket_rows.specs.Words.{CourtSetup, Parts, CaseRecordView, refusal, case_of, case_after}
 use Rattle.docket_laws.proofs.CallerLemmas.{can_start, can_start_in, can_enter_in, can_extend_in, can_book, can_move, count_of}
-use Rattle.docket_core.specs.Changes.{CanChangeRecord, CanChangeCase}
+use Rattle.docket_decisions.specs.Words.{CanChangeRecord}
+use Rattle.docket_core.specs.Changes.{CanChangeCase}
 
 -- there is room for what a command adds that isn't refused, which suits the case
-pub can_change_record : (bench : Bench) (parts : Parts) (command : Command) (case : Option CaseRecordView) → refusal bench parts command ≡ None → option_and_then parts.case (case_of command) ≡ case → IfSome case (CanChangeRecord command)
-can_change_record bench parts command None made found = tt
-can_change_record bench parts (Start case period event second service) (Some c) made found =
-    let can = can_start bench parts case period event second service made in
-    (can.suits, can.ranged, can_start_in bench parts case period event second service c made found)
-can_change_record bench parts (Extend case deadline request) (Some c) made found = can_extend_in bench parts case deadline request c made found
-can_change_record bench parts (Motion case served need) (Some c) made found = can_enter_in parts case served need c made found
-can_change_record bench parts (Book s) (Some c) made found = count_of s.first s.count (can_book bench parts s made).fits
-can_change_record bench parts (MoveHearing s) (Some c) made found = count_of s.first s.count (can_move bench parts s made).fits
-can_change_record bench parts _ (Some c) made found = tt
+pub can_change_record : (setup : CourtSetup) (parts : Parts) (command : Command) (case : Option CaseRecordView) → refusal setup parts command ≡ None → option_and_then parts.case (case_of command) ≡ case → IfSome case (CanChangeRecord command)
+can_change_record setup parts command None made found = tt
+can_change_record setup parts (Start case period event second service) (Some c) made found =
+    let can = can_start setup parts case period event second service made in
+    (can.suits, can.ranged, can_start_in setup parts case period event second service c made found)
+can_change_record setup parts (Extend case deadline request) (Some c) made found = can_extend_in setup parts case deadline request c made found
+can_change_record setup parts (Motion case served need) (Some c) made found = can_enter_in parts case served need c made found
+can_change_record setup parts (Book s) (Some c) made found = count_of s.first s.count (can_book setup parts s made).fits
+can_change_record setup parts (MoveHearing s) (Some c) made found = count_of s.first s.count (can_move setup parts s made).fits
+can_change_record setup parts _ (Some c) made found = tt
 
-pub can_change_case : (bench : Bench) (parts : Parts) (command : Command) → refusal bench parts command ≡ None → CanChangeCase parts command
-can_change_case bench parts command made = can_change_record bench parts command _ made refl
+pub can_change_case : (setup : CourtSetup) (parts : Parts) (command : Command) → refusal setup parts command ≡ None → CanChangeCase parts command
+can_change_case setup parts command made = can_change_record setup parts command _ made refl
 
 -- the value of a case after its change
 case_value : (command : Command) (o : Option CaseRecordView) → value.Case (case_after command o) ≡ unwrap_or (option_map (λ c. value.Case (Some c)) (case_after command o)) (value.Case o)

@@ -7,18 +7,18 @@ use Rattle.docket_rows.specs.declared.command.Command.{Command}
 use Rattle.docket_rows.specs.declared.command.Command.TheVariants.{Book, MoveHearing, Cancel}
 use Rattle.docket_rows.specs.declared.hearing.Hearing.{Hearing}
 use Rattle.docket_rows.specs.declared.hearing.Setting.{Setting}
-use Rattle.docket_rows.specs.declared.rebooking.Change.{Change}
+use Rattle.docket_rows.specs.declared.rebooking.CalendarChange.{CalendarChange}
 use Rattle.docket_rows.specs.declared.rebooking.Rebooking.{Rebooking}
-use Rattle.docket_rows.specs.Words.{Bench, Parts, refusal, booking_of, placement_of, rebooking_of, change_to, judge_change, room_change, first_judge, sits}
+use Rattle.docket_rows.specs.Words.{CourtSetup, Parts, refusal, booking_of, placement_of, rebooking_of, change_to, judge_change, room_change, first_judge, sits}
 use Rattle.docket_laws.specs.Words.{CanSet}
 use Rattle.docket_laws.proofs.CallerLemmas.{can_book, can_move, slots_of}
 use Rattle.docket_core.specs.Rebooking.{CanRebook, calendar_after, calendars_after, CanChange, CanChangeAll}
 
 -- the hearing of a command that isn't refused can be set
-pub can_rebook : (bench : Bench) (parts : Parts) (command : Command) → refusal bench parts command ≡ None → CanRebook parts command
-can_rebook bench parts (Book s) made = can_book bench parts s made
-can_rebook bench parts (MoveHearing s) made = can_move bench parts s made
-can_rebook bench parts _ made = tt
+pub can_rebook : (setup : CourtSetup) (parts : Parts) (command : Command) → refusal setup parts command ≡ None → CanRebook parts command
+can_rebook setup parts (Book s) made = can_book setup parts s made
+can_rebook setup parts (MoveHearing s) made = can_move setup parts s made
+can_rebook setup parts _ made = tt
 
 -- its booking lies within its day, and its slots are free in the calendar of its room
 booking_within : (parts : Parts) (other : ℕ) (s : Setting) → CanSet parts s → IsWithinDay (booking_of parts other s)
@@ -81,7 +81,7 @@ room_can_change parts _ r room can is = absurd cc
 -- Some calendars in a row
 
 -- the calendar of a number; where there is none, its change makes none
-calendar_at : (number : ℕ) (change : ℕ → Change) (cs : List (List Booking)) (i : ℕ) → (length cs ≤ i → calendar_after (change (number + i)) [] ≡ []) → get_or (calendars_after number change cs) i [] ≡ calendar_after (change (number + i)) (get_or cs i [])
+calendar_at : (number : ℕ) (change : ℕ → CalendarChange) (cs : List (List Booking)) (i : ℕ) → (length cs ≤ i → calendar_after (change (number + i)) [] ≡ []) → get_or (calendars_after number change cs) i [] ≡ calendar_after (change (number + i)) (get_or cs i [])
 calendar_at number change [] i past = sym (past (omega arith))
 calendar_at number change (c ∷ cs) zero past = ap (λ (n : ℕ). calendar_after (change n) c) (omega arith)
 calendar_at number change (c ∷ cs) (suc i) past =
@@ -89,19 +89,19 @@ calendar_at number change (c ∷ cs) (suc i) past =
     calendar_at (number + 1) change cs i (λ beyond. ap (λ (n : ℕ). calendar_after (change n) []) next ∙ past (omega arith))
     ∙ ap (λ (n : ℕ). calendar_after (change n) (get_or cs i [])) next
 
-pub calendar_of : (change : ℕ → Change) (cs : List (List Booking)) (i : ℕ) → (length cs ≤ i → calendar_after (change i) [] ≡ []) → get_or (calendars_after 0 change cs) i [] ≡ calendar_after (change i) (get_or cs i [])
+pub calendar_of : (change : ℕ → CalendarChange) (cs : List (List Booking)) (i : ℕ) → (length cs ≤ i → calendar_after (change i) [] ≡ []) → get_or (calendars_after 0 change cs) i [] ≡ calendar_after (change i) (get_or cs i [])
 calendar_of change cs i past =
     let first : 0 + i ≡ i = omega arith in
     calendar_at 0 change cs i (λ beyond. ap (λ (n : ℕ). calendar_after (change n) []) first ∙ past beyond)
     ∙ ap (λ (n : ℕ). calendar_after (change n) (get_or cs i [])) first
 
 -- where each can be changed, all can
-can_change_from : (number : ℕ) (change : ℕ → Change) (cs : List (List Booking)) → ((i : ℕ) → CanChange (change (number + i)) (get_or cs i [])) → CanChangeAll number change cs
+can_change_from : (number : ℕ) (change : ℕ → CalendarChange) (cs : List (List Booking)) → ((i : ℕ) → CanChange (change (number + i)) (get_or cs i [])) → CanChangeAll number change cs
 can_change_from number change [] can = tt
 can_change_from number change (c ∷ cs) can =
     (subst (λ (n : ℕ). CanChange (change n) c) (omega arith) (can 0), can_change_from (number + 1) change cs (λ i. subst (λ (n : ℕ). CanChange (change n) (get_or cs i [])) (omega arith) (can (suc i))))
 
-pub can_change_all : (change : ℕ → Change) (cs : List (List Booking)) → ((i : ℕ) → CanChange (change i) (get_or cs i [])) → CanChangeAll 0 change cs
+pub can_change_all : (change : ℕ → CalendarChange) (cs : List (List Booking)) → ((i : ℕ) → CanChange (change i) (get_or cs i [])) → CanChangeAll 0 change cs
 can_change_all change cs can = can_change_from 0 change cs (λ i. subst (λ (n : ℕ). CanChange (change n) (get_or cs i [])) (omega arith) (can i))
 
 -- nothing is taken out of no bookings

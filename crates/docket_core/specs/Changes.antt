@@ -1,13 +1,12 @@
 -- What a command that isn't refused makes of a docket.
-use Rattle.std.specs.Prelude.{◌≡◌, ℕ, ◌<◌, ◌≤◌, ◌==◌, true, List, length, find, Option, None, IfSome, option_map, unwrap_or, get_or, set}
+use Rattle.std.specs.Prelude.{◌≡◌, ℕ, List, Option, None, IfSome, option_map, unwrap_or, get_or, set}
 use Rattle.std.specs.Option.{option_and_then}
-use Rattle.rule_periods.specs.Words.{suits, has_length, is_grant_length, grant_fits, is_in_hours}
 use Rattle.docket_rows.specs.declared.command.Command.{Command}
-use Rattle.docket_rows.specs.declared.command.Command.TheVariants.{Start, Extend, Motion, Book, MoveHearing}
 use Rattle.docket_rows.specs.declared.part.PartId.{PartId}
 use Rattle.docket_rows.specs.declared.rebooking.Placement.{Placement}
 use Rattle.docket_rows.specs.declared.rebooking.Rebooking.{Rebooking}
-use Rattle.docket_rows.specs.Words.{CaseRecordView, NumberedDeadline, Parts, part_value, most_deadlines, most_motions, changed, case_of, set_hearing, judge_change, room_change}
+use Rattle.docket_rows.specs.Words.{CaseRecordView, Parts, part_value, changed, case_of, set_hearing, judge_change, room_change}
+use Rattle.docket_decisions.specs.Words.{CanChangeRecord}
 use Rattle.docket_core.specs.Docket.{DocketView, parts_held}
 use Rattle.docket_core.specs.Rebooking.{calendars_after}
 
@@ -20,19 +19,7 @@ IsAfter before command after =
 abbrev pub with_case : (number : ℕ) → (CaseRecordView → CaseRecordView) → List (Option CaseRecordView) → List (Option CaseRecordView)
 with_case number change cases = set cases number (option_map change (get_or cases number None))
 
--- there is room in the case for what the command adds, and it suits the case
-abbrev pub CanChangeRecord : Command → CaseRecordView → Type 0
-CanChangeRecord (Start case period event second service) c =
-    (suits period second service ≡ true) × (has_length period ≡ true) × (length c.deadlines < most_deadlines)
-CanChangeRecord (Extend case deadline request) c =
-    (is_grant_length request.grant ≡ true)
-    × IfSome (option_map (λ (d : NumberedDeadline). d.row) (find (λ (d : NumberedDeadline). d.number == deadline) c.deadlines)) (λ row. grant_fits (is_in_hours row.period) request.grant ≡ true)
-CanChangeRecord (Motion case served need) c = length c.motions < most_motions
-CanChangeRecord (Book s) c = s.count ≤ 96
-CanChangeRecord (MoveHearing s) c = s.count ≤ 96
-CanChangeRecord _ c = Unit {0}
-
--- that holds of the case that the command is about
+-- the case that the command is about can be changed so
 abbrev pub CanChangeCase : Parts → Command → Type 0
 CanChangeCase parts command = IfSome (option_and_then parts.case (case_of command)) (CanChangeRecord command)
 

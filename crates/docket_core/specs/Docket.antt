@@ -3,24 +3,24 @@ use Rattle.std.specs.Prelude.{◌≡◌, ◌≤◌, ◌+◌, length, List, [], O
 use Rattle.court_days.specs.Words.{DaysView}
 use Rattle.hearing_slots.specs.declared.booking.Booking.{Booking}
 use Rattle.docket_rows.specs.declared.part.PartId.{PartId}
-use Rattle.docket_rows.specs.Words.{Bench, CaseRecordView, Parts, Rows, AreSound, AreLawful, last_case, part_value, parts_of}
+use Rattle.docket_rows.specs.Words.{CourtSetup, CaseRecordView, Parts, Rows, AreSound, AreLawful, last_case, part_value, parts_of}
 
 -- what no command changes; the days; the cases by their numbers, of which there is no number 0; and the calendars of
 -- the judges and of the rooms, by their numbers
 pub record DocketView : Type 0 where
-  pub bench : Bench
+  pub setup : CourtSetup
   pub days : DaysView
   pub cases : List (Option CaseRecordView)
   pub judges : List (List Booking)
   pub rooms : List (List Booking)
 
 -- there is a place for each case that can be, and a calendar for each judge and each room of the court
-pub record HasPlaces (bench : Bench) (cases : List (Option CaseRecordView)) (judges rooms : List (List Booking)) : Type 0 where
+pub record HasPlaces (setup : CourtSetup) (cases : List (Option CaseRecordView)) (judges rooms : List (List Booking)) : Type 0 where
   pub of_cases : length cases ≡ last_case + 1
-  pub of_judges : length judges ≡ bench.judges
-  pub of_rooms : length rooms ≡ bench.rooms
-  pub few_judges : bench.judges ≤ 32
-  pub few_rooms : bench.rooms ≤ 32
+  pub of_judges : length judges ≡ setup.judges
+  pub of_rooms : length rooms ≡ setup.rooms
+  pub few_judges : setup.judges ≤ 32
+  pub few_rooms : setup.rooms ≤ 32
 
 -- the parts of the docket
 abbrev pub parts_held : DocketView → Parts
@@ -37,4 +37,4 @@ StandsFor d rows = (part : PartId) → part_value (parts_held d) part ≡ part_v
 
 -- it stands for rows that fit together and are lawful
 abbrev pub IsDocket : DocketView → Type 0
-IsDocket d = ∥ ((rows : Rows) × AreSound d.bench rows × AreLawful d.bench rows × StandsFor d rows) ∥₁
+IsDocket d = ∥ ((rows : Rows) × AreSound d.setup rows × AreLawful d.setup rows × StandsFor d rows) ∥₁

@@ -4,8 +4,8 @@ use Rattle.hearing_slots.specs.declared.booking.Booking.{Booking}
 use Rattle.hearing_slots.specs.Words.{IsWithinDay, IsFree}
 use Rattle.docket_rows.specs.declared.command.Command.{Command}
 use Rattle.docket_rows.specs.declared.command.Command.TheVariants.{Book, MoveHearing}
-use Rattle.docket_rows.specs.declared.rebooking.Change.{Change}
-use Rattle.docket_rows.specs.declared.rebooking.Change.TheVariants.{Put}
+use Rattle.docket_rows.specs.declared.rebooking.CalendarChange.{CalendarChange}
+use Rattle.docket_rows.specs.declared.rebooking.CalendarChange.TheVariants.{Put}
 use Rattle.docket_rows.specs.Words.{Parts, changed_by}
 use Rattle.docket_laws.specs.Words.{CanSet}
 
@@ -16,20 +16,20 @@ CanRebook parts (MoveHearing s) = CanSet parts s
 CanRebook parts _ = Unit {0}
 
 -- a calendar after its change
-abbrev pub calendar_after : Change → List Booking → List Booking
+abbrev pub calendar_after : CalendarChange → List Booking → List Booking
 calendar_after change bookings = unwrap_or (changed_by change bookings) bookings
 
 -- a booking that is put in lies within its day, and its slots are free
-abbrev pub CanChange : Change → List Booking → Type 0
+abbrev pub CanChange : CalendarChange → List Booking → Type 0
 CanChange (Put b) bookings = IsWithinDay b × IsFree bookings b.day b.first b.count (Some (b.case, b.motion))
 CanChange _ bookings = Unit {0}
 
 -- some calendars, numbered from `number` on, after the change of each
-abbrev pub calendars_after : (number : ℕ) → (ℕ → Change) → List (List Booking) → List (List Booking)
+abbrev pub calendars_after : (number : ℕ) → (ℕ → CalendarChange) → List (List Booking) → List (List Booking)
 calendars_after number change [] = []
 calendars_after number change (c ∷ cs) = calendar_after (change number) c ∷ calendars_after (number + 1) change cs
 
 -- each of them can be changed so
-abbrev pub CanChangeAll : (number : ℕ) → (ℕ → Change) → List (List Booking) → Type 0
+abbrev pub CanChangeAll : (number : ℕ) → (ℕ → CalendarChange) → List (List Booking) → Type 0
 CanChangeAll number change [] = Unit {0}
 CanChangeAll number change (c ∷ cs) = CanChange (change number) c × CanChangeAll (number + 1) change cs

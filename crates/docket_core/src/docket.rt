@@ -2,13 +2,13 @@
 
 ghost use Rattle.std.specs.Prelude.{◌≡◌, true, Some, None, option_copied, nat_lt, IfOk, IfErr, if◌then◌else◌};
 ghost use Rattle.docket_rows.specs.declared.part.PartId.{PartId};
-ghost use Rattle.docket_rows.specs.Words.{AreSound, Rows, answered, bench_of, deadline_in, has_case, opening_rows, part_after, part_value, refusal, seen_by, step, view_of};
-ghost use Rattle.docket_core.specs.Memory.{takes_memory, view_takes_memory};
+ghost use Rattle.docket_rows.specs.Words.{AreSound, Rows, answered, setup_of, deadline_in, has_case, opening_rows, part_after, part_value, refusal, seen_by, step, view_of};
+ghost use Rattle.docket_decisions.specs.Words.{takes_memory};
+ghost use Rattle.docket_core.specs.Memory.{view_takes_memory};
 
 use crate::holdings::Holdings;
-use crate::seen::deadline_in;
-use crate::sight::Sight;
 use court_days::{Court, Days};
+use docket_decisions::{Sight, deadline_in};
 use docket_rows::{Answer, Command, Query, View};
 use hearing_slots::Calendar;
 use rule_periods::DocketRow;
@@ -37,8 +37,8 @@ impl Docket {
 
     /// The docket of the court before any command. `Err` says that memory ran out.
     pub fn new(alloc: Global, court: &Court) -> Result<Docket, AllocError>
-        ensures bench { IfOk result (λ d. d.bench ≡ bench_of court.now) }
-        ensures rows { IfOk result (λ d. StandsFor d (opening_rows (bench_of court.now))) }
+        ensures setup { IfOk result (λ d. d.setup ≡ setup_of court.now) }
+        ensures rows { IfOk result (λ d. StandsFor d (opening_rows (setup_of court.now))) }
     {
         let holdings = Holdings::new(alloc, court)?;
         Ok(Docket { holdings })
@@ -49,12 +49,12 @@ impl Docket {
     /// of a judge moves no booking. `Err` says that memory ran out, and leaves the docket as it was. A command that takes
     /// no memory never gives it.
     pub fn apply(&mut self, alloc: Global, command: &Command) -> Result<Answer, AllocError>
-        ensures bench { self.new.bench ≡ self.old.bench }
-        ensures answer { IfOk result (λ a. a ≡ answered self.old.bench (parts_held self.old) command.now) }
-        ensures parts { IfOk result (λ a. (part : PartId) → part_value (parts_held self.new) part ≡ part_after self.old.bench (parts_held self.old) command.now part) }
-        ensures rows { (rows : Rows) → AreSound self.old.bench rows → StandsFor self.old rows → IfOk result (λ a. (a ≡ (step self.old.bench rows command.now).1) × StandsFor self.new (step self.old.bench rows command.now).0) }
+        ensures setup { self.new.setup ≡ self.old.setup }
+        ensures answer { IfOk result (λ a. a ≡ answered self.old.setup (parts_held self.old) command.now) }
+        ensures parts { IfOk result (λ a. (part : PartId) → part_value (parts_held self.new) part ≡ part_after self.old.setup (parts_held self.old) command.now part) }
+        ensures rows { (rows : Rows) → AreSound self.old.setup rows → StandsFor self.old rows → IfOk result (λ a. (a ≡ (step self.old.setup rows command.now).1) × StandsFor self.new (step self.old.setup rows command.now).0) }
         ensures err { IfErr result (λ e. self.new ≡ self.old) }
-        ensures memory { IfErr result (λ e. takes_memory (refusal self.old.bench (parts_held self.old) command.now) command.now ≡ true) }
+        ensures memory { IfErr result (λ e. takes_memory (refusal self.old.setup (parts_held self.old) command.now) command.now ≡ true) }
         ensures lawful { IsDocket self.new }
     {
         self.holdings.apply(alloc, command)
@@ -63,9 +63,9 @@ impl Docket {
     /// What the query shows of the docket, or why it is refused. `Err` says that memory ran out. A refusal and the end of
     /// a period take no memory.
     pub fn show(&self, alloc: Global, query: &Query) -> Result<View, AllocError>
-        ensures view { IfOk result (λ v. v ≡ seen_by self.now.bench (parts_held self.now) query.now) }
-        ensures rows { (rows : Rows) → StandsFor self.now rows → IfOk result (λ v. v ≡ view_of self.now.bench rows query.now) }
-        ensures memory { IfErr result (λ e. view_takes_memory (seen_by self.now.bench (parts_held self.now) query.now) ≡ true) }
+        ensures view { IfOk result (λ v. v ≡ seen_by self.now.setup (parts_held self.now) query.now) }
+        ensures rows { (rows : Rows) → StandsFor self.now rows → IfOk result (λ v. v ≡ view_of self.now.setup rows query.now) }
+        ensures memory { IfErr result (λ e. view_takes_memory (seen_by self.now.setup (parts_held self.now) query.now) ≡ true) }
     {
         self.holdings.show(alloc, query)
     }
@@ -79,7 +79,7 @@ impl Docket {
 
     /// The calendar of the judge of that number. None where the court has no such judge. It takes no memory.
     pub fn calendar(&self, judge: u8) -> Option<&Calendar>
-        ensures { option_copied result ≡ (if nat_lt judge self.now.bench.judges then Some ((parts_held self.now).judge judge) else None) }
+        ensures { option_copied result ≡ (if nat_lt judge self.now.setup.judges then Some ((parts_held self.now).judge judge) else None) }
     {
         self.holdings.calendar(judge)
     }

@@ -4,15 +4,13 @@ mod calendars;
 mod cases;
 
 ghost use Rattle.std.specs.Prelude.{◌≡◌, ◌+◌, true, [], None, Some, All, option_copied, unwrap_or, get_or, length, nat_lt, IfOk, IfErr, if◌then◌else◌};
-ghost use Rattle.docket_rows.specs.Words.{bench_of, has_case, last_case, opening_rows, parts_of, part_value, seen_by};
+ghost use Rattle.docket_rows.specs.Words.{setup_of, has_case, last_case, opening_rows, parts_of, part_value, seen_by};
 ghost use Rattle.docket_rows.specs.declared.part.PartId.{PartId};
 ghost use Rattle.docket_core.specs.Memory.{view_takes_memory};
 
-use crate::rules::DocketRules;
-use crate::seen::has_case;
-use crate::sight::Sight;
 use crate::views::view_of;
 use court_days::{Court, Days};
+use docket_decisions::{DocketRules, Sight, has_case};
 use docket_rows::{CaseRecord, LAST_CASE, Query, View};
 use hearing_slots::Calendar;
 use std::alloc::{AllocError, Global};
@@ -34,7 +32,7 @@ impl Model for Holdings {
 
     ghost Value = { DocketView };
 
-    ghost view = { λ d. record { bench = d.rules; days = d.days; cases = d.cases.items; judges = d.judges.items; rooms = d.rooms.items } };
+    ghost view = { λ d. record { setup = d.rules; days = d.days; cases = d.cases.items; judges = d.judges.items; rooms = d.rooms.items } };
 
     ghost invariant = { λ d. HasPlaces d.rules d.cases.items d.judges.items d.rooms.items };
 }
@@ -44,8 +42,8 @@ impl Holdings {
 
     /// The docket of the court before any command. `Err` says that memory ran out.
     pub fn new(alloc: Global, court: &Court) -> Result<Holdings, AllocError>
-        ensures bench { IfOk result (λ d. d.bench ≡ bench_of court.now) }
-        ensures parts { IfOk result (λ d. (part : PartId) → part_value (parts_held d) part ≡ part_value (parts_of (opening_rows (bench_of court.now))) part) }
+        ensures setup { IfOk result (λ d. d.setup ≡ setup_of court.now) }
+        ensures parts { IfOk result (λ d. (part : PartId) → part_value (parts_held d) part ≡ part_value (parts_of (opening_rows (setup_of court.now))) part) }
     {
         let rules = DocketRules::new(court)?;
         let days = court.days().copy()?;
@@ -63,8 +61,8 @@ impl Holdings {
 
     /// What the query shows of the docket as it is, or why it is refused. `Err` says that memory ran out.
     pub fn show(&self, alloc: Global, query: &Query) -> Result<View, AllocError>
-        ensures view { IfOk result (λ v. v ≡ seen_by self.now.bench (parts_held self.now) query.now) }
-        ensures memory { IfErr result (λ e. view_takes_memory (seen_by self.now.bench (parts_held self.now) query.now) ≡ true) }
+        ensures view { IfOk result (λ v. v ≡ seen_by self.now.setup (parts_held self.now) query.now) }
+        ensures memory { IfErr result (λ e. view_takes_memory (seen_by self.now.setup (parts_held self.now) query.now) ≡ true) }
     {
         view_of(alloc, &self.rules, self, query)
     }
@@ -78,7 +76,7 @@ impl Holdings {
 
     /// The calendar of the judge of that number. None where the court has no such judge.
     pub fn calendar(&self, judge: u8) -> Option<&Calendar>
-        ensures { option_copied result ≡ (if nat_lt judge self.now.bench.judges then Some ((parts_held self.now).judge judge) else None) }
+        ensures { option_copied result ≡ (if nat_lt judge self.now.setup.judges then Some ((parts_held self.now).judge judge) else None) }
     {
         let judges = &self.judges;
         judges.get(usize::from(judge))

@@ -4,66 +4,49 @@ ghost use Rattle.std.specs.Prelude.{◌≡◌, ◌≤◌};
 ghost use Rattle.docket_rows.specs.Words.{hearing_asked, booking_of, placement_of, rebooking_of, judge_change, room_change};
 ghost use Rattle.docket_core.specs.Rebooking.{CanRebook};
 
-use crate::hearings::{later, sits};
-use crate::seen::{hearing_in, motion_in};
-use crate::sight::Sight;
-use docket_rows::{Change, Command, Hearing, Placement, Rebooking, Setting};
+use docket_decisions::{Sight, hearing_asked, hearing_in, later, motion_in, sits};
+use docket_rows::{CalendarChange, Command, Placement, Rebooking, Setting};
 use hearing_slots::{Booking, Need};
 
 /// What becomes of the calendar of the judge.
-pub(crate) fn judge_change(rebooking: &Rebooking, judge: u8) -> Change
+pub(crate) fn judge_change(rebooking: &Rebooking, judge: u8) -> CalendarChange
     ensures { result ≡ judge_change rebooking.now judge }
 {
     if let Some(placed) = rebooking.after {
         if sits(judge, placed.hearing.judges.judges()) {
-            return Change::Put(placed.with_room);
+            return CalendarChange::Put(placed.with_room);
         }
     }
     match rebooking.before {
         Some(hearing) => {
             if sits(judge, hearing.judges.judges()) {
-                Change::TakeOut(rebooking.case, rebooking.motion)
+                CalendarChange::TakeOut(rebooking.case, rebooking.motion)
             } else {
-                Change::Stays
+                CalendarChange::Stays
             }
         }
-        None => Change::Stays,
+        None => CalendarChange::Stays,
     }
 }
 
 /// What becomes of the calendar of the room.
-pub(crate) fn room_change(rebooking: &Rebooking, room: u8) -> Change
+pub(crate) fn room_change(rebooking: &Rebooking, room: u8) -> CalendarChange
     ensures { result ≡ room_change rebooking.now room }
 {
     if let Some(placed) = rebooking.after {
         if placed.hearing.room == room {
-            return Change::Put(placed.with_judge);
+            return CalendarChange::Put(placed.with_judge);
         }
     }
     match rebooking.before {
         Some(hearing) => {
             if hearing.room == room {
-                Change::TakeOut(rebooking.case, rebooking.motion)
+                CalendarChange::TakeOut(rebooking.case, rebooking.motion)
             } else {
-                Change::Stays
+                CalendarChange::Stays
             }
         }
-        None => Change::Stays,
-    }
-}
-
-/// The hearing that is asked for.
-pub(crate) fn hearing_asked(s: &Setting) -> Hearing
-    requires { s.now.count ≤ 96 }
-    ensures { result ≡ hearing_asked s.now }
-{
-    Hearing {
-        judges: s.judges,
-        room: s.room,
-        day: s.day,
-        first: s.first,
-        count: s.count as u8,
-        notice: s.notice,
+        None => CalendarChange::Stays,
     }
 }
 

@@ -7,11 +7,8 @@ ghost use Rattle.docket_rows.specs.Words.{seen_by};
 ghost use Rattle.docket_rows.specs.declared.query.Query.TheVariants as query;
 ghost use Rattle.docket_core.specs.Memory.{view_takes_memory};
 
-use crate::deadlines::{shown_at_start, start_refusal};
-use crate::rules::DocketRules;
-use crate::seen::has_case;
-use crate::sight::Sight;
 use court_clock::Day;
+use docket_decisions::{DocketRules, Sight, has_case, shown_at_start, start_refusal};
 use docket_rows::{Query, Refusal, View};
 use hearing_slots::{Bookings, Calendar};
 use rule_periods::{Event, Period};
@@ -91,8 +88,8 @@ fn end_view<S: Sight>(
     }
 }
 
-/// What the query shows, or why it is refused. `Err` says that memory ran out.
-pub(crate) fn view_of<S: Sight>(
+/// What the query shows of what is seen, or why it is refused. No part is copied. `Err` says that memory ran out.
+pub fn view_of<S: Sight>(
     alloc: Global,
     rules: &DocketRules,
     sight: &S,
@@ -107,20 +104,5 @@ pub(crate) fn view_of<S: Sight>(
         Query::Compute(period, event, second, service) => Ok(end_view(
             alloc, rules, sight, period, event, second, service,
         )),
-    }
-}
-
-impl DocketRules {
-    /// What the query shows of what is seen, or why it is refused. No part is copied. `Err` says that memory ran out.
-    pub fn show<S: Sight>(
-        &self,
-        alloc: Global,
-        sight: &S,
-        query: &Query,
-    ) -> Result<View, AllocError>
-        ensures view { IfOk result (λ v. v ≡ seen_by self.now (S.parts sight.now) query.now) }
-        ensures memory { IfErr result (λ e. view_takes_memory (seen_by self.now (S.parts sight.now) query.now) ≡ true) }
-    {
-        view_of(alloc, self, sight, query)
     }
 }

@@ -5,14 +5,13 @@ mod cases;
 ghost use Rattle.std.specs.Prelude.{◌≡◌, true, None, IfOk, IfErr};
 ghost use Rattle.docket_rows.specs.Words.{refusal, outage_refusal, changed, days_written};
 ghost use Rattle.court_days.specs.Words.{add_outage};
-ghost use Rattle.docket_core.specs.Memory.{takes_memory};
+ghost use Rattle.docket_decisions.specs.Words.{takes_memory};
 
-use crate::rules::DocketRules;
-use crate::sight::Sight;
 use calendars::{judge_written, room_written};
 use cases::case_written;
 use court_clock::Day;
 use court_days::{Days, Outage};
+use docket_decisions::{DocketRules, Sight};
 use docket_rows::{Command, PartId, PartValue, SharedCase};
 use std::alloc::{AllocError, Global};
 

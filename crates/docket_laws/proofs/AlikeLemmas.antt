@@ -21,16 +21,16 @@ use Rattle.docket_rows.specs.declared.query.Query.{Query}
 use Rattle.docket_rows.specs.declared.query.Query.TheVariants.{Sheet, JudgeDay, Compute}
 use Rattle.docket_rows.specs.declared.refusal.Refusal.TheVariants.{NoSuchCase}
 use Rattle.docket_rows.specs.declared.view.View.TheVariants as view
-use Rattle.docket_rows.specs.Words.{Bench, CaseRecordView, NumberedDeadline, Parts, Rows, answer_if_made, answered, bench_of, book_refusal, deadline_in, extend_refusal, file_act_refusal, has_one, holiday_refusal, move_refusal, next_deadline, notice_lost, opening_rows, parts_of, query_refusal, refusal, refusal_of, rows_from, seen_by, sheet_deadline, sheet_of, shown_if_asked, shown_now, start_deadline_refusal, started, state_of, step, view_of}
-use Rattle.docket_laws.specs.Clocks.{IsSameBench}
+use Rattle.docket_rows.specs.Words.{CourtSetup, CaseRecordView, NumberedDeadline, Parts, Rows, answer_if_made, answered, setup_of, book_refusal, deadline_in, extend_refusal, file_act_refusal, has_one, holiday_refusal, move_refusal, next_deadline, notice_lost, opening_rows, parts_of, query_refusal, refusal, refusal_of, rows_from, seen_by, sheet_deadline, sheet_of, shown_if_asked, shown_now, start_deadline_refusal, started, state_of, step, view_of}
+use Rattle.docket_laws.specs.Clocks.{IsSameSetup}
 use Rattle.docket_laws.specs.Lawful.{docket_after}
 use Rattle.docket_laws.proofs.PartsLists.{map_agree}
 
--- two values of one court have two benches of it
-pub same_bench : (a b : CourtView) → IsSameCourt a b → IsSameBench (bench_of a) (bench_of b)
-same_bench a b same = record { clock = same.clock; days = same.days; judges = ap length same.judges; rooms = ap length same.rooms }
+-- two values of one court have two setups of it
+pub same_setup : (a b : CourtView) → IsSameCourt a b → IsSameSetup (setup_of a) (setup_of b)
+same_setup a b same = record { clock = same.clock; days = same.days; judges = ap length same.judges; rooms = ap length same.rooms }
 
-module _ (a b : Bench) (same : IsSameBench a b) where
+module _ (a b : CourtSetup) (same : IsSameSetup a b) where
   -- deadlines
   end_alike : (parts : Parts) (row : DeadlineRowView) → shown_now a parts row ≡ shown_now b parts row
   end_alike parts row = shown_alike a.clock b.clock same.clock parts.days row

@@ -11,4 +11,4 @@ pub use Rattle.docket_laws.proofs.ReadsWritten.{written_read, written_once}
 pub use Rattle.docket_laws.proofs.ReadsSame.{AgreeOn, refusal_rests}
 pub use Rattle.docket_laws.proofs.ReadsChanged.{answered_rests, changed_rests, wanted_rests}
 pub use Rattle.docket_laws.proofs.ReadsDecided.{refusal_read, answered_read, changed_read, written_made, written_refused, hearings_shown, rows_span, decided_answer, decided_parts}
-pub use Rattle.docket_laws.proofs.AlikeLemmas.{same_bench, refusal_alike, answered_alike, step_alike, rows_from_alike, docket_alike, sheet_alike, seen_alike, view_alike}
+pub use Rattle.docket_laws.proofs.AlikeLemmas.{same_setup, refusal_alike, answered_alike, step_alike, rows_from_alike, docket_alike, sheet_alike, seen_alike, view_alike}

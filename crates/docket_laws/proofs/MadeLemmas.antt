@@ -17,7 +17,7 @@ use Rattle.docket_rows.specs.declared.hearing.Setting.{Setting}
 use Rattle.docket_rows.specs.declared.refusal.Refusal.{Refusal}
 use Rattle.docket_rows.specs.declared.refusal.Refusal.TheVariants.{NoSuchDeadline}
 use Rattle.docket_laws.specs.CanSet.{CanSet}
-use Rattle.docket_rows.specs.Words.{Bench, Parts, CaseRecordView, NumberedDeadline, most_deadlines, most_motions, refusal_of, deadlines_in, deadline_in, motions_in, fits_day, sits, start_deadline_refusal, start_deadline_checks, extend_refusal, extend_checks, motion_refusal, motion_checks, hearing_checks, book_refusal, move_refusal, outage_refusal, outage_checks}
+use Rattle.docket_rows.specs.Words.{CourtSetup, Parts, CaseRecordView, NumberedDeadline, most_deadlines, most_motions, refusal_of, deadlines_in, deadline_in, motions_in, fits_day, sits, start_deadline_refusal, start_deadline_checks, extend_refusal, extend_checks, motion_refusal, motion_checks, hearing_checks, book_refusal, move_refusal, outage_refusal, outage_checks}
 
 -- no line of the list applies
 abbrev pub NoneOf : {R : Type 0} → List (Option R) → Type 0
@@ -56,10 +56,10 @@ pub record CanStart (parts : Parts) (case : ℕ) (period : Period) (second : Opt
   pub ranged : has_length period ≡ true
   pub room : length (deadlines_in parts case) < most_deadlines
 
-pub can_start : (bench : Bench) (parts : Parts) (case : ℕ) (period : Period) (event : EventView) (second : Option ℤ) (service : Option ServiceKind) → start_deadline_refusal bench parts case period event second service ≡ None → CanStart parts case period second service
+pub can_start : (setup : CourtSetup) (parts : Parts) (case : ℕ) (period : Period) (event : EventView) (second : Option ℤ) (service : Option ServiceKind) → start_deadline_refusal setup parts case period event second service ≡ None → CanStart parts case period second service
 unfolding start_deadline_refusal
-can_start bench parts case period event second service h =
-    let n = none_of (start_deadline_checks bench parts case period event second service) h in
+can_start setup parts case period event second service h =
+    let n = none_of (start_deadline_checks setup parts case period event second service) h in
     let made = start_made parts.days period event second service (option_map-None _ _ n.1.0) in
     let full = when-None _ _ n.1.1.0 in
     record { suits = made.0; ranged = made.1; room = grind (arith, nat_tests) }
@@ -73,9 +73,9 @@ can_enter parts case served need h =
     grind (arith, nat_tests)
 
 -- in the case that the parts show, where it is open
-pub can_start_in : (bench : Bench) (parts : Parts) (case : ℕ) (period : Period) (event : EventView) (second : Option ℤ) (service : Option ServiceKind) (c : CaseRecordView) → start_deadline_refusal bench parts case period event second service ≡ None → parts.case case ≡ Some c → length c.deadlines < most_deadlines
-can_start_in bench parts case period event second service c h found =
-    let made = can_start bench parts case period event second service h in
+pub can_start_in : (setup : CourtSetup) (parts : Parts) (case : ℕ) (period : Period) (event : EventView) (second : Option ℤ) (service : Option ServiceKind) (c : CaseRecordView) → start_deadline_refusal setup parts case period event second service ≡ None → parts.case case ≡ Some c → length c.deadlines < most_deadlines
+can_start_in setup parts case period event second service c h found =
+    let made = can_start setup parts case period event second service h in
     rw found at made.room
 
 pub can_enter_in : (parts : Parts) (case : ℕ) (served : ℤ) (need : Need) (c : CaseRecordView) → motion_refusal parts case served need ≡ None → parts.case case ≡ Some c → length c.motions < most_motions
@@ -92,11 +92,11 @@ extension_made c clock row request h =
     let n = none_of (extension_checks c clock row request) h in
     record { ranged = when-not-None _ _ n.1.1.1.1.0; fits = when-not-None _ _ n.1.1.1.0 }
 
-pub can_extend : (bench : Bench) (parts : Parts) (case deadline : ℕ) (request : Request) (row : DeadlineRowView) → extend_refusal bench parts case deadline request ≡ None → deadline_in parts case deadline ≡ Some row → CanExtend row request
+pub can_extend : (setup : CourtSetup) (parts : Parts) (case deadline : ℕ) (request : Request) (row : DeadlineRowView) → extend_refusal setup parts case deadline request ≡ None → deadline_in parts case deadline ≡ Some row → CanExtend row request
 unfolding extend_refusal
-can_extend bench parts case deadline request row h found =
-    let n = none_of (extend_checks bench parts case deadline request) h in
-    extension_made parts.days bench.clock row request (option_map-None _ _ (rw found at n.1.1.1.0))
+can_extend setup parts case deadline request row h found =
+    let n = none_of (extend_checks setup parts case deadline request) h in
+    extension_made parts.days setup.clock row request (option_map-None _ _ (rw found at n.1.1.1.0))
 
 -- where no booking conflicts with the span, it is free
 pub free_of : (bookings : List Booking) (day : ℤ) (first count : ℕ) (except : Option (ℕ × ℕ)) → first_conflict bookings day first count except ≡ None → IsFree bookings day first count except
@@ -125,9 +125,9 @@ none_of_judges found judge (j ∷ panel) h sitting =
     ]
 
 -- a hearing that isn't refused can be set
-can_set : (bench : Bench) (parts : Parts) (s : Setting) (set : Option Refusal) (except : Option (ℕ × ℕ)) → ((bookings : List Booking) → IsFree bookings s.day s.first s.count except → IsFree bookings s.day s.first s.count (Some (s.case, s.motion))) → first_of (hearing_checks bench parts s set except) ≡ None → CanSet parts s
-can_set bench parts s set except widen h =
-    let n = none_of (hearing_checks bench parts s set except) h in
+can_set : (setup : CourtSetup) (parts : Parts) (s : Setting) (set : Option Refusal) (except : Option (ℕ × ℕ)) → ((bookings : List Booking) → IsFree bookings s.day s.first s.count except → IsFree bookings s.day s.first s.count (Some (s.case, s.motion))) → first_of (hearing_checks setup parts s set except) ≡ None → CanSet parts s
+can_set setup parts s set except widen h =
+    let n = none_of (hearing_checks setup parts s set except) h in
     let m = n.1.1.1.1.1.1.1.1.1.1.1.1 in
     record {
       fits = when-not-None _ _ n.1.1.1.1.1.1.0;
@@ -135,13 +135,13 @@ can_set bench parts s set except widen h =
       room = widen (parts.room s.room) (free_of (parts.room s.room) s.day s.first s.count except (option_map-None _ _ m.1.0));
     }
 
-pub can_book : (bench : Bench) (parts : Parts) (s : Setting) → book_refusal bench parts s ≡ None → CanSet parts s
+pub can_book : (setup : CourtSetup) (parts : Parts) (s : Setting) → book_refusal setup parts s ≡ None → CanSet parts s
 unfolding book_refusal
-can_book bench parts s h = can_set bench parts s _ None (λ bookings free. free_anyway bookings s.day s.first s.count (s.case, s.motion) free) h
+can_book setup parts s h = can_set setup parts s _ None (λ bookings free. free_anyway bookings s.day s.first s.count (s.case, s.motion) free) h
 
-pub can_move : (bench : Bench) (parts : Parts) (s : Setting) → move_refusal bench parts s ≡ None → CanSet parts s
+pub can_move : (setup : CourtSetup) (parts : Parts) (s : Setting) → move_refusal setup parts s ≡ None → CanSet parts s
 unfolding move_refusal
-can_move bench parts s h = can_set bench parts s _ (Some (s.case, s.motion)) (λ bookings free. free) h
+can_move setup parts s h = can_set setup parts s _ (Some (s.case, s.motion)) (λ bookings free. free) h
 
 -- an outage that isn't refused ends after it begins, and in its day
 pub can_enter_outage : (parts : Parts) (day : ℤ) (from to : ℕ) → outage_refusal parts day from to ≡ None → (from < to) × (to ≤ 1440)
@@ -165,9 +165,9 @@ extends c clock request (Some row) none h =
     let made = extension_made c clock row request (option_map-None _ _ h) in
     (made.ranged, made.fits)
 
-pub can_extend_in : (bench : Bench) (parts : Parts) (case deadline : ℕ) (request : Request) (c : CaseRecordView) → extend_refusal bench parts case deadline request ≡ None → parts.case case ≡ Some c → (is_grant_length request.grant ≡ true) × IfSome (option_map (λ (d : NumberedDeadline). d.row) (find (λ (d : NumberedDeadline). d.number == deadline) c.deadlines)) (λ r. grant_fits (is_in_hours r.period) request.grant ≡ true)
+pub can_extend_in : (setup : CourtSetup) (parts : Parts) (case deadline : ℕ) (request : Request) (c : CaseRecordView) → extend_refusal setup parts case deadline request ≡ None → parts.case case ≡ Some c → (is_grant_length request.grant ≡ true) × IfSome (option_map (λ (d : NumberedDeadline). d.row) (find (λ (d : NumberedDeadline). d.number == deadline) c.deadlines)) (λ r. grant_fits (is_in_hours r.period) request.grant ≡ true)
 unfolding extend_refusal
-can_extend_in bench parts case deadline request c h found =
-    let n = none_of (extend_checks bench parts case deadline request) h in
-    let all = extends parts.days bench.clock request (deadline_in parts case deadline) n.1.0 n.1.1.1.0 in
+can_extend_in setup parts case deadline request c h found =
+    let n = none_of (extend_checks setup parts case deadline request) h in
+    let all = extends parts.days setup.clock request (deadline_in parts case deadline) n.1.0 n.1.1.1.0 in
     (all.0, rw found at all.1)

@@ -11,7 +11,7 @@ use Rattle.docket_rows.specs.declared.hearing.Setting.{Setting}
 use Rattle.docket_rows.specs.declared.part.PartId.{PartId}
 use Rattle.docket_rows.specs.declared.part.PartId.TheVariants.{Court, Judge, Room, Case}
 use Rattle.docket_rows.specs.declared.part.PartValue.TheVariants as value
-use Rattle.docket_rows.specs.Words.{Bench, Rows, Parts, DocketedHearing, CaseRecordView, AreSound, is_hearing, hearing_of, parts_of, part_value, sits, first_judge, hearing_asked, hearing_in, open_case_checks, open_case_refusal, book_checks, book_refusal, refusal, rows_after, changed}
+use Rattle.docket_rows.specs.Words.{CourtSetup, Rows, Parts, DocketedHearing, CaseRecordView, AreSound, is_hearing, hearing_of, parts_of, part_value, sits, first_judge, hearing_asked, hearing_in, open_case_checks, open_case_refusal, book_checks, book_refusal, refusal, rows_after, changed}
 use Rattle.docket_laws.proofs.MadeLemmas.{none_of, when-None, option_map-None}
 use Rattle.docket_laws.proofs.PartsCalendars.{calendar_cancelled, calendar_moved, booking_seen}
 use Rattle.docket_laws.proofs.PartsCases.{case_after_opening}
@@ -38,17 +38,17 @@ nothing_found None h = refl
 nothing_found (Some x) h = absurd (true≢false h)
 
 -- a case that may be opened isn't open
-may_open : (bench : Bench) (rows : Rows) (case : ℕ) (filed : ℤ) → open_case_refusal (parts_of rows) case filed ≡ None → (parts_of rows).case case ≡ None
+may_open : (setup : CourtSetup) (rows : Rows) (case : ℕ) (filed : ℤ) → open_case_refusal (parts_of rows) case filed ≡ None → (parts_of rows).case case ≡ None
 unfolding open_case_refusal
-may_open bench rows case filed h =
+may_open setup rows case filed h =
     let n = none_of (open_case_checks (parts_of rows) case filed) h in
     nothing_found _ (when-None _ _ n.1.1.0)
 
 -- a motion whose hearing may be booked has none
-may_book : (bench : Bench) (parts : Parts) (s : Setting) → book_refusal bench parts s ≡ None → hearing_in parts s.case s.motion ≡ None
+may_book : (setup : CourtSetup) (parts : Parts) (s : Setting) → book_refusal setup parts s ≡ None → hearing_in parts s.case s.motion ≡ None
 unfolding book_refusal
-may_book bench parts s h =
-    let n = none_of (book_checks bench parts s) h in
+may_book setup parts s h =
+    let n = none_of (book_checks setup parts s) h in
     nothing_found _ (when-None _ _ n.1.1.1.1.1.1.1.0)
 
 -- to book is to move the hearing of a motion that has none
@@ -64,69 +64,69 @@ written_as_moved parts s none (Judge judge) = rw none refl
 written_as_moved parts s none (Room room) = rw none refl
 written_as_moved parts s none (Case n) = refl
 
-module _ (bench : Bench) (rows : Rows) (sound : AreSound bench rows) where
+module _ (setup : CourtSetup) (rows : Rows) (sound : AreSound setup rows) where
   after_opening : (case : ℕ) (filed : ℤ) → open_case_refusal (parts_of rows) case filed ≡ None → (part : PartId) → IsAfter rows (OpenCase case filed) part
   unfolding parts_of
   after_opening case filed h Court = refl
   after_opening case filed h (Judge judge) = refl
   after_opening case filed h (Room room) = refl
-  after_opening case filed h (Case n) = case_value _ _ _ (case_after_opening bench rows case filed sound (option_map-None _ _ (may_open bench rows case filed h)) n)
+  after_opening case filed h (Case n) = case_value _ _ _ (case_after_opening setup rows case filed sound (option_map-None _ _ (may_open setup rows case filed h)) n)
 
   after_motion : (case : ℕ) (served : ℤ) (need : Need) (part : PartId) → IsAfter rows (Motion case served need) part
   unfolding parts_of
   after_motion case served need Court = refl
-  after_motion case served need (Judge judge) = ap value.Calendar (calendar_after_motion bench rows case served need sound (λ h. h.room) (λ h. sits judge h.judges))
-  after_motion case served need (Room room) = ap value.Calendar (calendar_after_motion bench rows case served need sound (λ h. first_judge h.judges) (λ h. h.room == room))
-  after_motion case served need (Case n) = case_value _ _ _ (case_after_motion bench rows case served need sound n)
+  after_motion case served need (Judge judge) = ap value.Calendar (calendar_after_motion setup rows case served need sound (λ h. h.room) (λ h. sits judge h.judges))
+  after_motion case served need (Room room) = ap value.Calendar (calendar_after_motion setup rows case served need sound (λ h. first_judge h.judges) (λ h. h.room == room))
+  after_motion case served need (Case n) = case_value _ _ _ (case_after_motion setup rows case served need sound n)
 
   after_cancel : (case motion : ℕ) (part : PartId) → IsAfter rows (Cancel case motion) part
   unfolding parts_of
   after_cancel case motion Court = refl
   after_cancel case motion (Judge judge) =
-      calendar_value _ _ _ (rw (hearing_seen bench rows sound case motion) (calendar_cancelled rows case motion (λ h. h.room) (λ h. sits judge h.judges) sound.hearing_once))
+      calendar_value _ _ _ (rw (hearing_seen setup rows sound case motion) (calendar_cancelled rows case motion (λ h. h.room) (λ h. sits judge h.judges) sound.hearing_once))
   after_cancel case motion (Room room) =
-      calendar_value _ _ _ (rw (hearing_seen bench rows sound case motion) (calendar_cancelled rows case motion (λ h. first_judge h.judges) (λ h. h.room == room) sound.hearing_once))
+      calendar_value _ _ _ (rw (hearing_seen setup rows sound case motion) (calendar_cancelled rows case motion (λ h. first_judge h.judges) (λ h. h.room == room) sound.hearing_once))
   after_cancel case motion (Case n) = case_value _ _ _ (case_after_cancel rows case motion n)
 
   after_move : (s : Setting) (part : PartId) → IsAfter rows (MoveHearing s) part
   unfolding parts_of
   after_move s Court = refl
   after_move s (Judge judge) =
-      calendar_value _ _ _ (rw (hearing_seen bench rows sound s.case s.motion, booking_seen bench rows sound s.room s) (calendar_moved rows s (λ h. h.room) (λ h. sits judge h.judges) sound.hearing_once))
+      calendar_value _ _ _ (rw (hearing_seen setup rows sound s.case s.motion, booking_seen setup rows sound s.room s) (calendar_moved rows s (λ h. h.room) (λ h. sits judge h.judges) sound.hearing_once))
   after_move s (Room room) =
-      calendar_value _ _ _ (rw (hearing_seen bench rows sound s.case s.motion, booking_seen bench rows sound (first_judge s.judges) s) (calendar_moved rows s (λ h. first_judge h.judges) (λ h. h.room == room) sound.hearing_once))
+      calendar_value _ _ _ (rw (hearing_seen setup rows sound s.case s.motion, booking_seen setup rows sound (first_judge s.judges) s) (calendar_moved rows s (λ h. first_judge h.judges) (λ h. h.room == room) sound.hearing_once))
   after_move s (Case n) = case_value _ _ _ (case_after_move rows s n)
 
-  after_booking : (s : Setting) → book_refusal bench (parts_of rows) s ≡ None → (part : PartId) → IsAfter rows (Book s) part
+  after_booking : (s : Setting) → book_refusal setup (parts_of rows) s ≡ None → (part : PartId) → IsAfter rows (Book s) part
   after_booking s h part =
-      let none = may_book bench (parts_of rows) s h in
-      rw (booked_as_moved rows s (sym (hearing_seen bench rows sound s.case s.motion) ∙ none), written_as_moved (parts_of rows) s none part) (after_move s part)
+      let none = may_book setup (parts_of rows) s h in
+      rw (booked_as_moved rows s (sym (hearing_seen setup rows sound s.case s.motion) ∙ none), written_as_moved (parts_of rows) s none part) (after_move s part)
 
 -- the whole
-pub parts_after : (bench : Bench) (rows : Rows) (command : Command) → AreSound bench rows → refusal bench (parts_of rows) command ≡ None → (part : PartId) → part_value (parts_of (rows_after rows command)) part ≡ unwrap_or (changed (parts_of rows) command part) (part_value (parts_of rows) part)
+pub parts_after : (setup : CourtSetup) (rows : Rows) (command : Command) → AreSound setup rows → refusal setup (parts_of rows) command ≡ None → (part : PartId) → part_value (parts_of (rows_after rows command)) part ≡ unwrap_or (changed (parts_of rows) command part) (part_value (parts_of rows) part)
 unfolding parts_of
-parts_after bench rows (OpenCase case filed) sound h part = after_opening bench rows sound case filed h part
-parts_after bench rows (Start case period event second service) sound h Court = refl
-parts_after bench rows (Start case period event second service) sound h (Judge judge) = refl
-parts_after bench rows (Start case period event second service) sound h (Room room) = refl
-parts_after bench rows (Start case period event second service) sound h (Case n) = case_value _ _ _ (case_after_start rows case period event second service n)
-parts_after bench rows (FileAct case deadline filing) sound h Court = refl
-parts_after bench rows (FileAct case deadline filing) sound h (Judge judge) = refl
-parts_after bench rows (FileAct case deadline filing) sound h (Room room) = refl
-parts_after bench rows (FileAct case deadline filing) sound h (Case n) = case_value _ _ _ (case_after_act rows case deadline filing n)
-parts_after bench rows (Extend case deadline request) sound h Court = refl
-parts_after bench rows (Extend case deadline request) sound h (Judge judge) = refl
-parts_after bench rows (Extend case deadline request) sound h (Room room) = refl
-parts_after bench rows (Extend case deadline request) sound h (Case n) = case_value _ _ _ (case_after_grant rows case deadline request n)
-parts_after bench rows (Motion case served need) sound h part = after_motion bench rows sound case served need part
-parts_after bench rows (Book s) sound h part = after_booking bench rows sound s h part
-parts_after bench rows (MoveHearing s) sound h part = after_move bench rows sound s part
-parts_after bench rows (Cancel case motion) sound h part = after_cancel bench rows sound case motion part
-parts_after bench rows (Holiday day list) sound h Court = refl
-parts_after bench rows (Holiday day list) sound h (Judge judge) = refl
-parts_after bench rows (Holiday day list) sound h (Room room) = refl
-parts_after bench rows (Holiday day list) sound h (Case n) = refl
-parts_after bench rows (Inaccessible day from to) sound h Court = refl
-parts_after bench rows (Inaccessible day from to) sound h (Judge judge) = refl
-parts_after bench rows (Inaccessible day from to) sound h (Room room) = refl
-parts_after bench rows (Inaccessible day from to) sound h (Case n) = refl
+parts_after setup rows (OpenCase case filed) sound h part = after_opening setup rows sound case filed h part
+parts_after setup rows (Start case period event second service) sound h Court = refl
+parts_after setup rows (Start case period event second service) sound h (Judge judge) = refl
+parts_after setup rows (Start case period event second service) sound h (Room room) = refl
+parts_after setup rows (Start case period event second service) sound h (Case n) = case_value _ _ _ (case_after_start rows case period event second service n)
+parts_after setup rows (FileAct case deadline filing) sound h Court = refl
+parts_after setup rows (FileAct case deadline filing) sound h (Judge judge) = refl
+parts_after setup rows (FileAct case deadline filing) sound h (Room room) = refl
+parts_after setup rows (FileAct case deadline filing) sound h (Case n) = case_value _ _ _ (case_after_act rows case deadline filing n)
+parts_after setup rows (Extend case deadline request) sound h Court = refl
+parts_after setup rows (Extend case deadline request) sound h (Judge judge) = refl
+parts_after setup rows (Extend case deadline request) sound h (Room room) = refl
+parts_after setup rows (Extend case deadline request) sound h (Case n) = case_value _ _ _ (case_after_grant rows case deadline request n)
+parts_after setup rows (Motion case served need) sound h part = after_motion setup rows sound case served need part
+parts_after setup rows (Book s) sound h part = after_booking setup rows sound s h part
+parts_after setup rows (MoveHearing s) sound h part = after_move setup rows sound s part
+parts_after setup rows (Cancel case motion) sound h part = after_cancel setup rows sound case motion part
+parts_after setup rows (Holiday day list) sound h Court = refl
+parts_after setup rows (Holiday day list) sound h (Judge judge) = refl
+parts_after setup rows (Holiday day list) sound h (Room room) = refl
+parts_after setup rows (Holiday day list) sound h (Case n) = refl
+parts_after setup rows (Inaccessible day from to) sound h Court = refl
+parts_after setup rows (Inaccessible day from to) sound h (Judge judge) = refl
+parts_after setup rows (Inaccessible day from to) sound h (Room room) = refl
+parts_after setup rows (Inaccessible day from to) sound h (Case n) = refl

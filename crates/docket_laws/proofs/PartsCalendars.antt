@@ -10,7 +10,7 @@ use Rattle.hearing_slots.proofs.CallerLemmas.{filter_all, filter_comm, without_m
 use Rattle.court_clock.specs.Words.{later_day}
 use Rattle.docket_rows.specs.declared.hearing.Hearing.{Hearing}
 use Rattle.docket_rows.specs.declared.hearing.Setting.{Setting}
-use Rattle.docket_rows.specs.Words.{Bench, Rows, DocketedMotion, DocketedHearing, NumberedMotion, AreSound, is_motion, is_hearing, hearing_of, motion_shown, booked, parts_of, has_one, hearing_asked, without_hearing, with_hearing, booking_of, changed_by, change_to}
+use Rattle.docket_rows.specs.Words.{CourtSetup, Rows, DocketedMotion, DocketedHearing, NumberedMotion, AreSound, is_motion, is_hearing, hearing_of, motion_shown, booked, parts_of, has_one, hearing_asked, without_hearing, with_hearing, booking_of, changed_by, change_to}
 use Rattle.docket_laws.proofs.PartsLists.{filter-map, filter-push_other, map_filter-push}
 use Rattle.docket_laws.proofs.PartsSeen.{motion_seen}
 
@@ -85,9 +85,9 @@ abbrev booking_with : Setting → (other : ℕ) → Need → ℤ → Booking
 booking_with s other need served =
     record { case = s.case; motion = s.motion; other = other; day = s.day; first = s.first; count = s.count; need = need; served = served }
 
-pub booking_seen : (bench : Bench) (rows : Rows) → AreSound bench rows → (other : ℕ) (s : Setting) → booking_of (parts_of rows) other s ≡ booked rows other (record { case = s.case; motion = s.motion; hearing = hearing_asked s })
-booking_seen bench rows sound other s =
-    ap (λ (found : Option NumberedMotion). booking_with s other (option_map_or (λ (m : NumberedMotion). m.need) found ExParte) (option_map_or (λ (m : NumberedMotion). later_day m.served s.notice) found s.notice)) (motion_seen bench rows sound s.case s.motion)
+pub booking_seen : (setup : CourtSetup) (rows : Rows) → AreSound setup rows → (other : ℕ) (s : Setting) → booking_of (parts_of rows) other s ≡ booked rows other (record { case = s.case; motion = s.motion; hearing = hearing_asked s })
+booking_seen setup rows sound other s =
+    ap (λ (found : Option NumberedMotion). booking_with s other (option_map_or (λ (m : NumberedMotion). m.need) found ExParte) (option_map_or (λ (m : NumberedMotion). later_day m.served s.notice) found s.notice)) (motion_seen setup rows sound s.case s.motion)
     ∙ shown (find (is_motion s.case s.motion) rows.motions) where
       shown : (found : Option DocketedMotion) → booking_with s other (option_map_or (λ (m : NumberedMotion). m.need) (option_map (motion_shown rows) found) ExParte) (option_map_or (λ (m : NumberedMotion). later_day m.served s.notice) (option_map (motion_shown rows) found) s.notice) ≡ booking_with s other (option_map_or (λ (m : DocketedMotion). m.need) found ExParte) (option_map_or (λ (m : DocketedMotion). later_day m.served s.notice) found s.notice)
       shown None = refl

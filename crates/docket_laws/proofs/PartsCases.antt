@@ -4,7 +4,7 @@ use Rattle.std.specs.Option.{option_or}
 use Rattle.std.proofs.lemmas.Bool.{cases_Bool, cases_eq, false≢true, eqb-true, eq-eqb, ne_eqb}
 use Rattle.hearing_slots.proofs.CallerLemmas.{filter_none, find_here, find-Some, find-None}
 use Rattle.docket_rows.specs.declared.command.Command.TheVariants.{OpenCase}
-use Rattle.docket_rows.specs.Words.{Bench, Rows, DocketedCase, CaseRecordView, AreSound, is_case, is_deadline_in, is_motion_in, case_shown, parts_of, case_written, rows_after}
+use Rattle.docket_rows.specs.Words.{CourtSetup, Rows, DocketedCase, CaseRecordView, AreSound, is_case, is_deadline_in, is_motion_in, case_shown, parts_of, case_written, rows_after}
 use Rattle.docket_laws.proofs.PartsLists.{find-push_other}
 
 -- what is written into one case, where the others stay
@@ -44,9 +44,9 @@ none_of_case case_of cases case rows open_cases none k d within = elim (cases_Bo
 ]
 
 -- a case that is opened has no deadlines and no motions
-pub case_after_opening : (bench : Bench) (rows : Rows) (case : ℕ) (filed : ℤ) → AreSound bench rows → find (is_case case) rows.cases ≡ None → (n : ℕ) → (parts_of (rows_after rows (OpenCase case filed))).case n ≡ option_or (case_written (parts_of rows) (OpenCase case filed) n) ((parts_of rows).case n)
+pub case_after_opening : (setup : CourtSetup) (rows : Rows) (case : ℕ) (filed : ℤ) → AreSound setup rows → find (is_case case) rows.cases ≡ None → (n : ℕ) → (parts_of (rows_after rows (OpenCase case filed))).case n ≡ option_or (case_written (parts_of rows) (OpenCase case filed) n) ((parts_of rows).case n)
 unfolding parts_of
-case_after_opening bench rows case filed sound none =
+case_after_opening setup rows case filed sound none =
     let new : DocketedCase = record { case = case; filed = filed } in
     let opened : find (is_case case) (rows.cases ++ new ∷ []) ≡ Some new = find_here (is_case case) rows.cases new [] (find-None (is_case case) rows.cases none) (eq-eqb case case refl) in
     let deadlines : filter (is_deadline_in case) rows.deadlines ≡ [] = filter_none (is_deadline_in case) rows.deadlines (none_of_case (λ d. d.case) rows.cases case rows.deadlines sound.deadlines_of_cases none) in

@@ -7,15 +7,15 @@ use Rattle.hearing_slots.specs.declared.need.Need.{Need}
 use Rattle.hearing_slots.specs.Words.{in_order}
 use Rattle.docket_rows.specs.declared.hearing.Hearing.{Hearing}
 use Rattle.docket_rows.specs.declared.command.Command.TheVariants.{Motion}
-use Rattle.docket_rows.specs.Words.{Bench, Rows, DocketedMotion, DocketedHearing, NumberedMotion, CaseRecordView, AreSound, is_case, is_motion_in, is_motion, hearing_of, motion_shown, case_shown, booked, parts_of, next_motion, add_motion, case_written, rows_after}
+use Rattle.docket_rows.specs.Words.{CourtSetup, Rows, DocketedMotion, DocketedHearing, NumberedMotion, CaseRecordView, AreSound, is_case, is_motion_in, is_motion, hearing_of, motion_shown, case_shown, booked, parts_of, next_motion, add_motion, case_written, rows_after}
 use Rattle.docket_laws.proofs.PartsLists.{map_agree-kept, filter-push_other, map_filter-push, find-push_found}
 use Rattle.docket_laws.proofs.PartsCases.{written_at, number_found, shown_same, shown_changed}
 use Rattle.docket_laws.proofs.PartsSeen.{unset, none_next}
 
 -- one more motion of a case
-pub case_after_motion : (bench : Bench) (rows : Rows) (case : ℕ) (served : ℤ) (need : Need) → AreSound bench rows → (n : ℕ) → (parts_of (rows_after rows (Motion case served need))).case n ≡ option_or (case_written (parts_of rows) (Motion case served need) n) ((parts_of rows).case n)
+pub case_after_motion : (setup : CourtSetup) (rows : Rows) (case : ℕ) (served : ℤ) (need : Need) → AreSound setup rows → (n : ℕ) → (parts_of (rows_after rows (Motion case served need))).case n ≡ option_or (case_written (parts_of rows) (Motion case served need) n) ((parts_of rows).case n)
 unfolding parts_of
-case_after_motion bench rows case served need sound =
+case_after_motion setup rows case served need sound =
     let next = next_motion (parts_of rows) case in
     let m : DocketedMotion = record { case = case; number = next; served = served; need = need } in
     let after = record rows { motions = rows.motions ++ m ∷ [] } in
@@ -41,8 +41,8 @@ case_after_motion bench rows case served need sound =
     ap (λ (ms : List DocketedMotion). record (case_shown rows c) { motions = map (motion_shown rows) ms }) (filter-push_other (is_motion_in c.case) rows.motions m other)))
 
 -- which changes no calendar: each hearing is that of a motion that was entered before
-pub calendar_after_motion : (bench : Bench) (rows : Rows) (case : ℕ) (served : ℤ) (need : Need) → AreSound bench rows → (other : Hearing → ℕ) (test : Hearing → Bool) → in_order (map (λ h. booked (rows_after rows (Motion case served need)) (other h.hearing) h) (filter (λ (h : DocketedHearing). test h.hearing) rows.hearings)) ≡ in_order (map (λ h. booked rows (other h.hearing) h) (filter (λ (h : DocketedHearing). test h.hearing) rows.hearings))
-calendar_after_motion bench rows case served need sound other test =
+pub calendar_after_motion : (setup : CourtSetup) (rows : Rows) (case : ℕ) (served : ℤ) (need : Need) → AreSound setup rows → (other : Hearing → ℕ) (test : Hearing → Bool) → in_order (map (λ h. booked (rows_after rows (Motion case served need)) (other h.hearing) h) (filter (λ (h : DocketedHearing). test h.hearing) rows.hearings)) ≡ in_order (map (λ h. booked rows (other h.hearing) h) (filter (λ (h : DocketedHearing). test h.hearing) rows.hearings))
+calendar_after_motion setup rows case served need sound other test =
     let after = rows_after rows (Motion case served need) in
     ap in_order (map_agree-kept (λ (h : DocketedHearing). test h.hearing) (λ h. booked after (other h.hearing) h) (λ h. booked rows (other h.hearing) h) rows.hearings (λ k d within passes.
     let h = get_or rows.hearings k d in

@@ -6,7 +6,7 @@ use Rattle.std.proofs.lemmas.Bool.{cases_Bool, false≢true, eqb-true, ne_eqb, a
 use Rattle.std.proofs.lemmas.List.{get_or-map}
 use Rattle.std.proofs.lemmas.List.FromFn.{get_or-range_with_len}
 use Rattle.hearing_slots.proofs.CallerLemmas.{find_absent, find-Some, find-filter}
-use Rattle.docket_rows.specs.Words.{Bench, Rows, DocketedCase, DocketedMotion, DocketedHearing, NumberedMotion, CaseRecordView, AreSound, is_case, is_motion_in, is_motion, is_hearing, hearing_of, motion_shown, case_shown, parts_of, motion_in, hearing_in}
+use Rattle.docket_rows.specs.Words.{CourtSetup, Rows, DocketedCase, DocketedMotion, DocketedHearing, NumberedMotion, CaseRecordView, AreSound, is_case, is_motion_in, is_motion, is_hearing, hearing_of, motion_shown, case_shown, parts_of, motion_in, hearing_in}
 use Rattle.docket_laws.proofs.PartsCases.{number_found, none_of_case}
 
 -- the motion of a number, of those that a case shows
@@ -25,9 +25,9 @@ no_motion : (case number : ℕ) (motions : List DocketedMotion) → All (λ (m :
 no_motion case number motions none = find_absent (is_motion case number) motions (λ k d within. rw (none k d within) refl)
 
 -- the parts show the motion of the rows
-pub motion_seen : (bench : Bench) (rows : Rows) → AreSound bench rows → (case number : ℕ) → motion_in (parts_of rows) case number ≡ option_map (motion_shown rows) (find (is_motion case number) rows.motions)
+pub motion_seen : (setup : CourtSetup) (rows : Rows) → AreSound setup rows → (case number : ℕ) → motion_in (parts_of rows) case number ≡ option_map (motion_shown rows) (find (is_motion case number) rows.motions)
 unfolding parts_of
-motion_seen bench rows sound case number = seen (find (is_case case) rows.cases) refl where
+motion_seen setup rows sound case number = seen (find (is_case case) rows.cases) refl where
   seen : (found : Option DocketedCase) → find (is_case case) rows.cases ≡ found → find (λ (m : NumberedMotion). m.number == number) (option_map_or (λ (c : CaseRecordView). c.motions) (option_map (case_shown rows) found) []) ≡ option_map (motion_shown rows) (find (is_motion case number) rows.motions)
   seen None is =
       let none = no_motion case number rows.motions (none_of_case (λ m. m.case) rows.cases case rows.motions sound.motions_of_cases is) in
@@ -49,9 +49,9 @@ unset rows entered case motion none =
           false≢true (rw (same, too, none) at found)
 
 -- the parts show the hearing of the rows
-pub hearing_seen : (bench : Bench) (rows : Rows) → AreSound bench rows → (case motion : ℕ) → hearing_in (parts_of rows) case motion ≡ hearing_of rows case motion
-hearing_seen bench rows sound case motion =
-    ap (option_and_then (λ (m : NumberedMotion). m.hearing)) (motion_seen bench rows sound case motion)
+pub hearing_seen : (setup : CourtSetup) (rows : Rows) → AreSound setup rows → (case motion : ℕ) → hearing_in (parts_of rows) case motion ≡ hearing_of rows case motion
+hearing_seen setup rows sound case motion =
+    ap (option_and_then (λ (m : NumberedMotion). m.hearing)) (motion_seen setup rows sound case motion)
     ∙ seen (find (is_motion case motion) rows.motions) refl where
       seen : (found : Option DocketedMotion) → find (is_motion case motion) rows.motions ≡ found → option_and_then (λ (m : NumberedMotion). m.hearing) (option_map (motion_shown rows) found) ≡ hearing_of rows case motion
       seen None is = let none = unset rows sound.hearings_of_motions case motion is in rw none refl

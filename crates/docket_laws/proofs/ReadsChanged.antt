@@ -9,7 +9,7 @@ use Rattle.docket_rows.specs.declared.part.PartId.{PartId}
 use Rattle.docket_rows.specs.declared.part.PartId.TheVariants.{Court, Judge, Room, Case}
 use Rattle.docket_rows.specs.declared.part.PartValue.TheVariants as value
 use Rattle.docket_rows.specs.declared.refusal.Refusal.{Refusal}
-use Rattle.docket_rows.specs.Words.{Bench, Parts, part_value, calendars_of, calendars_now, wanted, refusal, answer_if_made, answered, days_written, case_written, rebooking_of, judge_written, room_written, changed}
+use Rattle.docket_rows.specs.Words.{CourtSetup, Parts, part_value, calendars_of, calendars_now, wanted, refusal, answer_if_made, answered, days_written, case_written, rebooking_of, judge_written, room_written, changed}
 use Rattle.docket_laws.proofs.ReadsNumbered.{IsNumbered, numbered}
 use Rattle.docket_laws.proofs.ReadsSame.{AgreeOn, same_days, same_judge, same_room, same_case, case_agrees, days_agree, refusal_rests}
 
@@ -44,39 +44,39 @@ module _ (p q : Parts) where
   changed_same command case (Room room) here = ap (option_map value.Calendar) (room_same command case room (same_room p q room here))
   changed_same command case (Case n) here = ap (option_map (λ c. value.Case (Some c))) (case_same command n (same_case p q n here))
 
-module _ (bench : Bench) (p q : Parts) where
-  case_read : (command : Command) → IsNumbered command → AgreeOn bench p q (wanted bench q command) → CaseSame p q command
-  case_read (Book s) n agree = case_agrees bench p q s.case (Court ∷ calendars_of bench s.judges s.room) n agree
+module _ (setup : CourtSetup) (p q : Parts) where
+  case_read : (command : Command) → IsNumbered command → AgreeOn setup p q (wanted setup q command) → CaseSame p q command
+  case_read (Book s) n agree = case_agrees setup p q s.case (Court ∷ calendars_of setup s.judges s.room) n agree
   case_read (MoveHearing s) n agree =
-      case_agrees bench p q s.case (Court ∷ calendars_now bench q s.case s.motion ++ calendars_of bench s.judges s.room) n agree
-  case_read (Cancel case motion) n agree = case_agrees bench p q case (calendars_now bench q case motion) n agree
+      case_agrees setup p q s.case (Court ∷ calendars_now setup q s.case s.motion ++ calendars_of setup s.judges s.room) n agree
+  case_read (Cancel case motion) n agree = case_agrees setup p q case (calendars_now setup q case motion) n agree
   case_read _ n agree = tt
 
   -- what is written into a part that holds the same, where the parts agree on what is read
-  pub changed_rests : (command : Command) → IsNumbered command → AgreeOn bench p q (wanted bench q command) → (part : PartId) → part_value p part ≡ part_value q part → changed p command part ≡ changed q command part
+  pub changed_rests : (command : Command) → IsNumbered command → AgreeOn setup p q (wanted setup q command) → (part : PartId) → part_value p part ≡ part_value q part → changed p command part ≡ changed q command part
   changed_rests command n agree part here = changed_same p q command (case_read command n agree) part here
 
   -- the same is wanted
-  pub wanted_rests : (command : Command) → IsNumbered command → AgreeOn bench p q (wanted bench q command) → wanted bench p command ≡ wanted bench q command
+  pub wanted_rests : (command : Command) → IsNumbered command → AgreeOn setup p q (wanted setup q command) → wanted setup p command ≡ wanted setup q command
   wanted_rests (MoveHearing s) n agree = rw (case_read (MoveHearing s) n agree) refl
   wanted_rests (Cancel case motion) n agree = rw (case_read (Cancel case motion) n agree) refl
   wanted_rests _ n agree = refl
 
   -- what is answered
-  made_rests : (command : Command) → IsNumbered command → AgreeOn bench p q (wanted bench q command) → answer_if_made bench p command ≡ answer_if_made bench q command
-  made_rests (Start case period event second service) n agree = rw (days_agree bench p q case [] n agree, case_agrees bench p q case (Court ∷ []) n agree) refl
-  made_rests (FileAct case deadline filing) n agree = rw (days_agree bench p q case [] n agree, case_agrees bench p q case (Court ∷ []) n agree) refl
-  made_rests (Extend case deadline request) n agree = rw (days_agree bench p q case [] n agree, case_agrees bench p q case (Court ∷ []) n agree) refl
-  made_rests (Motion case served need) n agree = rw (case_agrees bench p q case [] n agree) refl
+  made_rests : (command : Command) → IsNumbered command → AgreeOn setup p q (wanted setup q command) → answer_if_made setup p command ≡ answer_if_made setup q command
+  made_rests (Start case period event second service) n agree = rw (days_agree setup p q case [] n agree, case_agrees setup p q case (Court ∷ []) n agree) refl
+  made_rests (FileAct case deadline filing) n agree = rw (days_agree setup p q case [] n agree, case_agrees setup p q case (Court ∷ []) n agree) refl
+  made_rests (Extend case deadline request) n agree = rw (days_agree setup p q case [] n agree, case_agrees setup p q case (Court ∷ []) n agree) refl
+  made_rests (Motion case served need) n agree = rw (case_agrees setup p q case [] n agree) refl
   made_rests _ n agree = refl
 
-  pub answered_rests : (command : Command) → p.days.from ≡ q.days.from → p.days.to ≡ q.days.to → AgreeOn bench p q (wanted bench q command) → answered bench p command ≡ answered bench q command
+  pub answered_rests : (command : Command) → p.days.from ≡ q.days.from → p.days.to ≡ q.days.to → AgreeOn setup p q (wanted setup q command) → answered setup p command ≡ answered setup q command
   unfolding answered
-  answered_rests command from to agree = by (refusal bench q command) refl where
-    by : (found : Option Refusal) → refusal bench q command ≡ found → option_map_or answer.Refused (refusal bench p command) (answer_if_made bench p command) ≡ option_map_or answer.Refused (refusal bench q command) (answer_if_made bench q command)
+  answered_rests command from to agree = by (refusal setup q command) refl where
+    by : (found : Option Refusal) → refusal setup q command ≡ found → option_map_or answer.Refused (refusal setup p command) (answer_if_made setup p command) ≡ option_map_or answer.Refused (refusal setup q command) (answer_if_made setup q command)
     by None none =
-        ap (λ o. option_map_or answer.Refused o (answer_if_made bench p command)) (refusal_rests bench p q command from to agree)
-        ∙ ap (option_map_or answer.Refused (refusal bench q command)) (made_rests command (numbered bench q command none) agree)
+        ap (λ o. option_map_or answer.Refused o (answer_if_made setup p command)) (refusal_rests setup p q command from to agree)
+        ∙ ap (option_map_or answer.Refused (refusal setup q command)) (made_rests command (numbered setup q command none) agree)
     by (Some r) some =
-        ap (λ o. option_map_or answer.Refused o (answer_if_made bench p command)) (refusal_rests bench p q command from to agree ∙ some)
-        ∙ ap (λ o. option_map_or answer.Refused o (answer_if_made bench q command)) (sym some)
+        ap (λ o. option_map_or answer.Refused o (answer_if_made setup p command)) (refusal_rests setup p q command from to agree ∙ some)
+        ∙ ap (λ o. option_map_or answer.Refused o (answer_if_made setup q command)) (sym some)

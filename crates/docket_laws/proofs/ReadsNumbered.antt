@@ -3,27 +3,27 @@ use Rattle.std.proofs.Common.{◌≡◌, true, None, IfSome}
 use Rattle.std.proofs.lemmas.Bool.{and_parts}
 use Rattle.docket_rows.specs.declared.command.Command.{Command}
 use Rattle.docket_rows.specs.declared.command.Command.TheVariants.{OpenCase, Start, FileAct, Extend, Motion, Book, MoveHearing, Cancel, Holiday, Inaccessible}
-use Rattle.docket_rows.specs.Words.{Bench, Parts, case_of, is_case_number, open_case_checks, start_deadline_checks, file_act_checks, extend_checks, motion_checks, book_checks, move_checks, cancel_checks, open_case_refusal, start_deadline_refusal, file_act_refusal, extend_refusal, motion_refusal, book_refusal, move_refusal, cancel_refusal, refusal}
+use Rattle.docket_rows.specs.Words.{CourtSetup, Parts, case_of, is_case_number, open_case_checks, start_deadline_checks, file_act_checks, extend_checks, motion_checks, book_checks, move_checks, cancel_checks, open_case_refusal, start_deadline_refusal, file_act_refusal, extend_refusal, motion_refusal, book_refusal, move_refusal, cancel_refusal, refusal}
 use Rattle.docket_laws.proofs.MadeLemmas.{none_of, when-not-None}
 
 -- the case that the command is about, if it is about one, has a number that a case can have
 abbrev pub IsNumbered : Command → Type 0
 IsNumbered command = IfSome (case_of command) (λ case. is_case_number case ≡ true)
 
-pub numbered : (bench : Bench) (parts : Parts) (command : Command) → refusal bench parts command ≡ None → IsNumbered command
+pub numbered : (setup : CourtSetup) (parts : Parts) (command : Command) → refusal setup parts command ≡ None → IsNumbered command
 unfolding open_case_refusal start_deadline_refusal file_act_refusal extend_refusal motion_refusal book_refusal move_refusal cancel_refusal
-numbered bench parts (OpenCase case filed) h = when-not-None _ _ (none_of (open_case_checks parts case filed) h).0
-numbered bench parts (Start case period event second service) h =
-    (and_parts _ _ (when-not-None _ _ (none_of (start_deadline_checks bench parts case period event second service) h).0)).0
-numbered bench parts (FileAct case deadline filing) h =
-    (and_parts _ _ (when-not-None _ _ (none_of (file_act_checks bench parts case deadline filing) h).0)).0
-numbered bench parts (Extend case deadline request) h =
-    (and_parts _ _ (when-not-None _ _ (none_of (extend_checks bench parts case deadline request) h).0)).0
-numbered bench parts (Motion case served need) h =
+numbered setup parts (OpenCase case filed) h = when-not-None _ _ (none_of (open_case_checks parts case filed) h).0
+numbered setup parts (Start case period event second service) h =
+    (and_parts _ _ (when-not-None _ _ (none_of (start_deadline_checks setup parts case period event second service) h).0)).0
+numbered setup parts (FileAct case deadline filing) h =
+    (and_parts _ _ (when-not-None _ _ (none_of (file_act_checks setup parts case deadline filing) h).0)).0
+numbered setup parts (Extend case deadline request) h =
+    (and_parts _ _ (when-not-None _ _ (none_of (extend_checks setup parts case deadline request) h).0)).0
+numbered setup parts (Motion case served need) h =
     (and_parts _ _ (when-not-None _ _ (none_of (motion_checks parts case served need) h).0)).0
-numbered bench parts (Book s) h = (and_parts _ _ (when-not-None _ _ (none_of (book_checks bench parts s) h).0)).0
-numbered bench parts (MoveHearing s) h = (and_parts _ _ (when-not-None _ _ (none_of (move_checks bench parts s) h).0)).0
-numbered bench parts (Cancel case motion) h =
+numbered setup parts (Book s) h = (and_parts _ _ (when-not-None _ _ (none_of (book_checks setup parts s) h).0)).0
+numbered setup parts (MoveHearing s) h = (and_parts _ _ (when-not-None _ _ (none_of (move_checks setup parts s) h).0)).0
+numbered setup parts (Cancel case motion) h =
     (and_parts _ _ (when-not-None _ _ (none_of (cancel_checks parts case motion) h).0)).0
-numbered bench parts (Holiday day list) h = tt
-numbered bench parts (Inaccessible day from to) h = tt
+numbered setup parts (Holiday day list) h = tt
+numbered setup parts (Inaccessible day from to) h = tt

@@ -10,7 +10,7 @@ use Rattle.docket_rows.specs.declared.command.Command.{Command}
 use Rattle.docket_rows.specs.declared.part.PartId.{PartId}
 use Rattle.docket_rows.specs.declared.part.PartId.TheVariants.{Court, Judge, Room, Case}
 use Rattle.docket_rows.specs.declared.part.PartValue.{PartValue}
-use Rattle.docket_rows.specs.Words.{Bench, Parts, same_part, part_value, read_of, parts_read, wanted, is_read, next_part}
+use Rattle.docket_rows.specs.Words.{CourtSetup, Parts, same_part, part_value, read_of, parts_read, wanted, is_read, next_part}
 use Rattle.docket_laws.specs.Reads.{AreValuesOf, is_wanted}
 
 -- the test says whether two names are the same
@@ -55,10 +55,10 @@ part_equivalence = record {
 }
 
 -- where nothing is left to read, each part that is wanted was read
-pub wanted_read : (bench : Bench) (command : Command) (reads : List (PartId × PartValue)) → next_part bench command reads ≡ None → (part : PartId) → is_wanted bench (parts_read bench reads) command part ≡ true → is_read reads part ≡ true
+pub wanted_read : (setup : CourtSetup) (command : Command) (reads : List (PartId × PartValue)) → next_part setup command reads ≡ None → (part : PartId) → is_wanted setup (parts_read setup reads) command part ≡ true → is_read reads part ≡ true
 unfolding next_part
-wanted_read bench command reads ended part =
-    each (wanted bench (parts_read bench reads) command) (find-None (λ (w : PartId). not (is_read reads w)) (wanted bench (parts_read bench reads) command) ended) where
+wanted_read setup command reads ended part =
+    each (wanted setup (parts_read setup reads) command) (find-None (λ (w : PartId). not (is_read reads w)) (wanted setup (parts_read setup reads) command) ended) where
       each : (parts : List PartId) → All (λ (w : PartId). not (is_read reads w) ≡ false) parts → list_any (same_part part) parts ≡ true → is_read reads part ≡ true
       each [] all among = absurd (false≢true among)
       each (w ∷ ws) all among = elim (cases_Bool (same_part part w)) [
@@ -79,9 +79,9 @@ read_value parts (x ∷ xs) values part read = elim (cases_Bool (same_part part 
 ]
 
 -- so the parts that were read hold that
-pub read_holds : (bench : Bench) (parts : Parts) (reads : List (PartId × PartValue)) → AreValuesOf parts reads → (part : PartId) → is_read reads part ≡ true → part_value parts part ≡ part_value (parts_read bench reads) part
+pub read_holds : (setup : CourtSetup) (parts : Parts) (reads : List (PartId × PartValue)) → AreValuesOf parts reads → (part : PartId) → is_read reads part ≡ true → part_value parts part ≡ part_value (parts_read setup reads) part
 unfolding parts_read
-read_holds bench parts reads values Court read = rw (read_value parts reads values Court read) refl
-read_holds bench parts reads values (Judge j) read = rw (read_value parts reads values (Judge j) read) refl
-read_holds bench parts reads values (Room r) read = rw (read_value parts reads values (Room r) read) refl
-read_holds bench parts reads values (Case c) read = rw (read_value parts reads values (Case c) read) refl
+read_holds setup parts reads values Court read = rw (read_value parts reads values Court read) refl
+read_holds setup parts reads values (Judge j) read = rw (read_value parts reads values (Judge j) read) refl
+read_holds setup parts reads values (Room r) read = rw (read_value parts reads values (Room r) read) refl
+read_holds setup parts reads values (Case c) read = rw (read_value parts reads values (Case c) read) refl

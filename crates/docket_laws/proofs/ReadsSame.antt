@@ -25,7 +25,7 @@ use Rattle.docket_rows.specs.declared.hearing.Setting.{Setting}
 use Rattle.docket_rows.specs.declared.part.PartId.{PartId}
 use Rattle.docket_rows.specs.declared.part.PartId.TheVariants.{Court, Judge, Room, Case}
 use Rattle.docket_rows.specs.declared.refusal.Refusal.{Refusal}
-use Rattle.docket_rows.specs.Words.{Bench, Parts, part_value, days_in, calendar_in, case_in, same_part, is_case_number, has_judges, is_panel, hearing_asked, calendars_of, calendars_now, about_case, wanted, judge_clash, all_booked, hearing_checks, open_case_refusal, start_deadline_refusal, file_act_refusal, extend_refusal, motion_refusal, book_refusal, move_refusal, cancel_refusal, holiday_refusal, outage_refusal, notice_lost, refusal}
+use Rattle.docket_rows.specs.Words.{CourtSetup, Parts, part_value, days_in, calendar_in, case_in, same_part, is_case_number, has_judges, is_panel, hearing_asked, calendars_of, calendars_now, about_case, wanted, judge_clash, all_booked, hearing_checks, open_case_refusal, start_deadline_refusal, file_act_refusal, extend_refusal, motion_refusal, book_refusal, move_refusal, cancel_refusal, holiday_refusal, outage_refusal, notice_lost, refusal}
 use Rattle.docket_laws.proofs.PartsLists.{map_agree}
 use Rattle.docket_laws.proofs.ReadsParts.{part_itself}
 
@@ -43,16 +43,16 @@ pub same_case : (p q : Parts) (case : ℕ) → part_value p (Case case) ≡ part
 same_case p q case same = ap case_in same
 
 -- a panel of at most three of the court's judges is read whole
-pub panel_read : (bench : Bench) (panel : List ℕ) → length panel ≤ 3 → has_judges bench panel ≡ true → filter (λ j. nat_lt j bench.judges) (take 3 panel) ≡ panel
-panel_read bench panel few has =
-    ap (filter (λ j. nat_lt j bench.judges)) (take_all 3 panel few)
-    ∙ filter_all (λ j. nat_lt j bench.judges) panel (AllPass-from_list_all (λ j. nat_lt j bench.judges) panel has)
+pub panel_read : (setup : CourtSetup) (panel : List ℕ) → length panel ≤ 3 → has_judges setup panel ≡ true → filter (λ j. nat_lt j setup.judges) (take 3 panel) ≡ panel
+panel_read setup panel few has =
+    ap (filter (λ j. nat_lt j setup.judges)) (take_all 3 panel few)
+    ∙ filter_all (λ j. nat_lt j setup.judges) panel (AllPass-from_list_all (λ j. nat_lt j setup.judges) panel has)
 
 -- a panel has at most three judges
 pub panel_few : (panel : List ℕ) → is_panel panel ≡ true → length panel ≤ 3
 panel_few panel is = leb-true (length panel) 3 (and_parts _ _ (and_parts _ _ is).0).1
 
-module _ (bench : Bench) (p q : Parts) where
+module _ (setup : CourtSetup) (p q : Parts) where
   -- the parts hold the same in each part of a list
   abbrev pub AgreeOn : List PartId → Type 0
   AgreeOn parts = (part : PartId) → list_any (same_part part) parts ≡ true → part_value p part ≡ part_value q part
@@ -87,14 +87,14 @@ module _ (bench : Bench) (p q : Parts) where
       All-cons (λ j. p.judge j ≡ q.judge j) j js (same_judge p q j (agree_head (Judge j) (map Judge js) agree)) (agree_judges js (agree_tail (Judge j) (map Judge js) agree))
 
   -- the calendars of the panel and of the room
-  panel_agrees : (judges : List ℕ) (room : ℕ) → is_panel judges ≡ true → has_judges bench judges ≡ true → AgreeOn (calendars_of bench judges room) → All (λ j. p.judge j ≡ q.judge j) judges
+  panel_agrees : (judges : List ℕ) (room : ℕ) → is_panel judges ≡ true → has_judges setup judges ≡ true → AgreeOn (calendars_of setup judges room) → All (λ j. p.judge j ≡ q.judge j) judges
   panel_agrees judges room is has agree =
-      let read = panel_read bench judges (panel_few judges is) has in
-      agree_judges judges (rw read at (agree_front (map Judge (filter (λ j. nat_lt j bench.judges) (take 3 judges))) _ agree))
+      let read = panel_read setup judges (panel_few judges is) has in
+      agree_judges judges (rw read at (agree_front (map Judge (filter (λ j. nat_lt j setup.judges) (take 3 judges))) _ agree))
 
-  room_agrees : (judges : List ℕ) (room : ℕ) → nat_lt room bench.rooms ≡ true → AgreeOn (calendars_of bench judges room) → p.room room ≡ q.room room
+  room_agrees : (judges : List ℕ) (room : ℕ) → nat_lt room setup.rooms ≡ true → AgreeOn (calendars_of setup judges room) → p.room room ≡ q.room room
   room_agrees judges room has agree =
-      same_room p q room (agree_head (Room room) [] (rw has at (agree_back (map Judge (filter (λ j. nat_lt j bench.judges) (take 3 judges))) _ agree)))
+      same_room p q room (agree_head (Room room) [] (rw has at (agree_back (map Judge (filter (λ j. nat_lt j setup.judges) (take 3 judges))) _ agree)))
 
   -- the calendars of all judges of the court
   booked_agree : (judges : List ℕ) → All (λ j. p.judge j ≡ q.judge j) judges → flat_map p.judge judges ≡ flat_map q.judge judges
@@ -122,21 +122,21 @@ module _ (bench : Bench) (p q : Parts) where
     | inr fails ↦ rw fails refl
   ]
 
-  start_rests : (case : ℕ) (period : Period) (event : EventView) (second : Option ℤ) (service : Option ServiceKind) → AgreeOn (about_case case (Court ∷ [])) → start_deadline_refusal bench p case period event second service ≡ start_deadline_refusal bench q case period event second service
+  start_rests : (case : ℕ) (period : Period) (event : EventView) (second : Option ℤ) (service : Option ServiceKind) → AgreeOn (about_case case (Court ∷ [])) → start_deadline_refusal setup p case period event second service ≡ start_deadline_refusal setup q case period event second service
   unfolding start_deadline_refusal
   start_rests case period event second service agree = elim (cases_Bool (is_case_number case)) [
     | inl numbered ↦ rw (days_agree case [] numbered agree, case_agrees case (Court ∷ []) numbered agree) refl
     | inr fails ↦ rw fails refl
   ]
 
-  file_act_rests : (case deadline : ℕ) (filing : Filing) → AgreeOn (about_case case (Court ∷ [])) → file_act_refusal bench p case deadline filing ≡ file_act_refusal bench q case deadline filing
+  file_act_rests : (case deadline : ℕ) (filing : Filing) → AgreeOn (about_case case (Court ∷ [])) → file_act_refusal setup p case deadline filing ≡ file_act_refusal setup q case deadline filing
   unfolding file_act_refusal
   file_act_rests case deadline filing agree = elim (cases_Bool (is_case_number case)) [
     | inl numbered ↦ rw (days_agree case [] numbered agree, case_agrees case (Court ∷ []) numbered agree) refl
     | inr fails ↦ rw fails refl
   ]
 
-  extend_rests : (case deadline : ℕ) (request : Request) → AgreeOn (about_case case (Court ∷ [])) → extend_refusal bench p case deadline request ≡ extend_refusal bench q case deadline request
+  extend_rests : (case deadline : ℕ) (request : Request) → AgreeOn (about_case case (Court ∷ [])) → extend_refusal setup p case deadline request ≡ extend_refusal setup q case deadline request
   unfolding extend_refusal
   extend_rests case deadline request agree = elim (cases_Bool (is_case_number case)) [
     | inl numbered ↦ rw (days_agree case [] numbered agree, case_agrees case (Court ∷ []) numbered agree) refl
@@ -154,22 +154,22 @@ module _ (bench : Bench) (p q : Parts) where
   unfolding outage_refusal
   outage_rests day from to agree = let days = same_days p q (agree_head Court [] agree) in rw days refl
 
-  notice_rests : (list : HolidayList) (day : ℤ) → p.days ≡ q.days → all_booked bench p ≡ all_booked bench q → notice_lost bench p list day ≡ notice_lost bench q list day
+  notice_rests : (list : HolidayList) (day : ℤ) → p.days ≡ q.days → all_booked setup p ≡ all_booked setup q → notice_lost setup p list day ≡ notice_lost setup q list day
   notice_rests Federal day days booked = rw (days, booked) refl
   notice_rests State day days booked = refl
 
-  holiday_rests : (day : ℤ) (list : HolidayList) → AgreeOn (Court ∷ map Judge (range_with_len 0 bench.judges)) → holiday_refusal bench p day list ≡ holiday_refusal bench q day list
+  holiday_rests : (day : ℤ) (list : HolidayList) → AgreeOn (Court ∷ map Judge (range_with_len 0 setup.judges)) → holiday_refusal setup p day list ≡ holiday_refusal setup q day list
   unfolding holiday_refusal
   holiday_rests day list agree =
-      let all = range_with_len 0 bench.judges in
+      let all = range_with_len 0 setup.judges in
       let days = same_days p q (agree_head Court (map Judge all) agree) in
-      let booked : all_booked bench p ≡ all_booked bench q = booked_agree all (agree_judges all (agree_tail Court (map Judge all) agree)) in
+      let booked : all_booked setup p ≡ all_booked setup q = booked_agree all (agree_judges all (agree_tail Court (map Judge all) agree)) in
       rw (notice_rests list day days booked, days, booked) refl
 
-  hearing_rests : (s : Setting) (set : Option Refusal) (except : Option (ℕ × ℕ)) → p.days ≡ q.days → p.case s.case ≡ q.case s.case → AgreeOn (calendars_of bench s.judges s.room) → first_of (hearing_checks bench p s set except) ≡ first_of (hearing_checks bench q s set except)
-  hearing_rests s set except days here agree = elim (cases_Bool (has_judges bench s.judges)) [
+  hearing_rests : (s : Setting) (set : Option Refusal) (except : Option (ℕ × ℕ)) → p.days ≡ q.days → p.case s.case ≡ q.case s.case → AgreeOn (calendars_of setup s.judges s.room) → first_of (hearing_checks setup p s set except) ≡ first_of (hearing_checks setup q s set except)
+  hearing_rests s set except days here agree = elim (cases_Bool (has_judges setup s.judges)) [
     | inr lacks ↦ rw (days, here, lacks) refl
-    | inl has ↦ elim (cases_Bool (nat_lt s.room bench.rooms)) [
+    | inl has ↦ elim (cases_Bool (nat_lt s.room setup.rooms)) [
       | inr lacks ↦ rw (days, here, lacks) refl
       | inl room ↦ elim (cases_Bool (is_panel s.judges)) [
         | inr fails ↦ rw (days, here, fails) refl
@@ -178,37 +178,37 @@ module _ (bench : Bench) (p q : Parts) where
     ]
   ]
 
-  book_rests : (s : Setting) → AgreeOn (about_case s.case (Court ∷ calendars_of bench s.judges s.room)) → book_refusal bench p s ≡ book_refusal bench q s
+  book_rests : (s : Setting) → AgreeOn (about_case s.case (Court ∷ calendars_of setup s.judges s.room)) → book_refusal setup p s ≡ book_refusal setup q s
   unfolding book_refusal
   book_rests s agree = elim (cases_Bool (is_case_number s.case)) [
     | inl numbered ↦
-        let calendars = calendars_of bench s.judges s.room in
+        let calendars = calendars_of setup s.judges s.room in
         let here = case_agrees s.case (Court ∷ calendars) numbered agree in
         let days = days_agree s.case calendars numbered agree in
         hearing_rests s _ None days here (agree_tail Court calendars (others_agree s.case (Court ∷ calendars) numbered agree)) ∙ rw here refl
     | inr fails ↦ rw fails refl
   ]
 
-  move_rests : (s : Setting) (now : List PartId) → AgreeOn (about_case s.case (Court ∷ now ++ calendars_of bench s.judges s.room)) → move_refusal bench p s ≡ move_refusal bench q s
+  move_rests : (s : Setting) (now : List PartId) → AgreeOn (about_case s.case (Court ∷ now ++ calendars_of setup s.judges s.room)) → move_refusal setup p s ≡ move_refusal setup q s
   unfolding move_refusal
   move_rests s now agree = elim (cases_Bool (is_case_number s.case)) [
     | inl numbered ↦
-        let calendars = now ++ calendars_of bench s.judges s.room in
+        let calendars = now ++ calendars_of setup s.judges s.room in
         let here = case_agrees s.case (Court ∷ calendars) numbered agree in
         let days = days_agree s.case calendars numbered agree in
         let rest = agree_tail Court calendars (others_agree s.case (Court ∷ calendars) numbered agree) in
-        hearing_rests s _ (Some (s.case, s.motion)) days here (agree_back now (calendars_of bench s.judges s.room) rest) ∙ rw here refl
+        hearing_rests s _ (Some (s.case, s.motion)) days here (agree_back now (calendars_of setup s.judges s.room) rest) ∙ rw here refl
     | inr fails ↦ rw fails refl
   ]
 
-  pub refusal_rests : (command : Command) → p.days.from ≡ q.days.from → p.days.to ≡ q.days.to → AgreeOn (wanted bench q command) → refusal bench p command ≡ refusal bench q command
+  pub refusal_rests : (command : Command) → p.days.from ≡ q.days.from → p.days.to ≡ q.days.to → AgreeOn (wanted setup q command) → refusal setup p command ≡ refusal setup q command
   refusal_rests (OpenCase case filed) from to agree = open_case_rests case filed from to agree
   refusal_rests (Start case period event second service) from to agree = start_rests case period event second service agree
   refusal_rests (FileAct case deadline filing) from to agree = file_act_rests case deadline filing agree
   refusal_rests (Extend case deadline request) from to agree = extend_rests case deadline request agree
   refusal_rests (Motion case served need) from to agree = motion_rests case served need from to agree
   refusal_rests (Book s) from to agree = book_rests s agree
-  refusal_rests (MoveHearing s) from to agree = move_rests s (calendars_now bench q s.case s.motion) agree
-  refusal_rests (Cancel case motion) from to agree = cancel_rests case motion (calendars_now bench q case motion) agree
+  refusal_rests (MoveHearing s) from to agree = move_rests s (calendars_now setup q s.case s.motion) agree
+  refusal_rests (Cancel case motion) from to agree = cancel_rests case motion (calendars_now setup q case motion) agree
   refusal_rests (Holiday day list) from to agree = holiday_rests day list agree
   refusal_rests (Inaccessible day begins ends) from to agree = outage_rests day begins ends agree

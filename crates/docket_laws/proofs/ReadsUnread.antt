@@ -14,7 +14,7 @@ use Rattle.docket_rows.specs.declared.part.PartId.{PartId}
 use Rattle.docket_rows.specs.declared.part.PartId.TheVariants.{Court, Judge, Room, Case}
 use Rattle.docket_rows.specs.declared.part.PartValue.TheVariants as value
 use Rattle.docket_rows.specs.declared.refusal.Refusal.{Refusal}
-use Rattle.docket_rows.specs.Words.{Bench, Parts, IsSettable, same_part, sits, has_one, is_case_number, has_judges, is_panel, hearing_in, calendars_of, calendars_now, about_case, hearing_checks, book_refusal, move_refusal, refusal, days_written, case_written, judge_written, room_written, changed}
+use Rattle.docket_rows.specs.Words.{CourtSetup, Parts, IsSettable, same_part, sits, has_one, is_case_number, has_judges, is_panel, hearing_in, calendars_of, calendars_now, about_case, hearing_checks, book_refusal, move_refusal, refusal, days_written, case_written, judge_written, room_written, changed}
 use Rattle.docket_laws.specs.Reads.{is_wanted}
 use Rattle.docket_laws.proofs.MadeLemmas.{none_of, when-not-None}
 use Rattle.docket_laws.proofs.ReadsNumbered.{IsNumbered, numbered}
@@ -38,52 +38,52 @@ others_none test case others numbered none = (or_parts _ _ (rw numbered at none)
 other_case : (n case : ℕ) (others : List PartId) → is_case_number case ≡ true → list_any (same_part (Case n)) (about_case case others) ≡ false → (n == case) ≡ false
 other_case n case others numbered none = (or_parts _ _ (rw numbered at none)).0
 
-module _ (bench : Bench) where
+module _ (setup : CourtSetup) where
   -- the part isn't among the calendars of a panel and a room that the court has
-  not_sitting : (judge : ℕ) (judges : List ℕ) (room : ℕ) → is_panel judges ≡ true → has_judges bench judges ≡ true → list_any (same_part (Judge judge)) (calendars_of bench judges room) ≡ false → sits judge judges ≡ false
+  not_sitting : (judge : ℕ) (judges : List ℕ) (room : ℕ) → is_panel judges ≡ true → has_judges setup judges ≡ true → list_any (same_part (Judge judge)) (calendars_of setup judges room) ≡ false → sits judge judges ≡ false
   not_sitting judge judges room is has none =
-      sym (ap (λ (js : List ℕ). list_any (same_part (Judge judge)) (map Judge js)) (panel_read bench judges (panel_few judges is) has) ∙ panel_parts judge judges)
-      ∙ front_none (same_part (Judge judge)) (map Judge (filter (λ j. nat_lt j bench.judges) (take 3 judges))) _ none
+      sym (ap (λ (js : List ℕ). list_any (same_part (Judge judge)) (map Judge js)) (panel_read setup judges (panel_few judges is) has) ∙ panel_parts judge judges)
+      ∙ front_none (same_part (Judge judge)) (map Judge (filter (λ j. nat_lt j setup.judges) (take 3 judges))) _ none
 
-  not_there : (r : ℕ) (judges : List ℕ) (room : ℕ) → nat_lt room bench.rooms ≡ true → list_any (same_part (Room r)) (calendars_of bench judges room) ≡ false → (room == r) ≡ false
+  not_there : (r : ℕ) (judges : List ℕ) (room : ℕ) → nat_lt room setup.rooms ≡ true → list_any (same_part (Room r)) (calendars_of setup judges room) ≡ false → (room == r) ≡ false
   not_there r judges room has none =
       nat_eq_equiv.symm room r
-      ∙ (or_parts _ _ (rw has at (back_none (same_part (Room r)) (map Judge (filter (λ j. nat_lt j bench.judges) (take 3 judges))) _ none))).0
+      ∙ (or_parts _ _ (rw has at (back_none (same_part (Room r)) (map Judge (filter (λ j. nat_lt j setup.judges) (take 3 judges))) _ none))).0
 
-  not_before : (judge : ℕ) (found : Option Hearing) → IfSome found (IsSettable bench) → list_any (same_part (Judge judge)) (option_map_or (λ (h : Hearing). calendars_of bench h.judges h.room) found []) ≡ false → has_one (λ (h : Hearing). sits judge h.judges) found ≡ false
+  not_before : (judge : ℕ) (found : Option Hearing) → IfSome found (IsSettable setup) → list_any (same_part (Judge judge)) (option_map_or (λ (h : Hearing). calendars_of setup h.judges h.room) found []) ≡ false → has_one (λ (h : Hearing). sits judge h.judges) found ≡ false
   not_before judge None settable none = refl
   not_before judge (Some h) settable none = not_sitting judge h.judges h.room settable.panel settable.judges none
 
-  not_in : (r : ℕ) (found : Option Hearing) → IfSome found (IsSettable bench) → list_any (same_part (Room r)) (option_map_or (λ (h : Hearing). calendars_of bench h.judges h.room) found []) ≡ false → has_one (λ (h : Hearing). h.room == r) found ≡ false
+  not_in : (r : ℕ) (found : Option Hearing) → IfSome found (IsSettable setup) → list_any (same_part (Room r)) (option_map_or (λ (h : Hearing). calendars_of setup h.judges h.room) found []) ≡ false → has_one (λ (h : Hearing). h.room == r) found ≡ false
   not_in r None settable none = refl
-  not_in r (Some h) settable none = not_there r h.judges h.room (lt-ltb h.room bench.rooms settable.room) none
+  not_in r (Some h) settable none = not_there r h.judges h.room (lt-ltb h.room setup.rooms settable.room) none
 
   -- a hearing that isn't refused has judges and a room of the court
   record HasPlaces (s : Setting) : Type 0 where
     panel : is_panel s.judges ≡ true
-    judges : has_judges bench s.judges ≡ true
-    room : nat_lt s.room bench.rooms ≡ true
+    judges : has_judges setup s.judges ≡ true
+    room : nat_lt s.room setup.rooms ≡ true
 
-  has_places : (p : Parts) (s : Setting) (set : Option Refusal) (except : Option (ℕ × ℕ)) → first_of (hearing_checks bench p s set except) ≡ None → HasPlaces s
+  has_places : (p : Parts) (s : Setting) (set : Option Refusal) (except : Option (ℕ × ℕ)) → first_of (hearing_checks setup p s set except) ≡ None → HasPlaces s
   has_places p s set except h =
-      let n = none_of (hearing_checks bench p s set except) h in
+      let n = none_of (hearing_checks setup p s set except) h in
       record { panel = when-not-None _ _ n.1.1.1.1.0; judges = when-not-None _ _ n.1.1.0; room = when-not-None _ _ n.1.1.1.0 }
 
-  book_places : (p : Parts) (s : Setting) → book_refusal bench p s ≡ None → HasPlaces s
+  book_places : (p : Parts) (s : Setting) → book_refusal setup p s ≡ None → HasPlaces s
   unfolding book_refusal
   book_places p s h = has_places p s _ None h
 
-  move_places : (p : Parts) (s : Setting) → move_refusal bench p s ≡ None → HasPlaces s
+  move_places : (p : Parts) (s : Setting) → move_refusal setup p s ≡ None → HasPlaces s
   unfolding move_refusal
   move_places p s h = has_places p s _ (Some (s.case, s.motion)) h
 
-module _ (bench : Bench) (p : Parts) (settable : (case motion : ℕ) → IfSome (hearing_in p case motion) (IsSettable bench)) where
-  days_unread : (command : Command) → is_wanted bench p command Court ≡ false → days_written p.days command ≡ None
+module _ (setup : CourtSetup) (p : Parts) (settable : (case motion : ℕ) → IfSome (hearing_in p case motion) (IsSettable setup)) where
+  days_unread : (command : Command) → is_wanted setup p command Court ≡ false → days_written p.days command ≡ None
   days_unread (Holiday day list) none = absurd (true≢false none)
   days_unread (Inaccessible day from to) none = absurd (true≢false none)
   days_unread _ none = refl
 
-  case_unread : (command : Command) → IsNumbered command → (n : ℕ) → is_wanted bench p command (Case n) ≡ false → case_written p command n ≡ None
+  case_unread : (command : Command) → IsNumbered command → (n : ℕ) → is_wanted setup p command (Case n) ≡ false → case_written p command n ≡ None
   case_unread (OpenCase case filed) is n none = rw (other_case n case [] is none) refl
   case_unread (Start case period event second service) is n none = rw (other_case n case (Court ∷ []) is none) refl
   case_unread (FileAct case deadline filing) is n none = rw (other_case n case (Court ∷ []) is none) refl
@@ -94,49 +94,49 @@ module _ (bench : Bench) (p : Parts) (settable : (case motion : ℕ) → IfSome 
   case_unread (Cancel case motion) is n none = rw (other_case n case _ is none) refl
   case_unread _ is n none = refl
 
-  judge_unread : (command : Command) → refusal bench p command ≡ None → (judge : ℕ) → is_wanted bench p command (Judge judge) ≡ false → judge_written p command judge ≡ None
+  judge_unread : (command : Command) → refusal setup p command ≡ None → (judge : ℕ) → is_wanted setup p command (Judge judge) ≡ false → judge_written p command judge ≡ None
   judge_unread (Book s) made judge none =
       let test = same_part (Judge judge) in
-      let places = book_places bench p s made in
-      let others = others_none test s.case (Court ∷ calendars_of bench s.judges s.room) (numbered bench p (Book s) made) none in
-      let away = not_sitting bench judge s.judges s.room places.panel places.judges others in
+      let places = book_places setup p s made in
+      let others = others_none test s.case (Court ∷ calendars_of setup s.judges s.room) (numbered setup p (Book s) made) none in
+      let away = not_sitting setup judge s.judges s.room places.panel places.judges others in
       rw away refl
   judge_unread (MoveHearing s) made judge none =
       let test = same_part (Judge judge) in
-      let places = move_places bench p s made in
-      let now = calendars_now bench p s.case s.motion in
-      let others = others_none test s.case (Court ∷ now ++ calendars_of bench s.judges s.room) (numbered bench p (MoveHearing s) made) none in
-      let away = not_sitting bench judge s.judges s.room places.panel places.judges (back_none test now (calendars_of bench s.judges s.room) others) in
-      let before = not_before bench judge (hearing_in p s.case s.motion) (settable s.case s.motion) (front_none test now (calendars_of bench s.judges s.room) others) in
+      let places = move_places setup p s made in
+      let now = calendars_now setup p s.case s.motion in
+      let others = others_none test s.case (Court ∷ now ++ calendars_of setup s.judges s.room) (numbered setup p (MoveHearing s) made) none in
+      let away = not_sitting setup judge s.judges s.room places.panel places.judges (back_none test now (calendars_of setup s.judges s.room) others) in
+      let before = not_before setup judge (hearing_in p s.case s.motion) (settable s.case s.motion) (front_none test now (calendars_of setup s.judges s.room) others) in
       rw (away, before) refl
   judge_unread (Cancel case motion) made judge none =
-      let others = others_none (same_part (Judge judge)) case (calendars_now bench p case motion) (numbered bench p (Cancel case motion) made) none in
-      let before = not_before bench judge (hearing_in p case motion) (settable case motion) others in
+      let others = others_none (same_part (Judge judge)) case (calendars_now setup p case motion) (numbered setup p (Cancel case motion) made) none in
+      let before = not_before setup judge (hearing_in p case motion) (settable case motion) others in
       rw before refl
   judge_unread _ made judge none = refl
 
-  room_unread : (command : Command) → refusal bench p command ≡ None → (room : ℕ) → is_wanted bench p command (Room room) ≡ false → room_written p command room ≡ None
+  room_unread : (command : Command) → refusal setup p command ≡ None → (room : ℕ) → is_wanted setup p command (Room room) ≡ false → room_written p command room ≡ None
   room_unread (Book s) made room none =
       let test = same_part (Room room) in
-      let others = others_none test s.case (Court ∷ calendars_of bench s.judges s.room) (numbered bench p (Book s) made) none in
-      let away = not_there bench room s.judges s.room (book_places bench p s made).room others in
+      let others = others_none test s.case (Court ∷ calendars_of setup s.judges s.room) (numbered setup p (Book s) made) none in
+      let away = not_there setup room s.judges s.room (book_places setup p s made).room others in
       rw away refl
   room_unread (MoveHearing s) made room none =
       let test = same_part (Room room) in
-      let now = calendars_now bench p s.case s.motion in
-      let others = others_none test s.case (Court ∷ now ++ calendars_of bench s.judges s.room) (numbered bench p (MoveHearing s) made) none in
-      let away = not_there bench room s.judges s.room (move_places bench p s made).room (back_none test now (calendars_of bench s.judges s.room) others) in
-      let before = not_in bench room (hearing_in p s.case s.motion) (settable s.case s.motion) (front_none test now (calendars_of bench s.judges s.room) others) in
+      let now = calendars_now setup p s.case s.motion in
+      let others = others_none test s.case (Court ∷ now ++ calendars_of setup s.judges s.room) (numbered setup p (MoveHearing s) made) none in
+      let away = not_there setup room s.judges s.room (move_places setup p s made).room (back_none test now (calendars_of setup s.judges s.room) others) in
+      let before = not_in setup room (hearing_in p s.case s.motion) (settable s.case s.motion) (front_none test now (calendars_of setup s.judges s.room) others) in
       rw (away, before) refl
   room_unread (Cancel case motion) made room none =
-      let others = others_none (same_part (Room room)) case (calendars_now bench p case motion) (numbered bench p (Cancel case motion) made) none in
-      let before = not_in bench room (hearing_in p case motion) (settable case motion) others in
+      let others = others_none (same_part (Room room)) case (calendars_now setup p case motion) (numbered setup p (Cancel case motion) made) none in
+      let before = not_in setup room (hearing_in p case motion) (settable case motion) others in
       rw before refl
   room_unread _ made room none = refl
 
-  pub unread_unchanged : (command : Command) → refusal bench p command ≡ None → (part : PartId) → is_wanted bench p command part ≡ false → changed p command part ≡ None
+  pub unread_unchanged : (command : Command) → refusal setup p command ≡ None → (part : PartId) → is_wanted setup p command part ≡ false → changed p command part ≡ None
   unread_unchanged command made Court none = ap (option_map value.Days) (days_unread command none)
   unread_unchanged command made (Judge judge) none = ap (option_map value.Calendar) (judge_unread command made judge none)
   unread_unchanged command made (Room room) none = ap (option_map value.Calendar) (room_unread command made room none)
   unread_unchanged command made (Case n) none =
-      ap (option_map (λ c. value.Case (Some c))) (case_unread command (numbered bench p command made) n none)
+      ap (option_map (λ c. value.Case (Some c))) (case_unread command (numbered setup p command made) n none)

@@ -6,7 +6,7 @@ use Rattle.std.proofs.lemmas.List.Elements.{All-from_recursion, recursion_from_A
 use Rattle.docket_rows.specs.declared.command.Command.{Command}
 use Rattle.docket_rows.specs.declared.part.PartId.{PartId}
 use Rattle.docket_rows.specs.declared.part.PartValue.{PartValue}
-use Rattle.docket_rows.specs.Words.{Bench, same_part, parts_read, is_read, refusal, changed, written_on}
+use Rattle.docket_rows.specs.Words.{CourtSetup, same_part, parts_read, is_read, refusal, changed, written_on}
 use Rattle.docket_laws.specs.Reads.{parts_in, WereRead, value_written}
 use Rattle.docket_laws.proofs.ReadsParts.{parts_equal}
 use Rattle.docket_laws.proofs.ReadsEnd.{read_once}
@@ -69,17 +69,17 @@ module _ (given : PartId → Option PartValue) where
       passed part r (given r.0) (values_given given rs) both.0 ∙ given_other rs part both.1
 
 -- The parts written are among those read, each once.
-pub written_read : (bench : Bench) (command : Command) (reads : List (PartId × PartValue)) → All (Contains (parts_in reads)) (parts_in (written_on bench command reads))
+pub written_read : (setup : CourtSetup) (command : Command) (reads : List (PartId × PartValue)) → All (Contains (parts_in reads)) (parts_in (written_on setup command reads))
 unfolding written_on
-written_read bench command reads = elim (cases_Bool (is_none (refusal bench (parts_read bench reads) command))) [
+written_read setup command reads = elim (cases_Bool (is_none (refusal setup (parts_read setup reads) command))) [
   | inl made ↦
-      rw made (All-from_recursion (Contains (parts_in reads)) _ (kept (changed (parts_read bench reads) command) (Contains (parts_in reads)) reads (recursion_from_All (Contains (parts_in reads)) (parts_in reads) (All-contains_itself (parts_in reads)))))
+      rw made (All-from_recursion (Contains (parts_in reads)) _ (kept (changed (parts_read setup reads) command) (Contains (parts_in reads)) reads (recursion_from_All (Contains (parts_in reads)) (parts_in reads) (All-contains_itself (parts_in reads)))))
   | inr refused ↦ rw refused (All-nil (Contains (parts_in reads)))
 ]
 
-pub written_once : (bench : Bench) (command : Command) (reads : List (PartId × PartValue)) → WereRead bench command reads → IsDistinct same_part (parts_in (written_on bench command reads))
+pub written_once : (setup : CourtSetup) (command : Command) (reads : List (PartId × PartValue)) → WereRead setup command reads → IsDistinct same_part (parts_in (written_on setup command reads))
 unfolding written_on IsDistinct
-written_once bench command reads were = elim (cases_Bool (is_none (refusal bench (parts_read bench reads) command))) [
-  | inl made ↦ rw made (once (changed (parts_read bench reads) command) reads (read_once bench command reads were))
+written_once setup command reads were = elim (cases_Bool (is_none (refusal setup (parts_read setup reads) command))) [
+  | inl made ↦ rw made (once (changed (parts_read setup reads) command) reads (read_once setup command reads were))
   | inr refused ↦ rw refused tt
 ]

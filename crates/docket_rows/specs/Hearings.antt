@@ -12,7 +12,7 @@ use Rattle.hearing_slots.specs.declared.need.Need.TheVariants as need
 use Rattle.hearing_slots.specs.Words.{first_conflict}
 use Rattle.docket_rows.specs.declared.hearing.Hearing.{Hearing}
 use Rattle.docket_rows.specs.declared.hearing.Setting.{Setting}
-use Rattle.docket_rows.specs.Bench.{Bench}
+use Rattle.docket_rows.specs.CourtSetup.{CourtSetup}
 use Rattle.docket_rows.specs.Parts.{Parts, sits}
 
 -- the hearing that is asked for
@@ -20,8 +20,8 @@ abbrev pub hearing_asked : Setting → Hearing
 hearing_asked s = record { judges = s.judges; room = s.room; day = s.day; first = s.first; count = s.count; notice = s.notice }
 
 -- every judge of the panel is one of the court's
-abbrev pub has_judges : Bench → (panel : List ℕ) → Bool
-has_judges bench panel = list_all (λ j. nat_lt j bench.judges) panel
+abbrev pub has_judges : CourtSetup → (panel : List ℕ) → Bool
+has_judges setup panel = list_all (λ j. nat_lt j setup.judges) panel
 
 -- no judge is named twice
 abbrev pub is_distinct : List ℕ → Bool
@@ -78,8 +78,8 @@ abbrev pub room_clash : Parts → Option (ℕ × ℕ) → Hearing → Option Boo
 room_clash parts except h = first_conflict (parts.room h.room) h.day h.first h.count except
 
 -- the bookings of all judges of the court
-abbrev pub all_booked : Bench → Parts → List Booking
-all_booked bench parts = flat_map parts.judge (range_with_len 0 bench.judges)
+abbrev pub all_booked : CourtSetup → Parts → List Booking
+all_booked setup parts = flat_map parts.judge (range_with_len 0 setup.judges)
 
 -- whether the first of two bookings is of the lesser case, or of the same case and no greater motion
 abbrev pub comes_first : (a b : Booking) → Bool

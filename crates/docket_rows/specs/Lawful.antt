@@ -7,7 +7,7 @@ use Rattle.rule_periods.specs.Words.{notice_of}
 use Rattle.hearing_slots.specs.declared.need.Need.{Need}
 use Rattle.hearing_slots.specs.declared.need.Need.TheVariants as need
 use Rattle.docket_rows.specs.declared.hearing.Hearing.{Hearing}
-use Rattle.docket_rows.specs.Bench.{Bench}
+use Rattle.docket_rows.specs.CourtSetup.{CourtSetup}
 use Rattle.docket_rows.specs.Clash.{Clash}
 use Rattle.docket_rows.specs.Hearings.{has_judges, is_panel, fits_day, is_within_hours, is_need}
 use Rattle.docket_rows.specs.Rows.{Rows, DocketedCase, DocketedDeadline, DocketedMotion, DocketedHearing, is_case, is_deadline_in, is_motion_in, is_motion, is_hearing}
@@ -26,25 +26,25 @@ KeepsNotice days m h = m.case ≡ h.case → m.number ≡ h.motion → IsNoticed
 
 -- no two hearings clash; each lies on a day that is no Saturday, Sunday or legal holiday, within office hours; and
 -- each has its notice
-pub record AreLawful (bench : Bench) (rows : Rows) : Type 0 where
+pub record AreLawful (setup : CourtSetup) (rows : Rows) : Type 0 where
   pub apart : AllPairs (λ (a b : DocketedHearing). Clash a.hearing b.hearing → ⊥) rows.hearings
   pub on_court_days : All (λ (h : DocketedHearing). is_permitted rows.days After h.hearing.day ≡ true) rows.hearings
-  pub within_hours : All (λ (h : DocketedHearing). is_within_hours bench.clock h.hearing.first h.hearing.count ≡ true) rows.hearings
+  pub within_hours : All (λ (h : DocketedHearing). is_within_hours setup.clock h.hearing.first h.hearing.count ≡ true) rows.hearings
   pub noticed : All (λ m. All (KeepsNotice rows.days m) rows.hearings) rows.motions
 
 -- a hearing is before one to three of the court's judges, none of them twice, in one of its rooms, and takes slots of a day
-pub record IsSettable (bench : Bench) (h : Hearing) : Type 0 where
+pub record IsSettable (setup : CourtSetup) (h : Hearing) : Type 0 where
   pub panel : is_panel h.judges ≡ true
-  pub judges : has_judges bench h.judges ≡ true
-  pub room : h.room < bench.rooms
+  pub judges : has_judges setup h.judges ≡ true
+  pub room : h.room < setup.rooms
   pub slots : fits_day h.first h.count ≡ true
 
 -- How the rows fit together: each case is there once; deadlines and motions are those of open cases and are numbered
 -- from 1 in their case; each motion has one hearing at most, and each hearing is that of a motion. No command changes
 -- the span of the days.
-pub record AreSound (bench : Bench) (rows : Rows) : Type 0 where
-  pub first_day : rows.days.from ≡ bench.days.from
-  pub last_day : rows.days.to ≡ bench.days.to
+pub record AreSound (setup : CourtSetup) (rows : Rows) : Type 0 where
+  pub first_day : rows.days.from ≡ setup.days.from
+  pub last_day : rows.days.to ≡ setup.days.to
   pub case_numbers : All (λ (c : DocketedCase). is_case_number c.case ≡ true) rows.cases
   pub case_once : AllPairs (λ (a b : DocketedCase). is_case a.case b ≡ false) rows.cases
   pub deadlines_of_cases : All (λ (d : DocketedDeadline). IsSome (find (is_case d.case) rows.cases)) rows.deadlines
@@ -54,4 +54,4 @@ pub record AreSound (bench : Bench) (rows : Rows) : Type 0 where
   pub needs : All (λ (m : DocketedMotion). is_need m.need ≡ true) rows.motions
   pub hearings_of_motions : All (λ (h : DocketedHearing). IsSome (find (is_motion h.case h.motion) rows.motions)) rows.hearings
   pub hearing_once : AllPairs (λ (a b : DocketedHearing). is_hearing a.case a.motion b ≡ false) rows.hearings
-  pub hearings_settable : All (λ (h : DocketedHearing). IsSettable bench h.hearing) rows.hearings
+  pub hearings_settable : All (λ (h : DocketedHearing). IsSettable setup h.hearing) rows.hearings

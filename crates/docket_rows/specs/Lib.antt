@@ -1,4 +1,4 @@
-pub mod Bench
+pub mod CourtSetup
 pub mod Cases
 pub mod Clash
 pub mod Hearings

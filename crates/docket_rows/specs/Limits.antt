@@ -5,6 +5,10 @@ use Rattle.std.specs.Prelude.{ℕ}
 abbrev pub last_case : ℕ
 last_case = 4096
 
+-- the judges of a court, and its rooms: the court's file names no more of either
+abbrev pub most_names : ℕ
+most_names = 32
+
 -- the deadlines and the motions of a case
 abbrev pub most_deadlines : ℕ
 most_deadlines = 64

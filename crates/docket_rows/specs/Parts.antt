@@ -14,7 +14,7 @@ use Rattle.docket_rows.specs.declared.part.PartId.{PartId}
 use Rattle.docket_rows.specs.declared.part.PartId.TheVariants.{Court, Judge, Room, Case}
 use Rattle.docket_rows.specs.declared.part.PartValue.{PartValue}
 use Rattle.docket_rows.specs.declared.part.PartValue.TheVariants as value
-use Rattle.docket_rows.specs.Bench.{Bench}
+use Rattle.docket_rows.specs.CourtSetup.{CourtSetup}
 use Rattle.docket_rows.specs.Cases.{CaseRecordView, NumberedDeadline, NumberedMotion}
 use Rattle.docket_rows.specs.Rows.{Rows, DocketedCase, DocketedDeadline, DocketedMotion, DocketedHearing, is_case, is_deadline_in, is_motion_in, is_motion, is_hearing}
 
@@ -125,9 +125,9 @@ case_in _ = None
 
 -- The parts by what was read. Where the court's days weren't read, they are those of its file; a calendar that wasn't
 -- read has no bookings, and a case that wasn't read isn't open.
-unfoldable pub parts_read : Bench → List (PartId × PartValue) → Parts
-parts_read bench reads = record {
-  days = unwrap_or (option_and_then days_in (read_of reads Court)) bench.days;
+unfoldable pub parts_read : CourtSetup → List (PartId × PartValue) → Parts
+parts_read setup reads = record {
+  days = unwrap_or (option_and_then days_in (read_of reads Court)) setup.days;
   case = λ case. option_and_then case_in (read_of reads (Case case));
   judge = λ judge. unwrap_or (option_and_then calendar_in (read_of reads (Judge judge))) [];
   room = λ room. unwrap_or (option_and_then calendar_in (read_of reads (Room room))) [];

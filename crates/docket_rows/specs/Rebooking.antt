@@ -9,8 +9,8 @@ use Rattle.docket_rows.specs.declared.command.Command.{Command}
 use Rattle.docket_rows.specs.declared.command.Command.TheVariants.{Book, MoveHearing, Cancel}
 use Rattle.docket_rows.specs.declared.hearing.Hearing.{Hearing}
 use Rattle.docket_rows.specs.declared.hearing.Setting.{Setting}
-use Rattle.docket_rows.specs.declared.rebooking.Change.{Change}
-use Rattle.docket_rows.specs.declared.rebooking.Change.TheVariants.{Stays, Put, TakeOut}
+use Rattle.docket_rows.specs.declared.rebooking.CalendarChange.{CalendarChange}
+use Rattle.docket_rows.specs.declared.rebooking.CalendarChange.TheVariants.{Stays, Put, TakeOut}
 use Rattle.docket_rows.specs.declared.rebooking.Placement.{Placement}
 use Rattle.docket_rows.specs.declared.rebooking.Rebooking.{Rebooking}
 use Rattle.docket_rows.specs.Cases.{NumberedMotion}
@@ -50,26 +50,26 @@ rebooking_of parts (Cancel case motion) = Some (record { case = case; motion = m
 rebooking_of parts _ = None
 
 -- a calendar after its change, where it doesn't stay as it is
-abbrev pub changed_by : Change → List Booking → Option (List Booking)
+abbrev pub changed_by : CalendarChange → List Booking → Option (List Booking)
 changed_by Stays bookings = None
 changed_by (Put b) bookings = Some (with_booking b bookings)
 changed_by (TakeOut case motion) bookings = Some (without_motion case motion bookings)
 
 -- the change of a calendar that may have the motion's hearing now: the booking that belongs into it is put in, and where
 -- none does, the one that it has is taken out
-abbrev pub change_to : (case motion : ℕ) → (has_one_now : Bool) → Option Booking → Change
+abbrev pub change_to : (case motion : ℕ) → (has_one_now : Bool) → Option Booking → CalendarChange
 change_to case motion has_one_now (Some b) = Put b
 change_to case motion true None = TakeOut case motion
 change_to case motion false None = Stays
 
 -- the change of the calendar of a judge, and of a room
-abbrev pub judge_change : Rebooking → (judge : ℕ) → Change
+abbrev pub judge_change : Rebooking → (judge : ℕ) → CalendarChange
 judge_change r judge =
     change_to r.case r.motion
     (has_one (λ (h : Hearing). sits judge h.judges) r.before)
     (option_and_then (λ (p : Placement). if sits judge p.hearing.judges then Some p.with_room else None) r.after)
 
-abbrev pub room_change : Rebooking → (room : ℕ) → Change
+abbrev pub room_change : Rebooking → (room : ℕ) → CalendarChange
 room_change r room =
     change_to r.case r.motion
     (has_one (λ (h : Hearing). h.room == room) r.before)

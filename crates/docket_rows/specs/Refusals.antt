@@ -21,7 +21,7 @@ use Rattle.docket_rows.specs.declared.query.Query.{Query}
 use Rattle.docket_rows.specs.declared.query.Query.TheVariants.{Sheet, JudgeDay, Compute}
 use Rattle.docket_rows.specs.declared.refusal.Refusal.{Refusal}
 use Rattle.docket_rows.specs.declared.refusal.Refusal.TheVariants.{NoSuchCase, CaseIsOpen, NoSuchDeadline, NoSuchMotion, BadDay, BadLength, Beyond, AlreadyMet, AlreadySet, NotSet, NotACourtDay, OutsideHours, ShortNotice, JudgeBusy, RoomBusy, AlreadyHoliday, HearingThatDay, NoticeLost, Full, NoSuchJudge, NoSuchRoom, BadPanel}
-use Rattle.docket_rows.specs.Bench.{Bench}
+use Rattle.docket_rows.specs.CourtSetup.{CourtSetup}
 use Rattle.docket_rows.specs.Hearings.{hearing_asked, has_judges, is_panel, fits_day, is_court_day, is_within_hours, is_need, lacks_last_service, missed_service, judge_clash, room_clash, all_booked, least, lacks_notice}
 use Rattle.docket_rows.specs.Limits.{most_deadlines, most_motions, most_grants, most_dates, most_outages}
 use Rattle.docket_rows.specs.Parts.{Parts}
@@ -40,32 +40,32 @@ open_case_checks parts case filed =
 -- Deadlines
 
 -- the second line is the three by which a period is refused when it starts
-abbrev pub start_deadline_checks : Bench → Parts → (case : ℕ) → Period → EventView → (second : Option ℤ) → Option ServiceKind → List (Option Refusal)
-start_deadline_checks bench parts case period event second service =
+abbrev pub start_deadline_checks : CourtSetup → Parts → (case : ℕ) → Period → EventView → (second : Option ℤ) → Option ServiceKind → List (Option Refusal)
+start_deadline_checks setup parts case period event second service =
     (when (not (has_case parts case)) NoSuchCase
     ∷ option_map refusal_of (start_refusal parts.days period event second service)
     ∷ when (nat_le most_deadlines (length (deadlines_in parts case))) Full
-    ∷ when (is_beyond (shown_now bench parts (started period event second service))) Beyond
+    ∷ when (is_beyond (shown_now setup parts (started period event second service))) Beyond
     ∷ [])
 
-abbrev pub file_act_checks : Bench → Parts → (case deadline : ℕ) → Filing → List (Option Refusal)
-file_act_checks bench parts case deadline filing =
+abbrev pub file_act_checks : CourtSetup → Parts → (case deadline : ℕ) → Filing → List (Option Refusal)
+file_act_checks setup parts case deadline filing =
     let row = deadline_in parts case deadline in
     (when (not (has_case parts case)) NoSuchCase
     ∷ when (is_none row) NoSuchDeadline
     ∷ when (not (is_covered parts.days filing.day)) BadDay
     ∷ when (has_one (λ row. is_some row.filed) row) AlreadyMet
-    ∷ when (has_one (λ row. is_beyond (shown_now bench parts row)) row) Beyond
+    ∷ when (has_one (λ row. is_beyond (shown_now setup parts row)) row) Beyond
     ∷ [])
 
 -- the fourth line is the ten by which an extension is refused
-abbrev pub extend_checks : Bench → Parts → (case deadline : ℕ) → Request → List (Option Refusal)
-extend_checks bench parts case deadline request =
+abbrev pub extend_checks : CourtSetup → Parts → (case deadline : ℕ) → Request → List (Option Refusal)
+extend_checks setup parts case deadline request =
     let row = deadline_in parts case deadline in
     (when (not (has_case parts case)) NoSuchCase
     ∷ when (is_none row) NoSuchDeadline
     ∷ when (has_one (λ row. is_some row.filed) row) AlreadyMet
-    ∷ option_and_then (λ row. option_map refusal_of (extension_refusal parts.days bench.clock row request)) row
+    ∷ option_and_then (λ row. option_map refusal_of (extension_refusal parts.days setup.clock row request)) row
     ∷ when (has_one (λ row. nat_le most_grants (length row.grants)) row) Full
     ∷ [])
 
@@ -83,30 +83,30 @@ motion_checks parts case served need =
 
 -- `set` is the line on whether the motion has a hearing already; the booking of the excepted case and motion clashes
 -- with nothing
-abbrev pub hearing_checks : Bench → Parts → Setting → (set : Option Refusal) → (except : Option (ℕ × ℕ)) → List (Option Refusal)
-hearing_checks bench parts s set except =
+abbrev pub hearing_checks : CourtSetup → Parts → Setting → (set : Option Refusal) → (except : Option (ℕ × ℕ)) → List (Option Refusal)
+hearing_checks setup parts s set except =
     let motion = motion_in parts s.case s.motion in
     (when (not (has_case parts s.case)) NoSuchCase
     ∷ when (is_none motion) NoSuchMotion
-    ∷ when (not (has_judges bench s.judges)) NoSuchJudge
-    ∷ when (not (nat_lt s.room bench.rooms)) NoSuchRoom
+    ∷ when (not (has_judges setup s.judges)) NoSuchJudge
+    ∷ when (not (nat_lt s.room setup.rooms)) NoSuchRoom
     ∷ when (not (is_panel s.judges)) BadPanel
     ∷ when (not (is_covered parts.days s.day && is_covered parts.days s.notice)) BadDay
     ∷ when (not (fits_day s.first s.count)) BadLength
     ∷ set
     ∷ when (not (is_court_day parts.days s.day)) NotACourtDay
-    ∷ when (not (is_within_hours bench.clock s.first s.count)) OutsideHours
+    ∷ when (not (is_within_hours setup.clock s.first s.count)) OutsideHours
     ∷ when (has_one (λ m. lacks_last_service parts.days s.day m.need) motion) Beyond
     ∷ option_map ShortNotice (option_and_then (λ m. missed_service parts.days s.day m.need (later_day m.served s.notice)) motion)
     ∷ option_map (λ b. JudgeBusy b.case b.motion) (judge_clash parts except (hearing_asked s))
     ∷ option_map (λ b. RoomBusy b.case b.motion) (room_clash parts except (hearing_asked s))
     ∷ [])
 
-abbrev pub book_checks : Bench → Parts → Setting → List (Option Refusal)
-book_checks bench parts s = hearing_checks bench parts s (when (is_some (hearing_in parts s.case s.motion)) AlreadySet) None
+abbrev pub book_checks : CourtSetup → Parts → Setting → List (Option Refusal)
+book_checks setup parts s = hearing_checks setup parts s (when (is_some (hearing_in parts s.case s.motion)) AlreadySet) None
 
-abbrev pub move_checks : Bench → Parts → Setting → List (Option Refusal)
-move_checks bench parts s = hearing_checks bench parts s (when (is_none (hearing_in parts s.case s.motion)) NotSet) (Some (s.case, s.motion))
+abbrev pub move_checks : CourtSetup → Parts → Setting → List (Option Refusal)
+move_checks setup parts s = hearing_checks setup parts s (when (is_none (hearing_in parts s.case s.motion)) NotSet) (Some (s.case, s.motion))
 
 abbrev pub cancel_checks : Parts → (case motion : ℕ) → List (Option Refusal)
 cancel_checks parts case motion =
@@ -118,22 +118,22 @@ cancel_checks parts case motion =
 -- Holidays and outages
 
 -- the first hearing on the day, by case and motion
-abbrev pub hearing_that_day : Bench → Parts → ℤ → Option Booking
-hearing_that_day bench parts day = least (filter (is_on day) (all_booked bench parts))
+abbrev pub hearing_that_day : CourtSetup → Parts → ℤ → Option Booking
+hearing_that_day setup parts day = least (filter (is_on day) (all_booked setup parts))
 
 -- the first hearing, by case and motion, that would lose its notice by a holiday: notice is counted backward, where
 -- holidays of the state don't count
-abbrev pub notice_lost : Bench → Parts → HolidayList → ℤ → Option Booking
-notice_lost bench parts Federal day = least (filter (lacks_notice (add_holiday parts.days Federal day)) (all_booked bench parts))
-notice_lost bench parts State day = None
+abbrev pub notice_lost : CourtSetup → Parts → HolidayList → ℤ → Option Booking
+notice_lost setup parts Federal day = least (filter (lacks_notice (add_holiday parts.days Federal day)) (all_booked setup parts))
+notice_lost setup parts State day = None
 
-abbrev pub holiday_checks : Bench → Parts → (day : ℤ) → HolidayList → List (Option Refusal)
-holiday_checks bench parts day list =
+abbrev pub holiday_checks : CourtSetup → Parts → (day : ℤ) → HolidayList → List (Option Refusal)
+holiday_checks setup parts day list =
     (when (not (is_covered parts.days day)) BadDay
     ∷ when (is_among (dates_of parts.days list) day) AlreadyHoliday
     ∷ when (nat_le most_dates (length (dates_of parts.days list))) Full
-    ∷ option_map (λ b. HearingThatDay b.case b.motion) (hearing_that_day bench parts day)
-    ∷ option_map (λ b. NoticeLost b.case b.motion) (notice_lost bench parts list day)
+    ∷ option_map (λ b. HearingThatDay b.case b.motion) (hearing_that_day setup parts day)
+    ∷ option_map (λ b. NoticeLost b.case b.motion) (notice_lost setup parts list day)
     ∷ [])
 
 abbrev pub outage_checks : Parts → (day : ℤ) → (from to : ℕ) → List (Option Refusal)
@@ -148,53 +148,53 @@ outage_checks parts day from to =
 unfoldable pub open_case_refusal : Parts → (case : ℕ) → (filed : ℤ) → Option Refusal
 open_case_refusal parts case filed = first_of (open_case_checks parts case filed)
 
-unfoldable pub start_deadline_refusal : Bench → Parts → (case : ℕ) → Period → EventView → (second : Option ℤ) → Option ServiceKind → Option Refusal
-start_deadline_refusal bench parts case period event second service = first_of (start_deadline_checks bench parts case period event second service)
+unfoldable pub start_deadline_refusal : CourtSetup → Parts → (case : ℕ) → Period → EventView → (second : Option ℤ) → Option ServiceKind → Option Refusal
+start_deadline_refusal setup parts case period event second service = first_of (start_deadline_checks setup parts case period event second service)
 
-unfoldable pub file_act_refusal : Bench → Parts → (case deadline : ℕ) → Filing → Option Refusal
-file_act_refusal bench parts case deadline filing = first_of (file_act_checks bench parts case deadline filing)
+unfoldable pub file_act_refusal : CourtSetup → Parts → (case deadline : ℕ) → Filing → Option Refusal
+file_act_refusal setup parts case deadline filing = first_of (file_act_checks setup parts case deadline filing)
 
-unfoldable pub extend_refusal : Bench → Parts → (case deadline : ℕ) → Request → Option Refusal
-extend_refusal bench parts case deadline request = first_of (extend_checks bench parts case deadline request)
+unfoldable pub extend_refusal : CourtSetup → Parts → (case deadline : ℕ) → Request → Option Refusal
+extend_refusal setup parts case deadline request = first_of (extend_checks setup parts case deadline request)
 
 unfoldable pub motion_refusal : Parts → (case : ℕ) → (served : ℤ) → Need → Option Refusal
 motion_refusal parts case served need = first_of (motion_checks parts case served need)
 
-unfoldable pub book_refusal : Bench → Parts → Setting → Option Refusal
-book_refusal bench parts s = first_of (book_checks bench parts s)
+unfoldable pub book_refusal : CourtSetup → Parts → Setting → Option Refusal
+book_refusal setup parts s = first_of (book_checks setup parts s)
 
-unfoldable pub move_refusal : Bench → Parts → Setting → Option Refusal
-move_refusal bench parts s = first_of (move_checks bench parts s)
+unfoldable pub move_refusal : CourtSetup → Parts → Setting → Option Refusal
+move_refusal setup parts s = first_of (move_checks setup parts s)
 
 unfoldable pub cancel_refusal : Parts → (case motion : ℕ) → Option Refusal
 cancel_refusal parts case motion = first_of (cancel_checks parts case motion)
 
-unfoldable pub holiday_refusal : Bench → Parts → (day : ℤ) → HolidayList → Option Refusal
-holiday_refusal bench parts day list = first_of (holiday_checks bench parts day list)
+unfoldable pub holiday_refusal : CourtSetup → Parts → (day : ℤ) → HolidayList → Option Refusal
+holiday_refusal setup parts day list = first_of (holiday_checks setup parts day list)
 
 unfoldable pub outage_refusal : Parts → (day : ℤ) → (from to : ℕ) → Option Refusal
 outage_refusal parts day from to = first_of (outage_checks parts day from to)
 
-abbrev pub refusal : Bench → Parts → Command → Option Refusal
-refusal bench parts (OpenCase case filed) = open_case_refusal parts case filed
-refusal bench parts (Start case period event second service) = start_deadline_refusal bench parts case period event second service
-refusal bench parts (FileAct case deadline filing) = file_act_refusal bench parts case deadline filing
-refusal bench parts (Extend case deadline request) = extend_refusal bench parts case deadline request
-refusal bench parts (Motion case served need) = motion_refusal parts case served need
-refusal bench parts (Book s) = book_refusal bench parts s
-refusal bench parts (MoveHearing s) = move_refusal bench parts s
-refusal bench parts (Cancel case motion) = cancel_refusal parts case motion
-refusal bench parts (Holiday day list) = holiday_refusal bench parts day list
-refusal bench parts (Inaccessible day from to) = outage_refusal parts day from to
+abbrev pub refusal : CourtSetup → Parts → Command → Option Refusal
+refusal setup parts (OpenCase case filed) = open_case_refusal parts case filed
+refusal setup parts (Start case period event second service) = start_deadline_refusal setup parts case period event second service
+refusal setup parts (FileAct case deadline filing) = file_act_refusal setup parts case deadline filing
+refusal setup parts (Extend case deadline request) = extend_refusal setup parts case deadline request
+refusal setup parts (Motion case served need) = motion_refusal parts case served need
+refusal setup parts (Book s) = book_refusal setup parts s
+refusal setup parts (MoveHearing s) = move_refusal setup parts s
+refusal setup parts (Cancel case motion) = cancel_refusal parts case motion
+refusal setup parts (Holiday day list) = holiday_refusal setup parts day list
+refusal setup parts (Inaccessible day from to) = outage_refusal parts day from to
 
 -- Queries
 
 abbrev pub sheet_checks : Parts → (case : ℕ) → List (Option Refusal)
 sheet_checks parts case = when (not (has_case parts case)) NoSuchCase ∷ []
 
-abbrev pub judge_day_checks : Bench → Parts → (judge : ℕ) → (day : ℤ) → List (Option Refusal)
-judge_day_checks bench parts judge day =
-    (when (not (nat_lt judge bench.judges)) NoSuchJudge
+abbrev pub judge_day_checks : CourtSetup → Parts → (judge : ℕ) → (day : ℤ) → List (Option Refusal)
+judge_day_checks setup parts judge day =
+    (when (not (nat_lt judge setup.judges)) NoSuchJudge
     ∷ when (not (is_covered parts.days day)) BadDay
     ∷ [])
 
@@ -203,7 +203,7 @@ abbrev pub compute_checks : Parts → Period → EventView → (second : Option 
 compute_checks parts period event second service = option_map refusal_of (start_refusal parts.days period event second service) ∷ []
 
 -- the first refusal of a query, or none
-unfoldable pub query_refusal : Bench → Parts → Query → Option Refusal
-query_refusal bench parts (Sheet case) = first_of (sheet_checks parts case)
-query_refusal bench parts (JudgeDay judge day) = first_of (judge_day_checks bench parts judge day)
-query_refusal bench parts (Compute period event second service) = first_of (compute_checks parts period event second service)
+unfoldable pub query_refusal : CourtSetup → Parts → Query → Option Refusal
+query_refusal setup parts (Sheet case) = first_of (sheet_checks parts case)
+query_refusal setup parts (JudgeDay judge day) = first_of (judge_day_checks setup parts judge day)
+query_refusal setup parts (Compute period event second service) = first_of (compute_checks parts period event second service)

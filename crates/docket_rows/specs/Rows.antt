@@ -4,7 +4,7 @@ use Rattle.court_days.specs.Words.{DaysView}
 use Rattle.rule_periods.specs.Words.{DeadlineRowView}
 use Rattle.hearing_slots.specs.declared.need.Need.{Need}
 use Rattle.docket_rows.specs.declared.hearing.Hearing.{Hearing}
-use Rattle.docket_rows.specs.Bench.{Bench}
+use Rattle.docket_rows.specs.CourtSetup.{CourtSetup}
 
 -- a case, and the day on which it was filed
 pub record DocketedCase : Type 0 where
@@ -39,8 +39,8 @@ pub record Rows : Type 0 where
   pub hearings : List DocketedHearing
 
 -- the days of the court's file, and nothing docketed
-abbrev pub opening_rows : Bench → Rows
-opening_rows bench = record { days = bench.days; cases = []; deadlines = []; motions = []; hearings = [] }
+abbrev pub opening_rows : CourtSetup → Rows
+opening_rows setup = record { days = setup.days; cases = []; deadlines = []; motions = []; hearings = [] }
 
 -- the row is that of the case, of its deadline, of its motion, or of the hearing of its motion
 abbrev pub is_case : (case : ℕ) → DocketedCase → Bool

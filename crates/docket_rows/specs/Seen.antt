@@ -6,7 +6,7 @@ use Rattle.rule6.specs.declared.timeliness.Shown.{Shown}
 use Rattle.rule_periods.specs.declared.period.Period.{Period}
 use Rattle.rule_periods.specs.Words.{DeadlineRowView, EventView, shown_of}
 use Rattle.docket_rows.specs.declared.hearing.Hearing.{Hearing}
-use Rattle.docket_rows.specs.Bench.{Bench}
+use Rattle.docket_rows.specs.CourtSetup.{CourtSetup}
 use Rattle.docket_rows.specs.Cases.{CaseRecordView, NumberedDeadline, NumberedMotion}
 use Rattle.docket_rows.specs.Limits.{last_case}
 use Rattle.docket_rows.specs.Parts.{Parts}
@@ -54,5 +54,5 @@ started period event second service =
     record { period = period; event = event; second = second; service = service; grants = []; filed = None }
 
 -- when the time of a deadline ends: by the days as they are docketed now
-abbrev pub shown_now : Bench → Parts → DeadlineRowView → Shown
-shown_now bench parts row = shown_of parts.days bench.clock row
+abbrev pub shown_now : CourtSetup → Parts → DeadlineRowView → Shown
+shown_now setup parts row = shown_of parts.days setup.clock row

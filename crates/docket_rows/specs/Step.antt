@@ -10,7 +10,7 @@ use Rattle.docket_rows.specs.declared.answer.Answer.TheVariants as answer
 use Rattle.docket_rows.specs.declared.command.Command.{Command}
 use Rattle.docket_rows.specs.declared.command.Command.TheVariants.{OpenCase, Start, FileAct, Extend, Motion, Book, MoveHearing, Cancel, Holiday, Inaccessible}
 use Rattle.docket_rows.specs.declared.hearing.Setting.{Setting}
-use Rattle.docket_rows.specs.Bench.{Bench}
+use Rattle.docket_rows.specs.CourtSetup.{CourtSetup}
 use Rattle.docket_rows.specs.Hearings.{hearing_asked}
 use Rattle.docket_rows.specs.Parts.{Parts, parts_of}
 use Rattle.docket_rows.specs.Refusals.{refusal}
@@ -48,31 +48,31 @@ rows_after rows (Holiday day list) = record rows { days = add_holiday rows.days 
 rows_after rows (Inaccessible day from to) = record rows { days = add_outage rows.days (record { day = day; from = from; to = to }) }
 
 -- what a command that isn't refused is answered; an act is timely by Rule 6(a)(4)
-abbrev pub answer_if_made : Bench → Parts → Command → Answer
-answer_if_made bench parts (OpenCase case filed) = answer.Opened
-answer_if_made bench parts (Start case period event second service) =
-    answer.Started (next_deadline parts case) (shown_now bench parts (started period event second service))
-answer_if_made bench parts (FileAct case deadline filing) =
-    answer.Filed (has_one (λ row. is_in_time bench.clock (shown_now bench parts row) (kept_filing filing)) (deadline_in parts case deadline))
-answer_if_made bench parts (Extend case deadline request) =
-    answer.Extended (option_map_or (λ row. shown_now bench parts (with_grant row request.grant)) (deadline_in parts case deadline) shown.Beyond)
-answer_if_made bench parts (Motion case served need) = answer.MotionEntered (next_motion parts case)
-answer_if_made bench parts (Book s) = answer.Booked
-answer_if_made bench parts (MoveHearing s) = answer.Moved
-answer_if_made bench parts (Cancel case motion) = answer.Cancelled
-answer_if_made bench parts (Holiday day list) = answer.HolidayEntered
-answer_if_made bench parts (Inaccessible day from to) = answer.OutageEntered
+abbrev pub answer_if_made : CourtSetup → Parts → Command → Answer
+answer_if_made setup parts (OpenCase case filed) = answer.Opened
+answer_if_made setup parts (Start case period event second service) =
+    answer.Started (next_deadline parts case) (shown_now setup parts (started period event second service))
+answer_if_made setup parts (FileAct case deadline filing) =
+    answer.Filed (has_one (λ row. is_in_time setup.clock (shown_now setup parts row) (kept_filing filing)) (deadline_in parts case deadline))
+answer_if_made setup parts (Extend case deadline request) =
+    answer.Extended (option_map_or (λ row. shown_now setup parts (with_grant row request.grant)) (deadline_in parts case deadline) shown.Beyond)
+answer_if_made setup parts (Motion case served need) = answer.MotionEntered (next_motion parts case)
+answer_if_made setup parts (Book s) = answer.Booked
+answer_if_made setup parts (MoveHearing s) = answer.Moved
+answer_if_made setup parts (Cancel case motion) = answer.Cancelled
+answer_if_made setup parts (Holiday day list) = answer.HolidayEntered
+answer_if_made setup parts (Inaccessible day from to) = answer.OutageEntered
 
 -- what a command is answered where the parts are these
-unfoldable pub answered : Bench → Parts → Command → Answer
-answered bench parts command = option_map_or answer.Refused (refusal bench parts command) (answer_if_made bench parts command)
+unfoldable pub answered : CourtSetup → Parts → Command → Answer
+answered setup parts command = option_map_or answer.Refused (refusal setup parts command) (answer_if_made setup parts command)
 
 -- One step of the docket: the rows after a command, and its answer. A refused command leaves the rows as they are.
-unfoldable pub step : Bench → Rows → Command → Rows × Answer
-step bench rows command =
-    (option_map_or (λ r. rows) (refusal bench (parts_of rows) command) (rows_after rows command), answered bench (parts_of rows) command)
+unfoldable pub step : CourtSetup → Rows → Command → Rows × Answer
+step setup rows command =
+    (option_map_or (λ r. rows) (refusal setup (parts_of rows) command) (rows_after rows command), answered setup (parts_of rows) command)
 
 -- the rows after some commands, from the first on
-unfoldable pub rows_from : Bench → Rows → List Command → Rows
-rows_from bench rows [] = rows
-rows_from bench rows (c ∷ cs) = rows_from bench (step bench rows c).0 cs
+unfoldable pub rows_from : CourtSetup → Rows → List Command → Rows
+rows_from setup rows [] = rows
+rows_from setup rows (c ∷ cs) = rows_from setup (step setup rows c).0 cs

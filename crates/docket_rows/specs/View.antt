@@ -20,7 +20,7 @@ use Rattle.docket_rows.specs.declared.sheet.SheetHearing.{SheetHearing}
 use Rattle.docket_rows.specs.declared.sheet.SheetMotion.{SheetMotion}
 use Rattle.docket_rows.specs.declared.view.View.{View}
 use Rattle.docket_rows.specs.declared.view.View.TheVariants as view
-use Rattle.docket_rows.specs.Bench.{Bench}
+use Rattle.docket_rows.specs.CourtSetup.{CourtSetup}
 use Rattle.docket_rows.specs.Cases.{CaseRecordView, NumberedDeadline, NumberedMotion}
 use Rattle.docket_rows.specs.Parts.{Parts, parts_of}
 use Rattle.docket_rows.specs.Refusals.{query_refusal}
@@ -34,12 +34,12 @@ state_of clock shown None = Pending
 state_of clock shown (Some filing) =
     if is_beyond shown then Undecided else if is_in_time clock shown filing then Timely else Late
 
-abbrev pub sheet_deadline : Bench → Parts → NumberedDeadline → SheetDeadline
-sheet_deadline bench parts d = record {
+abbrev pub sheet_deadline : CourtSetup → Parts → NumberedDeadline → SheetDeadline
+sheet_deadline setup parts d = record {
   number = d.number;
   row = d.row;
-  shown = shown_now bench parts d.row;
-  state = state_of bench.clock (shown_now bench parts d.row) d.row.filed;
+  shown = shown_now setup parts d.row;
+  state = state_of setup.clock (shown_now setup parts d.row) d.row.filed;
 }
 
 -- a hearing, and the last day to serve an opposing affidavit, 7 days before it (Fed. R. Civ. P. 6(c)(2))
@@ -51,26 +51,26 @@ sheet_motion days m =
     record { number = m.number; served = m.served; need = m.need; hearing = option_map (sheet_hearing days) m.hearing }
 
 -- the sheet of a case
-abbrev pub sheet_of : Bench → Parts → (case : ℕ) → CaseRecordView → Sheet
-sheet_of bench parts case c = record {
+abbrev pub sheet_of : CourtSetup → Parts → (case : ℕ) → CaseRecordView → Sheet
+sheet_of setup parts case c = record {
   case = case;
   filed = c.filed;
-  deadlines = map (sheet_deadline bench parts) c.deadlines;
+  deadlines = map (sheet_deadline setup parts) c.deadlines;
   motions = map (sheet_motion parts.days) c.motions;
 }
 
 -- what a query that isn't refused shows
-abbrev pub shown_if_asked : Bench → Parts → Query → View
-shown_if_asked bench parts (query.Sheet case) =
-    option_map_or (λ c. view.Sheet (sheet_of bench parts case c)) (parts.case case) (view.Refused NoSuchCase)
-shown_if_asked bench parts (query.JudgeDay judge day) = view.Bookings (on_day day (parts.judge judge))
-shown_if_asked bench parts (query.Compute period event second service) =
-    view.Computed (shown_now bench parts (started period event second service))
+abbrev pub shown_if_asked : CourtSetup → Parts → Query → View
+shown_if_asked setup parts (query.Sheet case) =
+    option_map_or (λ c. view.Sheet (sheet_of setup parts case c)) (parts.case case) (view.Refused NoSuchCase)
+shown_if_asked setup parts (query.JudgeDay judge day) = view.Bookings (on_day day (parts.judge judge))
+shown_if_asked setup parts (query.Compute period event second service) =
+    view.Computed (shown_now setup parts (started period event second service))
 
 -- what a query shows where the parts are these
-unfoldable pub seen_by : Bench → Parts → Query → View
-seen_by bench parts q = option_map_or view.Refused (query_refusal bench parts q) (shown_if_asked bench parts q)
+unfoldable pub seen_by : CourtSetup → Parts → Query → View
+seen_by setup parts q = option_map_or view.Refused (query_refusal setup parts q) (shown_if_asked setup parts q)
 
 -- what a query shows of the rows
-abbrev pub view_of : Bench → Rows → Query → View
-view_of bench rows q = seen_by bench (parts_of rows) q
+abbrev pub view_of : CourtSetup → Rows → Query → View
+view_of setup rows q = seen_by setup (parts_of rows) q

@@ -13,7 +13,7 @@ use Rattle.docket_rows.specs.declared.part.PartId.TheVariants.{Court, Judge, Roo
 use Rattle.docket_rows.specs.declared.part.PartValue.{PartValue}
 use Rattle.docket_rows.specs.declared.part.PartValue.TheVariants as value
 use Rattle.docket_rows.specs.declared.rebooking.Rebooking.{Rebooking}
-use Rattle.docket_rows.specs.Bench.{Bench}
+use Rattle.docket_rows.specs.CourtSetup.{CourtSetup}
 use Rattle.docket_rows.specs.Cases.{CaseRecordView, NumberedDeadline, NumberedMotion}
 use Rattle.docket_rows.specs.Hearings.{hearing_asked}
 use Rattle.docket_rows.specs.Parts.{Parts, parts_read, part_value}
@@ -96,16 +96,16 @@ changed parts command (Case case) = option_map (λ c. value.Case (Some c)) (case
 
 -- what a part holds after a command: what the command writes into it, where it isn't refused and touches the part, and
 -- else what it held
-abbrev pub part_after : Bench → Parts → Command → PartId → PartValue
-part_after bench parts command part =
-    if is_none (refusal bench parts command)
+abbrev pub part_after : CourtSetup → Parts → Command → PartId → PartValue
+part_after setup parts command part =
+    if is_none (refusal setup parts command)
     then unwrap_or (changed parts command part) (part_value parts part)
     else part_value parts part
 
 -- what is written on these reads: each part read that the command changes, in read order; nothing where it is refused
-unfoldable pub written_on : Bench → Command → List (PartId × PartValue) → List (PartId × PartValue)
-written_on bench command reads =
-    let parts = parts_read bench reads in
-    if is_none (refusal bench parts command)
+unfoldable pub written_on : CourtSetup → Command → List (PartId × PartValue) → List (PartId × PartValue)
+written_on setup command reads =
+    let parts = parts_read setup reads in
+    if is_none (refusal setup parts command)
     then filter_map (λ (r : PartId × PartValue). option_map (λ v. (r.0, v)) (changed parts command r.0)) reads
     else []

@@ -24,7 +24,7 @@ pub use limits::{LAST_CASE, MOST_DATES, MOST_DEADLINES, MOST_GRANTS, MOST_MOTION
 pub use motion::MotionRecord;
 pub use part::{PartId, PartValue};
 pub use query::Query;
-pub use rebooking::{Change, Placement, Rebooking};
+pub use rebooking::{CalendarChange, Placement, Rebooking};
 pub use refusal::Refusal;
 pub use sheet::{
     Sheet, SheetDeadline, SheetDeadlines, SheetHearing, SheetMotion, SheetMotions, State,

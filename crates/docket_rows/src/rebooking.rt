@@ -5,7 +5,7 @@ use hearing_slots::Booking;
 
 /// What becomes of a calendar.
 #[derive(Clone, Copy)]
-pub enum Change {
+pub enum CalendarChange {
     /// It stays as it is.
     Stays,
     /// The booking is put in, in place of an older one of its case and motion.

@@ -1,6 +1,6 @@
 pub mod Booking
 pub mod Calendar
-pub mod Held
+pub mod Holder
 pub mod Laws
 pub mod Motions
 pub mod Panel

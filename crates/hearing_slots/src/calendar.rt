@@ -24,12 +24,12 @@ use std::sync::Arc;
 /// whose copies all share its bookings.
 #[derive(Debug, Drop)]
 pub struct Calendar {
-    held: Held,
+    held: Holder,
 }
 
 /// Who holds the bookings.
 #[derive(Debug, Drop)]
-enum Held {
+enum Holder {
     // There are none, which takes no memory.
     Empty,
     // This calendar alone, which changes them in place. They lie in a box, so that a calendar is small to move.
@@ -45,7 +45,7 @@ impl Model for Calendar {
     ghost Value = { List Booking };
 
     ghost use Rattle.hearing_slots.specs.Calendar.{IsCalendar};
-    ghost use Rattle.hearing_slots.specs.Held.{bookings_of};
+    ghost use Rattle.hearing_slots.specs.Holder.{bookings_of};
 
     ghost view = { bookings_of };
 
@@ -58,7 +58,9 @@ impl Calendar {
         ensures value { result ≡ [] }
         ensures calendar { IsCalendar result }
     {
-        Calendar { held: Held::Empty }
+        Calendar {
+            held: Holder::Empty,
+        }
     }
 
     /// All bookings, by day, then by first slot.
@@ -139,10 +141,10 @@ impl Calendar {
         ensures calendar { IfOk result IsCalendar }
     {
         match &self.held {
-            Held::Empty => Ok(Calendar::empty()),
-            Held::Own(indexed) => Calendar::share(alloc, indexed.timetable().duplicate(alloc)?),
-            Held::Shared(shared) => Ok(Calendar {
-                held: Held::Shared(Arc::try_clone(shared)?),
+            Holder::Empty => Ok(Calendar::empty()),
+            Holder::Own(indexed) => Calendar::share(alloc, indexed.timetable().duplicate(alloc)?),
+            Holder::Shared(shared) => Ok(Calendar {
+                held: Holder::Shared(Arc::try_clone(shared)?),
             }),
         }
     }
@@ -154,12 +156,12 @@ impl Calendar {
         ensures err { IfErr result (λ calendar. (calendar ≡ self) × IsCalendar calendar) }
     {
         match self.held {
-            Held::Empty => match no_bookings(alloc) {
+            Holder::Empty => match no_bookings(alloc) {
                 Ok(indexed) => with_room(indexed),
                 Err(_) => Err(Calendar::empty()),
             },
-            Held::Own(indexed) => with_room(indexed),
-            Held::Shared(shared) => open_shared(alloc, shared),
+            Holder::Own(indexed) => with_room(indexed),
+            Holder::Shared(shared) => open_shared(alloc, shared),
         }
     }
 
@@ -178,9 +180,9 @@ impl Calendar {
         ensures { kept_in (option_copied result) ≡ self.now }
     {
         match &self.held {
-            Held::Empty => None,
-            Held::Own(indexed) => Some(indexed.timetable()),
-            Held::Shared(shared) => Some(shared),
+            Holder::Empty => None,
+            Holder::Own(indexed) => Some(indexed.timetable()),
+            Holder::Shared(shared) => Some(shared),
         }
     }
 
@@ -208,7 +210,7 @@ impl Calendar {
     {
         let shared = Arc::new(alloc, timetable)?;
         Ok(Calendar {
-            held: Held::Shared(shared),
+            held: Holder::Shared(shared),
         })
     }
 
@@ -219,7 +221,7 @@ impl Calendar {
         ensures calendar { IsCalendar result }
     {
         Calendar {
-            held: Held::Own(indexed),
+            held: Holder::Own(indexed),
         }
     }
 }
@@ -264,7 +266,7 @@ fn open_shared(alloc: Global, shared: Arc<Timetable>) -> Result<OpenCalendar, Ca
 {
     let (Ok(indexed), Ok(motions)) = (no_bookings(alloc), noted_motions(alloc, shared.all())) else {
         return Err(Calendar {
-            held: Held::Shared(shared),
+            held: Holder::Shared(shared),
         });
     };
     match Arc::try_unwrap(shared) {
@@ -272,7 +274,7 @@ fn open_shared(alloc: Global, shared: Arc<Timetable>) -> Result<OpenCalendar, Ca
         Err(shared) => match shared.duplicate(alloc) {
             Ok(timetable) => with_room(refilled(indexed, timetable, motions)),
             Err(_) => Err(Calendar {
-                held: Held::Shared(shared),
+                held: Holder::Shared(shared),
             }),
         },
     }

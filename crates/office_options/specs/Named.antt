@@ -3,5 +3,5 @@ use Rattle.std.specs.Prelude.{List, drop}
 use Rattle.clap.specs.Words.{Text}
 
 -- the words behind the program's name
-abbrev pub words_behind : List Text → List Text
-words_behind all = drop 1 all
+abbrev pub arguments_in : List Text → List Text
+arguments_in all = drop 1 all

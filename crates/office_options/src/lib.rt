@@ -13,4 +13,4 @@ mod words;
 pub use fault::OptionsFault;
 pub use options::Options;
 pub use reading::{fault_from, options_of};
-pub use words::{texts_behind, words_of};
+pub use words::{argument_texts, arguments_of};

@@ -2,7 +2,7 @@
 
 ghost use Rattle.std.specs.Prelude.{◌≡◌, map, string_bytes, IfOk};
 ghost use Rattle.clap.specs.Walk.{texts};
-ghost use Rattle.office_options.specs.Named.{words_behind};
+ghost use Rattle.office_options.specs.Named.{arguments_in};
 
 use std::alloc::{AllocError, Global};
 use std::{env, io};
@@ -11,13 +11,13 @@ use std::{env, io};
 // runs of both programs are called with none.
 
 /// The words that the process is called with, of which the first is the program's name.
-pub fn words_of(rt: &HostRuntime) -> io::Result<Vec<String>> {
+pub fn arguments_of(rt: &HostRuntime) -> io::Result<Vec<String>> {
     Ok(env::args(rt)?.collect(rt.alloc())?)
 }
 
 /// The texts of the words behind the program's name, which is the first. `Err` says that memory ran out.
-pub fn texts_behind(alloc: Global, words: &[String]) -> Result<Vec<&str>, AllocError>
-    ensures { IfOk result (λ found. texts found.items ≡ words_behind (map string_bytes words.now)) }
+pub fn argument_texts(alloc: Global, words: &[String]) -> Result<Vec<&str>, AllocError>
+    ensures { IfOk result (λ found. texts found.items ≡ arguments_in (map string_bytes words.now)) }
 {
     let named = match words {
         [_, rest @ ..] => rest,

@@ -1,10 +1,11 @@
-//! The program over the words and the streams of its process.
+//! A program over the words and the streams of its process.
 
 ghost use Rattle.std.specs.Prelude.{◌≤◌};
 ghost use Rattle.office_program.specs.Process.{ended_status};
 
-use crate::program::run_program;
-use office_options::words_of;
+use crate::program::Program;
+use crate::run::run_program;
+use office_options::arguments_of;
 use office_streams::Watched;
 use std::io;
 use std::io::Eprint;
@@ -12,7 +13,7 @@ use std::process::{ExitCode, Termination};
 use std::sync::Wait;
 use std::thread::Threads;
 
-/// How the program ended. Only a run of it makes one, so that a `main` that returns it can't give another status.
+/// How a program ended. Only a run of it makes one, so that a `main` that returns it can't give another status.
 #[derive(Debug, Drop)]
 pub struct Ended {
     status: u8,
@@ -24,21 +25,26 @@ impl Termination for Ended {
     }
 }
 
-// No contract says what a process is called with, or what its streams hold. The gate runs two programs whose `main` is
-// this call: one with words that are refused, and one on an input that can't lose a byte unseen.
+// No contract says what a process is called with, or what its streams hold. The gate runs each program twice by this
+// call: once with words that are refused, and once on an input that can't lose a byte unseen.
 
 /// Runs the program on the process's own words and streams. `main` hands over its runtime twice, since only there can it
 /// start threads.
-pub fn run_on_process<H: Threads + Wait + Sync>(rt: &HostRuntime, threads: &H) -> Ended
+pub fn run_on_process<H: Threads + Wait + Sync, P: Program>(
+    rt: &HostRuntime,
+    threads: &H,
+    program: &P,
+) -> Ended
     ensures { ended_status result ≤ 5 }
 {
-    let words = words_of(rt);
+    let words = arguments_of(rt);
     let mut reader = Watched::new(rt.stdin());
     let mut writer = Watched::new(io::writer(rt));
     let mut errors = Watched::new(rt.stderr());
     let status = run_program(
         threads,
         rt.alloc(),
+        program,
         words,
         &mut reader,
         &mut writer,

@@ -1,16 +1,21 @@
 //! The words of the command line.
 
 ghost use Rattle.std.specs.Prelude.{map, string_bytes};
-ghost use Rattle.office_options.specs.Words.{words_behind};
+ghost use Rattle.office_options.specs.Words.{arguments_in};
 ghost use Rattle.office_program.specs.Program.{AnswersWords};
 
-use office_options::{Options, OptionsFault, options_of, texts_behind};
+use crate::program::Program;
+use office_options::{OptionsFault, argument_texts};
 use std::alloc::Global;
 
-/// The options that the words give, of which the first is the program's name.
-pub fn options_behind(alloc: Global, words: &[String]) -> Result<Options, OptionsFault>
-    ensures { AnswersWords (words_behind (map string_bytes words.now)) result }
+// The report that the words choose, of which the first is the program's name.
+pub(crate) fn report_behind<P: Program>(
+    program: &P,
+    alloc: Global,
+    words: &[String],
+) -> Result<P::Report, OptionsFault>
+    ensures { AnswersWords P.command_line P.is_chosen (arguments_in (map string_bytes words.now)) result }
 {
-    let texts = texts_behind(alloc, words)?;
-    options_of(alloc, texts.as_slice())
+    let texts = argument_texts(alloc, words)?;
+    program.report(alloc, texts.as_slice())
 }

@@ -13,8 +13,8 @@ use Rattle.office_rows.specs.Bounds.{IsOfClerk, RowsAreBounded}
 use Rattle.office_rows.specs.Columns.{◌>>=◌, column}
 use Rattle.office_rows.specs.Fields.Numbers.{number_of}
 use Rattle.office_rows.specs.Forms.{work_of}
-use Rattle.office_rows.specs.Names.{Names}
-use Rattle.office_rows.specs.Rows.{clerk_of, in_row, most_rows, row_of, rows_from, rows_of}
+use Rattle.office_rows.specs.CourtNames.{CourtNames}
+use Rattle.office_rows.specs.Rows.{clerk_of, in_row, most_rows, row_of, rows_read_from, rows_read}
 
 -- a clerk's number that was read
 clerk_within : (clerks : ℕ) (field : List ℕ) (clerk : ℕ) → clerk_of clerks field ≡ Some clerk → (1 ≤ clerk) × (clerk ≤ clerks)
@@ -35,7 +35,7 @@ clerk_within clerks field clerk h = by (number_of field) h
     by (Some n) e = tested n (leb 1 n) (leb n clerks) refl refl e
 
 -- a row that was read
-row_within : (clerks : ℕ) (names : Names) (fields : List (List ℕ)) (row : Row) → row_of clerks names fields ≡ Ok row → IsOfClerk clerks row
+row_within : (clerks : ℕ) (names : CourtNames) (fields : List (List ℕ)) (row : Row) → row_of clerks names fields ≡ Ok row → IsOfClerk clerks row
 unfolding row_of
 row_within clerks names fields row h = by (list_all is_utf8 fields) (ltb (length fields) 2) (clerk_of clerks (column fields 1)) refl (work_of names fields) h
   where
@@ -52,14 +52,14 @@ row_within clerks names fields row h = by (list_all is_utf8 fields) (ltb (length
         record { from_one = omega arith; to_last = omega arith }
 
 -- the rows of records
-bounded : (clerks : ℕ) (names : Names) (n : ℕ) (records : List (List (List ℕ))) (rows : List Row) → n ≤ most_rows + 1 → rows_from clerks names n records ≡ Ok rows
+bounded : (clerks : ℕ) (names : CourtNames) (n : ℕ) (records : List (List (List ℕ))) (rows : List Row) → n ≤ most_rows + 1 → rows_read_from clerks names n records ≡ Ok rows
     → (length rows + n ≤ most_rows + 1) × All (IsOfClerk clerks) rows
-unfolding rows_from
+unfolding rows_read_from
 bounded clerks names n [] rows few h =
     let none : [] ≡ rows = cc h in
     rw (← none) (omega arith, All-nil (IsOfClerk clerks))
 bounded clerks names n (fields ∷ more) rows few h =
-    by (ltb most_rows n) refl (row_of clerks names fields) refl (rows_from clerks names (n + 1) more) (λ later small. bounded clerks names (n + 1) more later small) h
+    by (ltb most_rows n) refl (row_of clerks names fields) refl (rows_read_from clerks names (n + 1) more) (λ later small. bounded clerks names (n + 1) more later small) h
   where
     by : (past : Bool) → ltb most_rows n ≡ past → (r : Result Row RowCause) → row_of clerks names fields ≡ r → (rest : Result (List Row) (ℕ × RowCause))
         → ((later : List Row) → n + 1 ≤ most_rows + 1 → rest ≡ Ok later → (length later + (n + 1) ≤ most_rows + 1) × All (IsOfClerk clerks) later)
@@ -76,7 +76,7 @@ bounded clerks names n (fields ∷ more) rows few h =
         rw (← same) (omega arith, All-cons (IsOfClerk clerks) row others (row_within clerks names fields row spelled) rest.1)
 
 pub rows_are_bounded_lem : RowsAreBounded
-unfolding rows_of
+unfolding rows_read
 rows_are_bounded_lem clerks names bytes rows h =
     let found = bounded clerks names 1 _ rows (omega arith) h in
     let count = found.0 in

@@ -5,25 +5,25 @@ use Rattle.office_rows.specs.declared.fault.RowCause.{RowCause}
 use Rattle.office_rows.specs.declared.fault.RowCause.TheVariants.{TooManyRows}
 use Rattle.office_rows.specs.FirstFault.{AreSpelled, FirstFaultIsTold, IsFirstFault}
 use Rattle.office_rows.specs.Columns.{◌>>=◌}
-use Rattle.office_rows.specs.Names.{Names}
-use Rattle.office_rows.specs.Rows.{in_row, most_rows, numbered_row, row_of, rows_from}
+use Rattle.office_rows.specs.CourtNames.{CourtNames}
+use Rattle.office_rows.specs.Rows.{in_row, most_rows, numbered_row, row_of, rows_read_from}
 
 -- the records from the row numbered n on spell these rows
-record SpelledFrom (clerks : ℕ) (names : Names) (n : ℕ) (records : List (List (List ℕ))) (rows : List Row) : Type 0 where
+record SpelledFrom (clerks : ℕ) (names : CourtNames) (n : ℕ) (records : List (List (List ℕ))) (rows : List Row) : Type 0 where
   count : length rows ≡ length records
   each : (i : ℕ) (fields : List (List ℕ)) (row : Row) → slice_get records i ≡ Some fields → slice_get rows i ≡ Some row → numbered_row clerks names (i + n) fields ≡ Ok row
 
-record FaultFrom (clerks : ℕ) (names : Names) (n : ℕ) (records : List (List (List ℕ))) (number : ℕ) (cause : RowCause) : Type 0 where
+record FaultFrom (clerks : ℕ) (names : CourtNames) (n : ℕ) (records : List (List (List ℕ))) (number : ℕ) (cause : RowCause) : Type 0 where
   place : ℕ
   numbered : number ≡ place + n
   fault : IfSome (slice_get records place) (λ fields. numbered_row clerks names number fields ≡ Err (number, cause))
   within : place < length records
   before : (i : ℕ) (fields : List (List ℕ)) → i < place → slice_get records i ≡ Some fields → IsOk (numbered_row clerks names (i + n) fields)
 
-told : (clerks : ℕ) (names : Names) (n : ℕ) (records : List (List (List ℕ))) → MatchResult (rows_from clerks names n records) (SpelledFrom clerks names n records) (λ fault. FaultFrom clerks names n records fault.0 fault.1)
-unfolding rows_from
+told : (clerks : ℕ) (names : CourtNames) (n : ℕ) (records : List (List (List ℕ))) → MatchResult (rows_read_from clerks names n records) (SpelledFrom clerks names n records) (λ fault. FaultFrom clerks names n records fault.0 fault.1)
+unfolding rows_read_from
 told clerks names n [] = record { count = refl; each = λ i fields row none. cc none }
-told clerks names n (f ∷ fs) = by (cond (ltb most_rows n) (Err TooManyRows) (row_of clerks names f)) refl (rows_from clerks names (n + 1) fs) (told clerks names (n + 1) fs)
+told clerks names n (f ∷ fs) = by (cond (ltb most_rows n) (Err TooManyRows) (row_of clerks names f)) refl (rows_read_from clerks names (n + 1) fs) (told clerks names (n + 1) fs)
   where
     at_first : (i : ℕ) (r : Result Row (ℕ × RowCause)) → i ≡ 0 → numbered_row clerks names n f ≡ r → numbered_row clerks names (i + n) f ≡ r
     at_first i r e h = let same : i + n ≡ n = omega arith in rw same h
@@ -61,7 +61,7 @@ told clerks names n (f ∷ fs) = by (cond (ltb most_rows n) (Err TooManyRows) (r
     }
 
 pub first_fault_is_told_lem : FirstFaultIsTold
-first_fault_is_told_lem clerks names records = by (rows_from clerks names 1 records) (told clerks names 1 records)
+first_fault_is_told_lem clerks names records = by (rows_read_from clerks names 1 records) (told clerks names 1 records)
   where
     by : (r : Result (List Row) (ℕ × RowCause)) → MatchResult r (SpelledFrom clerks names 1 records) (λ fault. FaultFrom clerks names 1 records fault.0 fault.1)
         → MatchResult r (AreSpelled clerks names records) (λ fault. IsFirstFault clerks names records fault.0 fault.1)

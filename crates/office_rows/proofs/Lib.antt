@@ -8,6 +8,5 @@ pub mod RecordsLemmas
 pub mod ReadingLemmas
 pub mod RowsLemmas
 pub mod FaultLemmas
-pub mod AskedLemmas
 pub mod BoundLemmas
 pub mod CallerLemmas

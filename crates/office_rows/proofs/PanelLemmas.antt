@@ -5,7 +5,7 @@ use Rattle.std.proofs.lemmas.Bool.Decides.{nat_tests}
 use Rattle.std.proofs.lemmas.List.Splits.{length-slice_split}
 use Rattle.office_rows.specs.Fields.Cut.{cut_at, is_byte}
 use Rattle.office_rows.specs.Fields.Hearings.{panel_named}
-use Rattle.office_rows.specs.Names.{number_named}
+use Rattle.office_rows.specs.CourtNames.{number_named}
 use Rattle.office_rows.proofs.CutLemmas.{parts-cut, parts-uncut}
 
 -- a panel of one to three

@@ -2,8 +2,8 @@
 use Rattle.std.specs.Prelude.{◌≡◌, ◌<◌, ◌≤◌, ℕ, List, length, Ok}
 use Rattle.std.specs.List.{All}
 use Rattle.office_rows.specs.declared.row.Row.{Row}
-use Rattle.office_rows.specs.Names.{Names}
-use Rattle.office_rows.specs.Rows.{rows_of}
+use Rattle.office_rows.specs.CourtNames.{CourtNames}
+use Rattle.office_rows.specs.Rows.{rows_read}
 
 -- this is the number of one of the clerks, who are numbered from 1
 pub record IsClerk (clerks clerk : ℕ) : Type 0 where
@@ -16,4 +16,4 @@ IsOfClerk clerks row = IsClerk clerks row.clerk
 
 -- No more rows are read than the office takes, and each is that of one of the clerks.
 abbrev pub RowsAreBounded : Type 0
-RowsAreBounded = (clerks : ℕ) (names : Names) (bytes : List ℕ) (rows : List Row) → rows_of clerks names bytes ≡ Ok rows → (length rows ≤ 100_000) × All (IsOfClerk clerks) rows
+RowsAreBounded = (clerks : ℕ) (names : CourtNames) (bytes : List ℕ) (rows : List Row) → rows_read clerks names bytes ≡ Ok rows → (length rows ≤ 100_000) × All (IsOfClerk clerks) rows

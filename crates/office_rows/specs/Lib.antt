@@ -1,12 +1,10 @@
-pub mod Names
+pub mod CourtNames
 pub mod Fields
 pub mod Fault
-pub mod Form
 pub mod Columns
 pub mod Forms
 pub mod Rows
 pub mod Records
 pub mod FirstFault
-pub mod Asked
 pub mod Bounds
 pub mod Words

@@ -12,14 +12,14 @@ use Rattle.office_rows.specs.declared.row.Row.{Row}
 use Rattle.office_rows.specs.Columns.{◌>>=◌, column}
 use Rattle.office_rows.specs.Fields.Numbers.{number_of}
 use Rattle.office_rows.specs.Forms.{work_of}
-use Rattle.office_rows.specs.Names.{Names}
+use Rattle.office_rows.specs.CourtNames.{CourtNames}
 
 -- a clerk's number, from 1 to the number of clerks
 unfoldable pub clerk_of : ℕ → List ℕ → Option ℕ
 clerk_of clerks field = option_and_then (λ n. if nat_le 1 n && nat_le n clerks then Some n else None) (number_of field)
 
 -- the row that a record spells, or its fault: the first in this order
-unfoldable pub row_of : ℕ → Names → List (List ℕ) → Result Row RowCause
+unfoldable pub row_of : ℕ → CourtNames → List (List ℕ) → Result Row RowCause
 row_of clerks names fields =
     if not (list_all is_utf8 fields) then Err NotText
     else if nat_lt (length fields) 2 then Err WrongCount
@@ -38,20 +38,20 @@ abbrev pub most_rows : ℕ
 most_rows = 100_000
 
 -- the row that the record of this number spells, counted from 1: there are only as many rows as the office takes
-abbrev pub numbered_row : ℕ → Names → ℕ → List (List ℕ) → Result Row (ℕ × RowCause)
+abbrev pub numbered_row : ℕ → CourtNames → ℕ → List (List ℕ) → Result Row (ℕ × RowCause)
 numbered_row clerks names number fields = in_row number (if nat_lt most_rows number then Err TooManyRows else row_of clerks names fields)
 
 -- the rows of records, the first of which has this number, or the first fault with its row's number
-unfoldable pub rows_from : ℕ → Names → ℕ → List (List (List ℕ)) → Result (List Row) (ℕ × RowCause)
-rows_from clerks names number [] = Ok []
-rows_from clerks names number (fields ∷ more) = do
+unfoldable pub rows_read_from : ℕ → CourtNames → ℕ → List (List (List ℕ)) → Result (List Row) (ℕ × RowCause)
+rows_read_from clerks names number [] = Ok []
+rows_read_from clerks names number (fields ∷ more) = do
   row ← numbered_row clerks names number fields
-  rows ← rows_from clerks names (number + 1) more
+  rows ← rows_read_from clerks names (number + 1) more
   Ok (row ∷ rows)
 
 -- the rows of bytes, over the records that they have as CSV: no header, any number of fields, blank lines skipped
-unfoldable pub rows_of : ℕ → Names → List ℕ → Result (List Row) (ℕ × RowCause)
-rows_of clerks names bytes = rows_from clerks names 1 (records default_config (strip_bom bytes))
+unfoldable pub rows_read : ℕ → CourtNames → List ℕ → Result (List Row) (ℕ × RowCause)
+rows_read clerks names bytes = rows_read_from clerks names 1 (records default_config (strip_bom bytes))
 
 -- what reading the row of this number answers: the row or its fault
 abbrev pub AnswersRow : ℕ → Result Row RowError → Result Row RowCause → Type 0

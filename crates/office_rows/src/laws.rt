@@ -1,10 +1,9 @@
 //! What the definitions of rows mean.
 
-ghost use Rattle.office_rows.specs.Asked.{RowsAskByTheirWords};
 ghost use Rattle.office_rows.specs.Bounds.{RowsAreBounded};
 ghost use Rattle.office_rows.specs.Fields.Period.{CodesAreReadBack};
 ghost use Rattle.office_rows.specs.FirstFault.{FirstFaultIsTold};
-ghost use Rattle.office_rows.specs.Form.{CommandWordsNameForms};
+ghost use Rattle.office_rows.specs.Forms.{CommandWordsNameForms, RowsAskByTheirWords};
 
 use rule_periods::codes_name_periods;
 

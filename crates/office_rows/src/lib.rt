@@ -4,7 +4,6 @@
 mod columns;
 mod fault;
 mod fields;
-mod form;
 mod forms;
 mod laws;
 mod records;

@@ -4,8 +4,8 @@ ghost use Rattle.std.specs.Prelude.{◌≡◌, [], true, Ok};
 ghost use Rattle.std.specs.List.{list_all};
 ghost use Rattle.std.specs.Str.{is_utf8};
 ghost use Rattle.csv.specs.Records.{fields_of};
-ghost use Rattle.office_rows.specs.Rows.{AnswersRow, AnswersRows, clerk_of, row_of, rows_from, rows_of};
-ghost use Rattle.office_rows.specs.Names.{names_of};
+ghost use Rattle.office_rows.specs.Rows.{AnswersRow, AnswersRows, clerk_of, row_of, rows_read_from, rows_read};
+ghost use Rattle.office_rows.specs.CourtNames.{names_of};
 ghost use Rattle.office_rows.specs.Records.{TakesAnyRow, TakesText, MeetsNoText, records_left};
 
 use crate::columns::column;
@@ -29,7 +29,7 @@ pub fn read_rows(
     clerks: u8,
     court: &Court,
 ) -> Result<Vec<Row>, RowError>
-    ensures { AnswersRows (λ rows. rows.items) result (rows_of clerks (names_of court.now) bytes.now) }
+    ensures { AnswersRows (λ rows. rows.items) result (rows_read clerks (names_of court.now) bytes.now) }
 {
     let mut reader = ReaderBuilder::new()
         .has_headers(false)
@@ -46,7 +46,7 @@ fn take_rows(
     court: &Court,
 ) -> Result<Vec<Row>, RowError>
     requires { TakesAnyRow reader.old }
-    ensures { AnswersRows (λ rows. rows.items) result (rows_from clerks (names_of court.now) 1 (records_left reader.old)) }
+    ensures { AnswersRows (λ rows. rows.items) result (rows_read_from clerks (names_of court.now) 1 (records_left reader.old)) }
 {
     let _types: RowTypes = None;
     let mut fields = StringRecord::new(alloc);

@@ -22,6 +22,6 @@ pub enum Work {
     Query(Query),
 }
 
-/// Names the types inside a row. The checker finds them only where they have names, so a function that puts rows into a
+/// CourtNames the types inside a row. The checker finds them only where they have names, so a function that puts rows into a
 /// `Vec` has a variable of this type.
 pub(crate) type RowTypes = Option<(Work, Command, Query, Option<Day>, Grant, Request)>;

@@ -7,7 +7,7 @@ use Rattle.docket_rows.specs.declared.command.Command.{Command as CommandOf}
 use Rattle.court_days.specs.Words.{CourtView}
 use Rattle.docket_rows.specs.declared.part.PartId.{PartId}
 use Rattle.docket_rows.specs.declared.query.Query.TheVariants as query
-use Rattle.docket_rows.specs.Words.{Bench, Parts, Rows, AreSound, bench_of, opening_rows, part_value, parts_of, seen_by, step}
+use Rattle.docket_rows.specs.Words.{CourtSetup, Parts, Rows, AreSound, setup_of, last_case, opening_rows, part_value, parts_of, seen_by, step}
 use Rattle.docket_laws.proofs.CallerLemmas.{hold_same, same_view, sound_step}
 use Rattle.docket_core.specs.Words.{DocketView, StandsFor, parts_held}
 use Rattle.office_texts.specs.Words.{calendar_lines}
@@ -18,21 +18,21 @@ use Rattle.office_run.specs.Replies.{Holds, docketed_after, docketed_then, reply
 use Rattle.office_run.specs.Text.{calendars_from, closing_text, lines_from, run_text, sheet_shown, sheets_from}
 
 -- a command that was carried out is answered as the step is, and the docket holds what is docketed after it
-pub made : (bench : Bench) (docketed : Rows) (before after : DocketView) (command : CommandOf) (answer : Answer) → Holds bench before docketed → after.bench ≡ before.bench → ((rows : Rows) → AreSound before.bench rows → StandsFor before rows → (answer ≡ (step before.bench rows command).1) × StandsFor after (step before.bench rows command).0) → (Made answer ≡ reply_to bench docketed (Command command)) × Holds bench after (docketed_then bench docketed (Command command))
-made bench docketed before after command answer holds same steps =
-    let sound : AreSound before.bench docketed = rw holds.bench_is holds.sound in
+pub made : (setup : CourtSetup) (docketed : Rows) (before after : DocketView) (command : CommandOf) (answer : Answer) → Holds setup before docketed → after.setup ≡ before.setup → ((rows : Rows) → AreSound before.setup rows → StandsFor before rows → (answer ≡ (step before.setup rows command).1) × StandsFor after (step before.setup rows command).0) → (Made answer ≡ reply_to setup docketed (Command command)) × Holds setup after (docketed_then setup docketed (Command command))
+made setup docketed before after command answer holds same steps =
+    let sound : AreSound before.setup docketed = rw holds.setup_is holds.sound in
     let stepped = steps docketed sound holds.stands in
-    (rw holds.bench_is at (ap Made stepped.0), record { bench_is = same ∙ holds.bench_is; sound = sound_step bench docketed command holds.sound; stands = rw holds.bench_is at stepped.1 })
+    (rw holds.setup_is at (ap Made stepped.0), record { setup_is = same ∙ holds.setup_is; sound = sound_step setup docketed command holds.sound; stands = rw holds.setup_is at stepped.1 })
 
 -- what is docketed after one row more
-pub docketed_more : (bench : Bench) (docketed : Rows) (rows : List Row) (row : Row) → docketed_after bench docketed (rows ++ row ∷ []) ≡ docketed_then bench (docketed_after bench docketed rows) row.work
+pub docketed_more : (setup : CourtSetup) (docketed : Rows) (rows : List Row) (row : Row) → docketed_after setup docketed (rows ++ row ∷ []) ≡ docketed_then setup (docketed_after setup docketed rows) row.work
 unfolding docketed_after
-docketed_more bench docketed [] row = refl
-docketed_more bench docketed (r ∷ rows) row = docketed_more bench (docketed_then bench docketed r.work) rows row
+docketed_more setup docketed [] row = refl
+docketed_more setup docketed (r ∷ rows) row = docketed_more setup (docketed_then setup docketed r.work) rows row
 
-pub docketed_at : (bench : Bench) (docketed : Rows) (rows : List Row) (i : ℕ) (d : Row) → i < length rows → docketed_after bench docketed (take (i + 1) rows) ≡ docketed_then bench (docketed_after bench docketed (take i rows)) (get_or rows i d).work
-docketed_at bench docketed rows i d within =
-    ap (docketed_after bench docketed) (take_at_read rows i d within).1 ∙ docketed_more bench docketed (take i rows) (get_or rows i d)
+pub docketed_at : (setup : CourtSetup) (docketed : Rows) (rows : List Row) (i : ℕ) (d : Row) → i < length rows → docketed_after setup docketed (take (i + 1) rows) ≡ docketed_then setup (docketed_after setup docketed (take i rows)) (get_or rows i d).work
+docketed_at setup docketed rows i d within =
+    ap (docketed_after setup docketed) (take_at_read rows i d within).1 ∙ docketed_more setup docketed (take i rows) (get_or rows i d)
 
 -- some numbers in a row are the first and those that follow
 pub range_more : (first last n : ℕ) → first < last → n ≡ last - first → range_with_len first n ≡ first ∷ range_with_len (first + 1) (last - (first + 1))
@@ -41,10 +41,10 @@ range_more first last n before is =
     rw left refl
 
 -- the sheets of some cases are that of the first and those that follow, and the calendars of some judges likewise
-pub sheets_more : (court : CourtView) (parts : Parts) (first last : ℕ) → first < last → sheets_from court parts first (last - first) ≡ sheet_shown court (seen_by (bench_of court) parts (query.Sheet first)) ++ sheets_from court parts (first + 1) (last - (first + 1))
+pub sheets_more : (court : CourtView) (parts : Parts) (first last : ℕ) → first < last → sheets_from court parts first (last - first) ≡ sheet_shown court (seen_by (setup_of court) parts (query.Sheet first)) ++ sheets_from court parts (first + 1) (last - (first + 1))
 unfolding sheets_from
 sheets_more court parts first last before =
-    ap (flat_map (λ case. sheet_shown court (seen_by (bench_of court) parts (query.Sheet case)))) (range_more first last (last - first) before refl)
+    ap (flat_map (λ case. sheet_shown court (seen_by (setup_of court) parts (query.Sheet case)))) (range_more first last (last - first) before refl)
 
 pub calendars_more : (court : CourtView) (parts : Parts) (first last : ℕ) → first < last → calendars_from court parts first (last - first) ≡ calendar_lines court first (parts.judge first) ++ calendars_from court parts (first + 1) (last - (first + 1))
 unfolding calendars_from
@@ -56,7 +56,7 @@ sheets_same : (court : CourtView) (p q : Parts) → ((part : PartId) → part_va
 unfolding sheets_from
 sheets_same court p q same first zero = refl
 sheets_same court p q same first (suc n) =
-    rw (same_view (bench_of court) p q (query.Sheet first) same) (ap (λ s. sheet_shown court (seen_by (bench_of court) q (query.Sheet first)) ++ s) (sheets_same court p q same (first + 1) n))
+    rw (same_view (setup_of court) p q (query.Sheet first) same) (ap (λ s. sheet_shown court (seen_by (setup_of court) q (query.Sheet first)) ++ s) (sheets_same court p q same (first + 1) n))
 
 pub calendars_same : (court : CourtView) (p q : Parts) → ((part : PartId) → part_value p part ≡ part_value q part) → (first count : ℕ) → calendars_from court p first count ≡ calendars_from court q first count
 unfolding calendars_from
@@ -65,18 +65,18 @@ calendars_same court p q same first (suc n) =
     rw ((hold_same p q same).judge first) (ap (λ s. calendar_lines court first (q.judge first) ++ s) (calendars_same court p q same (first + 1) n))
 
 -- the sheets and then the calendars, of a docket that stands for what is docketed
-pub closing_made : (court : CourtView) (d : DocketView) (before sheets whole : List ℕ) (judges : ℕ) → sheets ≡ before ++ sheets_from court (parts_held d) 1 4096 → whole ≡ sheets ++ calendars_from court (parts_held d) 0 judges → judges ≡ length court.judges → (docketed : Rows) → StandsFor d docketed → whole ≡ before ++ closing_text court (parts_of docketed)
+pub closing_made : (court : CourtView) (d : DocketView) (before sheets whole : List ℕ) (judges : ℕ) → sheets ≡ before ++ sheets_from court (parts_held d) 1 last_case → whole ≡ sheets ++ calendars_from court (parts_held d) 0 judges → judges ≡ length court.judges → (docketed : Rows) → StandsFor d docketed → whole ≡ before ++ closing_text court (parts_of docketed)
 closing_made court d before sheets whole judges with_sheets with_calendars all docketed stands =
     let parts = parts_of docketed in
     with_calendars
     ∙ ap (λ t. t ++ calendars_from court (parts_held d) 0 judges) with_sheets
-    ∙ append_assoc before (sheets_from court (parts_held d) 1 4096) (calendars_from court (parts_held d) 0 judges)
-    ∙ ap (λ s. before ++ (s ++ calendars_from court (parts_held d) 0 judges)) (sheets_same court (parts_held d) parts stands 1 4096)
-    ∙ ap (λ s. before ++ (sheets_from court parts 1 4096 ++ s)) (calendars_same court (parts_held d) parts stands 0 judges ∙ ap (calendars_from court parts 0) all)
+    ∙ append_assoc before (sheets_from court (parts_held d) 1 last_case) (calendars_from court (parts_held d) 0 judges)
+    ∙ ap (λ s. before ++ (s ++ calendars_from court (parts_held d) 0 judges)) (sheets_same court (parts_held d) parts stands 1 last_case)
+    ∙ ap (λ s. before ++ (sheets_from court parts 1 last_case ++ s)) (calendars_same court (parts_held d) parts stands 0 judges ∙ ap (calendars_from court parts 0) all)
 
 -- the text that was made piece by piece
-pub run_text_made : (court : CourtView) (rows : List Row) (d : DocketView) (empty replies whole : List ℕ) → empty ≡ [] → replies ≡ empty ++ lines_from court (opening_rows (bench_of court)) 1 rows → Holds (bench_of court) d (docketed_after (bench_of court) (opening_rows (bench_of court)) rows) → ((docketed : Rows) → StandsFor d docketed → whole ≡ replies ++ closing_text court (parts_of docketed)) → whole ≡ run_text court rows
+pub run_text_made : (court : CourtView) (rows : List Row) (d : DocketView) (empty replies whole : List ℕ) → empty ≡ [] → replies ≡ empty ++ lines_from court (opening_rows (setup_of court)) 1 rows → Holds (setup_of court) d (docketed_after (setup_of court) (opening_rows (setup_of court)) rows) → ((docketed : Rows) → StandsFor d docketed → whole ≡ replies ++ closing_text court (parts_of docketed)) → whole ≡ run_text court rows
 unfolding run_text
 run_text_made court rows d empty replies whole is_empty replied holds closed =
-    let docketed = docketed_after (bench_of court) (opening_rows (bench_of court)) rows in
-    closed docketed holds.stands ∙ ap (λ t. t ++ closing_text court (parts_of docketed)) (replied ∙ ap (λ t. t ++ lines_from court (opening_rows (bench_of court)) 1 rows) is_empty)
+    let docketed = docketed_after (setup_of court) (opening_rows (setup_of court)) rows in
+    closed docketed holds.stands ∙ ap (λ t. t ++ closing_text court (parts_of docketed)) (replied ∙ ap (λ t. t ++ lines_from court (opening_rows (setup_of court)) 1 rows) is_empty)

@@ -6,7 +6,7 @@ use Rattle.court_days.specs.Words.{CourtView}
 use Rattle.docket_rows.specs.declared.query.Query.TheVariants as query
 use Rattle.docket_rows.specs.declared.view.View.{View}
 use Rattle.docket_rows.specs.declared.view.View.TheVariants as view
-use Rattle.docket_rows.specs.Words.{Parts, Rows, bench_of, opening_rows, parts_of, seen_by}
+use Rattle.docket_rows.specs.Words.{Parts, Rows, setup_of, last_case, opening_rows, parts_of, seen_by}
 use Rattle.office_rows.specs.declared.row.Row.{Row}
 use Rattle.office_texts.specs.Words.{answer_text, calendar_lines, sheet_lines, view_lines}
 use Rattle.office_run.specs.declared.reply.Reply.{Reply}
@@ -30,8 +30,8 @@ line_of court number clerk reply = row_numbers number clerk ++ reply_text court 
 unfoldable pub lines_from : CourtView → (docketed : Rows) → (number : ℕ) → List Row → List ℕ
 lines_from court docketed number [] = []
 lines_from court docketed number (row ∷ rows) =
-    line_of court number row.clerk (reply_to (bench_of court) docketed row.work)
-    ++ lines_from court (docketed_then (bench_of court) docketed row.work) (number + 1) rows
+    line_of court number row.clerk (reply_to (setup_of court) docketed row.work)
+    ++ lines_from court (docketed_then (setup_of court) docketed row.work) (number + 1) rows
 
 -- the lines of a sheet; a case that isn't open shows none
 abbrev pub sheet_shown : CourtView → View → List ℕ
@@ -40,7 +40,7 @@ sheet_shown court _ = []
 
 -- the sheets of `count` cases from the first number on, where the parts are these
 unfoldable pub sheets_from : CourtView → Parts → (first count : ℕ) → List ℕ
-sheets_from court parts first count = flat_map (λ case. sheet_shown court (seen_by (bench_of court) parts (query.Sheet case))) (range_with_len first count)
+sheets_from court parts first count = flat_map (λ case. sheet_shown court (seen_by (setup_of court) parts (query.Sheet case))) (range_with_len first count)
 
 -- the calendars of `count` judges from the first number on, where the parts are these
 unfoldable pub calendars_from : CourtView → Parts → (first count : ℕ) → List ℕ
@@ -48,10 +48,10 @@ calendars_from court parts first count = flat_map (λ judge. calendar_lines cour
 
 -- the sheets of all open cases, by number, and the calendars of all judges, in the order of the court's file
 abbrev pub closing_text : CourtView → Parts → List ℕ
-closing_text court parts = sheets_from court parts 1 4096 ++ calendars_from court parts 0 (length court.judges)
+closing_text court parts = sheets_from court parts 1 last_case ++ calendars_from court parts 0 (length court.judges)
 
 -- the text of a run
 unfoldable pub run_text : CourtView → List Row → List ℕ
 run_text court rows =
-    let docketed = docketed_after (bench_of court) (opening_rows (bench_of court)) rows in
-    lines_from court (opening_rows (bench_of court)) 1 rows ++ closing_text court (parts_of docketed)
+    let docketed = docketed_after (setup_of court) (opening_rows (setup_of court)) rows in
+    lines_from court (opening_rows (setup_of court)) 1 rows ++ closing_text court (parts_of docketed)

@@ -1,7 +1,7 @@
 //! What a row is answered.
 
 ghost use Rattle.std.specs.Prelude.{◌≡◌, IfOk};
-ghost use Rattle.docket_rows.specs.Words.{Bench, Rows};
+ghost use Rattle.docket_rows.specs.Words.{CourtSetup, Rows};
 ghost use Rattle.office_run.specs.Replies.{Holds, docketed_then, reply_to};
 
 use docket_core::Docket;
@@ -20,7 +20,7 @@ pub enum Reply {
 
 /// Carries out what a row asks for, and answers it. `Err` says that memory ran out, and leaves the docket as it was.
 pub fn reply_to(alloc: Global, docket: &mut Docket, work: &Work) -> Result<Reply, AllocError>
-    ensures { (bench : Bench) (docketed : Rows) → Holds bench docket.old docketed → IfOk result (λ r. (r ≡ reply_to bench docketed work.now) × Holds bench docket.new (docketed_then bench docketed work.now)) }
+    ensures { (setup : CourtSetup) (docketed : Rows) → Holds setup docket.old docketed → IfOk result (λ r. (r ≡ reply_to setup docketed work.now) × Holds setup docket.new (docketed_then setup docketed work.now)) }
 {
     match work {
         Work::Command(command) => Ok(Reply::Made(docket.apply(alloc, command)?)),

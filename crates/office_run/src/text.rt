@@ -1,7 +1,7 @@
 //! The text of a run.
 
 ghost use Rattle.std.specs.Prelude.{◌≡◌, ◌+◌, ◌<◌, ◌≤◌, length, IfOk, OnOk, string_bytes};
-ghost use Rattle.docket_rows.specs.Words.{Rows, bench_of, opening_rows, parts_of};
+ghost use Rattle.docket_rows.specs.Words.{Rows, setup_of, most_names, opening_rows, parts_of};
 ghost use Rattle.docket_core.specs.Words.{StandsFor, parts_held};
 ghost use Rattle.office_texts.specs.Words.{AddsText, calendar_lines};
 ghost use Rattle.office_run.specs.Replies.{Holds, docketed_after};
@@ -10,7 +10,7 @@ ghost use Rattle.office_run.specs.Text.{calendars_from, closing_text, line_of, l
 use crate::reply::{Reply, reply_to};
 use court_days::Court;
 use docket_core::Docket;
-use docket_rows::{Query, View};
+use docket_rows::{LAST_CASE, Query, View};
 use office_rows::Row;
 use office_texts::{push_answer, push_calendar, push_number, push_sheet, push_view};
 use std::alloc::{AllocError, Global};
@@ -36,9 +36,9 @@ fn push_replies(
     docket: &mut Docket,
     rows: &[Row],
 ) -> Result<(), AllocError>
-    requires { Holds (bench_of court.now) docket.old (opening_rows (bench_of court.now)) }
-    ensures text { OnOk result (AddsText text.old text.new (lines_from court.now (opening_rows (bench_of court.now)) 1 rows.now)) }
-    ensures docket { OnOk result (Holds (bench_of court.now) docket.new (docketed_after (bench_of court.now) (opening_rows (bench_of court.now)) rows.now)) }
+    requires { Holds (setup_of court.now) docket.old (opening_rows (setup_of court.now)) }
+    ensures text { OnOk result (AddsText text.old text.new (lines_from court.now (opening_rows (setup_of court.now)) 1 rows.now)) }
+    ensures docket { OnOk result (Holds (setup_of court.now) docket.new (docketed_after (setup_of court.now) (opening_rows (setup_of court.now)) rows.now)) }
 {
     let mut number = 1u64;
     for row in rows {
@@ -95,10 +95,10 @@ pub fn push_closing(
     court: &Court,
     docket: &Docket,
 ) -> Result<(), AllocError>
-    requires court { docket.now.bench ≡ bench_of court.now }
+    requires court { docket.now.setup ≡ setup_of court.now }
     ensures { (docketed : Rows) → StandsFor docket.now docketed → OnOk result (AddsText text.old text.new (closing_text court.now (parts_of docketed))) }
 {
-    push_sheets(alloc, text, court, docket, 1, 4_096)?;
+    push_sheets(alloc, text, court, docket, 1, LAST_CASE)?;
     push_calendars(text, court, docket, 0, court.judges())?;
     Ok(())
 }
@@ -112,7 +112,7 @@ fn push_sheets(
     first: u32,
     count: u32,
 ) -> Result<(), AllocError>
-    requires court { docket.now.bench ≡ bench_of court.now }
+    requires court { docket.now.setup ≡ setup_of court.now }
     requires numbers { first + count ≤ 5_000 }
     ensures { OnOk result (AddsText text.old text.new (sheets_from court.now (parts_held docket.now) first count)) }
 {
@@ -141,9 +141,9 @@ pub fn push_calendars(
     first: u8,
     count: u8,
 ) -> Result<(), AllocError>
-    requires court { docket.now.bench ≡ bench_of court.now }
+    requires court { docket.now.setup ≡ setup_of court.now }
     requires numbers { first + count ≤ length court.now.judges }
-    requires few { first + count ≤ 32 }
+    requires few { first + count ≤ most_names }
     ensures { OnOk result (AddsText text.old text.new (calendars_from court.now (parts_held docket.now) first count)) }
 {
     for judge in first..first + count {
@@ -159,7 +159,7 @@ fn push_judge(
     docket: &Docket,
     judge: u8,
 ) -> Result<(), AllocError>
-    requires court { docket.now.bench ≡ bench_of court.now }
+    requires court { docket.now.setup ≡ setup_of court.now }
     requires judge { judge < length court.now.judges }
     ensures { OnOk result (AddsText text.old text.new (calendar_lines court.now judge ((parts_held docket.now).judge judge))) }
 {

@@ -6,7 +6,7 @@ use Rattle.std.proofs.lemmas.List.Elements.{All-head, All-tail}
 use mathlib.Core.List.{IsPrefix}
 use Rattle.docket_rows.specs.declared.answer.Answer.{Answer}
 use Rattle.docket_rows.specs.declared.command.Command.{Command}
-use Rattle.docket_rows.specs.Words.{Bench}
+use Rattle.docket_rows.specs.Words.{CourtSetup}
 use Rattle.versioned_steps.specs.declared.entry.Entry.{Entry}
 use Rattle.versioned_steps.specs.Words.{is_legal}
 use Rattle.shared_docket.specs.Words.{docket_rules}
@@ -44,6 +44,6 @@ module _ (seats : ℕ) (ts : List TallyView) (whole : HasTallies seats ts) where
   apart few = each_once seats (numbers_of ts) whole (omega (arith, few, length-map ts (λ (t : TallyView). t.number)))
 
   -- so their calls, which are as many as the entries, are these
-  pub closes : (bench : Bench) (journal : List (Entry Command Answer)) → length ts ≤ seats → is_legal (docket_rules bench) journal ≡ true → All (λ (t : TallyView). IsPrefix t.seen journal) ts → All (λ (t : TallyView). Within t.mine (places_of t.number journal)) ts → calls_of ts ≡ length journal → IsClosed bench ts journal
-  closes bench journal few legal seen mine all =
-      counted journal bench ts (apart few) legal seen mine all
+  pub closes : (setup : CourtSetup) (journal : List (Entry Command Answer)) → length ts ≤ seats → is_legal (docket_rules setup) journal ≡ true → All (λ (t : TallyView). IsPrefix t.seen journal) ts → All (λ (t : TallyView). Within t.mine (places_of t.number journal)) ts → calls_of ts ≡ length journal → IsClosed setup ts journal
+  closes setup journal few legal seen mine all =
+      counted journal setup ts (apart few) legal seen mine all

@@ -8,7 +8,7 @@ use Rattle.std.proofs.lemmas.Bool.Decides.{Decides-eqb}
 use mathlib.Core.List.{IsPrefix}
 use Rattle.docket_rows.specs.declared.answer.Answer.{Answer}
 use Rattle.docket_rows.specs.declared.command.Command.{Command}
-use Rattle.docket_rows.specs.Words.{Bench}
+use Rattle.docket_rows.specs.Words.{CourtSetup}
 use Rattle.versioned_steps.specs.declared.entry.Entry.{Entry}
 use Rattle.versioned_steps.specs.Words.{is_legal}
 use Rattle.shared_docket.specs.Words.{docket_rules}
@@ -106,11 +106,11 @@ module _ (journal : List (Entry Command Answer)) where
       (calls_whole ts rest (omega (arith, as_many, sum, within_length t.mine (places_of t.number journal) first)))
 
   -- seats whose calls make up the length of the journal: each has its entries, and there are no others
-  pub counted : (bench : Bench) (ts : List TallyView) → AreApart ts → is_legal (docket_rules bench) journal ≡ true → All (λ (t : TallyView). IsPrefix t.seen journal) ts → All HasSome ts → calls_of ts ≡ length journal → IsClosed bench ts journal
-  counted bench ts apart legal seen some all =
+  pub counted : (setup : CourtSetup) (ts : List TallyView) → AreApart ts → is_legal (docket_rules setup) journal ≡ true → All (λ (t : TallyView). IsPrefix t.seen journal) ts → All HasSome ts → calls_of ts ≡ length journal → IsClosed setup ts journal
+  counted setup ts apart legal seen some all =
       record {
         legal = legal;
-        sequential = legal_sequential bench journal legal;
+        sequential = legal_sequential setup journal legal;
         seen = seen;
         mine = calls_whole ts some (omega (arith, all, total_most 0 (numbers_of ts) journal apart));
         no_other = none_other 0 (numbers_of ts) journal apart (omega (arith, all, calls_most ts some));

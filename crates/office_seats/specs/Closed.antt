@@ -4,7 +4,7 @@ use Rattle.std.specs.List.{IsDistinct, sum_by}
 use mathlib.Core.List.{IsPrefix}
 use Rattle.docket_rows.specs.declared.answer.Answer.{Answer}
 use Rattle.docket_rows.specs.declared.command.Command.{Command}
-use Rattle.docket_rows.specs.Words.{Bench}
+use Rattle.docket_rows.specs.Words.{CourtSetup}
 use Rattle.versioned_steps.specs.declared.entry.Entry.{Entry}
 use Rattle.versioned_steps.specs.Words.{is_legal}
 use Rattle.shared_docket.specs.Words.{docket_rules, IsSequential}
@@ -51,9 +51,9 @@ StaysOpen seats tallies OutOfMemory = HasTallies seats tallies
 
 -- the journal is legal, and is that of a docket which one clerk gives its commands in order; what each seat had seen is a beginning of it;
 -- the calls of each seat are its entries; it has no other entries
-pub record IsClosed (bench : Bench) (tallies : List TallyView) (journal : List (Entry Command Answer)) : Type 0 where
-  pub legal : is_legal (docket_rules bench) journal ≡ true
-  pub sequential : IsSequential bench journal
+pub record IsClosed (setup : CourtSetup) (tallies : List TallyView) (journal : List (Entry Command Answer)) : Type 0 where
+  pub legal : is_legal (docket_rules setup) journal ≡ true
+  pub sequential : IsSequential setup journal
   pub seen : All (λ (t : TallyView). IsPrefix t.seen journal) tallies
   pub mine : All (λ (t : TallyView). t.mine ≡ places_of t.number journal) tallies
   pub no_other : All (λ (e : Entry Command Answer). Contains (numbers_of tallies) e.clerk) journal

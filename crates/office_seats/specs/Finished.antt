@@ -7,7 +7,7 @@ use Rattle.docket_rows.specs.declared.answer.Answer.{Answer}
 use Rattle.docket_rows.specs.declared.command.Command.{Command}
 use Rattle.docket_rows.specs.declared.part.PartId.{PartId}
 use Rattle.docket_rows.specs.declared.part.PartValue.{PartValue}
-use Rattle.docket_rows.specs.Words.{Bench}
+use Rattle.docket_rows.specs.Words.{CourtSetup}
 use Rattle.versioned_steps.specs.declared.entry.Entry.{Entry}
 use Rattle.versioned_steps.specs.Words.{DraftView, IsFresh, IsStale, answer_on, is_legal, value_of}
 use Rattle.shared_docket.specs.Words.{docket_rules}
@@ -21,10 +21,10 @@ use Rattle.office_seats.specs.declared.fault.PerformError.TheVariants as perform
 abbrev pub DocketDraft : Type 0
 DocketDraft = DraftView PartId PartValue Command Answer
 
-module _ (bench : Bench) where
+module _ (setup : CourtSetup) where
   -- the entry that the command becomes after this history: its answer is decided on the parts as they all are then
   abbrev pub next_entry : List (Entry Command Answer) → (clerk : ℕ) → Command → Entry Command Answer
-  next_entry history clerk command = record { clerk = clerk; command = command; answer = answer_on (docket_rules bench) (value_of (docket_rules bench) history) command }
+  next_entry history clerk command = record { clerk = clerk; command = command; answer = answer_on (docket_rules setup) (value_of (docket_rules setup) history) command }
 
   module _ (before : List (Entry Command Answer)) (limit : ℕ) where
     -- there was room, and the command became the next entry
@@ -37,7 +37,7 @@ module _ (bench : Bench) where
     -- so did a draft, of which no part was touched after it was read
     pub record IsCommitted (d : DocketDraft) (done : Done) (after : List (Entry Command Answer)) : Type 0 where
       pub made : IsMade d.clerk d.command done after
-      pub fresh : All (IsFresh (docket_rules bench) before) d.reads
+      pub fresh : All (IsFresh (docket_rules setup) before) d.reads
 
     -- the journal had all the entries that it takes
     pub record IsFull (after : List (Entry Command Answer)) : Type 0 where
@@ -47,13 +47,13 @@ module _ (bench : Bench) where
     -- there was room, but this is the first part in read order that was touched later, and its version now
     pub record IsOutdated (d : DocketDraft) (part : PartId) (version : ℕ) (after : List (Entry Command Answer)) : Type 0 where
       pub room : length before < limit
-      pub stale : IsStale (docket_rules bench) before d.reads part version
+      pub stale : IsStale (docket_rules setup) before d.reads part version
       pub same : after ≡ before
 
     -- the draft could have been committed, but no memory was left
     pub record LacksMemory (d : DocketDraft) (after : List (Entry Command Answer)) : Type 0 where
       pub room : length before < limit
-      pub fresh : All (IsFresh (docket_rules bench) before) d.reads
+      pub fresh : All (IsFresh (docket_rules setup) before) d.reads
       pub same : after ≡ before
 
     -- what this result of committing a draft says
@@ -75,11 +75,11 @@ module _ (bench : Bench) where
     pub before : List (Entry Command Answer)
     pub later : IsPrefix seen before
     pub commits : Commits before limit d result now
-    pub legal : is_legal (docket_rules bench) now ≡ true
+    pub legal : is_legal (docket_rules setup) now ≡ true
 
   -- so for a command that was made whole
   pub record Makes (seen : List (Entry Command Answer)) (limit : ℕ) (clerk : ℕ) (command : Command) (result : Result Done PerformError) (now : List (Entry Command Answer)) : Type 0 where
     pub before : List (Entry Command Answer)
     pub later : IsPrefix seen before
     pub makes : MakesNow before limit clerk command result now
-    pub legal : is_legal (docket_rules bench) now ≡ true
+    pub legal : is_legal (docket_rules setup) now ≡ true

@@ -5,7 +5,7 @@ use Rattle.std.specs.declared.result.Result.TheVariants.{Ok, Err}
 use mathlib.Core.List.{IsPrefix}
 use Rattle.docket_rows.specs.declared.answer.Answer.{Answer}
 use Rattle.docket_rows.specs.declared.command.Command.{Command}
-use Rattle.docket_rows.specs.Words.{Bench}
+use Rattle.docket_rows.specs.Words.{CourtSetup}
 use Rattle.versioned_steps.specs.declared.entry.Entry.{Entry}
 use Rattle.versioned_steps.specs.Words.{IsReadAll}
 use Rattle.shared_docket.specs.Words.{docket_rules}
@@ -42,17 +42,17 @@ draft_then (Err NothingPrepared) draft = draft
 draft_then (Err JournalFull) draft = draft
 draft_then (Err OutOfMemory) draft = draft
 
-module _ (bench : Bench) where
+module _ (setup : CourtSetup) where
   -- the seat now has a draft of this command, all of whose parts were read at the end of what it has seen now
   pub record IsReady (seat : SeatView) (command : Command) (d : DocketDraft) : Type 0 where
     pub clerk : d.clerk ≡ seat.number
     pub command_is : d.command ≡ command
-    pub read : IsReadAll (docket_rules bench) seat.seen d
+    pub read : IsReadAll (docket_rules setup) seat.seen d
 
   -- a draft is committed as the history is then; where there is none, that is the answer
   abbrev pub DraftCommits : Option DocketDraft → (seen : List (Entry Command Answer)) → (limit : ℕ) → Result Done CommitError → (now : List (Entry Command Answer)) → Type 0
   DraftCommits None seen limit result now = (result ≡ Err NothingPrepared) × (now ≡ seen)
-  DraftCommits (Some d) seen limit result now = Settles bench seen limit d result now
+  DraftCommits (Some d) seen limit result now = Settles setup seen limit d result now
 
   -- what this result of a seat's commit says
   pub record SeatCommits (old : SeatView) (result : Result Done CommitError) (new : SeatView) : Type 0 where
@@ -64,6 +64,6 @@ module _ (bench : Bench) where
   -- what this result of performing a command says
   pub record SeatPerforms (old : SeatView) (command : Command) (result : Result Done PerformError) (new : SeatView) : Type 0 where
     pub goes : Goes old new
-    pub makes : Makes bench old.seen old.limit old.number command result new.seen
+    pub makes : Makes setup old.seen old.limit old.number command result new.seen
     pub mine : new.mine ≡ mine_then result old.mine
     pub draft : new.draft ≡ None

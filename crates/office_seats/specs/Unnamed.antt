@@ -2,13 +2,13 @@
 use Rattle.std.specs.Prelude.{[], pos}
 use Rattle.jiff_tz.specs.declared.timezone.TimeZone.TheVariants.{UTC}
 use Rattle.logbook.specs.Pages.{Book}
-use Rattle.docket_rows.specs.Words.{Bench}
+use Rattle.docket_rows.specs.Words.{CourtSetup}
 
 abbrev pub no_history : Book
 no_history = record { number = 0; log_name = 0; cells_name = 0 }
 
-abbrev pub no_bench : Bench
-no_bench = record {
+abbrev pub no_setup : CourtSetup
+no_setup = record {
   clock = record { zone = UTC; opens = 0; closes = 0 };
   days = record { from = pos 0; to = pos 0; federal = []; state = []; outages = [] };
   judges = 0;

@@ -2,10 +2,10 @@
 
 ghost use Rattle.std.specs.Prelude.{◌≡◌, ℕ, ◌+◌, ◌<◌, ◌≤◌, [], IfNone, IfOk, IfSome, IsSome, OnErr, OnOk, Some, length, option_map};
 ghost use Rattle.left_right.specs.Sides.{view};
-ghost use Rattle.docket_rows.specs.Words.{bench_of};
+ghost use Rattle.docket_rows.specs.Words.{setup_of};
 ghost use Rattle.versioned_steps.specs.Words.{IsPrepared};
 ghost use Rattle.shared_docket.specs.Words.{docket_rules};
-ghost use Rattle.published_docket.specs.Words.{past};
+ghost use Rattle.published_docket.specs.Words.{trail_view};
 ghost use Rattle.office_seats.specs.Books.{entries_of};
 ghost use Rattle.office_seats.specs.Closed.{HasTallies, IsClosed};
 ghost use Rattle.office_seats.specs.Finished.{Commits, Makes, MakesNow, Settles};
@@ -15,7 +15,7 @@ use crate::closing::{all_seen, copy_entries, merge_all};
 use crate::done::Done;
 use crate::fault::{CommitError, PerformError};
 use crate::journal::Journal;
-use crate::names::Names;
+use crate::names_office::NamesOffice;
 use crate::tally::Tally;
 use court_days::Court;
 use docket_rows::{Answer, Command, PartId, PartValue};
@@ -29,14 +29,14 @@ use versioned_steps::{Draft, Entry, Store};
 
 /// The journal, with the parts as they are after it and what is published of them, and how many entries were counted.
 #[derive(Drop)]
-pub struct Book<L: Names> {
+pub struct Book<L: NamesOffice> {
     publisher: Publisher,
     journal: Vec<Entry<Command, Answer>>,
     store: Store<DocketParts>,
     counted: ledger::Book<L>,
 }
 
-impl<L: Names> Model for Book<L> {
+impl<L: NamesOffice> Model for Book<L> {
     ghost use Rattle.std.specs.Prelude.{List};
     ghost use Rattle.docket_rows.specs.declared.answer.Answer.{Answer};
     ghost use Rattle.docket_rows.specs.declared.command.Command.{Command};
@@ -47,7 +47,7 @@ impl<L: Names> Model for Book<L> {
 
     ghost view = { λ b. b.journal.items };
 
-    ghost invariant = { λ b. IsBook L.history L.bench b.publisher b.journal.items b.store b.counted.total };
+    ghost invariant = { λ b. IsBook L.history L.setup b.publisher b.journal.items b.store b.counted.total };
 }
 
 /// The entry that a settled draft becomes.
@@ -82,7 +82,7 @@ fn copy_writes(
     Ok(copies)
 }
 
-impl<L: Names> Book<L> {
+impl<L: NamesOffice> Book<L> {
     /// The book of an office without entries. `Err` says that memory ran out.
     pub(crate) fn open<R: Wait>(
         rt: &R,
@@ -91,8 +91,8 @@ impl<L: Names> Book<L> {
         counted: ledger::Book<L>,
         court: &Court,
     ) -> Result<Book<L>, AllocError>
-        requires publisher { publisher ≡ record { parts = L.bench; trail = past L.history [] } }
-        requires court { L.bench ≡ bench_of court.now }
+        requires publisher { publisher ≡ record { parts = L.setup; trail = trail_view L.history [] } }
+        requires court { L.setup ≡ setup_of court.now }
         requires counted { counted.total ≡ 0 }
         ensures { IfOk result (λ book. book ≡ []) }
     {
@@ -112,7 +112,7 @@ impl<L: Names> Book<L> {
     /// A reader of the docket. `Err` says that there are as many readers as can be, or that memory ran out.
     pub(crate) fn reader<R: Wait>(&mut self, rt: &R) -> Result<DocketReader, AllocError>
         ensures same { self.new ≡ self.old }
-        ensures knows { IfOk result (λ r. KnowsOf L.history L.bench (view r.place)) }
+        ensures knows { IfOk result (λ r. KnowsOf L.history L.setup (view r.place)) }
     {
         self.publisher.reader(rt)
     }
@@ -128,9 +128,9 @@ impl<L: Names> Book<L> {
         draft: &Draft<DocketParts>,
         limit: u32,
     ) -> Result<Done, CommitError>
-        requires prepared { IsPrepared (docket_rules L.bench) self.old draft.now }
+        requires prepared { IsPrepared (docket_rules L.setup) self.old draft.now }
         requires share { 0 < share.old.parts }
-        ensures commits { Commits L.bench self.old limit draft.now result self.new }
+        ensures commits { Commits L.setup self.old limit draft.now result self.new }
         ensures parts { share.new.parts ≡ share.old.parts }
         ensures amount { share.new.amount ≡ share.old.amount + entries_of result }
     {
@@ -170,10 +170,10 @@ impl<L: Names> Book<L> {
         limit: u32,
     ) -> Option<Result<Done, CommitError>>
         requires book { seen.old.book ≡ L.history }
-        requires prepared { IsPrepared (docket_rules L.bench) seen.old.log draft.now }
+        requires prepared { IsPrepared (docket_rules L.setup) seen.old.log draft.now }
         requires share { 0 < share.old.parts }
         ensures book { seen.new.book ≡ seen.old.book }
-        ensures settles { IfSome result (λ r. Settles L.bench seen.old.log limit draft.now r seen.new.log) }
+        ensures settles { IfSome result (λ r. Settles L.setup seen.old.log limit draft.now r seen.new.log) }
         ensures unseen { IfNone result (seen.new ≡ seen.old) }
         ensures parts { share.new.parts ≡ share.old.parts }
         ensures amount { IfSome result (λ r. share.new.amount ≡ share.old.amount + entries_of r) }
@@ -198,7 +198,7 @@ impl<L: Names> Book<L> {
         limit: u32,
     ) -> Result<Done, PerformError>
         requires share { 0 < share.old.parts }
-        ensures makes { MakesNow L.bench self.old limit clerk command result self.new }
+        ensures makes { MakesNow L.setup self.old limit clerk command result self.new }
         ensures parts { share.new.parts ≡ share.old.parts }
         ensures amount { share.new.amount ≡ share.old.amount + entries_of result }
     {
@@ -227,7 +227,7 @@ impl<L: Names> Book<L> {
         requires book { seen.old.book ≡ L.history }
         requires share { 0 < share.old.parts }
         ensures book { seen.new.book ≡ seen.old.book }
-        ensures makes { IfSome result (λ r. Makes L.bench seen.old.log limit clerk command r seen.new.log) }
+        ensures makes { IfSome result (λ r. Makes L.setup seen.old.log limit clerk command r seen.new.log) }
         ensures unseen { IfNone result (seen.new ≡ seen.old) }
         ensures parts { share.new.parts ≡ share.old.parts }
         ensures amount { IfSome result (λ r. share.new.amount ≡ share.old.amount + entries_of r) }
@@ -254,7 +254,7 @@ impl<L: Names> Book<L> {
         requires whole { (seats : ℕ) → rest.old.parts + seats ≡ 64 → HasTallies seats tallies.old.items }
         requires parts { rest.old.parts ≤ 64 }
         requires amount { rest.old.amount ≡ 0 }
-        ensures closed { IfSome result (λ r. IfOk r (IsClosed L.bench tallies.old.items)) }
+        ensures closed { IfSome result (λ r. IfOk r (IsClosed L.setup tallies.old.items)) }
         ensures few { IfSome result (λ r. OnOk r (rest.old.parts + length tallies.old.items ≤ 64)) }
         ensures tallies { IfSome result (λ r. OnErr r (tallies.new.items ≡ tallies.old.items)) }
         ensures rest { IfSome result (λ r. OnErr r (rest.new.parts ≡ rest.old.parts)) }

@@ -7,7 +7,7 @@ ghost use Rattle.office_seats.specs.Places.{Within, places_of};
 
 use crate::book::Book;
 use crate::journal::Journal;
-use crate::names::Names;
+use crate::names_office::NamesOffice;
 use crate::tally::Tally;
 use docket_rows::{Answer, Command};
 use published_docket::Trail;
@@ -17,7 +17,7 @@ use std::sync::{Mutex, Wait};
 use versioned_steps::Entry;
 
 // Whether there is a tally of the seat of this number.
-fn has_tally<L: Names>(tallies: &[Tally<L>], number: u8) -> bool
+fn has_tally<L: NamesOffice>(tallies: &[Tally<L>], number: u8) -> bool
     ensures { MatchBool result (Contains (numbers_of tallies.now) number) (Contains (numbers_of tallies.now) number → ⊥) }
 {
     for tally in tallies {
@@ -29,7 +29,7 @@ fn has_tally<L: Names>(tallies: &[Tally<L>], number: u8) -> bool
 }
 
 /// The least number of a seat, from 1, of which there is no tally.
-pub(crate) fn first_missing<L: Names>(seats: u8, tallies: &[Tally<L>]) -> Option<u8>
+pub(crate) fn first_missing<L: NamesOffice>(seats: u8, tallies: &[Tally<L>]) -> Option<u8>
     ensures missing { IfSome result (IsFirstMissing seats tallies.now) }
     ensures whole { IfNone result (HasTallies seats tallies.now) }
 {
@@ -42,7 +42,7 @@ pub(crate) fn first_missing<L: Names>(seats: u8, tallies: &[Tally<L>]) -> Option
 }
 
 /// Whether all that the seats had seen are beginnings of this history. Their calls are then entries of that.
-pub(crate) fn all_seen<L: Names>(tallies: &[Tally<L>], now: &Trail) -> bool
+pub(crate) fn all_seen<L: NamesOffice>(tallies: &[Tally<L>], now: &Trail) -> bool
     requires { now.now.book ≡ L.history }
     ensures seen { result ≡ true → All (λ t. IsPrefix t.seen now.now.log) tallies.now }
     ensures mine { result ≡ true → All (λ t. Within t.mine (places_of t.number now.now.log)) tallies.now }
@@ -56,7 +56,7 @@ pub(crate) fn all_seen<L: Names>(tallies: &[Tally<L>], now: &Trail) -> bool
 }
 
 /// Adds the seats' parts of the ledger to the rest of it, and spends the tallies.
-pub(crate) fn merge_all<L: Names>(rest: &mut Share<L>, tallies: &mut Vec<Tally<L>>)
+pub(crate) fn merge_all<L: NamesOffice>(rest: &mut Share<L>, tallies: &mut Vec<Tally<L>>)
     requires { rest.old.parts ≤ L.parts }
     ensures parts { rest.new.parts ≡ rest.old.parts + length tallies.old.items }
     ensures amount { rest.new.amount ≡ rest.old.amount + calls_of tallies.old.items }
@@ -87,7 +87,7 @@ pub(crate) fn copy_entries(
 
 /// Gives the journal of the book, and spends the tallies, which are those of all seats. `Err` says that memory ran out;
 /// all is then as it was.
-pub(crate) fn closed<L: Names, R: Wait>(
+pub(crate) fn closed<L: NamesOffice, R: Wait>(
     rt: &R,
     alloc: Global,
     book: &Mutex<Book<L>>,
@@ -98,7 +98,7 @@ pub(crate) fn closed<L: Names, R: Wait>(
     requires whole { (seats : ℕ) → rest.old.parts + seats ≡ 64 → HasTallies seats tallies.old.items }
     requires parts { rest.old.parts ≤ 64 }
     requires amount { rest.old.amount ≡ 0 }
-    ensures closed { IfOk result (IsClosed L.bench tallies.old.items) }
+    ensures closed { IfOk result (IsClosed L.setup tallies.old.items) }
     ensures few { OnOk result (rest.old.parts + length tallies.old.items ≤ 64) }
     ensures tallies { OnErr result (tallies.new.items ≡ tallies.old.items) }
     ensures rest { OnErr result (rest.new.parts ≡ rest.old.parts) }

@@ -1,7 +1,7 @@
 //! The journal of an office that was closed.
 
 ghost use Rattle.std.specs.Prelude.{◌≡◌, IfOk};
-ghost use Rattle.docket_rows.specs.Words.{bench_of};
+ghost use Rattle.docket_rows.specs.Words.{setup_of};
 ghost use Rattle.docket_core.specs.Words.{StandsFor};
 ghost use Rattle.shared_docket.specs.Words.{rows_of};
 
@@ -46,8 +46,8 @@ impl Journal {
 
     /// The docket of the court after the commands of the journal. `Err` says that memory ran out.
     pub fn docket(&self, alloc: Global, court: &Court) -> Result<Docket, AllocError>
-        ensures bench { IfOk result (λ d. d.bench ≡ bench_of court.now) }
-        ensures rows { IfOk result (λ d. StandsFor d (rows_of (bench_of court.now) self.now)) }
+        ensures setup { IfOk result (λ d. d.setup ≡ setup_of court.now) }
+        ensures rows { IfOk result (λ d. StandsFor d (rows_of (setup_of court.now) self.now)) }
     {
         let mut docket = Docket::new(alloc, court)?;
         for entry in &self.entries {

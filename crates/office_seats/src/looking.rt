@@ -9,16 +9,16 @@ ghost use Rattle.shared_docket.specs.Words.{docket_rules, rows_of};
 ghost use Rattle.published_docket.specs.Words.{IsShown};
 ghost use Rattle.office_seats.specs.Seen.{HasSeen, Looks};
 
-use crate::names::Names;
+use crate::names_office::NamesOffice;
 use docket_rows::{Command, Query, View};
-use published_docket::{DocketReader, Shown, Trail, enter, read_all, show};
+use published_docket::{Board, DocketReader, Trail, enter, read_all, show};
 use shared_docket::DocketParts;
 use std::alloc::{AllocError, Global};
 use versioned_steps::Draft;
 
 // Notes how far the history has gone, and says whether that goes on from what was seen before. Where it doesn't, nothing is
 // noted.
-fn is_noted(shown: &Shown, trail: &mut Trail) -> bool
+fn is_noted(shown: &Board, trail: &mut Trail) -> bool
     requires { shown.now.trail.book ≡ trail.old.book }
     ensures { MatchBool result (IsPrefix trail.old.log shown.now.trail.log × (trail.new ≡ shown.now.trail)) (trail.new ≡ trail.old) }
 {
@@ -33,7 +33,7 @@ fn is_noted(shown: &Shown, trail: &mut Trail) -> bool
 // what was seen before.
 fn read_at(
     alloc: Global,
-    shown: &Shown,
+    shown: &Board,
     trail: &mut Trail,
     clerk: u32,
     command: &Command,
@@ -55,18 +55,18 @@ fn read_at(
 
 /// A draft of the clerk's command, all of it read at one moment, up to which the seat has then seen the history. None where
 /// readers aren't shown yet what the seat has seen.
-pub(crate) fn looked<L: Names>(
+pub(crate) fn looked<L: NamesOffice>(
     alloc: Global,
     reader: DocketReader,
     trail: &mut Trail,
     clerk: u32,
     command: &Command,
 ) -> (DocketReader, Option<Result<Draft<DocketParts>, AllocError>>)
-    requires { HasSeen L.bench trail.old (view reader.place) }
-    ensures looks { Looks L.bench trail.old trail.new (view result.0.place) }
+    requires { HasSeen L.setup trail.old (view reader.place) }
+    ensures looks { Looks L.setup trail.old trail.new (view result.0.place) }
     ensures clerk { IfSome result.1 (λ r. IfOk r (λ d. d.clerk ≡ clerk)) }
     ensures command { IfSome result.1 (λ r. IfOk r (λ d. d.command ≡ command.now)) }
-    ensures read { IfSome result.1 (λ r. IfOk r (IsReadAll (docket_rules L.bench) trail.new.log)) }
+    ensures read { IfSome result.1 (λ r. IfOk r (IsReadAll (docket_rules L.setup) trail.new.log)) }
 {
     match enter(reader) {
         Ok(reading) => {
@@ -81,7 +81,7 @@ pub(crate) fn looked<L: Names>(
 // was seen before.
 fn show_at(
     alloc: Global,
-    shown: &Shown,
+    shown: &Board,
     trail: &mut Trail,
     query: &Query,
 ) -> Option<Result<View, AllocError>>
@@ -100,15 +100,15 @@ fn show_at(
 
 /// What the query shows at one moment, up to which the seat has then seen the history. None where readers aren't shown yet
 /// what the seat has seen.
-pub(crate) fn showed<L: Names>(
+pub(crate) fn showed<L: NamesOffice>(
     alloc: Global,
     reader: DocketReader,
     trail: &mut Trail,
     query: &Query,
 ) -> (DocketReader, Option<Result<View, AllocError>>)
-    requires { HasSeen L.bench trail.old (view reader.place) }
-    ensures looks { Looks L.bench trail.old trail.new (view result.0.place) }
-    ensures view { IfSome result.1 (λ r. IfOk r (λ view. view ≡ view_of L.bench (rows_of L.bench trail.new.log) query.now)) }
+    requires { HasSeen L.setup trail.old (view reader.place) }
+    ensures looks { Looks L.setup trail.old trail.new (view result.0.place) }
+    ensures view { IfSome result.1 (λ r. IfOk r (λ view. view ≡ view_of L.setup (rows_of L.setup trail.new.log) query.now)) }
 {
     match enter(reader) {
         Ok(reading) => {

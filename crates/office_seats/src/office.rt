@@ -1,8 +1,8 @@
 //! The office that clerks share.
 
 ghost use Rattle.std.specs.Prelude.{◌≡◌, ◌+◌, ◌≤◌, [], IfErr, IfOk, MatchResult, OnOk};
-ghost use Rattle.docket_rows.specs.Words.{bench_of};
-ghost use Rattle.published_docket.specs.Words.{past};
+ghost use Rattle.docket_rows.specs.Words.{setup_of};
+ghost use Rattle.published_docket.specs.Words.{trail_view};
 ghost use Rattle.office_seats.specs.Closed.{AreApart, AreOfSeats, HasTallies, IsClosed, StaysOpen};
 ghost use Rattle.office_seats.specs.Opened.{IsLate, IsOpened, IsRefused, open_seats};
 
@@ -10,7 +10,7 @@ use crate::book::Book;
 use crate::closing::{closed, first_missing};
 use crate::fault::{CloseError, OfficeError};
 use crate::journal::Journal;
-use crate::names::Names;
+use crate::names_office::NamesOffice;
 use crate::seat::Seat;
 use crate::tally::Tally;
 use court_days::Court;
@@ -22,13 +22,13 @@ use std::sync::{Arc, Mutex, Wait};
 
 /// The office of some clerks: the one book that their seats share.
 #[derive(Drop)]
-pub struct Office<L: Names> {
+pub struct Office<L: NamesOffice> {
     book: Arc<Mutex<Book<L>>>,
     seats: u8,
     rest: Share<L>,
 }
 
-impl<L: Names> Model for Office<L> {
+impl<L: NamesOffice> Model for Office<L> {
     ghost use Rattle.std.specs.Prelude.{ℕ};
     ghost use Rattle.office_seats.specs.Closed.{AreApart, AreOfSeats, HasTallies, IsClosed, StaysOpen};
     ghost use Rattle.office_seats.specs.Opened.{IsOffice};
@@ -42,7 +42,7 @@ impl<L: Names> Model for Office<L> {
 
 /// An office that wasn't closed, with all that it was to be closed with.
 #[derive(Drop)]
-pub struct CloseRefused<L: Names> {
+pub struct CloseRefused<L: NamesOffice> {
     /// Why it wasn't.
     pub cause: CloseError,
     /// The office, as it was.
@@ -52,19 +52,19 @@ pub struct CloseRefused<L: Names> {
 }
 
 // Puts the book under a lock that seats share.
-fn locked<L: Names>(alloc: Global, book: Book<L>) -> Result<Arc<Mutex<Book<L>>>, AllocError> {
+fn locked<L: NamesOffice>(alloc: Global, book: Book<L>) -> Result<Arc<Mutex<Book<L>>>, AllocError> {
     Ok(Arc::new(alloc, Mutex::new(book))?)
 }
 
 // Gives back the memory of the book where nobody else shares it, as all seats were left.
-fn end_book<L: Names, R: Wait>(rt: &R, book: Arc<Mutex<Book<L>>>) {
+fn end_book<L: NamesOffice, R: Wait>(rt: &R, book: Arc<Mutex<Book<L>>>) {
     if let Ok(lock) = Arc::try_unwrap(book) {
         lock.into_inner().end(rt);
     }
 }
 
 // The seats, numbered from 1. Each takes one part of the rest of the ledger.
-fn seats_of<L: Names, R: Wait>(
+fn seats_of<L: NamesOffice, R: Wait>(
     rt: &R,
     alloc: Global,
     book: &Arc<Mutex<Book<L>>>,
@@ -73,7 +73,7 @@ fn seats_of<L: Names, R: Wait>(
     count: u8,
     limit: u32,
 ) -> Result<Vec<Seat<L>>, OfficeError>
-    requires trail { trail.now ≡ past L.history [] }
+    requires trail { trail.now ≡ trail_view L.history [] }
     requires parts { count ≤ rest.old.parts }
     requires amount { rest.old.amount ≡ 0 }
     ensures seats { IfOk result (λ seats. seats.items ≡ open_seats limit count) }
@@ -103,7 +103,7 @@ fn seats_of<L: Names, R: Wait>(
     Ok(seats)
 }
 
-impl<L: Names> Office<L> {
+impl<L: NamesOffice> Office<L> {
     /// Opens an office, and gives its seats, numbered from 1 in this order. Its journal takes no more entries than the
     /// limit. The blank has 64 parts, and the publisher was made of this court. Both are spent also where an Err comes.
     #[tactic(auto, using(crate::proofs::OpenedLemmas::late_refused))]
@@ -119,8 +119,8 @@ impl<L: Names> Office<L> {
         requires name { blank.name ≡ L.name }
         requires parts { blank.parts ≡ L.parts }
         requires all { L.parts ≡ 64 }
-        requires publisher { publisher ≡ record { parts = L.bench; trail = past L.history [] } }
-        requires court { L.bench ≡ bench_of court.now }
+        requires publisher { publisher ≡ record { parts = L.setup; trail = trail_view L.history [] } }
+        requires court { L.setup ≡ setup_of court.now }
         ensures { MatchResult result (λ opened. IsOpened seats journal_limit opened.0 opened.1.items) (λ e. IsRefused seats journal_limit e) }
     {
         if seats == 0 || 64 < seats {
@@ -152,7 +152,7 @@ impl<L: Names> Office<L> {
         tallies: Vec<Tally<L>>,
     ) -> Result<Journal, CloseRefused<L>>
         requires all { L.parts ≡ 64 }
-        ensures closed { IfOk result (λ journal. IsClosed L.bench tallies.items journal) }
+        ensures closed { IfOk result (λ journal. IsClosed L.setup tallies.items journal) }
         ensures whole { OnOk result (HasTallies self tallies.items) }
         ensures seats { OnOk result (AreOfSeats self tallies.items) }
         ensures apart { OnOk result (AreApart tallies.items) }

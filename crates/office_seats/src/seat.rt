@@ -5,7 +5,7 @@ ghost use Rattle.left_right.specs.Sides.{view};
 ghost use Rattle.docket_rows.specs.Words.{view_of};
 ghost use Rattle.versioned_steps.specs.Words.{is_legal};
 ghost use Rattle.shared_docket.specs.Words.{docket_rules, rows_of};
-ghost use Rattle.published_docket.specs.Words.{past};
+ghost use Rattle.published_docket.specs.Words.{trail_view};
 ghost use Rattle.office_seats.specs.Opened.{open_seat};
 ghost use Rattle.office_seats.specs.Places.{Within, places_of};
 ghost use Rattle.office_seats.specs.Seats.{Goes, IsReady, SeatCommits, SeatPerforms};
@@ -15,7 +15,7 @@ use crate::book::Book;
 use crate::done::Done;
 use crate::fault::{CommitError, PerformError};
 use crate::looking::{looked, showed};
-use crate::names::Names;
+use crate::names_office::NamesOffice;
 use crate::settling::{made, settled};
 use crate::tally::Tally;
 use docket_rows::{Command, Query, View};
@@ -30,7 +30,7 @@ use versioned_steps::Draft;
 /// The seat of one clerk, who works in a thread of their own. It reads the docket without waiting, and waits for other
 /// clerks only where it finishes a command.
 #[derive(Drop)]
-pub struct Seat<L: Names> {
+pub struct Seat<L: NamesOffice> {
     book: Arc<Mutex<Book<L>>>,
     limit: u32,
     number: u8,
@@ -42,7 +42,7 @@ pub struct Seat<L: Names> {
     draft: Option<Draft<DocketParts>>,
 }
 
-impl<L: Names> Model for Seat<L> {
+impl<L: NamesOffice> Model for Seat<L> {
     ghost use Rattle.std.specs.Prelude.{option_map, vec_capacity};
     ghost use Rattle.left_right.specs.Sides.{view as known_by};
     ghost use Rattle.office_seats.specs.Seats.{SeatView};
@@ -52,10 +52,10 @@ impl<L: Names> Model for Seat<L> {
 
     ghost view = { λ s. record { number = s.number; limit = s.limit; seen = s.trail.log; mine = s.mine.items; draft = s.draft } };
 
-    ghost invariant = { λ s. IsSeat L.history L.bench s.trail (option_map (λ r. known_by r.place) s.reader) s.share.parts s.share.amount s.number s.mine.items (vec_capacity s.mine) s.draft };
+    ghost invariant = { λ s. IsSeat L.history L.setup s.trail (option_map (λ r. known_by r.place) s.reader) s.share.parts s.share.amount s.number s.mine.items (vec_capacity s.mine) s.draft };
 }
 
-impl<L: Names> Seat<L> {
+impl<L: NamesOffice> Seat<L> {
     /// A seat that has seen nothing and done nothing.
     #[tactic(auto, using(crate::proofs::SeatLemmas::seat_opened))]
     pub(crate) fn open(
@@ -67,8 +67,8 @@ impl<L: Names> Seat<L> {
         trail: Trail,
         share: Share<L>,
     ) -> Seat<L>
-        requires knows { KnowsOf L.history L.bench (view reader.place) }
-        requires trail { trail ≡ past L.history [] }
+        requires knows { KnowsOf L.history L.setup (view reader.place) }
+        requires trail { trail ≡ trail_view L.history [] }
         requires parts { share.parts ≡ 1 }
         requires amount { share.amount ≡ 0 }
         ensures { result ≡ open_seat limit number }
@@ -95,7 +95,7 @@ impl<L: Names> Seat<L> {
     /// How many entries of the history the seat has seen. They are legal, and the seat's own calls are among them.
     pub fn seen(&self) -> u64
         ensures length { result ≡ length self.now.seen }
-        ensures legal { is_legal (docket_rules L.bench) self.now.seen ≡ true }
+        ensures legal { is_legal (docket_rules L.setup) self.now.seen ≡ true }
         ensures mine { Within self.now.mine (places_of self.now.number self.now.seen) }
     {
         self.trail.len()
@@ -121,7 +121,7 @@ impl<L: Names> Seat<L> {
         ensures goes { Goes self.old self.new }
         ensures mine { self.new.mine ≡ self.old.mine }
         ensures drafted { IfSome result (λ r. OnOk r (IsSome self.new.draft)) }
-        ensures ready { IfSome result (λ r. OnOk r (IfSome self.new.draft (IsReady L.bench self.new command))) }
+        ensures ready { IfSome result (λ r. OnOk r (IfSome self.new.draft (IsReady L.setup self.new command))) }
         ensures err { IfSome result (λ r. OnErr r (self.new.draft ≡ self.old.draft)) }
         ensures older { IfNone result (self.new.draft ≡ self.old.draft) }
     {
@@ -151,7 +151,7 @@ impl<L: Names> Seat<L> {
         ensures goes { Goes self.old self.new }
         ensures mine { self.new.mine ≡ self.old.mine }
         ensures drafted { OnOk result (IsSome self.new.draft) }
-        ensures ready { OnOk result (IfSome self.new.draft (IsReady L.bench self.new command)) }
+        ensures ready { OnOk result (IfSome self.new.draft (IsReady L.setup self.new command)) }
         ensures err { OnErr result (self.new.draft ≡ self.old.draft) }
     {
         match self.draw(alloc, command) {
@@ -166,7 +166,7 @@ impl<L: Names> Seat<L> {
         ensures goes { Goes self.old self.new }
         ensures mine { self.new.mine ≡ self.old.mine }
         ensures draft { self.new.draft ≡ self.old.draft }
-        ensures view { IfOk result (λ view. view ≡ view_of L.bench (rows_of L.bench self.new.seen) query.now) }
+        ensures view { IfOk result (λ view. view ≡ view_of L.setup (rows_of L.setup self.new.seen) query.now) }
     {
         let Some(reader) = self.reader.take() else {
             unreachable!()
@@ -183,7 +183,7 @@ impl<L: Names> Seat<L> {
     /// read it. An `Ok` and `Stale` spend the draft; the other errors keep it. A refusal by the docket is an answer of a
     /// finished command.
     pub fn commit<R: Wait>(&mut self, rt: &R, alloc: Global) -> Result<Done, CommitError>
-        ensures { SeatCommits L.bench self.old result self.new }
+        ensures { SeatCommits L.setup self.old result self.new }
     {
         let Some(draft) = &self.draft else {
             return Err(CommitError::NothingPrepared);
@@ -222,7 +222,7 @@ impl<L: Names> Seat<L> {
         command: &Command,
     ) -> Option<Result<Done, PerformError>>
         requires { self.old.draft ≡ None }
-        ensures performs { IfSome result (λ r. SeatPerforms L.bench self.old command.now r self.new) }
+        ensures performs { IfSome result (λ r. SeatPerforms L.setup self.old command.now r self.new) }
         ensures goes { IfNone result (Goes self.old self.new) }
         ensures mine { IfNone result (self.new.mine ≡ self.old.mine) }
         ensures draft { self.new.draft ≡ None }
@@ -255,7 +255,7 @@ impl<L: Names> Seat<L> {
         alloc: Global,
         command: &Command,
     ) -> Result<Done, PerformError>
-        ensures { SeatPerforms L.bench self.old command.now result self.new }
+        ensures { SeatPerforms L.setup self.old command.now result self.new }
     {
         self.draft = None;
         self.mine.reserve(1)?;
@@ -290,7 +290,7 @@ impl<L: Names> Seat<L> {
         command: Command,
         tries: u32,
     ) -> Result<Done, PerformError>
-        ensures { SeatPerforms L.bench self.old command result self.new }
+        ensures { SeatPerforms L.setup self.old command result self.new }
     {
         let command = &command;
         self.discard();

@@ -9,7 +9,7 @@ ghost use Rattle.office_seats.specs.Finished.{Makes, Settles};
 use crate::book::Book;
 use crate::done::Done;
 use crate::fault::{CommitError, PerformError};
-use crate::names::Names;
+use crate::names_office::NamesOffice;
 use crossbeam_utils::Backoff;
 use docket_rows::Command;
 use published_docket::Trail;
@@ -21,7 +21,7 @@ use versioned_steps::Draft;
 
 /// Takes the lock of the book. It is held for some microseconds at a time. So a thread that waits for it looks again
 /// soon, and yields the processor in between; to sleep and be woken would take longer.
-fn taken<'b, L: Names, R: Wait>(rt: &R, book: &'b Mutex<Book<L>>) -> MutexGuard<'b, Book<L>> {
+fn taken<'b, L: NamesOffice, R: Wait>(rt: &R, book: &'b Mutex<Book<L>>) -> MutexGuard<'b, Book<L>> {
     let backoff = Backoff::new();
     for _ in rt.forever() {
         if let Some(guard) = book.try_lock() {
@@ -33,7 +33,7 @@ fn taken<'b, L: Names, R: Wait>(rt: &R, book: &'b Mutex<Book<L>>) -> MutexGuard<
 }
 
 /// Commits a seat's draft at the end of the journal, all of which the seat has then seen.
-pub(crate) fn settled<L: Names, R: Wait>(
+pub(crate) fn settled<L: NamesOffice, R: Wait>(
     rt: &R,
     alloc: Global,
     book: &Mutex<Book<L>>,
@@ -43,10 +43,10 @@ pub(crate) fn settled<L: Names, R: Wait>(
     limit: u32,
 ) -> Result<Done, CommitError>
     requires book { seen.old.book ≡ L.history }
-    requires prepared { IsPrepared (docket_rules L.bench) seen.old.log draft.now }
+    requires prepared { IsPrepared (docket_rules L.setup) seen.old.log draft.now }
     requires share { 0 < share.old.parts }
     ensures book { seen.new.book ≡ seen.old.book }
-    ensures settles { Settles L.bench seen.old.log limit draft.now result seen.new.log }
+    ensures settles { Settles L.setup seen.old.log limit draft.now result seen.new.log }
     ensures parts { share.new.parts ≡ share.old.parts }
     ensures amount { share.new.amount ≡ share.old.amount + entries_of result }
 {
@@ -60,7 +60,7 @@ pub(crate) fn settled<L: Names, R: Wait>(
 }
 
 /// Makes a seat's command whole at the end of the journal, all of which the seat has then seen.
-pub(crate) fn made<L: Names, R: Wait>(
+pub(crate) fn made<L: NamesOffice, R: Wait>(
     rt: &R,
     alloc: Global,
     book: &Mutex<Book<L>>,
@@ -73,7 +73,7 @@ pub(crate) fn made<L: Names, R: Wait>(
     requires book { seen.old.book ≡ L.history }
     requires share { 0 < share.old.parts }
     ensures book { seen.new.book ≡ seen.old.book }
-    ensures makes { Makes L.bench seen.old.log limit clerk command.now result seen.new.log }
+    ensures makes { Makes L.setup seen.old.log limit clerk command.now result seen.new.log }
     ensures parts { share.new.parts ≡ share.old.parts }
     ensures amount { share.new.amount ≡ share.old.amount + entries_of result }
 {

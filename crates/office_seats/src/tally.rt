@@ -4,21 +4,21 @@ ghost use Rattle.std.specs.Prelude.{◌≡◌, true, length};
 ghost use mathlib.Core.List.{IsPrefix};
 ghost use Rattle.office_seats.specs.Places.{Within, places_of};
 
-use crate::names::Names;
+use crate::names_office::NamesOffice;
 use published_docket::Trail;
 use std::marker::Model;
 use std::sync::ledger::Share;
 
 /// What is left of a seat once its clerk is done: its number, how far it had seen the history, and its calls.
 #[derive(Drop)]
-pub struct Tally<L: Names> {
+pub struct Tally<L: NamesOffice> {
     pub(crate) number: u8,
     pub(crate) trail: Trail,
     pub(crate) share: Share<L>,
     pub(crate) mine: Vec<u64>,
 }
 
-impl<L: Names> Model for Tally<L> {
+impl<L: NamesOffice> Model for Tally<L> {
     ghost use Rattle.office_seats.specs.Closed.{TallyView};
     ghost use Rattle.office_seats.specs.Seen.{IsTally};
 
@@ -26,10 +26,10 @@ impl<L: Names> Model for Tally<L> {
 
     ghost view = { λ t. record { number = t.number; seen = t.trail.log; mine = t.mine.items } };
 
-    ghost invariant = { λ t. IsTally L.history L.bench t.trail t.share.parts t.share.amount t.number t.mine.items };
+    ghost invariant = { λ t. IsTally L.history L.setup t.trail t.share.parts t.share.amount t.number t.mine.items };
 }
 
-impl<L: Names> Tally<L> {
+impl<L: NamesOffice> Tally<L> {
     /// The number of the seat, from 1.
     pub fn number(&self) -> u8
         ensures { result ≡ self.now.number }

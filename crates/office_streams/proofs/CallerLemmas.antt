@@ -1,2 +1,3 @@
 -- The lemmas for the crates above.
-pub use Rattle.office_streams.proofs.StatusLemmas.{no_fault_is_told_with_1}
+pub use Rattle.office_streams.proofs.FileLemmas.{read_file}
+pub use Rattle.office_streams.proofs.StatusLemmas.{told_as, told_is_past_1}

@@ -1,33 +1,38 @@
--- No fault of a run ends with the status of bad words.
-use Rattle.std.proofs.Common.{◌≡◌, ◌∙◌, ℕ, List, inl, inr, sym, arith}
-use Rattle.court_days.specs.declared.fault.CourtFault.TheVariants as court
+-- A fault of a run ends with none of the statuses of a whole run and of bad words.
+use Rattle.std.proofs.Common.{◌<◌, ◌⊎◌, ℕ, List, inl, inr, arith}
+use Rattle.court_file_text.specs.declared.fault.CourtFault.TheVariants as court
 use Rattle.office_streams.specs.declared.fault.OfficeFault.{OfficeFault}
 use Rattle.office_streams.specs.declared.fault.OfficeFault.TheVariants.{Court, Row, ReadFault, WriteFault, OutOfMemory}
-use Rattle.office_streams.specs.Fault.{IsTold, status_number}
+use Rattle.office_streams.specs.Fault.{IsTold, IsToldAs, status_number}
 
-no_fault_ends_with_1 : (fault : OfficeFault) → status_number fault ≡ 1 → ⊥
-no_fault_ends_with_1 (Court court.NotToml) e = omega (arith, e)
-no_fault_ends_with_1 (Court (court.Missing key)) e = omega (arith, e)
-no_fault_ends_with_1 (Court (court.WrongKind key)) e = omega (arith, e)
-no_fault_ends_with_1 (Court (court.BadDate text)) e = omega (arith, e)
-no_fault_ends_with_1 (Court court.BadZone) e = omega (arith, e)
-no_fault_ends_with_1 (Court court.BadHours) e = omega (arith, e)
-no_fault_ends_with_1 (Court court.BadSpan) e = omega (arith, e)
-no_fault_ends_with_1 (Court (court.BadName text)) e = omega (arith, e)
-no_fault_ends_with_1 (Court (court.TwiceNamed text)) e = omega (arith, e)
-no_fault_ends_with_1 (Court (court.TooMany key)) e = omega (arith, e)
-no_fault_ends_with_1 (Court court.OutOfMemory) e = omega (arith, e)
-no_fault_ends_with_1 (Row number cause) e = omega (arith, e)
-no_fault_ends_with_1 ReadFault e = omega (arith, e)
-no_fault_ends_with_1 WriteFault e = omega (arith, e)
-no_fault_ends_with_1 OutOfMemory e = omega (arith, e)
+fault_is_past_1 : (fault : OfficeFault) → 1 < status_number fault
+fault_is_past_1 (Court court.NotToml) = omega arith
+fault_is_past_1 (Court (court.Missing key)) = omega arith
+fault_is_past_1 (Court (court.WrongKind key)) = omega arith
+fault_is_past_1 (Court (court.BadDate text)) = omega arith
+fault_is_past_1 (Court court.BadZone) = omega arith
+fault_is_past_1 (Court court.BadHours) = omega arith
+fault_is_past_1 (Court court.BadSpan) = omega arith
+fault_is_past_1 (Court (court.BadName text)) = omega arith
+fault_is_past_1 (Court (court.TwiceNamed text)) = omega arith
+fault_is_past_1 (Court (court.TooMany key)) = omega arith
+fault_is_past_1 (Court court.OutOfMemory) = omega arith
+fault_is_past_1 (Row number cause) = omega arith
+fault_is_past_1 ReadFault = omega arith
+fault_is_past_1 WriteFault = omega arith
+fault_is_past_1 OutOfMemory = omega arith
+
+-- a fault is told as what it is, or as want of memory
+pub told_as : (fault : OfficeFault) (status : ℕ) (G : List ℕ → Type 0) → IsTold fault status G → IsToldAs fault status G ⊎ IsToldAs OutOfMemory status G
+told_as (Court fault) status G told = told
+told_as (Row number cause) status G told = told
+told_as ReadFault status G told = inl told
+told_as WriteFault status G told = inl told
+told_as OutOfMemory status G told = inl told
 
 -- whichever is told of it
-pub no_fault_is_told_with_1 : (fault : OfficeFault) (status : ℕ) (IsGivenErrors : List ℕ → Type 0) → IsTold fault status IsGivenErrors → status ≡ 1 → ⊥
-no_fault_is_told_with_1 (Court fault) status G (inl told) e = no_fault_ends_with_1 (Court fault) (sym told.numbered ∙ e)
-no_fault_is_told_with_1 (Court fault) status G (inr told) e = no_fault_ends_with_1 OutOfMemory (sym told.numbered ∙ e)
-no_fault_is_told_with_1 (Row number cause) status G (inl told) e = no_fault_ends_with_1 (Row number cause) (sym told.numbered ∙ e)
-no_fault_is_told_with_1 (Row number cause) status G (inr told) e = no_fault_ends_with_1 OutOfMemory (sym told.numbered ∙ e)
-no_fault_is_told_with_1 ReadFault status G told e = no_fault_ends_with_1 ReadFault (sym told.numbered ∙ e)
-no_fault_is_told_with_1 WriteFault status G told e = no_fault_ends_with_1 WriteFault (sym told.numbered ∙ e)
-no_fault_is_told_with_1 OutOfMemory status G told e = no_fault_ends_with_1 OutOfMemory (sym told.numbered ∙ e)
+pub told_is_past_1 : (fault : OfficeFault) (status : ℕ) (G : List ℕ → Type 0) → IsTold fault status G → 1 < status
+told_is_past_1 fault status G told = elim (told_as fault status G told) [
+  | inl as_it_is ↦ omega (arith, as_it_is.numbered, fault_is_past_1 fault)
+  | inr memory ↦ omega (arith, memory.numbered)
+]

@@ -1,8 +1,8 @@
 -- The lines and the statuses that tell of faults.
 use Rattle.std.specs.Prelude.{◌≡◌, ◌⊎◌, ℕ, List, [], ◌∷◌, ◌++◌, codes}
 use Rattle.std.specs.Fmt.{decimal}
-use Rattle.court_days.specs.Words.{court_fault_text}
-use Rattle.court_days.specs.declared.fault.CourtFault.TheVariants as court
+use Rattle.court_file_text.specs.Words.{court_fault_text}
+use Rattle.court_file_text.specs.declared.fault.CourtFault.TheVariants as court
 use Rattle.office_rows.specs.Words.{cause_text}
 use Rattle.office_streams.specs.declared.fault.OfficeFault.{OfficeFault}
 use Rattle.office_streams.specs.declared.fault.OfficeFault.TheVariants.{Court, Row, ReadFault, WriteFault, OutOfMemory}

@@ -4,5 +4,5 @@ pub mod Division
 pub mod Divider
 pub mod Fault
 pub mod Office
-pub mod UniqueText
+pub mod Report
 pub mod Words

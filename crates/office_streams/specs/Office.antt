@@ -1,14 +1,12 @@
 -- What a run of the office makes of its input.
 use Rattle.std.specs.Prelude.{◌≡◌, ◌≢◌, ⊤, ℕ, Bool, true, false, List, Option, Result, Ok, Err}
 use Rattle.std.specs.Io.KnownBytes.{Appends}
-use Rattle.court_days.specs.declared.fault.CourtFault.{CourtFault}
-use Rattle.court_days.specs.Words.{CourtFile, CourtView, court_in, file_of}
-use Rattle.court_days.specs.declared.fault.CourtFault.TheVariants as court
+use Rattle.court_file_text.specs.declared.fault.CourtFault.{CourtFault}
+use Rattle.court_days.specs.Words.{CourtFile, court_in, file_of}
+use Rattle.court_file_text.specs.declared.fault.CourtFault.TheVariants as court
 use Rattle.office_rows.specs.declared.fault.RowCause.{RowCause}
 use Rattle.office_rows.specs.declared.row.Row.{Row as RowOf}
-use Rattle.office_rows.specs.Words.{Names, rows_of}
-use Rattle.office_run.specs.Words.{run_text}
-use Rattle.shared_run.specs.Words.{IsSharedText}
+use Rattle.office_rows.specs.Words.{CourtNames, rows_read}
 use Rattle.office_streams.specs.declared.checking.CheckedInput.{CheckedInput}
 use Rattle.office_streams.specs.declared.fault.OfficeFault.{OfficeFault}
 use Rattle.office_streams.specs.declared.fault.OfficeFault.TheVariants.{Court, Row, ReadFault, WriteFault, OutOfMemory}
@@ -34,28 +32,15 @@ pub record Input : Type 0 where
   pub rows : List RowOf
 
 -- the names of the judges and rooms that a court's file has
-abbrev pub names_in : CourtFile → Names
+abbrev pub names_in : CourtFile → CourtNames
 names_in file = record { judges = file.judges; rooms = file.rooms }
 
 -- what an input says, or its first fault, a court's before any row's
 unfoldable pub input_of : ℕ → List ℕ → Result Input OfficeFault
 input_of clerks bytes = do
   file ← by_office Court (court_in (court_part bytes))
-  rows ← by_office (λ fault. Row fault.0 fault.1) (rows_of clerks (names_in file) (rows_part bytes))
+  rows ← by_office (λ fault. Row fault.0 fault.1) (rows_read clerks (names_in file) (rows_part bytes))
   Ok (record { file = file; rows = rows })
-
--- the text of a run of rows: one clerk does them one after another, and several share an office whose journal takes so
--- many entries
-pub record IsTextBy (clerks journal : ℕ) (court : CourtView) (rows : List RowOf) (text : List ℕ) : Type 0 where
-  pub by_one : clerks ≡ 1 → text ≡ run_text court rows
-  pub by_several : clerks ≢ 1 → IsSharedText court clerks journal rows text
-
--- The text of the run of an input, in the court whose file it has. The file names the court's zone, and all values
--- of a zone that it may stand for have the same offsets.
-pub record IsTextOf (clerks journal : ℕ) (input : Input) (text : List ℕ) : Type 0 where
-  pub court : CourtView
-  pub is_court : file_of court ≡ input.file
-  pub is_text : IsTextBy clerks journal court input.rows text
 
 -- what reading the court's file answers: the court or the fault that is defined, unless memory ran out
 abbrev pub AnswersCourt : {X : Type 0} → (X → CourtFile) → Result X OfficeFault → Result CourtFile CourtFault → Type 0
@@ -102,11 +87,6 @@ IsRunBy IsText old new (Err (Court fault)) said = said ≡ Err (Court fault)
 IsRunBy IsText old new (Err (Row number cause)) said = said ≡ Err (Row number cause)
 IsRunBy IsText old new (Err ReadFault) said = ⊤
 IsRunBy IsText old new (Err OutOfMemory) said = ⊤
-
--- the run of an office of so many clerks, whose journal takes so many entries: its text is that of the answers, sheets
--- and calendars
-abbrev pub IsRun : (clerks journal : ℕ) → Option (List ℕ) → Option (List ℕ) → Result (Unit {0}) OfficeFault → Result Input OfficeFault → Type 0
-IsRun clerks journal old new result said = IsRunBy (IsTextOf clerks journal) old new result said
 
 -- the answer rests on the whole input
 abbrev pub rests_on_input : Result (Unit {0}) OfficeFault → Bool

@@ -5,6 +5,6 @@ pub use Rattle.office_streams.specs.Division.{court_part, rows_part}
 unfoldable pub use Rattle.office_streams.specs.Division.{divided_from}
 pub use Rattle.office_streams.specs.Divider.{FirstDividerDivides, IsDividedAtDivider, HasNoDivider}
 pub use Rattle.office_streams.specs.Fault.{fault_text, no_text_line, told_line, status_number, IsTold, IsToldAs}
-pub use Rattle.office_streams.specs.Office.{Input, IsTextBy, IsTextOf, IsChecked, IsRun, IsRunBy, AnswersInput, HasFaultTold, WasReadWhole, names_in, rests_on_input}
+pub use Rattle.office_streams.specs.Office.{Input, IsChecked, IsRunBy, AnswersInput, HasFaultTold, WasReadWhole, names_in, rests_on_input}
 unfoldable pub use Rattle.office_streams.specs.Office.{input_of}
-pub use Rattle.office_streams.specs.UniqueText.{TextsAreUnique}
+pub use Rattle.office_streams.specs.Report.{IsReportRun, input_checked}

@@ -2,12 +2,13 @@
 
 ghost use Rattle.std.specs.Prelude.{◌≡◌, All, IfOk};
 ghost use Rattle.court_days.specs.Words.{court_in, file_of};
-ghost use Rattle.office_rows.specs.Words.{IsOfClerk, names_of, rows_of};
+ghost use Rattle.office_rows.specs.Words.{IsOfClerk, names_of, rows_read};
 ghost use Rattle.office_streams.specs.Office.{AnswersCourt, AnswersInput, AnswersRowsOf, IsChecked, input_of};
 
 use crate::division::divide;
 use crate::fault::OfficeFault;
-use court_days::{Court, CourtFault};
+use court_days::Court;
+use court_file_text::CourtFault;
 use office_rows::{Row, RowError, read_rows, rows_are_bounded};
 use std::alloc::Global;
 
@@ -51,7 +52,7 @@ fn rows_behind(
     clerks: u8,
     court: &Court,
 ) -> Result<Vec<Row>, OfficeFault>
-    ensures rows { AnswersRowsOf (λ rows. rows.items) result (rows_of clerks (names_of court.now) bytes.now) }
+    ensures rows { AnswersRowsOf (λ rows. rows.items) result (rows_read clerks (names_of court.now) bytes.now) }
     ensures clerks { IfOk result (λ rows. All (IsOfClerk clerks) rows.items) }
 {
     rows_are_bounded();

@@ -1,7 +1,7 @@
 //! Why a run of the office stopped.
 
 use crate::fault_lines::FaultLine;
-use court_days::CourtFault;
+use court_file_text::CourtFault;
 use office_rows::RowCause;
 use thiserror::Error;
 

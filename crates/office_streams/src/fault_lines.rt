@@ -4,7 +4,7 @@ ghost use Rattle.std.specs.Prelude.{◌≡◌, IfOk, string_bytes};
 ghost use Rattle.office_streams.specs.Fault.{fault_text, status_number, told_line};
 
 use crate::fault::OfficeFault;
-use court_days::{CourtFault, NumberedFault};
+use court_file_text::{CourtFault, NumberedFault};
 use std::alloc::{AllocError, Global};
 use std::fmt;
 

@@ -1,4 +1,4 @@
-//! A run over streams: the input is read, divided and checked, then its whole text is written; or one fault is told.
+//! A run over streams: the input is read, divided and checked, then a whole text of it is written; or one fault is told.
 #![tactic(auto)]
 
 mod checking;
@@ -6,13 +6,11 @@ mod division;
 mod endings;
 mod fault;
 mod fault_lines;
-mod gate;
 mod input;
 mod laws;
-mod office;
 mod output;
-#[cfg(test)]
-mod tests;
+mod report;
+mod run;
 mod text;
 mod watched;
 
@@ -21,9 +19,9 @@ pub use division::divide;
 pub use endings::{ended_by, helped, refused, unread};
 pub use fault::OfficeFault;
 pub use fault_lines::{fault_line, status_of};
-pub use gate::OpenGate;
 pub use input::{MAX_INPUT_BYTES, MAX_READ_CALLS, read_all};
-pub use laws::{first_divider_divides, texts_are_unique};
-pub use office::run_office;
+pub use laws::first_divider_divides;
 pub use output::write_all;
+pub use report::Report;
+pub use run::run_report;
 pub use watched::Watched;

@@ -1,51 +1,28 @@
-//! The text of a run, of one clerk or of several.
+//! The text of an input.
 
-ghost use Rattle.std.specs.Prelude.{All, IfOk};
-ghost use Rattle.office_rows.specs.Words.{IsOfClerk};
-ghost use Rattle.office_streams.specs.Office.{AnswersInput, IsTextBy, IsTextOf, input_of};
+ghost use Rattle.office_streams.specs.Division.{court_part};
+ghost use Rattle.office_streams.specs.Office.{AnswersInput, input_of};
 
-use crate::checking::{CheckedInput, check_input};
+use crate::checking::check_input;
+use crate::division::divide;
 use crate::fault::OfficeFault;
-use clerk_workers::Gate;
-use office_options::Options;
-use office_run::run_text;
-use shared_run::run_shared;
-use std::alloc::{AllocError, Global};
+use crate::report::Report;
+use std::alloc::Global;
 use std::sync::Wait;
 use std::thread::Threads;
 
-// The bytes of the text of the run of an input.
-pub(crate) fn answers_to<H: Threads + Wait + Sync, G: Gate>(
+// The bytes of the text that the report has of an input.
+pub(crate) fn text_of<H: Threads + Wait + Sync, P: Report>(
     rt: &H,
     alloc: Global,
     input: &[u8],
-    options: Options,
-    gate: &G,
+    report: &P,
 ) -> Result<Vec<u8>, OfficeFault>
-    ensures { AnswersInput (λ said text. IsTextOf options.clerks options.journal said text.items) result (input_of options.clerks input.now) }
+    ensures { AnswersInput (λ said text. P.is_text report.now (court_part input.now) said text.items) result (input_of (P.clerk_count report.now) input.now) }
 {
-    let checked = check_input(alloc, input, options.clerks)?;
-    match text_of(rt, alloc, checked, options, gate) {
+    let checked = check_input(alloc, input, report.clerks())?;
+    match report.text(rt, alloc, divide(input).0, checked) {
         Ok(text) => Ok(text),
         Err(_) => Err(OfficeFault::OutOfMemory),
     }
-}
-
-// The bytes of the text of the run of these rows in this court, by so many clerks.
-fn text_of<H: Threads + Wait + Sync, G: Gate>(
-    rt: &H,
-    alloc: Global,
-    checked: CheckedInput,
-    options: Options,
-    gate: &G,
-) -> Result<Vec<u8>, AllocError>
-    requires { All (IsOfClerk options.clerks) checked.rows.items }
-    ensures { IfOk result (λ text. IsTextBy options.clerks options.journal checked.court checked.rows.items text.items) }
-{
-    let CheckedInput { court, rows } = checked;
-    let Options { clerks, journal } = options;
-    if clerks == 1 {
-        return Ok(run_text(alloc, &court, &rows)?.into_bytes());
-    }
-    run_shared(rt, alloc, court, clerks, journal, &rows, gate)
 }

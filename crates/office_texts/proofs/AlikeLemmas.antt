@@ -1,5 +1,5 @@
 -- What is printed is the same by each value of one court.
-use Rattle.std.proofs.Common.{◌≡◌, ◌++◌, ℕ, List, [], ◌∷◌, Option, Some, None, true, false, codes, decimal, refl, ap}
+use Rattle.std.proofs.Common.{◌≡◌, ◌++◌, ℕ, List, [], ◌∷◌, Option, Some, None, true, codes, decimal, refl, ap}
 use Rattle.std.specs.List.{flat_map}
 use Rattle.court_clock.specs.Words.{ClockView, IsSameCourtClock, day_text}
 use Rattle.court_days.specs.Words.{CourtView, IsSameCourt}
@@ -8,7 +8,7 @@ use Rattle.rule6.specs.declared.timeliness.Shown.{Shown}
 use Rattle.rule6.specs.declared.timeliness.Shown.TheVariants as shown
 use Rattle.hearing_slots.specs.declared.booking.Booking.{Booking}
 use Rattle.docket_rows.specs.declared.answer.Answer.{Answer}
-use Rattle.docket_rows.specs.declared.answer.Answer.TheVariants.{Opened, Started, Filed, Extended, MotionEntered, Booked, Moved, Cancelled, HolidayEntered, OutageEntered, Refused}
+use Rattle.docket_rows.specs.declared.answer.Answer.TheVariants.{Started, Filed, Extended}
 use Rattle.docket_rows.specs.declared.sheet.Sheet.{Sheet}
 use Rattle.docket_rows.specs.declared.sheet.SheetDeadline.{SheetDeadline}
 use Rattle.docket_rows.specs.declared.sheet.SheetHearing.{SheetHearing}
@@ -29,20 +29,13 @@ module _ (a b : ClockView) (same : IsSameCourtClock a b) where
   shown_text_alike (shown.Until end) = ap end_text (civil_of_alike a.zone b.zone same.zone end)
   shown_text_alike shown.Beyond = refl
 
+  -- no other answer shows a time, and one that is added and shows none has its proof in the last line
   pub answer_text_alike : (answer : Answer) → answer_text a answer ≡ answer_text b answer
   unfolding answer_text
-  answer_text_alike Opened = refl
   answer_text_alike (Started number end) = ap (λ t. codes "deadline " ++ decimal number ++ codes " " ++ t) (shown_text_alike end)
-  answer_text_alike (Filed true) = refl
-  answer_text_alike (Filed false) = refl
   answer_text_alike (Extended end) = ap (λ t. codes "extended " ++ t) (shown_text_alike end)
-  answer_text_alike (MotionEntered number) = refl
-  answer_text_alike Booked = refl
-  answer_text_alike Moved = refl
-  answer_text_alike Cancelled = refl
-  answer_text_alike HolidayEntered = refl
-  answer_text_alike OutageEntered = refl
-  answer_text_alike (Refused refusal) = refl
+  answer_text_alike (Filed true) = refl
+  answer_text_alike other = refl
 
   deadline_line_alike : (d : SheetDeadline) → deadline_line a d ≡ deadline_line b d
   unfolding deadline_line
@@ -93,4 +86,4 @@ module _ (a b : CourtView) (same : IsSameCourt a b) where
   view_lines_alike (view.Sheet s) = ap (λ t. codes "sheet" ++ 10 ∷ t) (sheet_lines_alike s)
   view_lines_alike (view.Bookings bookings) = ap (λ t. codes "calendar" ++ 10 ∷ t) (booking_lines_alike bookings)
   view_lines_alike (view.Computed end) = ap (λ t. t ++ 10 ∷ []) (shown_text_alike a.clock b.clock same.clock end)
-  view_lines_alike (view.Refused refusal) = refl
+  view_lines_alike other = refl

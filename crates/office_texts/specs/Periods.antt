@@ -8,11 +8,9 @@ use Rattle.rule6.specs.declared.timeliness.Act.TheVariants.{Filing, Service}
 use Rattle.rule_periods.specs.declared.period.Entered.{Entered}
 use Rattle.rule_periods.specs.declared.period.Length.{Length}
 use Rattle.rule_periods.specs.declared.period.Length.TheVariants.{Days, Hours}
-use Rattle.rule_periods.specs.declared.period.Mark.{Mark}
-use Rattle.rule_periods.specs.declared.period.Mark.TheVariants.{Plain, Rule50b, Rule50d, Rule52b, Rule59b, Rule59d, Rule59e, Rule60b}
 use Rattle.rule_periods.specs.declared.period.Period.{Period}
 use Rattle.rule_periods.specs.declared.period.Period.TheVariants as period
-use Rattle.rule_periods.specs.Words.{rule_code}
+use Rattle.rule_periods.specs.Words.{mark_code, rule_code}
 
 abbrev pub length_text : Length → List ℕ
 length_text (Days n) = decimal n ++ codes "d"
@@ -31,20 +29,10 @@ abbrev pub start_text : (served : Bool) → List ℕ
 start_text true = codes "served"
 start_text false = codes "event"
 
-abbrev pub mark_text : Mark → List ℕ
-mark_text Plain = codes "plain"
-mark_text Rule50b = codes "50b"
-mark_text Rule50d = codes "50d"
-mark_text Rule52b = codes "52b"
-mark_text Rule59b = codes "59b"
-mark_text Rule59d = codes "59d"
-mark_text Rule59e = codes "59e"
-mark_text Rule60b = codes "60b"
-
 -- `28d/after/filing/event/plain`
 abbrev pub entered_text : Entered → List ℕ
 entered_text e =
-    length_text e.length ++ codes "/" ++ direction_text e.direction ++ codes "/" ++ act_text e.act ++ codes "/" ++ start_text e.served ++ codes "/" ++ mark_text e.mark
+    length_text e.length ++ codes "/" ++ direction_text e.direction ++ codes "/" ++ act_text e.act ++ codes "/" ++ start_text e.served ++ codes "/" ++ mark_code e.mark
 
 -- the code of a period that the Rules set, or the five words of one that a court enters
 unfoldable pub period_text : Period → List ℕ

@@ -4,7 +4,7 @@ pub use Rattle.office_texts.specs.Shown.{time_text, end_text, shown_text}
 pub use Rattle.office_texts.specs.Refusals.{motion_named, refusal_detail}
 unfoldable pub use Rattle.office_texts.specs.Refusals.{refusal_text}
 unfoldable pub use Rattle.office_texts.specs.Answers.{answer_text}
-pub use Rattle.office_texts.specs.Periods.{length_text, direction_text, act_text, start_text, mark_text, entered_text}
+pub use Rattle.office_texts.specs.Periods.{length_text, direction_text, act_text, start_text, entered_text}
 unfoldable pub use Rattle.office_texts.specs.Periods.{period_text}
 pub use Rattle.office_texts.specs.Calendars.{name_of, slot_text, slots_text, span_text, booking_lines}
 unfoldable pub use Rattle.office_texts.specs.Calendars.{booking_line, calendar_lines}

@@ -2,11 +2,11 @@
 
 ghost use Rattle.std.specs.Prelude.{◌≡◌, OnOk};
 ghost use Rattle.office_texts.specs.Added.{AddsText};
-ghost use Rattle.office_texts.specs.Periods.{act_text, direction_text, entered_text, length_text, mark_text, period_text, start_text};
+ghost use Rattle.office_texts.specs.Periods.{act_text, direction_text, entered_text, length_text, period_text, start_text};
 
 use crate::numbers::push_number;
 use court_clock::Direction;
-use rule_periods::{Entered, Length, Mark, Period};
+use rule_periods::{Entered, Length, Period};
 use rule6::Act;
 use std::alloc::AllocError;
 
@@ -33,7 +33,7 @@ fn push_entered(text: &mut String, entered: &Entered) -> Result<(), AllocError>
     text.push_str("/")?;
     text.push_str(start_word(entered.served))?;
     text.push_str("/")?;
-    text.push_str(mark_word(entered.mark))
+    text.push_str(entered.mark.code())
 }
 
 fn push_length(text: &mut String, length: Length) -> Result<(), AllocError>
@@ -73,19 +73,4 @@ fn start_word(served: bool) -> &'static str
     ensures { result.now ≡ start_text served }
 {
     if served { "served" } else { "event" }
-}
-
-fn mark_word(mark: Mark) -> &'static str
-    ensures { result.now ≡ mark_text mark }
-{
-    match mark {
-        Mark::Plain => "plain",
-        Mark::Rule50b => "50b",
-        Mark::Rule50d => "50d",
-        Mark::Rule52b => "52b",
-        Mark::Rule59b => "59b",
-        Mark::Rule59d => "59d",
-        Mark::Rule59e => "59e",
-        Mark::Rule60b => "60b",
-    }
 }

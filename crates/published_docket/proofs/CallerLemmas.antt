@@ -2,7 +2,7 @@
 -- Beginnings of one history.
 pub use Rattle.published_docket.proofs.TrailLemmas.{prefix_shorter, prefix_whole, prefix_length}
 pub use Rattle.published_docket.proofs.PublishedLemmas.{prefix_self, prefix_trans, begins_itself, begins_on}
--- Slots: which parts have them, and that no two share one.
-pub use Rattle.published_docket.proofs.SlotLemmas.{slot_next, slots_differ, slot_below}
+-- Cells: which parts have them, and that no two share one.
+pub use Rattle.published_docket.proofs.CellLemmas.{cell_next, cells_differ, cell_below}
 -- What is published goes on from what was known.
 pub use Rattle.published_docket.proofs.PublishedLemmas.{extends_itself, extends_on}

@@ -4,5 +4,5 @@ pub mod OwedLemmas
 pub mod PublishedLemmas
 pub mod PublishingLemmas
 pub mod SightLemmas
-pub mod SlotLemmas
+pub mod CellLemmas
 pub mod TrailLemmas

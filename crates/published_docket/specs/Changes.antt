@@ -2,23 +2,23 @@
 use Rattle.std.specs.Prelude.{ℕ, List, [], ◌∷◌, ◌++◌, slice_set}
 use Rattle.docket_rows.specs.declared.part.PartId.{PartId}
 use Rattle.docket_rows.specs.declared.part.PartValue.{PartValue}
-use Rattle.published_docket.specs.declared.change.Change.{Change}
-use Rattle.published_docket.specs.declared.change.Change.TheVariants.{Put, Grow}
-use Rattle.published_docket.specs.declared.slot.Slot.{Slot}
-use Rattle.published_docket.specs.Boards.{Board}
-use Rattle.published_docket.specs.Slots.{slot_of}
+use Rattle.published_docket.specs.declared.change.BoardChange.{BoardChange}
+use Rattle.published_docket.specs.declared.change.BoardChange.TheVariants.{Put, Grow}
+use Rattle.published_docket.specs.declared.cell.Cell.{Cell}
+use Rattle.published_docket.specs.Boards.{BoardView}
+use Rattle.published_docket.specs.Cells.{cell_of}
 
-abbrev pub applied_to : Board → Change → Board
-applied_to x (Put slot version value) = record x { slots = slice_set x.slots slot (record { version = version; value = value }) }
+abbrev pub applied_to : BoardView → BoardChange → BoardView
+applied_to x (Put cell version value) = record x { cells = slice_set x.cells cell (record { version = version; value = value }) }
 applied_to x (Grow trail) = record x { trail = trail }
 
 -- the changes by which these parts have these values and this version, the last first: of two writes to one part the
 -- first counts
-abbrev pub puts_of : ℕ → List (PartId × PartValue) → List Change
+abbrev pub puts_of : ℕ → List (PartId × PartValue) → List BoardChange
 puts_of version [] = []
-puts_of version (w ∷ ws) = puts_of version ws ++ Put (slot_of w.0) version w.1 ∷ []
+puts_of version (w ∷ ws) = puts_of version ws ++ Put (cell_of w.0) version w.1 ∷ []
 
--- the slots after them
-abbrev pub put_all : ℕ → List (PartId × PartValue) → List Slot → List Slot
-put_all version [] slots = slots
-put_all version (w ∷ ws) slots = slice_set (put_all version ws slots) (slot_of w.0) (record { version = version; value = w.1 })
+-- the cells after them
+abbrev pub put_all : ℕ → List (PartId × PartValue) → List Cell → List Cell
+put_all version [] cells = cells
+put_all version (w ∷ ws) cells = slice_set (put_all version ws cells) (cell_of w.0) (record { version = version; value = w.1 })

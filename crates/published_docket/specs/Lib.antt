@@ -4,6 +4,6 @@ pub mod Counted
 pub mod Held
 pub mod Published
 pub mod Sights
-pub mod Slots
+pub mod Cells
 pub mod Trails
 pub mod Words

@@ -2,16 +2,16 @@
 
 ghost use Rattle.std.specs.Prelude.{◌≡◌, ◌<◌, ◌++◌, ◌∷◌, [], None, Some, fold, IfOk, MatchBool, MatchResult, OnOk};
 ghost use Rattle.left_right.specs.Sides.{view};
-ghost use Rattle.published_docket.specs.declared.change.Change.TheVariants.{Grow};
+ghost use Rattle.published_docket.specs.declared.change.BoardChange.TheVariants.{Grow};
 ghost use Rattle.published_docket.specs.Boards.{IsShown, known_of};
 ghost use Rattle.published_docket.specs.Changes.{applied_to, puts_of};
 ghost use Rattle.published_docket.specs.Held.{AllShown, ShownOrOwed, board_then};
 ghost use Rattle.published_docket.specs.Published.{MayShow};
 
-use crate::change::Change;
+use crate::board::Board;
+use crate::cells::cell_of;
+use crate::change::BoardChange;
 use crate::protocol::{DocketReader, DocketWriter, See, Told};
-use crate::shown::Shown;
-use crate::slots::slot_of;
 use crate::trail::Trail;
 use docket_rows::{PartId, PartValue};
 use left_right::writer::Writer;
@@ -46,8 +46,8 @@ impl Held {
     /// A writer for this number of readers. `Err` says that memory ran out.
     pub(crate) fn new(
         alloc: Global,
-        first: Shown,
-        second: Shown,
+        first: Board,
+        second: Board,
         readers: u8,
     ) -> Result<Held, AllocError>
         requires readers { 0 < readers }
@@ -60,7 +60,7 @@ impl Held {
     }
 
     // Adds a change that readers don't see yet. It comes back where memory ran out.
-    fn append(&mut self, change: Change) -> Result<(), Change>
+    fn append(&mut self, change: BoardChange) -> Result<(), BoardChange>
         ensures { MatchResult result (λ _. self.new ≡ record self.old { pending = self.old.pending ++ change ∷ [] }) (λ c. (c ≡ change) × (self.new ≡ self.old)) }
     {
         self.writer.append(change)
@@ -70,7 +70,7 @@ impl Held {
     fn grow(&mut self, trail: &Trail) -> Result<(), AllocError>
         ensures { MatchResult result (λ _. self.new ≡ record self.old { pending = self.old.pending ++ Grow trail.now ∷ [] }) (λ _. self.new ≡ self.old) }
     {
-        match self.append(Change::Grow(trail.again())) {
+        match self.append(BoardChange::Grow(trail.again())) {
             Ok(()) => Ok(()),
             Err(_) => Err(AllocError),
         }
@@ -89,13 +89,13 @@ impl Held {
     {
         while let Some(write) = writes.pop() {
             let (part, value) = write;
-            match self.append(Change::Put(slot_of(part), version, value)) {
+            match self.append(BoardChange::Put(cell_of(part), version, value)) {
                 Ok(()) => {}
-                Err(Change::Put(_, _, value)) => {
+                Err(BoardChange::Put(_, _, value)) => {
                     writes.push_reserved((part, value));
                     return Err(AllocError);
                 }
-                Err(Change::Grow(_)) => unreachable!(),
+                Err(BoardChange::Grow(_)) => unreachable!(),
             }
         }
         Ok(())

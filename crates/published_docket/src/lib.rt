@@ -2,6 +2,9 @@
 //! What refuses a body that always answers want of memory is said in docs/PROMISES.md.
 #![tactic(auto)]
 
+mod board;
+mod cell;
+mod cells;
 mod change;
 mod held;
 mod known;
@@ -9,15 +12,12 @@ mod law;
 mod protocol;
 mod publisher;
 mod reading;
-mod shown;
 mod sight;
-mod slot;
-mod slots;
 mod trail;
 
+pub use board::Board;
 pub use known::Known;
 pub use protocol::{DocketReader, DocketReading, Growing, See, enter};
 pub use publisher::Publisher;
 pub use reading::{read_all, show};
-pub use shown::Shown;
 pub use trail::Trail;

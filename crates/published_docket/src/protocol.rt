@@ -4,9 +4,9 @@ ghost use Rattle.std.specs.Prelude.{◌≡◌, MatchResult};
 ghost use Rattle.left_right.specs.Sides.{view};
 ghost use Rattle.published_docket.specs.Published.{Sees};
 
-use crate::change::Change;
+use crate::board::Board;
+use crate::change::BoardChange;
 use crate::known::Known;
-use crate::shown::Shown;
 use atomic_table::{Join, Split};
 use crossbeam_utils::rule::{Outcome, Protocol};
 use left_right::reader::{Reader, Reading};
@@ -15,7 +15,7 @@ use left_right::writer::Writer;
 /// What is published is the docket after its history, and goes on from all that was seen of it.
 pub struct Growing;
 
-impl Protocol<Shown, Option<Known>> for Growing {
+impl Protocol<Board, Option<Known>> for Growing {
     ghost use Rattle.std.specs.Prelude.{None};
     ghost use Rattle.published_docket.specs.Published.{Published};
 
@@ -28,7 +28,7 @@ impl Protocol<Shown, Option<Known>> for Growing {
 /// is seen.
 pub struct See;
 
-impl Outcome<Shown, Option<Known>> for See {
+impl Outcome<Board, Option<Known>> for See {
     ghost use Rattle.published_docket.specs.Published.{Sees};
 
     ghost then = { Sees };
@@ -52,13 +52,13 @@ impl Join<Option<Known>> for Told {
 }
 
 /// Reads the published docket, and waits for nobody.
-pub type DocketReader = Reader<Shown, Option<Known>, Growing>;
+pub type DocketReader = Reader<Board, Option<Known>, Growing>;
 
 /// A reader with what it took, which stays as it is until the reader leaves.
-pub type DocketReading = Reading<Shown, Option<Known>, Growing>;
+pub type DocketReading = Reading<Board, Option<Known>, Growing>;
 
 /// Who publishes.
-pub(crate) type DocketWriter = Writer<Shown, Change, Option<Known>, Growing>;
+pub(crate) type DocketWriter = Writer<Board, BoardChange, Option<Known>, Growing>;
 
 /// Takes what is published now. The reader comes back where nobody publishes any more.
 pub fn enter(reader: DocketReader) -> Result<DocketReading, DocketReader>

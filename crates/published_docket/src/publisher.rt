@@ -2,14 +2,14 @@
 
 ghost use Rattle.std.specs.Prelude.{◌≡◌, ◌+◌, ◌<◌, ◌^◌, ◌++◌, ◌∷◌, [], length, true, Some, IfOk, MatchResult};
 ghost use Rattle.left_right.specs.Sides.{view};
-ghost use Rattle.docket_rows.specs.Words.{bench_of};
+ghost use Rattle.docket_rows.specs.Words.{setup_of};
 ghost use Rattle.versioned_steps.specs.Words.{MayFollow, is_legal, value_of, writes_on};
 ghost use Rattle.shared_docket.specs.Words.{docket_rules};
 
+use crate::board::Board;
 use crate::held::Held;
 use crate::law::Head;
 use crate::protocol::DocketReader;
-use crate::shown::Shown;
 use crate::trail::Trail;
 use court_days::Court;
 use docket_rows::{Answer, Command, PartId, PartValue};
@@ -48,13 +48,13 @@ impl Publisher {
     /// Publishes the docket of the court before any entry, with places for this number of readers, and for one at
     /// least. Each place costs time with every entry. `Err` says that memory ran out.
     pub fn new(alloc: Global, court: &Court, readers: u8) -> Result<Publisher, AllocError>
-        ensures parts { IfOk result (λ p. p.parts ≡ bench_of court.now) }
+        ensures parts { IfOk result (λ p. p.parts ≡ setup_of court.now) }
         ensures log { IfOk result (λ p. p.trail.log ≡ []) }
     {
         let parts = DocketParts::new(court)?;
         let (head, trail) = Trail::open();
-        let first = Shown::open(alloc, &parts, &trail)?;
-        let second = Shown::open(alloc, &parts, &trail)?;
+        let first = Board::open(alloc, &parts, &trail)?;
+        let second = Board::open(alloc, &parts, &trail)?;
         let held = Held::new(alloc, first, second, readers.max(1))?;
         Ok(Publisher {
             held: Some(held),
@@ -125,7 +125,7 @@ impl Publisher {
         reader
     }
 
-    /// Publishes one more entry, with what its command writes. It changes the slots of the parts written alone, and
+    /// Publishes one more entry, with what its command writes. It changes the cells of the parts written alone, and
     /// waits for the readers that read what was published before the last entry. Where memory runs out while readers are
     /// shown the entry, it is published all the same; they are shown it by the next call, before anything else. `Err` says
     /// that memory ran out for what was owed to them before; nothing is published then.

@@ -6,7 +6,7 @@ ghost use Rattle.versioned_steps.specs.Words.{IsReadAll};
 ghost use Rattle.shared_docket.specs.Words.{docket_rules, rows_of};
 ghost use Rattle.published_docket.specs.Boards.{IsShown};
 
-use crate::shown::Shown;
+use crate::board::Board;
 use docket_rows::{Command, Query, View};
 use shared_docket::DocketParts;
 use std::alloc::{AllocError, Global};
@@ -16,7 +16,7 @@ use versioned_steps::Draft;
 /// decision. `Err` says that memory ran out.
 pub fn read_all(
     alloc: Global,
-    shown: &Shown,
+    shown: &Board,
     clerk: u32,
     command: &Command,
 ) -> Result<Draft<DocketParts>, AllocError>
@@ -39,7 +39,7 @@ pub fn read_all(
 /// What the query shows of the rows after the history that is seen, all at one moment, or why it is refused. No part is
 /// copied for it. `Err` says that memory ran out.
 #[tactic(auto, using(crate::proofs::SightLemmas::shown_view))]
-pub fn show(alloc: Global, shown: &Shown, query: &Query) -> Result<View, AllocError>
+pub fn show(alloc: Global, shown: &Board, query: &Query) -> Result<View, AllocError>
     requires { IsShown shown.now }
     ensures { IfOk result (λ view. view ≡ view_of shown.now.parts (rows_of shown.now.parts shown.now.trail.log) query.now) }
 {

@@ -1,26 +1,26 @@
-//! The published parts in their slots: a query shows them without a copy.
+//! The published parts in their cells: a query shows them without a copy.
 
 ghost use Rattle.std.specs.Prelude.{◌≡◌, option_copied};
 ghost use Rattle.published_docket.specs.Sights.{calendar_shown, days_shown, value_shown};
 
-use crate::shown::Shown;
+use crate::board::Board;
 use court_days::Days;
-use docket_core::{Sight, calendar_of, case_of, days_of};
+use docket_decisions::{Sight, calendar_of, case_of, days_of};
 use docket_rows::{CaseRecord, PartId, PartValue};
 use hearing_slots::Calendar;
 
-// The value in the slot of the part, if there is such a slot.
-fn value_shown(shown: &Shown, part: PartId) -> Option<&PartValue>
+// The value in the cell of the part, if there is such a cell.
+fn value_shown(shown: &Board, part: PartId) -> Option<&PartValue>
     ensures { option_copied result ≡ value_shown shown.now part }
 {
-    match shown.slot_at(part) {
-        Some(slot) => Some(&slot.value),
+    match shown.cell_at(part) {
+        Some(cell) => Some(&cell.value),
         None => None,
     }
 }
 
-// The days in the slot of the court's days, if there are any.
-fn days_shown(shown: &Shown) -> Option<&Days>
+// The days in the cell of the court's days, if there are any.
+fn days_shown(shown: &Board) -> Option<&Days>
     ensures { option_copied result ≡ days_shown shown.now }
 {
     match value_shown(shown, PartId::Court) {
@@ -29,8 +29,8 @@ fn days_shown(shown: &Shown) -> Option<&Days>
     }
 }
 
-// The calendar in the slot of the part, if there is one.
-fn calendar_shown(shown: &Shown, part: PartId) -> Option<&Calendar>
+// The calendar in the cell of the part, if there is one.
+fn calendar_shown(shown: &Board, part: PartId) -> Option<&Calendar>
     ensures { option_copied result ≡ calendar_shown shown.now part }
 {
     match value_shown(shown, part) {
@@ -39,7 +39,7 @@ fn calendar_shown(shown: &Shown, part: PartId) -> Option<&Calendar>
     }
 }
 
-impl Sight for Shown {
+impl Sight for Board {
     ghost use Rattle.published_docket.specs.Sights.{parts_shown};
 
     ghost parts = { parts_shown };

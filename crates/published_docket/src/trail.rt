@@ -21,9 +21,9 @@ pub struct Trail {
 
 impl Model for Trail {
     ghost use Rattle.std.specs.Prelude.{◌≡◌, length};
-    ghost use Rattle.published_docket.specs.Trails.{Past};
+    ghost use Rattle.published_docket.specs.Trails.{TrailView};
 
-    ghost Value = { Past };
+    ghost Value = { TrailView };
 
     ghost view = { λ t. record { book = t.seen.book; log = t.seen.log } };
 

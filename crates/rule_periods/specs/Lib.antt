@@ -1,4 +1,5 @@
 pub mod Rule
+pub mod Mark
 pub mod Event
 pub mod Period
 pub mod FirstRefusal

@@ -7,8 +7,8 @@ use Rattle.rule6.specs.declared.service.ServiceKind.{ServiceKind}
 use Rattle.rule_periods.specs.declared.period.Entered.{Entered}
 use Rattle.rule_periods.specs.declared.period.Length.{Length}
 use Rattle.rule_periods.specs.declared.period.Length.TheVariants.{Days, Hours}
-use Rattle.rule_periods.specs.declared.period.Mark.{Mark}
-use Rattle.rule_periods.specs.declared.period.Mark.TheVariants as mark
+use Rattle.rule_periods.specs.declared.mark.Mark.{Mark}
+use Rattle.rule_periods.specs.declared.mark.Mark.TheVariants as mark
 use Rattle.rule_periods.specs.declared.period.Period.{Period}
 use Rattle.rule_periods.specs.declared.period.Period.TheVariants as period
 use Rattle.rule_periods.specs.declared.rule.ExtensionRule.{ExtensionRule}

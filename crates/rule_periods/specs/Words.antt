@@ -1,5 +1,7 @@
 -- The words of clauses and definitions, for the crates above, from one place.
 pub use Rattle.rule_periods.specs.Rule.{terms_of, right_from, service_rule_of, takes_second_day, rule_code, rule_of_code, CodesNamePeriods}
+pub use Rattle.rule_periods.specs.Mark.{mark_code, CodesNameMarks}
+unfoldable pub use Rattle.rule_periods.specs.Mark.{mark_of_code}
 pub use Rattle.rule_periods.specs.Event.{EventView}
 pub use Rattle.rule_periods.specs.Period.{act_of, direction_of, extension_of_mark, extension_of, is_hour_length, is_in_hours, is_days, is_hour_count, is_length, has_length, is_after, is_given, is_kind_for, is_second_for, is_kind_for_entered, suits}
 pub use Rattle.rule_periods.specs.FirstRefusal.{when, first_of}

@@ -1,8 +1,15 @@
-//! Laws of the definitions: what reading the code of a period means.
+//! Laws of the definitions: what reading the code of a period, or the word of a mark, means.
 
+ghost use Rattle.rule_periods.specs.Mark.{CodesNameMarks};
 ghost use Rattle.rule_periods.specs.Rule.{CodesNamePeriods};
 
 /// A text is read as the one period of the Rules that has it for its code, and as none where there is none.
 pub fn codes_name_periods()
     ensures { CodesNamePeriods }
+{}
+
+/// A text is read as the one mark that has it for its word, and as none where there is none.
+#[tactic(auto, unfolding(crate::specs::Mark::mark_of_code))]
+pub fn codes_name_marks()
+    ensures { CodesNameMarks }
 {}

@@ -3,6 +3,7 @@
 ghost use Rattle.std.specs.Prelude.{◌≡◌};
 ghost use Rattle.rule_periods.specs.Period.{act_of, direction_of, extension_of, is_in_hours};
 
+use crate::mark::Mark;
 use crate::rule::{ExtensionRule, RulePeriod};
 use court_clock::{Day, Direction};
 use rule6::Act;
@@ -14,28 +15,6 @@ pub enum Length {
     Days(u32),
     /// A number of hours, 1 to 8,760 (Fed. R. Civ. P. 6(a)(2)).
     Hours(u32),
-}
-
-/// The rule under which an entered period runs: no special one, or one whose time must not be extended
-/// (Fed. R. Civ. P. 6(b)(2)).
-#[derive(Clone, Copy, Debug, PartialEq, Eq)]
-pub enum Mark {
-    /// No special rule: the time may be extended for good cause (6(b)(1)).
-    Plain,
-    /// Rule 50(b), a renewed motion for judgment as a matter of law.
-    Rule50b,
-    /// Rule 50(d), a motion for a new trial by the party against whom such judgment is entered.
-    Rule50d,
-    /// Rule 52(b), a motion to amend findings.
-    Rule52b,
-    /// Rule 59(b), a motion for a new trial.
-    Rule59b,
-    /// Rule 59(d), a new trial on the court's initiative.
-    Rule59d,
-    /// Rule 59(e), a motion to alter or amend a judgment.
-    Rule59e,
-    /// Rule 60(b), a motion for relief from a judgment.
-    Rule60b,
 }
 
 /// A period that a court enters.

@@ -1,17 +1,18 @@
 //! Clerks in threads of their own, whose rows are held until others were answered.
 
 ghost use Rattle.std.specs.Prelude.{◌≡◌, []};
-ghost use Rattle.docket_rows.specs.Words.{bench_of};
+ghost use Rattle.docket_rows.specs.Words.{setup_of};
 ghost use Rattle.published_docket.specs.Words.{past};
 ghost use Rattle.clerk_workers.specs.Words.{AreOfClerks};
 
-use clerk_workers::{Gate, RowAnswer, run_clerks};
+use clerk_gates::{Gate, OpenGate};
+use clerk_workers::{SharedReply, run_clerks};
 use court_clock::Day;
 use court_days::Court;
 use docket_rows::{Answer, Command, Query, Refusal, View};
 use hearing_slots::Need;
 use office_rows::{Row, Work};
-use office_seats::{Names, Office};
+use office_seats::{NamesOffice, Office};
 use published_docket::Publisher;
 use std::alloc::Global;
 use std::marker::Brand;
@@ -124,18 +125,8 @@ impl Gate for EachTryTooLate {
     }
 }
 
-/// Holds nobody.
-#[derive(Drop)]
-struct HoldsNobody;
-
-impl Gate for HoldsNobody {
-    fn before_commit(&self, _clerk: u8, _row: u32) {}
-
-    fn after_answer(&self, _clerk: u8, _row: u32) {}
-}
-
 /// The answers to these rows of a new office with these seats, whose journal takes no more entries than the limit.
-fn answers_in<L: Names + Send + Sync, R: Threads + Wait + Sync + Abort, G: Gate>(
+fn answers_in<L: NamesOffice + Send + Sync, R: Threads + Wait + Sync + Abort, G: Gate>(
     rt: &R,
     alloc: Global,
     blank: Blank,
@@ -145,12 +136,12 @@ fn answers_in<L: Names + Send + Sync, R: Threads + Wait + Sync + Abort, G: Gate>
     limit: u32,
     rows: &[Row],
     gate: &G,
-) -> Option<Vec<RowAnswer>>
+) -> Option<Vec<SharedReply>>
     requires name { blank.name ≡ L.name }
     requires parts { blank.parts ≡ L.parts }
     requires all { L.parts ≡ 64 }
-    requires publisher { publisher ≡ record { parts = L.bench; trail = past L.history [] } }
-    requires court { L.bench ≡ bench_of court.now }
+    requires publisher { publisher ≡ record { parts = L.setup; trail = past L.history [] } }
+    requires court { L.setup ≡ setup_of court.now }
     requires clerks { AreOfClerks seats rows.now }
 {
     let Ok((_office, seats)) = Office::<L>::new(rt, alloc, blank, publisher, court, seats, limit)
@@ -171,7 +162,7 @@ fn answers_to<R: Threads + Wait + Sync + Abort, G: Gate>(
     limit: u32,
     rows: &[Row],
     gate: &G,
-) -> Result<Vec<RowAnswer>, Fail>
+) -> Result<Vec<SharedReply>, Fail>
     requires { AreOfClerks seats rows.now }
 {
     let court = Court::from_bytes(alloc, sample_court::file().as_bytes())?;
@@ -221,9 +212,9 @@ fn motion(rt: &impl Abort, clerk: u8) -> Row
 }
 
 /// Fails unless the answer is that of the entry at this place.
-fn is_made(rt: &impl Abort, given: &RowAnswer, place: u64, answer: Answer) {
+fn is_made(rt: &impl Abort, given: &SharedReply, place: u64, answer: Answer) {
     match given {
-        RowAnswer::Made(done) => assert!(rt; done.place == place && done.answer == answer),
+        SharedReply::Made(done) => assert!(rt; done.place == place && done.answer == answer),
         _ => panic!(rt; "no command was finished"),
     }
 }
@@ -263,8 +254,8 @@ fn a_clerk_sees_what_the_other_finished(rt: HostRuntime) -> Result<(), Fail> {
     match answers.as_slice() {
         [
             first,
-            RowAnswer::Viewed(View::Refused(Refusal::NoSuchCase)),
-            RowAnswer::Viewed(View::Sheet(_)),
+            SharedReply::Viewed(View::Refused(Refusal::NoSuchCase)),
+            SharedReply::Viewed(View::Sheet(_)),
         ] => is_made(&rt, first, 1, Answer::Opened),
         _ => panic!(rt; "the sheet was shown before its case was opened, or not behind it"),
     }
@@ -274,12 +265,12 @@ fn a_clerk_sees_what_the_other_finished(rt: HostRuntime) -> Result<(), Fail> {
 #[test]
 fn a_full_journal_is_an_answer(rt: HostRuntime) -> Result<(), Fail> {
     let rows = [open(&rt, 1, 1), open(&rt, 1, 2), sheet(1)];
-    let answers = answers_to(&rt, rt.alloc(), 1, 1, &rows, &HoldsNobody)?;
+    let answers = answers_to(&rt, rt.alloc(), 1, 1, &rows, &OpenGate)?;
     match answers.as_slice() {
         [
             first,
-            RowAnswer::JournalFull,
-            RowAnswer::Viewed(View::Sheet(_)),
+            SharedReply::JournalFull,
+            SharedReply::Viewed(View::Sheet(_)),
         ] => is_made(&rt, first, 1, Answer::Opened),
         _ => panic!(rt;
             "the second case finds the journal full, and the sheet is shown all the same"

@@ -1,15 +1,16 @@
 //! The docket of a court, as commands over parts.
 
 ghost use Rattle.std.specs.Prelude.{◌≡◌, ◌≤◌, IfOk};
-ghost use Rattle.docket_rows.specs.Words.{bench_of, seen_by};
+ghost use Rattle.docket_rows.specs.Words.{setup_of, seen_by};
 
 use court_days::{Court, Days};
-use docket_core::{DocketRules, Sight};
-use docket_rows::{Answer, Command, Decision as Decided, PartId, PartValue, Query, View};
+use docket_core::{decide, view_of};
+use docket_decisions::{DocketRules, Sight};
+use docket_rows::{Answer, Command, Decision, PartId, PartValue, Query, View};
 use hearing_slots::Calendar;
 use std::alloc::{AllocError, Global};
 use std::marker::Model;
-use versioned_steps::{Decision, Parted};
+use versioned_steps::{Parted, PartsDecision};
 
 /// The rules of a court's docket, and the days of the court's file, which it opens with.
 #[derive(Drop)]
@@ -20,9 +21,9 @@ pub struct DocketParts {
 
 impl Model for DocketParts {
     ghost use Rattle.std.specs.Prelude.{◌≡◌};
-    ghost use Rattle.docket_rows.specs.Words.{Bench};
+    ghost use Rattle.docket_rows.specs.Words.{CourtSetup};
 
-    ghost Value = { Bench };
+    ghost Value = { CourtSetup };
 
     ghost view = { λ p. p.rules };
 
@@ -32,7 +33,7 @@ impl Model for DocketParts {
 impl DocketParts {
     /// The parts of this court's docket. `Err` says that memory ran out.
     pub fn new(court: &Court) -> Result<DocketParts, AllocError>
-        ensures value { IfOk result (λ parts. parts ≡ bench_of court.now) }
+        ensures value { IfOk result (λ parts. parts ≡ setup_of court.now) }
         ensures few { IfOk result (λ parts. (parts.judges ≤ 32) × (parts.rooms ≤ 32)) }
     {
         Ok(DocketParts {
@@ -67,7 +68,7 @@ impl DocketParts {
     ) -> Result<View, AllocError>
         ensures { IfOk result (λ view. view ≡ seen_by self.now (S.parts sight.now) query.now) }
     {
-        self.rules.show(alloc, sight, query)
+        view_of(alloc, &self.rules, sight, query)
     }
 }
 
@@ -106,9 +107,9 @@ impl Parted for DocketParts {
         alloc: Global,
         command: &Command,
         reads: &[(PartId, PartValue)],
-    ) -> Result<Decision<PartId, PartValue, Answer>, AllocError> {
-        let Decided { answer, writes } = self.rules.decide(alloc, command, reads)?;
-        Ok(Decision {
+    ) -> Result<PartsDecision<PartId, PartValue, Answer>, AllocError> {
+        let Decision { answer, writes } = decide(alloc, &self.rules, command, reads)?;
+        Ok(PartsDecision {
             answer,
             writes: writes.into_vec(),
         })

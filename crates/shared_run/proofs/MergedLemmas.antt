@@ -4,14 +4,14 @@ use Rattle.std.proofs.lemmas.Bool.Decides.{Decides-eqb}
 use Rattle.std.proofs.lemmas.List.{get_or-set_other, get_or-set_same, length-set}
 use Rattle.std.proofs.lemmas.List.Elements.{All-head, All-tail}
 use Rattle.office_rows.specs.declared.row.Row.{Row}
-use Rattle.clerk_workers.specs.declared.answer.RowAnswer.{RowAnswer}
+use Rattle.clerk_workers.specs.declared.answer.SharedReply.{SharedReply}
 use Rattle.office_rows.specs.Words.{IsClerk}
 use Rattle.clerk_workers.specs.Words.{AreAsMany, AreMerged, AreOfClerks, answers_of, list_at, works_of}
 use Rattle.clerk_workers.proofs.CallerLemmas.{answers_other, answers_own, works_append, works_other, works_own}
 use Rattle.shared_run.proofs.HoldLemmas.{first_of}
 
 -- each row takes the next answer of its clerk's list
-abbrev pub merged : List Row → List (List RowAnswer) → List RowAnswer
+abbrev pub merged : List Row → List (List SharedReply) → List SharedReply
 merged [] lists = []
 merged (row ∷ rows) lists =
     let list = list_at (row.clerk - 1) lists in
@@ -25,11 +25,11 @@ at_each P place here elsewhere other =
       | false ↦ λ is. elsewhere other (λ same. true≢false (sym ((Decides-eqb other place).1 same) ∙ is))
     ]) refl
 
-none_left : (answers : List RowAnswer) → length answers ≡ 0 → answers ≡ []
+none_left : (answers : List SharedReply) → length answers ≡ 0 → answers ≡ []
 none_left [] none = refl
 none_left (answer ∷ answers) none = absurd (omega (arith, none))
 
-module _ (row : Row) (rows : List Row) (lists : List (List RowAnswer)) (clerk : IsClerk (length lists) row.clerk) (many : AreAsMany (row ∷ rows) lists) where
+module _ (row : Row) (rows : List Row) (lists : List (List SharedReply)) (clerk : IsClerk (length lists) row.clerk) (many : AreAsMany (row ∷ rows) lists) where
   abbrev place : ℕ
   place = row.clerk - 1
 
@@ -53,8 +53,8 @@ module _ (row : Row) (rows : List Row) (lists : List (List RowAnswer)) (clerk : 
   pub first_has : 0 < length (list_at place lists)
   first_has = omega (arith, many place within, one, counted (place + 1))
 
-  module _ (answer : RowAnswer) (others : List RowAnswer) (next : list_at place lists ≡ answer ∷ others) where
-    abbrev left : List (List RowAnswer)
+  module _ (answer : SharedReply) (others : List SharedReply) (next : list_at place lists ≡ answer ∷ others) where
+    abbrev left : List (List SharedReply)
     left = set lists place others
 
     here : list_at place left ≡ others
@@ -85,14 +85,14 @@ module _ (row : Row) (rows : List Row) (lists : List (List RowAnswer)) (clerk : 
 
     -- and it comes before them
     pub first_merged : merged (row ∷ rows) lists ≡ answer ∷ merged rows left
-    first_merged = ap (λ (list : List RowAnswer). take 1 list ++ merged rows (set lists place (drop 1 list))) next
+    first_merged = ap (λ (list : List SharedReply). take 1 list ++ merged rows (set lists place (drop 1 list))) next
 
-    module _ (answers : List RowAnswer) (rest : AreMerged rows left answers) where
+    module _ (answers : List SharedReply) (rest : AreMerged rows left answers) where
       mine_here : list_at place lists ≡ answers_of (place + 1) (row ∷ rows) (answer ∷ answers)
       mine_here =
           let lt : place < length left = omega (arith, within, length-set lists place others) in
           let those : others ≡ answers_of (place + 1) rows answers = sym here ∙ rest place lt in
-          next ∙ (ap (λ (list : List RowAnswer). answer ∷ list) those ∙ sym (answers_own (place + 1) row rows answer answers own))
+          next ∙ (ap (λ (list : List SharedReply). answer ∷ list) those ∙ sym (answers_own (place + 1) row rows answer answers own))
 
       mine_elsewhere : (other : ℕ) → (other ≡ place → ⊥) → other < length lists → list_at other lists ≡ answers_of (other + 1) (row ∷ rows) (answer ∷ answers)
       mine_elsewhere other differs lt =
@@ -104,10 +104,10 @@ module _ (row : Row) (rows : List Row) (lists : List (List RowAnswer)) (clerk : 
           at_each (λ other. other < length lists → list_at other lists ≡ answers_of (other + 1) (row ∷ rows) (answer ∷ answers)) place (λ lt. mine_here) mine_elsewhere
 
 -- each row has an answer, and each list those of its clerk
-abbrev AreAll : List Row → List (List RowAnswer) → List RowAnswer → Type 0
+abbrev AreAll : List Row → List (List SharedReply) → List SharedReply → Type 0
 AreAll rows lists answers = (length answers ≡ length rows) × AreMerged rows lists answers
 
-pub all_merged : (rows : List Row) (lists : List (List RowAnswer)) → AreOfClerks (length lists) rows → AreAsMany rows lists → AreAll rows lists (merged rows lists)
+pub all_merged : (rows : List Row) (lists : List (List SharedReply)) → AreOfClerks (length lists) rows → AreAsMany rows lists → AreAll rows lists (merged rows lists)
 all_merged [] lists clerks many = (refl, λ place lt. none_left (list_at place lists) (many place lt))
 all_merged (row ∷ rows) lists clerks many =
     let clerk = All-head (λ (r : Row). IsClerk (length lists) r.clerk) row rows clerks in
@@ -116,5 +116,5 @@ all_merged (row ∷ rows) lists clerks many =
     let behind = subst P (sym (length-set lists (row.clerk - 1) first.1)) (All-tail (λ (r : Row). IsClerk (length lists) r.clerk) row rows clerks) in
     let rest = all_merged rows (set lists (row.clerk - 1) first.1) behind (first_left row rows lists clerk many first.0 first.1 first.2) in
     let answers = merged rows (set lists (row.clerk - 1) first.1) in
-    let Q : List RowAnswer → Type 0 = λ all. AreAll (row ∷ rows) lists all in
+    let Q : List SharedReply → Type 0 = λ all. AreAll (row ∷ rows) lists all in
     subst Q (sym (first_merged row rows lists clerk many first.0 first.1 first.2)) (ap suc rest.0, all_mine row rows lists clerk many first.0 first.1 first.2 answers rest.1)

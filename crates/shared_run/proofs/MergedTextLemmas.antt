@@ -4,7 +4,7 @@ use Rattle.std.proofs.lemmas.List.{at_drop_all, drop_more}
 use Rattle.court_days.specs.Words.{CourtView}
 use Rattle.office_rows.specs.declared.row.Row.{Row}
 use Rattle.office_run.specs.Words.{row_numbers}
-use Rattle.clerk_workers.specs.declared.answer.RowAnswer.{RowAnswer}
+use Rattle.clerk_workers.specs.declared.answer.SharedReply.{SharedReply}
 use Rattle.office_rows.specs.Words.{IsClerk}
 use Rattle.clerk_workers.specs.Words.{AllHold, AreAsMany, AreOfClerks, list_at}
 use Rattle.clerk_workers.proofs.CallerLemmas.{held_long}
@@ -15,7 +15,7 @@ use Rattle.shared_run.proofs.MergedLemmas.{all_merged, first_has, first_left, fi
 
 -- the lines that are left are those of these rows, the first of which has that number; with them the text is whole
 pub record IsSoFar (court : CourtView) (left : List TextsView) (number : ℕ) (rows : List Row) (text whole : List ℕ) : Type 0 where
-  pub lists : List (List RowAnswer)
+  pub lists : List (List SharedReply)
   pub held : AllHold (HoldTexts court) left lists
   pub as_many : AreAsMany rows lists
   pub text_is : text ++ answer_lines court number rows (merged rows lists) ≡ whole
@@ -31,7 +31,7 @@ module _ (court : CourtView) (left : List TextsView) (number : ℕ) (row : Row) 
   next_has = first_has row rows so_far.lists of_list so_far.as_many
 
   -- the line of the next row is written
-  pub line_more : (new : List TextsView) (numbers piece : List ℕ) → numbers ≡ row_numbers number row.clerk → ((lists : List (List RowAnswer)) → AllHold (HoldTexts court) left lists → 0 < length (list_at (row.clerk - 1) lists) → IsNext court lists (row.clerk - 1) piece new) → IsSoFar court new (number + 1) rows ((text ++ numbers) ++ piece) whole
+  pub line_more : (new : List TextsView) (numbers piece : List ℕ) → numbers ≡ row_numbers number row.clerk → ((lists : List (List SharedReply)) → AllHold (HoldTexts court) left lists → 0 < length (list_at (row.clerk - 1) lists) → IsNext court lists (row.clerk - 1) piece new) → IsSoFar court new (number + 1) rows ((text ++ numbers) ++ piece) whole
   unfolding answer_line answer_lines
   line_more new numbers piece is takes =
       let taken = takes so_far.lists so_far.held next_has in
@@ -46,7 +46,7 @@ module _ (court : CourtView) (left : List TextsView) (number : ℕ) (row : Row) 
         text_is = ap (λ (t : List ℕ). t ++ later) (append_assoc text numbers piece)
             ∙ (append_assoc text (numbers ++ piece) later
             ∙ (ap (λ (t : List ℕ). text ++ (t ++ later)) line
-            ∙ (ap (λ (answers : List RowAnswer). text ++ answer_lines court number (row ∷ rows) answers) (sym all)
+            ∙ (ap (λ (answers : List SharedReply). text ++ answer_lines court number (row ∷ rows) answers) (sym all)
             ∙ so_far.text_is)));
       }
 
@@ -65,7 +65,7 @@ module _ (court : CourtView) (left : List TextsView) (number i : ℕ) (rows : Li
       sym (append-nil text) ∙ (ap (λ (t : List ℕ). text ++ t) (sym none) ∙ so_far.text_is)
 
 -- the whole text
-pub merged_text : (court : CourtView) (rows : List Row) (lists : List (List RowAnswer)) (text : List ℕ) → AreOfClerks (length lists) rows → AreAsMany rows lists → text ≡ answer_lines court 1 rows (merged rows lists) → IsMergedText court rows lists text
+pub merged_text : (court : CourtView) (rows : List Row) (lists : List (List SharedReply)) (text : List ℕ) → AreOfClerks (length lists) rows → AreAsMany rows lists → text ≡ answer_lines court 1 rows (merged rows lists) → IsMergedText court rows lists text
 merged_text court rows lists text clerks many is =
     let all = all_merged rows lists clerks many in
     record { answers = merged rows lists; as_many = all.0; merged = all.1; text_is = is }

@@ -6,11 +6,11 @@ use Rattle.std.proofs.lemmas.Bool.{cases_lt}
 use Rattle.std.proofs.lemmas.List.Elements.{All-weaker}
 use Rattle.docket_rows.specs.declared.answer.Answer.{Answer}
 use Rattle.docket_rows.specs.declared.command.Command.{Command}
-use Rattle.docket_rows.specs.Words.{Bench}
+use Rattle.docket_rows.specs.Words.{CourtSetup}
 use Rattle.versioned_steps.specs.declared.entry.Entry.{Entry}
 use Rattle.office_seats.specs.Words.{AreOfSeats, IsClosed, IsOpened, SeatView, TallyView, numbers_of, open_seat, open_seats}
 use Rattle.office_rows.specs.declared.row.Row.{Row}
-use Rattle.clerk_workers.specs.declared.answer.RowAnswer.{RowAnswer}
+use Rattle.clerk_workers.specs.declared.answer.SharedReply.{SharedReply}
 use Rattle.office_rows.specs.Words.{IsClerk}
 use Rattle.clerk_workers.specs.Words.{AllNoted, AllWorked, AreInOrder, AreNoted, HasRun, HasWorked, History, answers_of, works_of}
 use Rattle.clerk_workers.proofs.CallerLemmas.{are_noted, noted_long, open_in_order, open_long}
@@ -33,9 +33,9 @@ open_at limit (suc count) i d within =
           ap (λ n. get_or (open_seats limit (suc count)) n d) (sym here) ∙ get_or-append_seam (open_seats limit count) last [] d ∙ ap (λ n. open_seat limit (n + 1)) same
     ]
 
-module _ (bench : Bench) (rows : List Row) (answers : List RowAnswer) where
+module _ (setup : CourtSetup) (rows : List Row) (answers : List SharedReply) where
   -- the tally that the seat at a place has left
-  one_worked : (seats : List SeatView) (tallies : List TallyView) → AllWorked bench rows answers seats tallies → (i : ℕ) (d : SeatView) → i < length seats → (t : TallyView) × Contains tallies t × HasWorked bench (get_or seats i d) (works_of (get_or seats i d).number rows) (answers_of (get_or seats i d).number rows answers) t
+  one_worked : (seats : List SeatView) (tallies : List TallyView) → AllWorked setup rows answers seats tallies → (i : ℕ) (d : SeatView) → i < length seats → (t : TallyView) × Contains tallies t × HasWorked setup (get_or seats i d) (works_of (get_or seats i d).number rows) (answers_of (get_or seats i d).number rows answers) t
   one_worked [] tallies all i d within = absurd (omega (arith, within))
   one_worked (s ∷ ss) [] all i d within = absurd all
   one_worked (s ∷ ss) (t ∷ ts) all zero d within = (t, (0, omega arith, refl), all.0)
@@ -43,30 +43,30 @@ module _ (bench : Bench) (rows : List Row) (answers : List RowAnswer) where
       let rest = one_worked ss ts all.1 i d (omega (arith, within)) in
       (rest.0, (suc rest.1.0, omega (arith, rest.1.1), rest.1.2), rest.2)
 
-  module _ (clerks limit : ℕ) (tallies : List TallyView) (all : AllWorked bench rows answers (open_seats limit clerks) tallies) where
-    have_worked : HaveWorked bench clerks limit rows answers tallies
+  module _ (clerks limit : ℕ) (tallies : List TallyView) (all : AllWorked setup rows answers (open_seats limit clerks) tallies) where
+    have_worked : HaveWorked setup clerks limit rows answers tallies
     have_worked zero one = absurd (omega (arith, one.from_one))
     have_worked (suc i) one =
         let within : i < length (open_seats limit clerks) = omega (arith, one.to_last, open_long limit clerks) in
         let seat : get_or (open_seats limit clerks) i (open_seat limit 0) ≡ open_seat limit (suc i) = open_at limit clerks i (open_seat limit 0) (omega (arith, one.to_last)) ∙ ap (open_seat limit) (add-one i) in
-        let Left : SeatView → Type 0 = λ s. (t : TallyView) × Contains tallies t × HasWorked bench s (works_of s.number rows) (answers_of s.number rows answers) t in
+        let Left : SeatView → Type 0 = λ s. (t : TallyView) × Contains tallies t × HasWorked setup s (works_of s.number rows) (answers_of s.number rows answers) t in
         subst Left seat (one_worked (open_seats limit clerks) tallies all i (open_seat limit 0) within)
 
-module _ {K : Type 0} (hold : K → List RowAnswer → Type 0) (bench : Bench) (rows : List Row) (clerks limit office : ℕ) (seats : List SeatView) (notes : List K) (tallies : List TallyView) (opened : IsOpened clerks limit office seats) (noted : AllNoted hold bench rows seats notes tallies) where
+module _ {K : Type 0} (hold : K → List SharedReply → Type 0) (setup : CourtSetup) (rows : List Row) (clerks limit office : ℕ) (seats : List SeatView) (notes : List K) (tallies : List TallyView) (opened : IsOpened clerks limit office seats) (noted : AllNoted hold setup rows seats notes tallies) where
   -- the notes of the clerks who worked at the seats of an office that was opened
   pub notes_long : length notes ≡ clerks
-  notes_long = noted_long hold bench rows seats notes tallies noted ∙ (ap length opened.seats_are ∙ open_long limit clerks)
+  notes_long = noted_long hold setup rows seats notes tallies noted ∙ (ap length opened.seats_are ∙ open_long limit clerks)
 
-  pub notes_made : AreNoted hold bench rows seats notes tallies
+  pub notes_made : AreNoted hold setup rows seats notes tallies
   notes_made =
-      are_noted hold bench rows seats notes tallies noted (subst AreInOrder (sym opened.seats_are) (open_in_order limit clerks))
+      are_noted hold setup rows seats notes tallies noted (subst AreInOrder (sym opened.seats_are) (open_in_order limit clerks))
 
 -- the run of an office that was opened, at whose seats all rows were answered, and that was closed
-pub run_made : (bench : Bench) (clerks limit office : ℕ) (seats : List SeatView) (rows : List Row) (answers : List RowAnswer) (tallies : List TallyView) (journal : History) → IsOpened clerks limit office seats → HasRun bench rows seats answers tallies → IsClosed bench tallies journal → AreOfSeats office tallies → IsSharedRun bench clerks limit rows answers journal
-run_made bench clerks limit office seats rows answers tallies journal opened ran closed of_seats =
-    let P : List SeatView → Type 0 = λ ss. AllWorked bench rows answers ss tallies in
-    let worked = have_worked bench rows answers clerks limit tallies (subst P opened.seats_are ran.worked) in
+pub run_made : (setup : CourtSetup) (clerks limit office : ℕ) (seats : List SeatView) (rows : List Row) (answers : List SharedReply) (tallies : List TallyView) (journal : History) → IsOpened clerks limit office seats → HasRun setup rows seats answers tallies → IsClosed setup tallies journal → AreOfSeats office tallies → IsSharedRun setup clerks limit rows answers journal
+run_made setup clerks limit office seats rows answers tallies journal opened ran closed of_seats =
+    let P : List SeatView → Type 0 = λ ss. AllWorked setup rows answers ss tallies in
+    let worked = have_worked setup rows answers clerks limit tallies (subst P opened.seats_are ran.worked) in
     let IsTallied : Entry Command Answer → Type 0 = λ (e : Entry Command Answer). Contains (numbers_of tallies) e.clerk in
     let IsTheirs : Entry Command Answer → Type 0 = λ (e : Entry Command Answer). IsClerk clerks e.clerk in
-    shared_run bench clerks limit rows answers tallies journal worked closed ran.as_many
+    shared_run setup clerks limit rows answers tallies journal worked closed ran.as_many
     (All-weaker IsTallied IsTheirs (λ e has. let seat = of_seats e.clerk has in record { from_one = seat.0; to_last = omega (arith, seat.1, opened.office_is) }) journal closed.no_other)

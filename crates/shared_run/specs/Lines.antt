@@ -1,7 +1,7 @@
 -- The text of a clerk's answers, one after another.
 use Rattle.std.specs.Prelude.{◌≡◌, ℕ, List, [], ◌∷◌, ◌++◌, length}
 use Rattle.court_days.specs.Words.{CourtView}
-use Rattle.clerk_workers.specs.declared.answer.RowAnswer.{RowAnswer}
+use Rattle.clerk_workers.specs.declared.answer.SharedReply.{SharedReply}
 use Rattle.shared_run.specs.Text.{row_text}
 
 -- the bytes of some texts, one after another, and how many bytes each of them has
@@ -16,21 +16,21 @@ pub record LinesView : Type 0 where
 
 module _ (court : CourtView) where
   -- the texts of answers, one after another
-  abbrev pub texts_of : List RowAnswer → List ℕ
+  abbrev pub texts_of : List SharedReply → List ℕ
   texts_of [] = []
   texts_of (answer ∷ answers) = row_text court answer ++ texts_of answers
 
   -- how many bytes each of them has
-  abbrev pub lens_of : List RowAnswer → List ℕ
+  abbrev pub lens_of : List SharedReply → List ℕ
   lens_of [] = []
   lens_of (answer ∷ answers) = length (row_text court answer) ∷ lens_of answers
 
   -- the texts are those of these answers
-  pub record HoldTexts (texts : TextsView) (answers : List RowAnswer) : Type 0 where
+  pub record HoldTexts (texts : TextsView) (answers : List SharedReply) : Type 0 where
     pub bytes_are : texts.bytes ≡ texts_of answers
     pub lens_are : texts.lens ≡ lens_of answers
 
   -- the lines are of this court, and have the texts of these answers
-  pub record HoldLines (lines : LinesView) (answers : List RowAnswer) : Type 0 where
+  pub record HoldLines (lines : LinesView) (answers : List SharedReply) : Type 0 where
     pub of_court : lines.court ≡ court
     pub held : HoldTexts lines.texts answers

@@ -2,8 +2,8 @@
 
 ghost use Rattle.std.specs.Prelude.{◌≡◌, [], IfOk, IfSome};
 ghost use Rattle.std.specs.Arc.{arc_value};
-ghost use Rattle.docket_rows.specs.Words.{bench_of};
-ghost use Rattle.published_docket.specs.Words.{past};
+ghost use Rattle.docket_rows.specs.Words.{setup_of};
+ghost use Rattle.published_docket.specs.Words.{trail_view};
 ghost use Rattle.office_seats.specs.Words.{AreSeats, IsLimit, IsOpened};
 ghost use Rattle.clerk_workers.specs.Words.{AreOfClerks};
 ghost use Rattle.shared_run.specs.Text.{IsSharedText};
@@ -11,10 +11,11 @@ ghost use Rattle.shared_run.specs.Text.{IsSharedText};
 use crate::lines::{Lines, lines_for};
 use crate::named::NamesCourt;
 use crate::text::text_of;
-use clerk_workers::{Gate, Noted, run_noting};
+use clerk_gates::Gate;
+use clerk_workers::{Noted, run_noting};
 use court_days::Court;
 use office_rows::Row;
-use office_seats::{Names, Office, OfficeError, Seat};
+use office_seats::{NamesOffice, Office, OfficeError, Seat};
 use published_docket::Publisher;
 use std::alloc::{AllocError, Global};
 use std::sync::ledger::Blank;
@@ -22,7 +23,7 @@ use std::sync::{Arc, Wait};
 use std::thread::Threads;
 
 // Opens an office. None where one of its seats got no place to read from.
-fn opened<L: Names, R: Wait>(
+fn opened<L: NamesOffice, R: Wait>(
     rt: &R,
     alloc: Global,
     blank: Blank,
@@ -34,8 +35,8 @@ fn opened<L: Names, R: Wait>(
     requires name { blank.name ≡ L.name }
     requires parts { blank.parts ≡ L.parts }
     requires all { L.parts ≡ 64 }
-    requires publisher { publisher ≡ record { parts = L.bench; trail = past L.history [] } }
-    requires court { L.bench ≡ bench_of court.now }
+    requires publisher { publisher ≡ record { parts = L.setup; trail = trail_view L.history [] } }
+    requires court { L.setup ≡ setup_of court.now }
     requires clerks { AreSeats clerks }
     requires limit { IsLimit journal_limit }
     ensures { IfOk result (λ o. IfSome o (λ office. IsOpened clerks journal_limit office.0 office.1.items)) }
@@ -52,7 +53,7 @@ fn opened<L: Names, R: Wait>(
 /// Opens an office, lets its clerks do all rows, closes it, and gives the bytes of the text of the run. None where one
 /// of its seats got no place to read from; no row is done then. Conditions: `L` names the blank and the publisher, the
 /// publisher is of this court, and the others are those of a run.
-pub(crate) fn attempt<L: Names + NamesCourt + Send + Sync, R: Threads + Wait + Sync, G: Gate>(
+pub(crate) fn attempt<L: NamesOffice + NamesCourt + Send + Sync, R: Threads + Wait + Sync, G: Gate>(
     rt: &R,
     alloc: Global,
     blank: Blank,
@@ -66,8 +67,8 @@ pub(crate) fn attempt<L: Names + NamesCourt + Send + Sync, R: Threads + Wait + S
     requires name { blank.name ≡ L.name }
     requires parts { blank.parts ≡ L.parts }
     requires all { L.parts ≡ 64 }
-    requires publisher { publisher ≡ record { parts = L.bench; trail = past L.history [] } }
-    requires bench { L.bench ≡ bench_of (arc_value court.now) }
+    requires publisher { publisher ≡ record { parts = L.setup; trail = trail_view L.history [] } }
+    requires setup { L.setup ≡ setup_of (arc_value court.now) }
     requires court { arc_value court.now ≡ L.court }
     requires clerks { AreSeats clerks }
     requires limit { IsLimit journal_limit }

@@ -8,9 +8,9 @@ ghost use Rattle.shared_run.specs.Text.{row_text};
 
 use crate::named::NamesCourt;
 use crate::rest::Rest;
-use clerk_workers::{Notes, RowAnswer};
+use clerk_workers::{Notes, SharedReply};
 use court_days::Court;
-use office_seats::Names;
+use office_seats::NamesOffice;
 use office_texts::{push_answer, push_view};
 use std::alloc::{AllocError, Global};
 use std::marker::Model;
@@ -62,10 +62,10 @@ impl Lines {
     }
 }
 
-impl<L: Names + NamesCourt> Notes<L> for Lines {
+impl<L: NamesOffice + NamesCourt> Notes<L> for Lines {
     ghost hold = { HoldLines L.court };
 
-    fn add(&mut self, answer: RowAnswer) -> Result<(), AllocError> {
+    fn add(&mut self, answer: SharedReply) -> Result<(), AllocError> {
         self.text.clear();
         push_row_answer(&mut self.text, &self.court, &answer)?;
         self.bytes.extend_from_slice(self.text.as_bytes())?;
@@ -91,15 +91,15 @@ pub(crate) fn lines_for(
 }
 
 /// Adds the text of an answer, with the ends of its lines.
-fn push_row_answer(text: &mut String, court: &Court, answer: &RowAnswer) -> Result<(), AllocError>
+fn push_row_answer(text: &mut String, court: &Court, answer: &SharedReply) -> Result<(), AllocError>
     ensures { OnOk result (AddsText text.old text.new (row_text court.now answer.now)) }
 {
     match answer {
-        RowAnswer::Made(done) => {
+        SharedReply::Made(done) => {
             push_answer(text, court.clock(), &done.answer)?;
             text.push_str("\n")
         }
-        RowAnswer::JournalFull => text.push_str("journal full\n"),
-        RowAnswer::Viewed(view) => push_view(text, court, view),
+        SharedReply::JournalFull => text.push_str("journal full\n"),
+        SharedReply::Viewed(view) => push_view(text, court, view),
     }
 }

@@ -2,7 +2,7 @@
 
 ghost use Rattle.std.specs.Prelude.{◌≡◌, ◌-◌, ◌<◌, ◌≤◌, IfOk, List, length, map};
 ghost use Rattle.court_days.specs.Words.{CourtView};
-ghost use Rattle.clerk_workers.specs.declared.answer.RowAnswer.{RowAnswer};
+ghost use Rattle.clerk_workers.specs.declared.answer.SharedReply.{SharedReply};
 ghost use Rattle.clerk_workers.specs.Words.{AllHold, AreAsMany, AreOfClerks, list_at};
 ghost use Rattle.shared_run.specs.Lines.{HoldLines, HoldTexts};
 ghost use Rattle.shared_run.specs.Merged.{IsMergedText, IsNext};
@@ -28,9 +28,9 @@ fn all_left<'a>(alloc: Global, lines: &'a [Lines]) -> Result<Vec<Rest<'a>>, Allo
 fn next_text<'a>(left: &mut Vec<Rest<'a>>, clerk: u8) -> &'a [u8]
     requires from_one { 0 < clerk }
     requires to_last { clerk ≤ length left.old.items }
-    requires some { (court : CourtView) × (lists : List (List RowAnswer)) × AllHold (HoldTexts court) left.old.items lists × (0 < length (list_at (clerk - 1) lists)) }
+    requires some { (court : CourtView) × (lists : List (List SharedReply)) × AllHold (HoldTexts court) left.old.items lists × (0 < length (list_at (clerk - 1) lists)) }
     ensures as_many { length left.new.items ≡ length left.old.items }
-    ensures next { (court : CourtView) (lists : List (List RowAnswer)) → AllHold (HoldTexts court) left.old.items lists → 0 < length (list_at (clerk - 1) lists) → IsNext court lists (clerk - 1) result.now left.new.items }
+    ensures next { (court : CourtView) (lists : List (List SharedReply)) → AllHold (HoldTexts court) left.old.items lists → 0 < length (list_at (clerk - 1) lists) → IsNext court lists (clerk - 1) result.now left.new.items }
 {
     let place = usize::from(clerk) - 1;
     left[place].next()
@@ -55,8 +55,8 @@ pub(crate) fn answers_text(
     more: usize,
 ) -> Result<Vec<u8>, AllocError>
     requires clerks { AreOfClerks (length lines.now) rows.now }
-    requires held { (court : CourtView) × (lists : List (List RowAnswer)) × AllHold (HoldLines court) lines.now lists × AreAsMany rows.now lists }
-    ensures { (court : CourtView) (lists : List (List RowAnswer)) → AllHold (HoldLines court) lines.now lists → AreAsMany rows.now lists → IfOk result (λ text. IsMergedText court rows.now lists text.items) }
+    requires held { (court : CourtView) × (lists : List (List SharedReply)) × AllHold (HoldLines court) lines.now lists × AreAsMany rows.now lists }
+    ensures { (court : CourtView) (lists : List (List SharedReply)) → AllHold (HoldLines court) lines.now lists → AreAsMany rows.now lists → IfOk result (λ text. IsMergedText court rows.now lists text.items) }
 {
     let mut left = all_left(alloc, lines)?;
     let mut text = Vec::with_capacity(alloc, whole_len(lines, rows.len(), more))?;

@@ -2,7 +2,7 @@
 
 use std::marker::Brand;
 
-/// Names the court of a run, so that all lines of the run are known to be of that court.
+/// NamesOffice the court of a run, so that all lines of the run are known to be of that court.
 pub(crate) trait NamesCourt {
     ghost use Rattle.court_days.specs.Words.{CourtView};
 

@@ -2,7 +2,7 @@
 
 ghost use Rattle.std.specs.Prelude.{◌≡◌, ◌∷◌, List};
 ghost use Rattle.court_days.specs.Words.{CourtView};
-ghost use Rattle.clerk_workers.specs.declared.answer.RowAnswer.{RowAnswer};
+ghost use Rattle.clerk_workers.specs.declared.answer.SharedReply.{SharedReply};
 ghost use Rattle.shared_run.specs.Lines.{HoldTexts};
 ghost use Rattle.shared_run.specs.Text.{row_text};
 
@@ -33,9 +33,9 @@ impl<'a> Rest<'a> {
 
     /// Takes the text of the next answer. Condition: there is one.
     pub(crate) fn next(&mut self) -> &'a [u8]
-        requires { (court : CourtView) × (answer : RowAnswer) × (others : List RowAnswer) × HoldTexts court self.old (answer ∷ others) }
-        ensures text { (court : CourtView) (answer : RowAnswer) (others : List RowAnswer) → HoldTexts court self.old (answer ∷ others) → result.now ≡ row_text court answer }
-        ensures rest { (court : CourtView) (answer : RowAnswer) (others : List RowAnswer) → HoldTexts court self.old (answer ∷ others) → HoldTexts court self.new others }
+        requires { (court : CourtView) × (answer : SharedReply) × (others : List SharedReply) × HoldTexts court self.old (answer ∷ others) }
+        ensures text { (court : CourtView) (answer : SharedReply) (others : List SharedReply) → HoldTexts court self.old (answer ∷ others) → result.now ≡ row_text court answer }
+        ensures rest { (court : CourtView) (answer : SharedReply) (others : List SharedReply) → HoldTexts court self.old (answer ∷ others) → HoldTexts court self.new others }
     {
         let Some((len, lens)) = self.lens.split_first() else {
             unreachable!();

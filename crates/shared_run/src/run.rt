@@ -6,7 +6,7 @@ ghost use Rattle.clerk_workers.specs.Words.{AreOfClerks};
 ghost use Rattle.shared_run.specs.Text.{IsSharedText};
 
 use crate::attempt::attempt;
-use clerk_workers::Gate;
+use clerk_gates::Gate;
 use court_days::Court;
 use office_rows::Row;
 use published_docket::Publisher;

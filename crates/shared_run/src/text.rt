@@ -1,10 +1,10 @@
 //! The text of a run.
 
 ghost use Rattle.std.specs.Prelude.{◌≡◌, ◌++◌, ℕ, IfOk, List, length};
-ghost use Rattle.docket_rows.specs.Words.{bench_of, parts_of};
+ghost use Rattle.docket_rows.specs.Words.{setup_of, parts_of};
 ghost use Rattle.shared_docket.specs.Words.{rows_of};
 ghost use Rattle.office_run.specs.Words.{closing_text};
-ghost use Rattle.clerk_workers.specs.declared.answer.RowAnswer.{RowAnswer};
+ghost use Rattle.clerk_workers.specs.declared.answer.SharedReply.{SharedReply};
 ghost use Rattle.clerk_workers.specs.Words.{AllHold, AreAsMany, AreOfClerks};
 ghost use Rattle.shared_run.specs.Lines.{HoldLines};
 ghost use Rattle.shared_run.specs.Merged.{IsMergedText};
@@ -27,8 +27,8 @@ pub(crate) fn text_of(
     journal: &Journal,
 ) -> Result<Vec<u8>, AllocError>
     requires clerks { AreOfClerks (length lines.now) rows.now }
-    requires held { (lists : List (List RowAnswer)) × AllHold (HoldLines court.now) lines.now lists × AreAsMany rows.now lists }
-    ensures { (lists : List (List RowAnswer)) → AllHold (HoldLines court.now) lines.now lists → AreAsMany rows.now lists → IfOk result (λ text. (answered : List ℕ) × IsMergedText court.now rows.now lists answered × (text.items ≡ answered ++ closing_text court.now (parts_of (rows_of (bench_of court.now) journal.now)))) }
+    requires held { (lists : List (List SharedReply)) × AllHold (HoldLines court.now) lines.now lists × AreAsMany rows.now lists }
+    ensures { (lists : List (List SharedReply)) → AllHold (HoldLines court.now) lines.now lists → AreAsMany rows.now lists → IfOk result (λ text. (answered : List ℕ) × IsMergedText court.now rows.now lists answered × (text.items ≡ answered ++ closing_text court.now (parts_of (rows_of (setup_of court.now) journal.now)))) }
 {
     let docket = journal.docket(alloc, court)?;
     let mut closing = String::new(alloc);

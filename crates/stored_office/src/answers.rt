@@ -3,13 +3,13 @@ use anyhow::Result;
 use court_clock::Clock;
 use court_days::Court;
 use docket_rows::{Command, PartId, Query};
-use office_seats::{CommitError, Done, Names, PerformError, Seat};
+use office_seats::{CommitError, Done, NamesOffice, PerformError, Seat};
 use office_texts::{push_answer, push_number, push_view};
 use std::alloc::{AllocError, Global};
 use std::sync::Wait;
 
 /// Prepares the command, and adds that.
-pub fn push_prepared<L: Names>(
+pub fn push_prepared<L: NamesOffice>(
     alloc: Global,
     text: &mut String,
     seat: &mut Seat<L>,
@@ -24,7 +24,7 @@ pub fn push_prepared<L: Names>(
 }
 
 /// Commits the seat's draft, and adds what that was answered.
-pub fn push_committed<L: Names, R: Wait>(
+pub fn push_committed<L: NamesOffice, R: Wait>(
     rt: &R,
     alloc: Global,
     text: &mut String,
@@ -48,7 +48,7 @@ pub fn push_committed<L: Names, R: Wait>(
 }
 
 /// Performs the command, and adds what that was answered.
-pub fn push_performed<L: Names, R: Wait>(
+pub fn push_performed<L: NamesOffice, R: Wait>(
     rt: &R,
     alloc: Global,
     text: &mut String,
@@ -72,7 +72,7 @@ pub fn push_performed<L: Names, R: Wait>(
 }
 
 /// Adds what the query shows.
-pub fn push_shown<L: Names>(
+pub fn push_shown<L: NamesOffice>(
     alloc: Global,
     text: &mut String,
     court: &Court,

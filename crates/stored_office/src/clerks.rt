@@ -1,32 +1,24 @@
 //! An office of clerks who do rows, each in a thread of their own.
 
 ghost use Rattle.std.specs.Prelude.{◌≡◌, [], IfOk, length};
-ghost use Rattle.docket_rows.specs.Words.{bench_of};
-ghost use Rattle.published_docket.specs.Words.{past};
+ghost use Rattle.docket_rows.specs.Words.{setup_of};
+ghost use Rattle.published_docket.specs.Words.{trail_view};
 ghost use Rattle.clerk_workers.specs.Words.{AreInOrder, AreOfClerks};
 
 use crate::beginnings::push_beginnings;
 use crate::offices::{Opening, TRIES};
 use anyhow::{Result, bail};
-use clerk_workers::{Gate, Ran, RunFault, run_clerks};
+use clerk_gates::OpenGate;
+use clerk_workers::{Ran, RunFault, run_clerks};
 use court_days::Court;
 use office_rows::{Row, RowError, read_rows, rows_are_bounded};
-use office_seats::{CloseError, CloseRefused, Names, Office, OfficeError, Seat, Tally};
+use office_seats::{CloseError, CloseRefused, NamesOffice, Office, OfficeError, Seat, Tally};
 use published_docket::Publisher;
 use std::alloc::Global;
 use std::marker::Brand;
 use std::sync::Wait;
 use std::sync::ledger::Blank;
 use std::thread::Threads;
-
-/// Holds nobody.
-struct HoldsNobody;
-
-impl Gate for HoldsNobody {
-    fn before_commit(&self, _clerk: u8, _row: u32) {}
-
-    fn after_answer(&self, _clerk: u8, _row: u32) {}
-}
 
 /// Opens an office for this court, lets its clerks do these rows, and closes it with the tallies that they leave, also
 /// where a clerk found no memory. It adds how the run came out, and of each clerk how many of its commands were
@@ -68,7 +60,7 @@ fn rows_in(alloc: Global, court: &Court, clerks: u8, lines: &str) -> Result<Vec<
 }
 
 /// Opens the office and has its clerks do the rows. False where a seat got no place to read from, or no memory was left.
-fn is_done<L: Names + Send + Sync, R: Threads + Wait + Eprint + Sync>(
+fn is_done<L: NamesOffice + Send + Sync, R: Threads + Wait + Eprint + Sync>(
     rt: &R,
     alloc: Global,
     text: &mut String,
@@ -81,8 +73,8 @@ fn is_done<L: Names + Send + Sync, R: Threads + Wait + Eprint + Sync>(
     requires name { blank.name ≡ L.name }
     requires parts { blank.parts ≡ L.parts }
     requires all { L.parts ≡ 64 }
-    requires publisher { publisher ≡ record { parts = L.bench; trail = past L.history [] } }
-    requires court { L.bench ≡ bench_of court.now }
+    requires publisher { publisher ≡ record { parts = L.setup; trail = trail_view L.history [] } }
+    requires court { L.setup ≡ setup_of court.now }
     requires clerks { AreOfClerks opening.seats rows.now }
 {
     let Opening { seats, number } = opening;
@@ -106,7 +98,7 @@ fn is_done<L: Names + Send + Sync, R: Threads + Wait + Eprint + Sync>(
 
 /// What the seats' clerks leave once they have done the rows. Where no clerk began, the run is made again with the seats that
 /// came back.
-fn tallies_of<L: Names + Send + Sync, R: Threads + Wait + Sync>(
+fn tallies_of<L: NamesOffice + Send + Sync, R: Threads + Wait + Sync>(
     rt: &R,
     alloc: Global,
     text: &mut String,
@@ -116,10 +108,10 @@ fn tallies_of<L: Names + Send + Sync, R: Threads + Wait + Sync>(
     requires in_order { AreInOrder seats.items }
     requires clerks { AreOfClerks (length seats.items) rows.now }
 {
-    let mut result = run_clerks(rt, alloc, seats, rows, &HoldsNobody);
+    let mut result = run_clerks(rt, alloc, seats, rows, &OpenGate);
     if let Err(RunFault::NotStarted { seats }) = result {
         text.push_str("not started\n")?;
-        result = run_clerks(rt, alloc, seats, rows, &HoldsNobody);
+        result = run_clerks(rt, alloc, seats, rows, &OpenGate);
     }
     match result {
         Ok(
@@ -140,7 +132,7 @@ fn tallies_of<L: Names + Send + Sync, R: Threads + Wait + Sync>(
 }
 
 /// Closes the office, and adds what is found of its journal.
-fn push_closed<L: Names, R: Wait>(
+fn push_closed<L: NamesOffice, R: Wait>(
     rt: &R,
     alloc: Global,
     text: &mut String,

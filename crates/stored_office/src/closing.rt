@@ -6,7 +6,7 @@ use crate::dockets::push_docket;
 use anyhow::{Result, bail};
 use court_days::Court;
 use docket_rows::{Answer, Command};
-use office_seats::{CloseError, CloseRefused, Names, Office, Tally};
+use office_seats::{CloseError, CloseRefused, NamesOffice, Office, Tally};
 use office_texts::{push_answer, push_number};
 use std::alloc::{AllocError, Global};
 use std::sync::Wait;
@@ -15,7 +15,7 @@ use versioned_steps::Entry;
 /// Closes the office with these tallies, and adds what that was answered: the entries of the journal, a line each, and the
 /// sheets and calendars of the docket after it. A close that finds no memory is made once more. It gives the office and the
 /// tallies back where one is missing.
-pub fn push_closed<L: Names, R: Wait>(
+pub fn push_closed<L: NamesOffice, R: Wait>(
     rt: &R,
     alloc: Global,
     text: &mut String,

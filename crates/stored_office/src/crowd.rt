@@ -1,15 +1,15 @@
 //! An office of clerks in threads of their own.
 
 ghost use Rattle.std.specs.Prelude.{◌≡◌, []};
-ghost use Rattle.docket_rows.specs.Words.{bench_of};
-ghost use Rattle.published_docket.specs.Words.{past};
+ghost use Rattle.docket_rows.specs.Words.{setup_of};
+ghost use Rattle.published_docket.specs.Words.{trail_view};
 
 use crate::offices::TRIES;
 use crate::replay::push_replay;
 use crate::work::{Task, Worked, work};
 use anyhow::{Result, bail};
 use court_days::Court;
-use office_seats::{Done, Names, Office, OfficeError, Tally};
+use office_seats::{Done, NamesOffice, Office, OfficeError, Tally};
 use office_texts::push_number;
 use published_docket::Publisher;
 use std::alloc::{AllocError, Global};
@@ -48,7 +48,7 @@ pub fn push_crowd<R: Threads + Wait + Eprint + Sync>(
 }
 
 /// Opens the office and has its clerks work. False where a seat got no place to read from.
-fn is_done<L: Names + Send + Sync, R: Threads + Wait + Eprint + Sync>(
+fn is_done<L: NamesOffice + Send + Sync, R: Threads + Wait + Eprint + Sync>(
     rt: &R,
     alloc: Global,
     text: &mut String,
@@ -61,8 +61,8 @@ fn is_done<L: Names + Send + Sync, R: Threads + Wait + Eprint + Sync>(
     requires name { blank.name ≡ L.name }
     requires parts { blank.parts ≡ L.parts }
     requires all { L.parts ≡ 64 }
-    requires publisher { publisher ≡ record { parts = L.bench; trail = past L.history [] } }
-    requires court { L.bench ≡ bench_of court.now }
+    requires publisher { publisher ≡ record { parts = L.setup; trail = trail_view L.history [] } }
+    requires court { L.setup ≡ setup_of court.now }
 {
     match Office::<L>::new(rt, alloc, blank, publisher, court, seats, 1_000_000) {
         Ok((office, seats)) => {
@@ -79,7 +79,7 @@ fn is_done<L: Names + Send + Sync, R: Threads + Wait + Eprint + Sync>(
 }
 
 /// Closes the office, and adds what is found of its journal.
-fn push_worked<L: Names, R: Wait>(
+fn push_worked<L: NamesOffice, R: Wait>(
     rt: &R,
     alloc: Global,
     text: &mut String,
@@ -102,7 +102,10 @@ fn push_worked<L: Names, R: Wait>(
 }
 
 /// Adds how many commands weren't finished, and how many motions weren't shown to who entered them.
-fn push_failures<L: Names>(text: &mut String, worked: &[Worked<L>]) -> Result<(), AllocError> {
+fn push_failures<L: NamesOffice>(
+    text: &mut String,
+    worked: &[Worked<L>],
+) -> Result<(), AllocError> {
     let mut failed = 0u64;
     let mut unseen = 0u64;
     for one in worked {
@@ -117,7 +120,7 @@ fn push_failures<L: Names>(text: &mut String, worked: &[Worked<L>]) -> Result<()
 }
 
 /// The tallies, and what each clerk finished, both in the order of the seats.
-fn divided<L: Names>(
+fn divided<L: NamesOffice>(
     alloc: Global,
     worked: Vec<Worked<L>>,
 ) -> Result<(Vec<Tally<L>>, Vec<Vec<Done>>), AllocError> {

@@ -1,14 +1,14 @@
 //! An office of clerks who take turns.
 
 ghost use Rattle.std.specs.Prelude.{◌≡◌, []};
-ghost use Rattle.docket_rows.specs.Words.{bench_of};
-ghost use Rattle.published_docket.specs.Words.{past};
+ghost use Rattle.docket_rows.specs.Words.{setup_of};
+ghost use Rattle.published_docket.specs.Words.{trail_view};
 
 use crate::calls::{Line, lines_of};
-use crate::desk::{Desk, push_calls};
+use crate::in_turn::{OfficeInTurn, push_calls};
 use anyhow::{Result, bail};
 use court_days::Court;
-use office_seats::{Names, Office, OfficeError};
+use office_seats::{NamesOffice, Office, OfficeError};
 use published_docket::Publisher;
 use std::alloc::Global;
 use std::marker::Brand;
@@ -68,7 +68,7 @@ fn is_opened<R: Wait + Eprint>(
 }
 
 /// Opens the office and makes the calls. False where a seat got no place to read from, or no memory was left.
-fn is_done<L: Names, R: Wait + Eprint>(
+fn is_done<L: NamesOffice, R: Wait + Eprint>(
     rt: &R,
     alloc: Global,
     text: &mut String,
@@ -81,8 +81,8 @@ fn is_done<L: Names, R: Wait + Eprint>(
     requires name { blank.name ≡ L.name }
     requires parts { blank.parts ≡ L.parts }
     requires all { L.parts ≡ 64 }
-    requires publisher { publisher ≡ record { parts = L.bench; trail = past L.history [] } }
-    requires court { L.bench ≡ bench_of court.now }
+    requires publisher { publisher ≡ record { parts = L.setup; trail = trail_view L.history [] } }
+    requires court { L.setup ≡ setup_of court.now }
 {
     let Opening { seats, number } = opening;
     match Office::<L>::new(rt, alloc, blank, publisher, court, seats, number) {
@@ -93,7 +93,7 @@ fn is_done<L: Names, R: Wait + Eprint>(
                 alloc,
                 text,
                 court,
-                Desk::new(alloc, office, seats),
+                OfficeInTurn::new(alloc, office, seats),
                 calls,
             )?;
             Ok(true)

@@ -3,7 +3,7 @@ use court_clock::Day;
 use court_days::Court;
 use docket_rows::{Answer, Command, Query, Setting, View};
 use hearing_slots::{Need, Panel};
-use office_seats::{Done, Names, Seat, Tally};
+use office_seats::{Done, NamesOffice, Seat, Tally};
 use std::alloc::{AllocError, Global};
 use std::sync::Wait;
 
@@ -12,7 +12,7 @@ const TRIES: u32 = 2;
 
 /// What is left of a clerk's seat, and what came of the clerk's commands.
 #[derive(Drop)]
-pub struct Worked<L: Names> {
+pub struct Worked<L: NamesOffice> {
     pub tally: Tally<L>,
     /// The finished commands, in the clerk's order.
     pub done: Vec<Done>,
@@ -32,7 +32,12 @@ pub struct Task {
 }
 
 /// Performs the commands of the task, each as `command_at` names it, and leaves the seat.
-pub fn work<L: Names, R: Wait>(rt: &R, alloc: Global, seat: Seat<L>, task: Task) -> Worked<L> {
+pub fn work<L: NamesOffice, R: Wait>(
+    rt: &R,
+    alloc: Global,
+    seat: Seat<L>,
+    task: Task,
+) -> Worked<L> {
     let mut seat = seat;
     let mut done = Vec::new(alloc);
     let mut failed = 0u32;
@@ -62,7 +67,7 @@ pub fn work<L: Names, R: Wait>(rt: &R, alloc: Global, seat: Seat<L>, task: Task)
 
 /// Whether the motion that this answer numbers is on the sheet of its case, which no other clerk changes. True of any other
 /// answer.
-fn is_shown<L: Names>(
+fn is_shown<L: NamesOffice>(
     alloc: Global,
     seat: &mut Seat<L>,
     command: &Command,

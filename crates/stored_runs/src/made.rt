@@ -3,8 +3,9 @@
 use crate::lines::input_of;
 use crate::stored::{push_fault, push_name};
 use crate::sums::push_sum;
+use clerk_program::run_office;
 use office_options::Options;
-use office_streams::{OfficeFault, OpenGate, Watched, run_office};
+use office_streams::{OfficeFault, Watched};
 use std::alloc::{AllocError, Global};
 use std::sync::Wait;
 use std::thread::Threads;
@@ -23,7 +24,7 @@ pub fn push_made<H: Threads + Wait + Sync>(
     let input = input_of(alloc, text)?;
     let mut reader = Watched::new(input.as_slice());
     let mut writer = Watched::new(Vec::new(alloc));
-    match run_office(rt, alloc, &mut reader, &mut writer, options, &OpenGate) {
+    match run_office(rt, alloc, &mut reader, &mut writer, options) {
         Ok(()) => push_sum(alloc, output, writer.inner().as_slice()),
         Err(OfficeFault::OutOfMemory) => Err(AllocError),
         Err(fault) => push_fault(alloc, output, &fault),

@@ -4,8 +4,9 @@ ghost use Rattle.std.specs.Prelude.{◌≡◌, ◌++◌, [], ◌∷◌, OnOk};
 ghost use Rattle.office_streams.specs.Words.{fault_text};
 ghost use Rattle.stored_runs.specs.Stored.{AppendsRun, name_line};
 
+use clerk_program::run_office;
 use office_options::Options;
-use office_streams::{OfficeFault, OpenGate, Watched, fault_line, run_office};
+use office_streams::{OfficeFault, Watched, fault_line};
 use std::alloc::{AllocError, Global};
 use std::sync::Wait;
 use std::thread::Threads;
@@ -25,7 +26,7 @@ pub fn push_run<H: Threads + Wait + Sync>(
     push_name(output, name)?;
     let mut reader = Watched::new(input);
     let mut writer = Watched::new(Vec::new(alloc));
-    let answer = run_office(rt, alloc, &mut reader, &mut writer, options, &OpenGate);
+    let answer = run_office(rt, alloc, &mut reader, &mut writer, options);
     output.extend_from_slice(writer.inner().as_slice())?;
     match answer {
         Ok(()) => Ok(()),

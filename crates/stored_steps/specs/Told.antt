@@ -9,7 +9,7 @@ use Rattle.docket_rows.specs.declared.command.Command.{Command}
 use Rattle.docket_rows.specs.declared.part.PartId.{PartId}
 use Rattle.docket_rows.specs.declared.part.PartId.TheVariants.{Court, Judge, Room, Case}
 use Rattle.docket_rows.specs.declared.part.PartValue.{PartValue}
-use Rattle.docket_rows.specs.Words.{bench_of}
+use Rattle.docket_rows.specs.Words.{setup_of}
 use Rattle.versioned_steps.specs.declared.step.Step.{Step}
 use Rattle.versioned_steps.specs.declared.step.Outcome.{Outcome}
 use Rattle.versioned_steps.specs.declared.step.Outcome.TheVariants.{Began, Busy, Idle, NoClerk, ReadPart, Ready, NotRead, Finished, WasStale, Discarded, NoMemory}
@@ -50,5 +50,5 @@ told clock outcomes = flat_map (λ outcome. outcome_text clock outcome ++ 10 ∷
 pub record AddsRun (court : CourtView) (clerks : ℕ) (steps : List (Step Command)) (old new : List ℕ) : Type 0 where
   pub outcomes : List (Outcome PartId Answer)
   pub end : World PartId PartValue Command Answer
-  pub is_run : IsRun (docket_rules (bench_of court)) (opening_world clerks) steps outcomes end
+  pub is_run : IsRun (docket_rules (setup_of court)) (opening_world clerks) steps outcomes end
   pub added : new ≡ old ++ told court.clock outcomes

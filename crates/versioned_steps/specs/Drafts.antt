@@ -3,7 +3,7 @@ use Rattle.std.specs.Prelude.{◌≡◌, ℕ, Option, Some, List, [], ◌∷◌,
 use Rattle.versioned_steps.specs.Rules.{Rules, AreReadsOf, AreAllReadsOf}
 use Rattle.versioned_steps.specs.Reads.{Read, IsRead, IsFresh, AreAt, copies_of}
 use Rattle.versioned_steps.specs.declared.entry.Entry.{Entry}
-use Rattle.versioned_steps.specs.declared.decision.Decision.{Decision}
+use Rattle.versioned_steps.specs.declared.decision.PartsDecision.{PartsDecision}
 use Rattle.versioned_steps.specs.declared.draft.ReadNote.{ReadNote}
 
 -- what a decision answers and writes
@@ -65,5 +65,5 @@ with_notes (copy ∷ copies) [] = []
 with_notes (copy ∷ copies) (note ∷ notes) =
     record { part = copy.0; value = copy.1; version = note.version; at = note.at } ∷ with_notes copies notes
 
-abbrev pub decision_view : {Part Value Answer : Type 0} → Decision Part Value Answer → DecisionView Part Value Answer
+abbrev pub decision_view : {Part Value Answer : Type 0} → PartsDecision Part Value Answer → DecisionView Part Value Answer
 decision_view d = record { answer = d.answer; writes = d.writes.items }

@@ -3,7 +3,7 @@ ghost use Rattle.std.specs.Prelude.{◌≡◌, [], ◌∷◌, ◌++◌, None, So
 ghost use Rattle.versioned_steps.specs.Reads.{copies_of};
 ghost use Rattle.versioned_steps.specs.Drafts.{decided, with_notes, decision_view};
 
-use crate::decision::Decision;
+use crate::decision::PartsDecision;
 use crate::parted::Parted;
 use std::alloc::{AllocError, Allocator, Global};
 use std::marker::Model;
@@ -23,7 +23,7 @@ pub struct Draft<P: Parted, A: Allocator = Global> {
     command: P::Command,
     copies: Vec<(P::Part, P::Value), A>,
     notes: Vec<ReadNote, A>,
-    decision: Option<Decision<P::Part, P::Value, P::Answer>>,
+    decision: Option<PartsDecision<P::Part, P::Value, P::Answer>>,
 }
 
 impl<P: Parted, A: Allocator> Model for Draft<P, A> {
@@ -86,7 +86,7 @@ impl<P: Parted, A: Allocator + Copy> Draft<P, A> {
     }
 
     /// The decision; none before the draft is settled.
-    pub fn decision(&self) -> Option<&Decision<P::Part, P::Value, P::Answer>>
+    pub fn decision(&self) -> Option<&PartsDecision<P::Part, P::Value, P::Answer>>
         ensures { option_map (λ d. decision_view d.now) result ≡ self.now.decision }
     {
         self.decision.as_ref()

@@ -4,7 +4,7 @@ ghost use Rattle.std.specs.HashMap.{spare};
 ghost use Rattle.std.specs.Map.{lookup};
 ghost use Rattle.versioned_steps.specs.Stores.{found_in};
 
-use crate::slot::{Slot, Slots};
+use crate::stored::{Stored, StoredParts};
 use std::alloc::{AllocError, Allocator};
 use std::hash::Hash;
 
@@ -20,9 +20,9 @@ pub(crate) fn value_written<T: Eq + Copy, V>(writes: &[(T, V)], part: T) -> Opti
     None
 }
 
-// Puts one write of this version into the slots, which have room for it.
+// Puts one write of this version into the stored_parts, which have room for it.
 fn put<T: Eq + Hash + Copy, V: Drop, A: Allocator + Clone>(
-    older: &mut Slots<T, V, A>,
+    older: &mut StoredParts<T, V, A>,
     write: (T, V),
     version: u64,
 )
@@ -31,17 +31,17 @@ fn put<T: Eq + Hash + Copy, V: Drop, A: Allocator + Clone>(
         (if T.eq write.0 q then Some (record { version = version; value = write.1 }) else lookup (T.eq q) older.old.entries) }
 {
     let (part, value) = write;
-    match older.insert(part, Slot { version, value }) {
+    match older.insert(part, Stored { version, value }) {
         Ok(before) => drop(before),
         Err(_) => unreachable!(),
     }
 }
 
-/// Puts the recent writes, which all have this version, among the older slots. Every part is found as before, also
+/// Puts the recent writes, which all have this version, among the older stored_parts. Every part is found as before, also
 /// after an Err, which may leave some of the writes.
 pub(crate) fn put_away<T: Eq + Hash + Copy, V: Drop, A: Allocator + Clone>(
     recent: &mut Vec<(T, V), A>,
-    older: &mut Slots<T, V, A>,
+    older: &mut StoredParts<T, V, A>,
     version: u64,
 ) -> Result<(), AllocError>
     ensures found { (q : T) → found_in (T.eq q) version recent.new.items older.new.entries ≡ found_in (T.eq q) version recent.old.items older.old.entries }

@@ -10,13 +10,13 @@ mod laws;
 mod moves;
 mod parted;
 mod run;
-mod slot;
 mod stale;
 mod state;
 mod step;
 mod store;
+mod stored;
 
-pub use decision::Decision;
+pub use decision::PartsDecision;
 pub use draft::{Draft, ReadNote};
 pub use entry::Entry;
 pub use laws::{

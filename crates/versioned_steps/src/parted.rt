@@ -2,7 +2,7 @@
 ghost use Rattle.std.specs.Prelude.{◌≡◌, true, None, IfOk};
 ghost use Rattle.versioned_steps.specs.Rules.{Rules, IsLawful};
 
-use crate::decision::Decision;
+use crate::decision::PartsDecision;
 use std::alloc::{AllocError, Global};
 use std::hash::Hash;
 
@@ -41,7 +41,7 @@ pub trait Parted: Drop {
         alloc: Global,
         command: &Self::Command,
         reads: &[(Self::Part, Self::Value)],
-    ) -> Result<Decision<Self::Part, Self::Value, Self::Answer>, AllocError>
+    ) -> Result<PartsDecision<Self::Part, Self::Value, Self::Answer>, AllocError>
         requires { (rules self.now).next_part command.now reads.now ≡ None }
         ensures answer { IfOk result (λ d. d.answer ≡ (rules self.now).answer command.now reads.now) }
         ensures writes { IfOk result (λ d. d.writes.items ≡ (rules self.now).writes command.now reads.now) };

@@ -8,7 +8,7 @@ ghost use Rattle.versioned_steps.specs.World.{IsRun, opening_world, world_of};
 use crate::draft::Draft;
 use crate::entry::Entry;
 use crate::parted::Parted;
-use crate::state::State;
+use crate::state::RunState;
 use crate::step::{Outcome, Step};
 use crate::store::Store;
 use std::alloc::{AllocError, Allocator, Global};
@@ -62,7 +62,7 @@ pub fn run_steps_in<P: Parted, A: Allocator + Copy>(
     ensures legal { IfOk result (λ w. is_legal (P.rules parts) w.history.items ≡ true) }
 {
     let mut outcomes = Vec::with_capacity(heap, steps.len())?;
-    let mut state = State::open(heap, parts, clerks)?;
+    let mut state = RunState::open(heap, parts, clerks)?;
     for step in steps {
         let outcome = state.make(alloc, step);
         outcomes.push_reserved(outcome);

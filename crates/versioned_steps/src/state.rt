@@ -17,13 +17,13 @@ use std::marker::Model;
 /// Store, history and hands of a run so far. The store stands for the history, and each draft was read from it by the
 /// clerk who has it in hand.
 #[derive(Drop)]
-pub(crate) struct State<P: Parted, A: Allocator> {
+pub(crate) struct RunState<P: Parted, A: Allocator> {
     store: Store<P, A>,
     history: Vec<Entry<P::Command, P::Answer>, A>,
     drafts: Vec<Option<Draft<P, A>>, A>,
 }
 
-impl<P: Parted, A: Allocator> Model for State<P, A> {
+impl<P: Parted, A: Allocator> Model for RunState<P, A> {
     ghost use Rattle.versioned_steps.specs.World.{world_of};
     ghost use Rattle.versioned_steps.specs.Moves.{StateView, IsSound};
 
@@ -34,16 +34,16 @@ impl<P: Parted, A: Allocator> Model for State<P, A> {
     ghost invariant = { λ s. IsSound (P.rules s.store.owner) s.history.items s.store s.drafts.items };
 }
 
-impl<P: Parted, A: Allocator + Copy> State<P, A> {
+impl<P: Parted, A: Allocator + Copy> RunState<P, A> {
     /// No entry, and nobody has a command in hand.
-    pub fn open(heap: A, parts: P, clerks: u32) -> Result<State<P, A>, AllocError>
+    pub fn open(heap: A, parts: P, clerks: u32) -> Result<RunState<P, A>, AllocError>
         ensures { IfOk result (λ s. s ≡ record { owner = parts; world = opening_world clerks }) }
     {
         let mut drafts = Vec::with_capacity(heap, clerks as usize)?;
         for _clerk in 0..clerks {
             drafts.push_reserved(None);
         }
-        Ok(State {
+        Ok(RunState {
             store: Store::new(heap, parts),
             history: Vec::new(heap),
             drafts,
@@ -120,7 +120,7 @@ impl<P: Parted, A: Allocator + Copy> State<P, A> {
         ensures world { world_of result.history.items result.drafts.items ≡ self.world }
         ensures outcomes { result.outcomes ≡ outcomes }
     {
-        let State {
+        let RunState {
             store,
             history,
             drafts,

@@ -4,13 +4,13 @@ ghost use Rattle.versioned_steps.specs.declared.entry.Entry.{Entry};
 ghost use Rattle.versioned_steps.specs.History.{value_of, version_of, writes_on};
 ghost use Rattle.versioned_steps.specs.Reads.{first_stale, IsStale, IsFresh};
 ghost use Rattle.versioned_steps.specs.Drafts.{MayCommit, IsReadAll, with_notes};
-ghost use Rattle.versioned_steps.specs.Stores.{slot_of, Replays, IsStaged};
+ghost use Rattle.versioned_steps.specs.Stores.{stored_of, Replays, IsStaged};
 
 use crate::draft::{Draft, ReadNote};
 use crate::found::{put_away, value_written};
 use crate::parted::Parted;
-use crate::slot::{Slot, Slots};
 use crate::stale::Stale;
+use crate::stored::{Stored, StoredParts};
 use std::alloc::{AllocError, Allocator, Global};
 use std::marker::Model;
 
@@ -51,7 +51,7 @@ pub struct Store<P: Parted, A: Allocator = Global> {
     parts: P,
     length: u64,
     recent: Vec<(P::Part, P::Value), A>,
-    older: Slots<P::Part, P::Value, A>,
+    older: StoredParts<P::Part, P::Value, A>,
 }
 
 impl<P: Parted, A: Allocator> Model for Store<P, A> {
@@ -72,7 +72,7 @@ impl<P: Parted, A: Allocator + Copy> Store<P, A> {
             parts,
             length: 0,
             recent: Vec::new(alloc),
-            older: Slots::new(alloc),
+            older: StoredParts::new(alloc),
         }
     }
 
@@ -92,12 +92,12 @@ impl<P: Parted, A: Allocator + Copy> Store<P, A> {
 
     // The version of a part: 0 where it was never written.
     fn version(&self, part: P::Part) -> u64
-        ensures { result ≡ (slot_of (P.rules self.now.owner) self.now part).version }
+        ensures { result ≡ (stored_of (P.rules self.now.owner) self.now part).version }
     {
         match value_written(&self.recent, part) {
             Some(_) => self.length,
             None => match self.older.get(&part) {
-                Some(slot) => slot.version,
+                Some(stored) => stored.version,
                 None => 0,
             },
         }
@@ -105,12 +105,12 @@ impl<P: Parted, A: Allocator + Copy> Store<P, A> {
 
     // A copy of the value of a part: its opening value where it was never written.
     fn value(&self, alloc: Global, part: P::Part) -> Result<P::Value, AllocError>
-        ensures { IfOk result (λ value. value ≡ (slot_of (P.rules self.now.owner) self.now part).value) }
+        ensures { IfOk result (λ value. value ≡ (stored_of (P.rules self.now.owner) self.now part).value) }
     {
         match value_written(&self.recent, part) {
             Some(value) => self.parts.copy_value(alloc, value),
             None => match self.older.get(&part) {
-                Some(slot) => self.parts.copy_value(alloc, &slot.value),
+                Some(stored) => self.parts.copy_value(alloc, &stored.value),
                 None => self.parts.opening(alloc, &part),
             },
         }
@@ -156,7 +156,7 @@ impl<P: Parted, A: Allocator + Copy> Store<P, A> {
         notes: &[ReadNote],
     ) -> Option<Stale<P::Part>>
         requires { length copies.now ≡ length notes.now }
-        ensures { result ≡ first_stale (λ part. (slot_of (P.rules self.now.owner) self.now part).version) (with_notes copies.now notes.now) }
+        ensures { result ≡ first_stale (λ part. (stored_of (P.rules self.now.owner) self.now part).version) (with_notes copies.now notes.now) }
     {
         for (i, copy) in copies.iter().enumerate() {
             let version = self.version(copy.0);

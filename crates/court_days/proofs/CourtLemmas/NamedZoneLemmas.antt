@@ -1,10 +1,10 @@
 -- The zone of a court's file is one that a text names.
 use Rattle.std.proofs.Common.{◌≡◌, ℕ, List, Option, Some, None, Result, Ok, Err, ok_or, ap, sym, ◌∙◌}
-use Rattle.court_days.specs.declared.fault.CourtFault.{CourtFault}
-use Rattle.court_days.specs.declared.fault.CourtFault.TheVariants.{BadZone, NotToml}
-use Rattle.court_days.specs.declared.key.Key.TheVariants as key
-use Rattle.court_days.specs.Court.{CourtFile, CourtView, IsSameCourt, court_in, court_of, days_at, file_of, hours_at, toml_of, zone_at}
-use Rattle.court_days.specs.Court.Reading.{◌>>=◌, names_at, text_at}
+use Rattle.court_file_text.specs.declared.fault.CourtFault.{CourtFault}
+use Rattle.court_file_text.specs.declared.fault.CourtFault.TheVariants.{BadZone, NotToml}
+use Rattle.court_file_text.specs.declared.key.Key.TheVariants as key
+use Rattle.court_days.specs.Court.{CourtFile, CourtView, IsSameCourt, court_in, court_of, days_at, file_of, hours_at, zone_at}
+use Rattle.court_file_text.specs.Words.{◌>>=◌, names_at, text_at, toml_of}
 use Rattle.court_clock.specs.Words.{TextsNameClocks, Zone, zone_of_text, zone_view}
 use Rattle.court_days.specs.Days.{DaysView}
 

@@ -1,10 +1,11 @@
 -- A court's file names no outages.
 use Rattle.std.proofs.Common.{◌≡◌, ℕ, List, [], Result, Ok, Err, refl, sym, ap, ◌∙◌, ok_or}
-use Rattle.court_days.specs.declared.fault.CourtFault.{CourtFault}
-use Rattle.court_days.specs.declared.fault.CourtFault.TheVariants.{BadSpan, NotToml}
-use Rattle.court_days.specs.declared.key.Key.TheVariants as key
-use Rattle.court_days.specs.Court.{CourtFile, court_in, court_of, days_at, hours_at, is_span, toml_of, zone_at}
-use Rattle.court_days.specs.Court.Reading.{◌>>=◌, date_at, dates_at, must, names_at}
+use Rattle.court_file_text.specs.declared.fault.CourtFault.{CourtFault}
+use Rattle.court_file_text.specs.declared.fault.CourtFault.TheVariants.{BadSpan, NotToml}
+use Rattle.court_file_text.specs.declared.key.Key.TheVariants as key
+use Rattle.court_days.specs.Court.{CourtFile, court_in, court_of, days_at, hours_at, is_span, zone_at}
+use Rattle.court_file_text.specs.Words.{◌>>=◌, date_at, must, names_at, toml_of}
+use Rattle.court_days.specs.Court.Reading.{dates_at}
 use Rattle.court_days.specs.Days.{DaysView}
 
 -- a reading in steps succeeds where its first step gives something and the rest succeeds with that

@@ -5,17 +5,17 @@ ghost use Rattle.docket_rows.specs.Words.{refusal, answered, part_value};
 ghost use Rattle.docket_rows.specs.declared.part.PartId.{PartId};
 
 use super::{Holdings, calendars, cases};
-use crate::commands::{answer_if_made, case_of, refusal};
 use crate::rebooking::rebooking_of;
 use crate::writes::days_written;
+use docket_decisions::{answer_if_made, case_of_command, refusal};
 use docket_rows::{Answer, Command, Rebooking};
 use std::alloc::{AllocError, Global};
 
 impl Holdings {
     ghost use Rattle.docket_core.specs.Docket.{parts_held};
-    ghost use Rattle.docket_core.specs.Memory.{takes_memory};
+    ghost use Rattle.docket_decisions.specs.Words.{CanChangeRecord, takes_memory};
     ghost use Rattle.docket_rows.specs.Words.{part_after, case_after, judge_change, room_change};
-    ghost use Rattle.docket_core.specs.Changes.{IsAfter, CanChangeRecord, rebooked_docket};
+    ghost use Rattle.docket_core.specs.Changes.{IsAfter, rebooked_docket};
     ghost use Rattle.docket_core.specs.Rebooking.{CanChangeAll};
 
     /// Decides the command on the docket as it is, and changes the docket in place where the command isn't refused. A
@@ -23,11 +23,11 @@ impl Holdings {
     /// a judge moves no booking. `Err` says that memory ran out, and leaves the docket as it was.
     #[tactic(auto, unfolding(docket_rows::specs::Words::answered))]
     pub fn apply(&mut self, alloc: Global, command: &Command) -> Result<Answer, AllocError>
-        ensures bench { self.new.bench ≡ self.old.bench }
-        ensures answer { IfOk result (λ a. a ≡ answered self.old.bench (parts_held self.old) command.now) }
-        ensures parts { IfOk result (λ a. (part : PartId) → part_value (parts_held self.new) part ≡ part_after self.old.bench (parts_held self.old) command.now part) }
+        ensures setup { self.new.setup ≡ self.old.setup }
+        ensures answer { IfOk result (λ a. a ≡ answered self.old.setup (parts_held self.old) command.now) }
+        ensures parts { IfOk result (λ a. (part : PartId) → part_value (parts_held self.new) part ≡ part_after self.old.setup (parts_held self.old) command.now part) }
         ensures err { IfErr result (λ e. self.new ≡ self.old) }
-        ensures memory { IfErr result (λ e. takes_memory (refusal self.old.bench (parts_held self.old) command.now) command.now ≡ true) }
+        ensures memory { IfErr result (λ e. takes_memory (refusal self.old.setup (parts_held self.old) command.now) command.now ≡ true) }
     {
         if let Some(refusal) = refusal(alloc, &self.rules, self, command)? {
             return Ok(Answer::Refused(refusal));
@@ -39,8 +39,8 @@ impl Holdings {
 
     /// Changes the docket as the command says that isn't refused. An error leaves it as it was.
     fn change(&mut self, alloc: Global, command: &Command) -> Result<(), AllocError>
-        requires { refusal self.old.bench (parts_held self.old) command.now ≡ None }
-        ensures bench { self.new.bench ≡ self.old.bench }
+        requires { refusal self.old.setup (parts_held self.old) command.now ≡ None }
+        ensures setup { self.new.setup ≡ self.old.setup }
         ensures ok { OnOk result (IsAfter self.old command.now self.new) }
         ensures err { OnErr result (self.new ≡ self.old) }
         ensures memory { OnErr result (takes_memory None command.now ≡ true) }
@@ -52,7 +52,7 @@ impl Holdings {
         if let Some(rebooking) = rebooking_of(self, command) {
             return self.rebook(alloc, &rebooking);
         }
-        match case_of(command) {
+        match case_of_command(command) {
             Some(number) => self.change_case(alloc, number, command),
             None => Ok(()),
         }

@@ -5,7 +5,7 @@ ghost use Rattle.docket_rows.specs.Words.{judge_change, room_change};
 ghost use Rattle.docket_core.specs.Rebooking.{CanChange, CanChangeAll, calendar_after, calendars_after};
 
 use crate::rebooking::{judge_change, room_change};
-use docket_rows::{Change, Rebooking};
+use docket_rows::{CalendarChange, Rebooking};
 use hearing_slots::{Calendar, OpenCalendar};
 use std::alloc::{AllocError, Global};
 use std::mem;
@@ -25,7 +25,7 @@ fn take_open(alloc: Global, place: &mut Calendar) -> Result<OpenCalendar, AllocE
 }
 
 /// The calendar with the change, or as it was, where the change isn't to be made.
-fn closed(opened: OpenCalendar, change: &Change, is_made: bool) -> Calendar
+fn closed(opened: OpenCalendar, change: &CalendarChange, is_made: bool) -> Calendar
     requires { CanChange change.now opened }
     ensures { result ≡ (if is_made then calendar_after change.now opened else opened) }
 {
@@ -33,9 +33,9 @@ fn closed(opened: OpenCalendar, change: &Change, is_made: bool) -> Calendar
         return opened.close();
     }
     match *change {
-        Change::Stays => opened.close(),
-        Change::Put(booking) => opened.put(booking),
-        Change::TakeOut(case, motion) => opened.take_out(case, motion),
+        CalendarChange::Stays => opened.close(),
+        CalendarChange::Put(booking) => opened.put(booking),
+        CalendarChange::TakeOut(case, motion) => opened.take_out(case, motion),
     }
 }
 
@@ -56,7 +56,7 @@ fn rebook_rooms(
         return Ok(());
     };
     let change = room_change(rebooking, number);
-    if let Change::Stays = change {
+    if let CalendarChange::Stays = change {
         return rebook_rooms(alloc, rebooking, number + 1, rest);
     }
     let opened = take_open(alloc, room)?;
@@ -85,7 +85,7 @@ pub(crate) fn rebook(
         return rebook_rooms(alloc, rebooking, 0, rooms);
     };
     let change = judge_change(rebooking, number);
-    if let Change::Stays = change {
+    if let CalendarChange::Stays = change {
         return rebook(alloc, rebooking, number + 1, rest, rooms);
     }
     let opened = take_open(alloc, judge)?;

@@ -2,10 +2,10 @@
 
 ghost use Rattle.std.specs.Prelude.{◌≡◌, true, None, set, get_or, IfSome, OnOk, OnErr};
 ghost use Rattle.docket_rows.specs.Words.{case_after, set_hearing};
-ghost use Rattle.docket_core.specs.Changes.{CanChangeRecord, with_case};
-ghost use Rattle.docket_core.specs.Memory.{takes_memory};
+ghost use Rattle.docket_decisions.specs.Words.{CanChangeRecord, takes_memory};
+ghost use Rattle.docket_core.specs.Changes.{with_case};
 
-use crate::commands::change_case;
+use docket_decisions::change_case;
 use docket_rows::{CaseRecord, Command, Hearing};
 use std::alloc::{AllocError, Global};
 

@@ -3,11 +3,9 @@
 ghost use Rattle.std.specs.Prelude.{◌≡◌, ◌<◌, ◌≤◌, length, map, option_map, IfOk, IfSome};
 ghost use Rattle.docket_rows.specs.Words.{numbered_deadlines, numbered_motions, most_deadlines, most_motions, state_of, sheet_of, sheet_deadline, sheet_hearing, sheet_motion};
 
-use crate::rules::DocketRules;
-use crate::seen::{is_beyond, shown_now};
-use crate::sight::Sight;
 use court_clock::Clock;
 use court_days::Days;
+use docket_decisions::{DocketRules, Sight, is_beyond, shown_now};
 use docket_rows::{
     CaseRecord, Hearing, MotionRecord, Sheet, SheetDeadline, SheetDeadlines, SheetHearing,
     SheetMotion, SheetMotions, State,

@@ -6,8 +6,8 @@ ghost use Rattle.docket_rows.specs.Words.{changed_by, judge_written, room_writte
 ghost use Rattle.docket_core.specs.Rebooking.{CanChange, CanRebook};
 
 use crate::rebooking::{judge_change, rebooking_of, room_change};
-use crate::sight::Sight;
-use docket_rows::{Change, Command};
+use docket_decisions::Sight;
+use docket_rows::{CalendarChange, Command};
 use hearing_slots::{Booking, Calendar};
 use std::alloc::{AllocError, Global};
 
@@ -46,15 +46,15 @@ fn without_booking(
 fn changed_by(
     alloc: Global,
     calendar: Option<&Calendar>,
-    change: &Change,
+    change: &CalendarChange,
 ) -> Result<Option<Calendar>, AllocError>
     requires { CanChange change.now (unwrap_or (option_copied calendar) []) }
     ensures { IfOk result (λ c. c ≡ changed_by change.now (unwrap_or (option_copied calendar.entry) [])) }
 {
     match change {
-        Change::Stays => Ok(None),
-        Change::Put(booking) => Ok(Some(with_booking(alloc, calendar, booking)?)),
-        Change::TakeOut(case, motion) => {
+        CalendarChange::Stays => Ok(None),
+        CalendarChange::Put(booking) => Ok(Some(with_booking(alloc, calendar, booking)?)),
+        CalendarChange::TakeOut(case, motion) => {
             Ok(Some(without_booking(alloc, calendar, *case, *motion)?))
         }
     }

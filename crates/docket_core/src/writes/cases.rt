@@ -4,8 +4,7 @@ ghost use Rattle.std.specs.Prelude.{◌≡◌, IfOk, option_copied};
 ghost use Rattle.docket_rows.specs.Words.{case_written};
 ghost use Rattle.docket_core.specs.Changes.{CanChangeCase};
 
-use crate::commands::{case_of, change_case};
-use crate::sight::Sight;
+use docket_decisions::{Sight, case_of_command, change_case};
 use docket_rows::{CaseRecord, Command};
 use std::alloc::{AllocError, Global};
 
@@ -29,7 +28,7 @@ pub(crate) fn case_written<S: Sight>(
     requires { CanChangeCase (S.parts sight.now) command.now }
     ensures { IfOk result (λ c. c ≡ case_written (S.parts sight.now) command.now number) }
 {
-    let Some(case) = case_of(command) else {
+    let Some(case) = case_of_command(command) else {
         return Ok(None);
     };
     if case != number {

@@ -5,7 +5,7 @@ use Rattle.std.proofs.lemmas.Bool.Decides.{nat_tests}
 use Rattle.std.proofs.lemmas.List.Elements.{All-push, All-weaker}
 use Rattle.std.proofs.lemmas.List.Quantifiers.{all_pairs_push}
 use Rattle.docket_rows.specs.declared.command.Command.TheVariants.{OpenCase}
-use Rattle.docket_rows.specs.Words.{Bench, Rows, DocketedCase, DocketedDeadline, DocketedMotion, AreSound, AreLawful, parts_of, is_case, is_case_number, open_case_refusal, open_case_checks, rows_after}
+use Rattle.docket_rows.specs.Words.{CourtSetup, Rows, DocketedCase, DocketedDeadline, DocketedMotion, AreSound, AreLawful, parts_of, is_case, is_case_number, open_case_refusal, open_case_checks, rows_after}
 use Rattle.docket_laws.proofs.MadeLemmas.{none_of, when-None, when-not-None}
 use Rattle.docket_laws.proofs.LawfulLemmas.ListLemmas.{found_in_more}
 use Rattle.docket_laws.proofs.LawfulLemmas.SeenLemmas.{closed_in_rows}
@@ -14,9 +14,9 @@ use Rattle.docket_laws.proofs.LawfulLemmas.SeenLemmas.{closed_in_rows}
 is_case-sym : (case : ℕ) (a b : DocketedCase) → b.case ≡ case → is_case case a ≡ false → is_case a.case b ≡ false
 is_case-sym case a b same h = grind (arith, nat_tests)
 
-pub sound_open_case : (bench : Bench) (rows : Rows) (case : ℕ) (filed : ℤ) → AreSound bench rows → open_case_refusal (parts_of rows) case filed ≡ None → AreSound bench (rows_after rows (OpenCase case filed))
+pub sound_open_case : (setup : CourtSetup) (rows : Rows) (case : ℕ) (filed : ℤ) → AreSound setup rows → open_case_refusal (parts_of rows) case filed ≡ None → AreSound setup (rows_after rows (OpenCase case filed))
 unfolding open_case_refusal
-sound_open_case bench rows case filed s h =
+sound_open_case setup rows case filed s h =
     let n = none_of (open_case_checks (parts_of rows) case filed) h in
     let closed = closed_in_rows rows case (when-None _ _ n.1.1.0) in
     let c : DocketedCase = record { case = case; filed = filed } in
@@ -36,6 +36,6 @@ sound_open_case bench rows case filed s h =
     }
 
 -- a docket stays lawful, as no hearing, no motion and no day changes
-pub lawful_open_case : (bench : Bench) (rows : Rows) (case : ℕ) (filed : ℤ) → AreLawful bench rows → AreLawful bench (rows_after rows (OpenCase case filed))
-lawful_open_case bench rows case filed l =
+pub lawful_open_case : (setup : CourtSetup) (rows : Rows) (case : ℕ) (filed : ℤ) → AreLawful setup rows → AreLawful setup (rows_after rows (OpenCase case filed))
+lawful_open_case setup rows case filed l =
     record { apart = l.apart; on_court_days = l.on_court_days; within_hours = l.within_hours; noticed = l.noticed }

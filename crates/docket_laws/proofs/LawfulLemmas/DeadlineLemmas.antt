@@ -8,7 +8,7 @@ use Rattle.rule6.specs.declared.service.ServiceKind.{ServiceKind}
 use Rattle.rule_periods.specs.declared.period.Period.{Period}
 use Rattle.rule_periods.specs.Words.{EventView, DeadlineRowView}
 use Rattle.docket_rows.specs.declared.command.Command.TheVariants.{Start}
-use Rattle.docket_rows.specs.Words.{Bench, Rows, DocketedDeadline, AreSound, AreLawful, parts_of, is_case, is_deadline, is_deadline_in, next_deadline, started, start_deadline_refusal, start_deadline_checks, with_deadline, with_changed, rows_after}
+use Rattle.docket_rows.specs.Words.{CourtSetup, Rows, DocketedDeadline, AreSound, AreLawful, parts_of, is_case, is_deadline, is_deadline_in, next_deadline, started, start_deadline_refusal, start_deadline_checks, with_deadline, with_changed, rows_after}
 use Rattle.docket_laws.proofs.MadeLemmas.{none_of, when-not-None}
 use Rattle.docket_laws.proofs.LawfulLemmas.NumberLemmas.{numbered_in_more, numbered_in_changed}
 use Rattle.docket_laws.proofs.LawfulLemmas.SeenLemmas.{IsOpen, is_open_of, count_deadlines_in}
@@ -20,10 +20,10 @@ next_in rows case c opened same =
     ap (λ n. n + 1) (count_deadlines_in rows case opened.stands)
     ∙ ap (λ k. length (filter (is_deadline_in k) rows.deadlines) + 1) here
 
-pub sound_start : (bench : Bench) (rows : Rows) (case : ℕ) (period : Period) (event : EventView) (second : Option ℤ) (service : Option ServiceKind) → AreSound bench rows → start_deadline_refusal bench (parts_of rows) case period event second service ≡ None → AreSound bench (rows_after rows (Start case period event second service))
+pub sound_start : (setup : CourtSetup) (rows : Rows) (case : ℕ) (period : Period) (event : EventView) (second : Option ℤ) (service : Option ServiceKind) → AreSound setup rows → start_deadline_refusal setup (parts_of rows) case period event second service ≡ None → AreSound setup (rows_after rows (Start case period event second service))
 unfolding start_deadline_refusal
-sound_start bench rows case period event second service s h =
-    let n = none_of (start_deadline_checks bench (parts_of rows) case period event second service) h in
+sound_start setup rows case period event second service s h =
+    let n = none_of (start_deadline_checks setup (parts_of rows) case period event second service) h in
     let opened = is_open_of rows case (when-not-None _ _ n.0) in
     let d : DocketedDeadline = record { case = case; number = next_deadline (parts_of rows) case; row = started period event second service } in
     record {
@@ -54,8 +54,8 @@ with_deadline-number case number change d = elim (cases_Bool (is_deadline case n
   | inr other ↦ rw other refl
 ]
 
-pub sound_changed : (bench : Bench) (rows : Rows) (case number : ℕ) (change : DeadlineRowView → DeadlineRowView) → AreSound bench rows → AreSound bench (with_changed case number change rows)
-sound_changed bench rows case number change s =
+pub sound_changed : (setup : CourtSetup) (rows : Rows) (case number : ℕ) (change : DeadlineRowView → DeadlineRowView) → AreSound setup rows → AreSound setup (with_changed case number change rows)
+sound_changed setup rows case number change s =
     let of_case = with_deadline-case case number change in
     let stands = λ (n : ℕ). IsSome (find (is_case n) rows.cases) in
     record {
@@ -74,6 +74,6 @@ sound_changed bench rows case number change s =
     }
 
 -- a docket stays lawful, as no hearing, no motion and no day changes
-pub lawful_deadlines : (bench : Bench) (rows : Rows) (deadlines : List DocketedDeadline) → AreLawful bench rows → AreLawful bench (record rows { deadlines = deadlines })
-lawful_deadlines bench rows deadlines l =
+pub lawful_deadlines : (setup : CourtSetup) (rows : Rows) (deadlines : List DocketedDeadline) → AreLawful setup rows → AreLawful setup (record rows { deadlines = deadlines })
+lawful_deadlines setup rows deadlines l =
     record { apart = l.apart; on_court_days = l.on_court_days; within_hours = l.within_hours; noticed = l.noticed }

@@ -17,7 +17,7 @@ use Rattle.hearing_slots.specs.declared.need.Need.{Need}
 use Rattle.hearing_slots.specs.declared.need.Need.TheVariants as need
 use Rattle.hearing_slots.specs.Words.{is_on}
 use Rattle.docket_rows.specs.declared.command.Command.TheVariants.{Holiday, Inaccessible}
-use Rattle.docket_rows.specs.Words.{Bench, Rows, DocketedMotion, DocketedHearing, AreSound, AreLawful, IsNoticed, KeepsNotice, parts_of, is_motion, booked, lacks_notice, lacks_last_service, missed_service, holiday_refusal, holiday_checks, rows_after}
+use Rattle.docket_rows.specs.Words.{CourtSetup, Rows, DocketedMotion, DocketedHearing, AreSound, AreLawful, IsNoticed, KeepsNotice, parts_of, is_motion, booked, lacks_notice, lacks_last_service, missed_service, holiday_refusal, holiday_checks, rows_after}
 use Rattle.docket_laws.proofs.MadeLemmas.{none_of, option_map-None}
 use Rattle.docket_laws.proofs.LawfulLemmas.ListLemmas.{found_of}
 use Rattle.docket_laws.proofs.LawfulLemmas.MotionLemmas.{motion_once}
@@ -29,8 +29,8 @@ abbrev with_days : Rows → DaysView → Rows
 with_days rows days = record rows { days = days }
 
 -- which rows are sound is no matter of holidays or outages, as long as the span of the days stays
-sound_days : (bench : Bench) (rows : Rows) (days : DaysView) → days.from ≡ rows.days.from → days.to ≡ rows.days.to → AreSound bench rows → AreSound bench (with_days rows days)
-sound_days bench rows days first last s = record {
+sound_days : (setup : CourtSetup) (rows : Rows) (days : DaysView) → days.from ≡ rows.days.from → days.to ≡ rows.days.to → AreSound setup rows → AreSound setup (with_days rows days)
+sound_days setup rows days first last s = record {
   first_day = first ∙ s.first_day;
   last_day = last ∙ s.last_day;
   case_numbers = s.case_numbers;
@@ -53,11 +53,11 @@ add_holiday-to : (c : DaysView) (list : HolidayList) (day : ℤ) → (add_holida
 add_holiday-to c Federal day = refl
 add_holiday-to c State day = refl
 
-pub sound_holiday : (bench : Bench) (rows : Rows) (day : ℤ) (list : HolidayList) → AreSound bench rows → AreSound bench (rows_after rows (Holiday day list))
-sound_holiday bench rows day list s = sound_days bench rows (add_holiday rows.days list day) (add_holiday-from rows.days list day) (add_holiday-to rows.days list day) s
+pub sound_holiday : (setup : CourtSetup) (rows : Rows) (day : ℤ) (list : HolidayList) → AreSound setup rows → AreSound setup (rows_after rows (Holiday day list))
+sound_holiday setup rows day list s = sound_days setup rows (add_holiday rows.days list day) (add_holiday-from rows.days list day) (add_holiday-to rows.days list day) s
 
-pub sound_outage : (bench : Bench) (rows : Rows) (day : ℤ) (from to : ℕ) → AreSound bench rows → AreSound bench (rows_after rows (Inaccessible day from to))
-sound_outage bench rows day from to s = sound_days bench rows (add_outage rows.days (record { day = day; from = from; to = to })) refl refl s
+pub sound_outage : (setup : CourtSetup) (rows : Rows) (day : ℤ) (from to : ℕ) → AreSound setup rows → AreSound setup (rows_after rows (Inaccessible day from to))
+sound_outage setup rows day from to s = sound_days setup rows (add_outage rows.days (record { day = day; from = from; to = to })) refl refl s
 
 -- A day other than the new holiday stays a day on which hearings can be held
 
@@ -105,30 +105,30 @@ booked_notice days rows other h m found kept =
       none_missed (Some d) h = absurd cc
 
 -- after a federal holiday that takes no hearing its notice
-federal_noticed : (bench : Bench) (rows : Rows) (day : ℤ) → AreSound bench rows → All (λ h. lacks_notice (add_holiday rows.days Federal day) (booked rows h.hearing.room h) ≡ false) rows.hearings → All (λ m. All (KeepsNotice (add_holiday rows.days Federal day) m) rows.hearings) rows.motions
-federal_noticed bench rows day s kept k d within j e within_hearings of_case of_motion =
+federal_noticed : (setup : CourtSetup) (rows : Rows) (day : ℤ) → AreSound setup rows → All (λ h. lacks_notice (add_holiday rows.days Federal day) (booked rows h.hearing.room h) ≡ false) rows.hearings → All (λ m. All (KeepsNotice (add_holiday rows.days Federal day) m) rows.hearings) rows.motions
+federal_noticed setup rows day s kept k d within j e within_hearings of_case of_motion =
     let m = get_or rows.motions k d in
     let h = get_or rows.hearings j e in
     let found = found_of (find (is_motion h.case h.motion) rows.motions) (s.hearings_of_motions j e within_hearings) in
     let is : is_motion h.case h.motion m ≡ true = grind (arith, nat_tests, of_case, of_motion) in
-    let same : m ≡ found.value = motion_once bench rows s h.case h.motion m found.value (Contains-get_or rows.motions k d within) is found.is in
+    let same : m ≡ found.value = motion_once setup rows s h.case h.motion m found.value (Contains-get_or rows.motions k d within) is found.is in
     booked_notice (add_holiday rows.days Federal day) rows h.hearing.room h m (found.is ∙ ap Some (sym same)) (kept j e within_hearings)
 
-pub lawful_holiday : (bench : Bench) (rows : Rows) (day : ℤ) (list : HolidayList) → AreSound bench rows → AreLawful bench rows → holiday_refusal bench (parts_of rows) day list ≡ None → AreLawful bench (rows_after rows (Holiday day list))
+pub lawful_holiday : (setup : CourtSetup) (rows : Rows) (day : ℤ) (list : HolidayList) → AreSound setup rows → AreLawful setup rows → holiday_refusal setup (parts_of rows) day list ≡ None → AreLawful setup (rows_after rows (Holiday day list))
 unfolding holiday_refusal parts_of
-lawful_holiday bench rows day Federal s l refused =
-    let n = none_of (holiday_checks bench (parts_of rows) day Federal) refused in
-    let elsewhere = in_no_calendar bench rows (is_on day) s (option_map-None _ _ n.1.1.1.0) in
-    let kept = in_no_calendar bench rows (lacks_notice (add_holiday rows.days Federal day)) s (option_map-None _ _ n.1.1.1.1.0) in
+lawful_holiday setup rows day Federal s l refused =
+    let n = none_of (holiday_checks setup (parts_of rows) day Federal) refused in
+    let elsewhere = in_no_calendar setup rows (is_on day) s (option_map-None _ _ n.1.1.1.0) in
+    let kept = in_no_calendar setup rows (lacks_notice (add_holiday rows.days Federal day)) s (option_map-None _ _ n.1.1.1.1.0) in
     record {
       apart = l.apart;
       on_court_days = λ k d within. still_permitted rows.days Federal day _ (l.on_court_days k d within) (elsewhere k d within);
       within_hours = l.within_hours;
-      noticed = federal_noticed bench rows day s kept;
+      noticed = federal_noticed setup rows day s kept;
     }
-lawful_holiday bench rows day State s l refused =
-    let n = none_of (holiday_checks bench (parts_of rows) day State) refused in
-    let elsewhere = in_no_calendar bench rows (is_on day) s (option_map-None _ _ n.1.1.1.0) in
+lawful_holiday setup rows day State s l refused =
+    let n = none_of (holiday_checks setup (parts_of rows) day State) refused in
+    let elsewhere = in_no_calendar setup rows (is_on day) s (option_map-None _ _ n.1.1.1.0) in
     record {
       apart = l.apart;
       on_court_days = λ k d within. still_permitted rows.days State day _ (l.on_court_days k d within) (elsewhere k d within);
@@ -136,9 +136,9 @@ lawful_holiday bench rows day State s l refused =
       noticed = λ k d within j e below of_case of_motion. same_notice rows.days (add_holiday rows.days State day) _ _ _ _ (state_notice rows.days day _) (l.noticed k d within j e below of_case of_motion);
     }
 
-pub lawful_outage : (bench : Bench) (rows : Rows) (day : ℤ) (from to : ℕ) → AreLawful bench rows → AreLawful bench (rows_after rows (Inaccessible day from to))
+pub lawful_outage : (setup : CourtSetup) (rows : Rows) (day : ℤ) (from to : ℕ) → AreLawful setup rows → AreLawful setup (rows_after rows (Inaccessible day from to))
 unfolding is_permitted
-lawful_outage bench rows day from to l =
+lawful_outage setup rows day from to l =
     let o : OutageView = record { day = day; from = from; to = to } in
     record {
       apart = l.apart;

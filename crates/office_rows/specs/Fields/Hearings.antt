@@ -2,7 +2,7 @@
 use Rattle.std.specs.Prelude.{ℕ, ◌*◌, List, length, map, nat_le, Option, Some, None, option_map, if◌then◌else◌}
 use Rattle.std.specs.List.{slice_split}
 use Rattle.std.specs.Option.{option_or}
-use Rattle.office_rows.specs.Names.{number_named}
+use Rattle.office_rows.specs.CourtNames.{number_named}
 use Rattle.office_rows.specs.Fields.Cut.{is_byte}
 use Rattle.office_rows.specs.Fields.Numbers.{count_of, number_of}
 

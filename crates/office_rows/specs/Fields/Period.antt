@@ -8,12 +8,10 @@ use Rattle.rule6.specs.declared.timeliness.Act.{Act}
 use Rattle.rule6.specs.declared.timeliness.Act.TheVariants.{Filing, Service}
 use Rattle.rule_periods.specs.declared.period.Entered.{Entered}
 use Rattle.rule_periods.specs.declared.period.Length.{Length}
-use Rattle.rule_periods.specs.declared.period.Mark.{Mark}
 use Rattle.rule_periods.specs.declared.period.Period.{Period}
 use Rattle.rule_periods.specs.declared.rule.RulePeriod.{RulePeriod}
-use Rattle.rule_periods.specs.Words.{rule_code, rule_of_code}
+use Rattle.rule_periods.specs.Words.{mark_of_code, rule_code, rule_of_code}
 use Rattle.rule_periods.specs.declared.period.Length.TheVariants.{Days, Hours}
-use Rattle.rule_periods.specs.declared.period.Mark.TheVariants.{Plain, Rule50b, Rule50d, Rule52b, Rule59b, Rule59d, Rule59e, Rule60b}
 use Rattle.rule_periods.specs.declared.period.Period.TheVariants as period
 use Rattle.office_rows.specs.Fields.Cut.{cut_at}
 use Rattle.office_rows.specs.Fields.Numbers.{count_of}
@@ -38,19 +36,6 @@ act_of text = if bytes_eq text (codes "filing") then Some Filing else if bytes_e
 unfoldable pub is_served : List ℕ → Option Bool
 is_served text = if bytes_eq text (codes "event") then Some false else if bytes_eq text (codes "served") then Some true else None
 
--- the rule under which it runs, where its time must not be extended (Rule 6(b)(2)); none is `plain`
-unfoldable pub mark_of : List ℕ → Option Mark
-mark_of text =
-    if bytes_eq text (codes "plain") then Some Plain
-    else if bytes_eq text (codes "50b") then Some Rule50b
-    else if bytes_eq text (codes "50d") then Some Rule50d
-    else if bytes_eq text (codes "52b") then Some Rule52b
-    else if bytes_eq text (codes "59b") then Some Rule59b
-    else if bytes_eq text (codes "59d") then Some Rule59d
-    else if bytes_eq text (codes "59e") then Some Rule59e
-    else if bytes_eq text (codes "60b") then Some Rule60b
-    else None
-
 -- a period that a court enters
 unfoldable pub entered_of : List ℕ → Option Entered
 entered_of text = do
@@ -62,7 +47,7 @@ entered_of text = do
   direction ← direction_of second.0
   act ← act_of third.0
   served ← is_served fourth.0
-  mark ← mark_of fourth.1
+  mark ← mark_of_code fourth.1
   Some (record { length = length; direction = direction; act = act; served = served; mark = mark })
 
 -- a period of the Rules by its code, or else an entered one

@@ -1,7 +1,7 @@
 //! Who hears a motion, where, and for how long.
 
 ghost use Rattle.std.specs.Prelude.{◌≡◌};
-ghost use Rattle.office_rows.specs.Names.{number_named};
+ghost use Rattle.office_rows.specs.CourtNames.{number_named};
 ghost use Rattle.office_rows.specs.Fields.Hearings.{panel_named, slots_of};
 
 use crate::fields::cut::cut_at;
@@ -30,7 +30,7 @@ pub fn panel_named(court: &Court, field: &str) -> Option<Panel>
 }
 
 /// The number of the judge with this name, and the number past the last where the court has none.
-#[tactic(auto, unfolding(crate::specs::Names::number_named))]
+#[tactic(auto, unfolding(crate::specs::CourtNames::number_named))]
 pub fn judge_named(court: &Court, name: &str) -> u8
     ensures { result ≡ number_named court.now.judges name.now }
 {
@@ -38,7 +38,7 @@ pub fn judge_named(court: &Court, name: &str) -> u8
 }
 
 /// The number of the room with this name, and the number past the last where the court has none.
-#[tactic(auto, unfolding(crate::specs::Names::number_named))]
+#[tactic(auto, unfolding(crate::specs::CourtNames::number_named))]
 pub fn room_named(court: &Court, name: &str) -> u8
     ensures { result ≡ number_named court.now.rooms name.now }
 {

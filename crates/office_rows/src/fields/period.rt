@@ -1,7 +1,7 @@
 //! Periods, as rows write them: the code of a period of the Rules, or `LENGTH/DIRECTION/ACT/FROM/MARK`.
 
 ghost use Rattle.std.specs.Prelude.{◌≡◌};
-ghost use Rattle.office_rows.specs.Fields.Period.{length_of, direction_of, act_of, is_served, mark_of, entered_of, period_of};
+ghost use Rattle.office_rows.specs.Fields.Period.{length_of, direction_of, act_of, is_served, entered_of, period_of};
 
 use crate::fields::cut::cut_at;
 use crate::fields::numbers::count_of;
@@ -34,7 +34,7 @@ fn entered_of(text: &str) -> Option<Entered>
         direction: direction_of(direction)?,
         act: act_of(act)?,
         served: is_served(from)?,
-        mark: mark_of(mark)?,
+        mark: Mark::from_code(mark)?,
     })
 }
 
@@ -79,24 +79,6 @@ fn is_served(text: &str) -> Option<bool>
     match text {
         "event" => Some(false),
         "served" => Some(true),
-        _ => None,
-    }
-}
-
-// The rule under which the period runs.
-#[tactic(auto, unfolding(crate::specs::Fields::Period::mark_of))]
-fn mark_of(text: &str) -> Option<Mark>
-    ensures { result ≡ mark_of text.now }
-{
-    match text {
-        "plain" => Some(Mark::Plain),
-        "50b" => Some(Mark::Rule50b),
-        "50d" => Some(Mark::Rule50d),
-        "52b" => Some(Mark::Rule52b),
-        "59b" => Some(Mark::Rule59b),
-        "59d" => Some(Mark::Rule59d),
-        "59e" => Some(Mark::Rule59e),
-        "60b" => Some(Mark::Rule60b),
         _ => None,
     }
 }

@@ -5,7 +5,7 @@ ghost use Rattle.std.specs.Prelude.{◌≡◌};
 use crate::tests::schedules::Named;
 use std::alloc::{AllocError, Global};
 use std::cell::Cell;
-use versioned_steps::{Decision, Parted};
+use versioned_steps::{Parted, PartsDecision};
 
 /// The first cell, if any, and the second.
 pub type Add = (Option<u8>, u8);
@@ -69,7 +69,7 @@ impl Parted for Counters {
         alloc: Global,
         command: &Add,
         reads: &[(u8, u64)],
-    ) -> Result<Decision<u8, u64, Option<u64>>, AllocError> {
+    ) -> Result<PartsDecision<u8, u64, Option<u64>>, AllocError> {
         self.take()?;
         let total = match (command.0, reads) {
             (None, [x, ..]) => x.1.saturating_add(1),
@@ -80,12 +80,12 @@ impl Parted for Counters {
         if total < 100 {
             writes.reserve(1)?;
             writes.push_reserved((command.1, total));
-            return Ok(Decision {
+            return Ok(PartsDecision {
                 answer: Some(total),
                 writes,
             });
         }
-        Ok(Decision {
+        Ok(PartsDecision {
             answer: None,
             writes,
         })

@@ -4,7 +4,7 @@ ghost use Rattle.std.specs.Prelude.{◌≡◌};
 
 use crate::tests::schedules::Named;
 use std::alloc::{AllocError, Global};
-use versioned_steps::{Decision, Parted};
+use versioned_steps::{Parted, PartsDecision};
 
 #[derive(Drop)]
 pub struct Pointers;
@@ -41,13 +41,13 @@ impl Parted for Pointers {
         alloc: Global,
         command: &(u8, u8),
         reads: &[(u8, u8)],
-    ) -> Result<Decision<u8, u8, u8>, AllocError> {
+    ) -> Result<PartsDecision<u8, u8, u8>, AllocError> {
         match reads {
             [_, y, ..] => {
                 let mut writes = Vec::new(alloc);
                 writes.reserve(1)?;
                 writes.push_reserved((y.0, command.1));
-                Ok(Decision {
+                Ok(PartsDecision {
                     answer: y.1,
                     writes,
                 })

@@ -7,7 +7,7 @@ ghost use Rattle.sample_parts.specs.Switches.{fits, all_fit, differs, are_apart,
 use crate::tests::schedules::Named;
 use std::alloc::{AllocError, Global};
 use std::marker::Model;
-use versioned_steps::{Decision, Parted};
+use versioned_steps::{Parted, PartsDecision};
 
 /// What a cell holds.
 pub type Content = Result<u64, bool>;
@@ -138,16 +138,16 @@ impl Parted for Switches {
         alloc: Global,
         _command: &Cells,
         reads: &[(u8, Content)],
-    ) -> Result<Decision<u8, Content, Option<u64>>, AllocError> {
+    ) -> Result<PartsDecision<u8, Content, Option<u64>>, AllocError> {
         let six = &reads[..reads.len().min(6)];
         if are_apart(six) && all_fit(six) {
             let count = reads.len() as u64;
-            return Ok(Decision {
+            return Ok(PartsDecision {
                 answer: Some(count),
                 writes: all_thrown(alloc, count, six)?,
             });
         }
-        Ok(Decision {
+        Ok(PartsDecision {
             answer: None,
             writes: Vec::new(alloc),
         })

@@ -1,6 +1,6 @@
 use Rattle.std.proofs.Common.{◌≡◌, ◌++◌, ◌∷◌, [], ◌∙◌, List, All, ap, refl, sym, subst, arith}
 use Rattle.office_seats.specs.Words.{SeatView}
-use Rattle.clerk_workers.specs.declared.state.State.TheVariants.{Waiting}
+use Rattle.clerk_workers.specs.declared.progress.Progress.TheVariants.{Waiting}
 use Rattle.clerk_workers.specs.Desks.{DeskView, IsReady, seats_at}
 use Rattle.clerk_workers.proofs.DeskLemmas.{all_but_last, all_push, turned_more}
 use Rattle.clerk_workers.proofs.desks.seat_all.Goals as goal
@@ -9,7 +9,7 @@ pub loop-seat-preserved : goal.loop-seat-preserved
 loop-seat-preserved g c =
     let hold = g.K.Notes.hold in
     let inv = c.loop-seat.invariant in
-    let desk : DeskView _ = record { seat = c.in-Some.seat; notes = c.in-Some-pop.notes; state = Waiting } in
+    let desk : DeskView _ = record { seat = c.in-Some.seat; notes = c.in-Some-pop.notes; progress = Waiting } in
     let pushed : c.push_reserved.new.self.items ≡ c.loop-seat.desks.items ++ desk ∷ [] = c.push_reserved.ensures.items in
     let kept = all_but_last (λ n. hold n []) c.pop-in-Some.new.self.items c.in-Some-pop.notes (subst (All (λ n. hold n [])) c.in-Some-pop.ensures.items inv.empty) in
     let P : List (DeskView _) → Type 0 = λ ds. All (IsReady hold) ds in

@@ -1,6 +1,6 @@
 use Rattle.std.proofs.Common.{◌≡◌, ◌+◌, ◌-◌, ◌++◌, ◌∷◌, [], List, length, map, sym, subst, arith}
 use Rattle.std.proofs.lemmas.List.{length-map}
-use Rattle.clerk_workers.specs.declared.answer.RowAnswer.{RowAnswer}
+use Rattle.clerk_workers.specs.declared.answer.SharedReply.{SharedReply}
 use Rattle.clerk_workers.specs.Merged.{AreFromTheLast}
 use Rattle.office_rows.specs.Words.{IsClerk}
 use Rattle.clerk_workers.proofs.MergeLemmas.{from_more, next_answer, next_clerk}
@@ -30,7 +30,7 @@ loop-row-preserved c =
     let shorter : length before + 1 ≡ length rest = c.in-Some.ensures.cases.1 in
     let way = c.loop-row.invariant.so_far in
     let clerk : IsClerk (length c.args.lists.now.items) row.clerk = next_clerk c.args.rows.now rest before row first now c.loop-row.answers.items last way (length c.args.lists.now.items) c.requires.clerks in
-    let P : List RowAnswer → Type 0 = λ taken. AreFromTheLast c.args.rows.now before first new taken in
+    let P : List SharedReply → Type 0 = λ taken. AreFromTheLast c.args.rows.now before first new taken in
     record {
       so_far = subst P (sym c.push_reserved.ensures.items) (from_more c.args.rows.now rest before row first now c.loop-row.answers.items last way (row.clerk - 1) (omega (arith, clerk.from_one)) new c.take_last.result c.take_last.ensures);
       room = omega (arith, c.loop-row.invariant.room, shorter, c.push_reserved.ensures.len, c.push_reserved.ensures.capacity, c.loop-row.answers.ok);

@@ -4,4 +4,4 @@ use Rattle.clerk_workers.proofs.worker.serve.Given as goal
 
 -- the clerk's rows so far are done and noted
 abbrev pub invariant-loop-row : goal.invariant-loop-row
-invariant-loop-row g l = IsNoted g.K.Notes.hold g.L.Names.bench l.fn.seat (take l.row-index l.rows) l.notes l.seat
+invariant-loop-row g l = IsNoted g.K.Notes.hold g.L.NamesOffice.setup l.fn.seat (take l.row-index l.rows) l.notes l.seat

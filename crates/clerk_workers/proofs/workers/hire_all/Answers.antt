@@ -24,14 +24,14 @@ loop-desk-preserved g c =
 pub returns-in-Err-clause-way : goal.returns-in-Err-clause-way
 returns-in-Err-clause-way g c =
     let hold = g.K.Notes.hold in
-    let bench = g.L.Names.bench in
+    let setup = g.L.NamesOffice.setup in
     let rows = c.args.rows.now in
     let inv = c.loop-desk.invariant in
     let popped : c.loop-desk.desks.items ≡ c.pop.new.self.items ++ c.in-Some.desk ∷ [] = c.in-Some.ensures.items in
     let left = others_ready hold c.loop-desk.desks.items c.pop.new.self.items c.in-Some.desk popped inv.ready in
-    let worked : AreWorked hold bench rows (c.pop.new.self.items ++ c.in-Some.desk ∷ []) (c.pop.new.self.items ++ c.in-Err.desk ∷ []) =
-    worked_push hold bench rows c.pop.new.self.items c.pop.new.self.items c.in-Some.desk c.in-Err.desk (worked_ready hold bench rows c.pop.new.self.items left) c.in-Err.ensures.refused in
-    let P : List (DeskView _) → Type 0 = λ ds. AreWorked hold bench rows (c.pop.new.self.items ++ c.in-Some.desk ∷ []) ds in
+    let worked : AreWorked hold setup rows (c.pop.new.self.items ++ c.in-Some.desk ∷ []) (c.pop.new.self.items ++ c.in-Err.desk ∷ []) =
+    worked_push hold setup rows c.pop.new.self.items c.pop.new.self.items c.in-Some.desk c.in-Err.desk (worked_ready hold setup rows c.pop.new.self.items left) c.in-Err.ensures.refused in
+    let P : List (DeskView _) → Type 0 = λ ds. AreWorked hold setup rows (c.pop.new.self.items ++ c.in-Some.desk ∷ []) ds in
     record {
       others = c.pop.new.self.items ++ c.in-Some.desk ∷ [];
       worked = subst P (sym c.push_reserved-in-Err.ensures.items) worked;

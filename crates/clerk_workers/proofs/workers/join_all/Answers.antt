@@ -5,14 +5,14 @@ use Rattle.clerk_workers.proofs.workers.join_all.Goals as goal
 pub loop-clerk-preserved : goal.loop-clerk-preserved
 loop-clerk-preserved g c =
     let hold = g.K.Notes.hold in
-    let bench = g.L.Names.bench in
+    let setup = g.L.NamesOffice.setup in
     let inv = c.loop-clerk.invariant in
     record {
-      way = λ rows start way. way_joined hold bench rows start c.loop-clerk.desks.items c.push_reserved.new.self.items c.loop-clerk.hired.items c.pop.new.self.items c.in-Some.clerk c.join.result c.in-Some.ensures.items c.push_reserved.ensures.items c.join.ensures (inv.way rows start way);
+      way = λ rows start way. way_joined hold setup rows start c.loop-clerk.desks.items c.push_reserved.new.self.items c.loop-clerk.hired.items c.pop.new.self.items c.in-Some.clerk c.join.result c.in-Some.ensures.items c.push_reserved.ensures.items c.join.ensures (inv.way rows start way);
       room = omega (arith, inv.room, c.in-Some.ensures.cases, c.push_reserved.ensures.len, c.push_reserved.ensures.capacity);
     }
 
 pub returns : goal.returns
 returns g c rows start way =
     let none : length c.loop-clerk.hired.items ≡ 0 = omega (arith, c.in_default.ensures.cases.0, c.loop-clerk.hired.ok) in
-    way_done g.K.Notes.hold g.L.Names.bench rows start c.loop-clerk.desks.items c.loop-clerk.hired.items none (c.loop-clerk.invariant.way rows start way)
+    way_done g.K.Notes.hold g.L.NamesOffice.setup rows start c.loop-clerk.desks.items c.loop-clerk.hired.items none (c.loop-clerk.invariant.way rows start way)

@@ -6,7 +6,7 @@ use Rattle.clerk_workers.proofs.workers.join_all.Given as goal
 -- fewer clerks are still under way
 abbrev pub invariant-loop-clerk : goal.invariant-loop-clerk
 invariant-loop-clerk g l = record {
-  way : (rows : List Row) (start : List (DeskView _)) → AreUnderWay g.K.Notes.hold g.L.Names.bench rows start l.fn.desks.items l.fn.hired.items → AreUnderWay g.K.Notes.hold g.L.Names.bench rows start l.desks.items l.hired.items;
+  way : (rows : List Row) (start : List (DeskView _)) → AreUnderWay g.K.Notes.hold g.L.NamesOffice.setup rows start l.fn.desks.items l.fn.hired.items → AreUnderWay g.K.Notes.hold g.L.NamesOffice.setup rows start l.desks.items l.hired.items;
   room : length l.desks.items + length l.hired.items ≤ vec_capacity l.desks;
 }
 

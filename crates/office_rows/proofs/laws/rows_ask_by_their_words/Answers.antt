@@ -1,4 +1,4 @@
-use Rattle.office_rows.proofs.AskedLemmas.{rows_ask_by_their_words_lem}
+use Rattle.office_rows.proofs.FormLemmas.{rows_ask_by_their_words_lem}
 use Rattle.office_rows.proofs.laws.rows_ask_by_their_words.Goals as goal
 
 pub returns : goal.returns

@@ -1,7 +1,7 @@
 use Rattle.std.proofs.Common.{◌≡◌}
-use Rattle.office_rows.specs.Names.{names_of}
+use Rattle.office_rows.specs.CourtNames.{names_of}
 use Rattle.office_rows.specs.Records.{TakesAnyRow, records_left}
-use Rattle.office_rows.specs.Rows.{rows_from}
+use Rattle.office_rows.specs.Rows.{rows_read_from}
 use Rattle.office_rows.proofs.RowsLemmas.{behind_rows}
 use Rattle.office_rows.proofs.records.take_rows.Given as goal
 
@@ -9,5 +9,5 @@ use Rattle.office_rows.proofs.records.take_rows.Given as goal
 abbrev pub invariant-loop-number : goal.invariant-loop-number
 invariant-loop-number l = record {
   able : TakesAnyRow l.reader;
-  so_far : behind_rows l.rows.items (rows_from l.clerks (names_of l.court) l.number (records_left l.reader)) ≡ rows_from l.clerks (names_of l.court) 1 (records_left l.fn.reader);
+  so_far : behind_rows l.rows.items (rows_read_from l.clerks (names_of l.court) l.number (records_left l.reader)) ≡ rows_read_from l.clerks (names_of l.court) 1 (records_left l.fn.reader);
 }

@@ -1,5 +1,5 @@
 use Rattle.std.proofs.Common.{◌≡◌, ◌+◌, ◌++◌, drop, take, string_bytes}
-use Rattle.docket_rows.specs.Words.{bench_of, opening_rows}
+use Rattle.docket_rows.specs.Words.{setup_of, opening_rows}
 use Rattle.office_run.specs.Replies.{Holds, docketed_after}
 use Rattle.office_run.specs.Text.{lines_from}
 use Rattle.office_run.proofs.text.push_replies.Given as goal
@@ -7,10 +7,10 @@ use Rattle.office_run.proofs.text.push_replies.Given as goal
 -- the docket holds what is docketed after the rows so far; the replies to them, and those to the rows that are left, are all
 abbrev pub invariant-loop-row : goal.invariant-loop-row
 invariant-loop-row l =
-    let bench = bench_of l.court in
-    let docketed = docketed_after bench (opening_rows bench) (take l.row-index l.rows) in
+    let setup = setup_of l.court in
+    let docketed = docketed_after setup (opening_rows setup) (take l.row-index l.rows) in
     record {
       number : l.number ≡ l.row-index + 1;
-      holds : Holds bench l.docket docketed;
-      so_far : string_bytes l.text ++ lines_from l.court docketed l.number (drop l.row-index l.rows) ≡ string_bytes l.fn.text ++ lines_from l.court (opening_rows bench) 1 l.rows;
+      holds : Holds setup l.docket docketed;
+      so_far : string_bytes l.text ++ lines_from l.court docketed l.number (drop l.row-index l.rows) ≡ string_bytes l.fn.text ++ lines_from l.court (opening_rows setup) 1 l.rows;
     }

@@ -4,5 +4,5 @@ use Rattle.sample_clerks.proofs.tests.answers_to.Given as goal
 abbrev pub ghosts-answers_in-L-Ledger : goal.ghosts-answers_in-L-Ledger
 ghosts-answers_in-L-Ledger g a = record { name = a.blank.name; parts = a.blank.parts }
 
-abbrev pub ghosts-answers_in-L-Names : goal.ghosts-answers_in-L-Names
-ghosts-answers_in-L-Names g a = record { history = a.publisher.trail.book; bench = a.publisher.parts }
+abbrev pub ghosts-answers_in-L-NamesOffice : goal.ghosts-answers_in-L-NamesOffice
+ghosts-answers_in-L-NamesOffice g a = record { history = a.publisher.trail.book; setup = a.publisher.parts }

@@ -3,4 +3,4 @@ use Rattle.shared_docket.specs.DocketRules.{docket_rules}
 use Rattle.shared_docket.proofs.laws.each_finished_command_stands_once.Goals as goal
 
 pub returns : goal.returns
-returns c = λ bench. finished_once (docket_rules bench)
+returns c = λ setup. finished_once (docket_rules setup)

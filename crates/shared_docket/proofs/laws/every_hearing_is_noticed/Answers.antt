@@ -5,4 +5,4 @@ use Rattle.shared_docket.proofs.laws.every_hearing_is_noticed.Goals as goal
 
 pub returns : goal.returns
 returns c =
-    always (λ bench history. AllHaveNotice (rows_of bench history)) (λ bench history legal. c.every_hearing_has_its_notice.ensures bench (commands_of history))
+    always (λ setup history. AllHaveNotice (rows_of setup history)) (λ setup history legal. c.every_hearing_has_its_notice.ensures setup (commands_of history))

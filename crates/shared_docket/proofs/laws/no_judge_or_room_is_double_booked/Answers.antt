@@ -5,4 +5,4 @@ use Rattle.shared_docket.proofs.laws.no_judge_or_room_is_double_booked.Goals as 
 
 pub returns : goal.returns
 returns c =
-    always (λ bench history. NoneIsBookedTwice (rows_of bench history)) (λ bench history legal. c.no_judge_or_room_is_booked_twice.ensures bench (commands_of history))
+    always (λ setup history. NoneIsBookedTwice (rows_of setup history)) (λ setup history legal. c.no_judge_or_room_is_booked_twice.ensures setup (commands_of history))

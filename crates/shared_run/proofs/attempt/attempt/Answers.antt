@@ -1,6 +1,6 @@
 use Rattle.std.proofs.Common.{◌≡◌, ◌++◌, ◌∙◌, ℕ, List, ap, length, subst, sym}
 use Rattle.court_days.specs.Words.{CourtView}
-use Rattle.docket_rows.specs.Words.{Bench, bench_of, parts_of}
+use Rattle.docket_rows.specs.Words.{CourtSetup, setup_of, parts_of}
 use Rattle.shared_docket.specs.Words.{rows_of}
 use Rattle.office_run.specs.Words.{closing_text}
 use Rattle.clerk_workers.specs.Words.{AllHold, AreOfClerks}
@@ -19,14 +19,14 @@ run_noting-requires-clause-as_many g c κs within =
 pub text_of-requires-clause-clerks : goal.text_of-requires-clause-clerks
 text_of-requires-clause-clerks g c =
     let opened = rw c.in-Some.is at c.in_ok-office.ensures in
-    let long = notes_long (HoldLines g.L.NamesCourt.court) g.L.Names.bench c.args.rows.now c.args.clerks c.args.journal_limit _ _ c.in-Ok.noted.notes.items c.in-Ok.noted.tallies.items opened c.in-Ok.ensures in
+    let long = notes_long (HoldLines g.L.NamesCourt.court) g.L.NamesOffice.setup c.args.rows.now c.args.clerks c.args.journal_limit _ _ c.in-Ok.noted.notes.items c.in-Ok.noted.tallies.items opened c.in-Ok.ensures in
     let P : ℕ → Type 0 = λ n. AreOfClerks n c.args.rows.now in
     rw c.deref-3.ensures.value (subst P (sym long) c.requires.rows)
 
 pub text_of-requires-clause-held : goal.text_of-requires-clause-held
 text_of-requires-clause-held g c =
     let opened = rw c.in-Some.is at c.in_ok-office.ensures in
-    let made = notes_made (HoldLines g.L.NamesCourt.court) g.L.Names.bench c.args.rows.now c.args.clerks c.args.journal_limit _ _ c.in-Ok.noted.notes.items c.in-Ok.noted.tallies.items opened c.in-Ok.ensures in
+    let made = notes_made (HoldLines g.L.NamesCourt.court) g.L.NamesOffice.setup c.args.rows.now c.args.clerks c.args.journal_limit _ _ c.in-Ok.noted.notes.items c.in-Ok.noted.tallies.items opened c.in-Ok.ensures in
     let court : c.deref-2.result.now ≡ g.L.NamesCourt.court = c.deref-2.ensures ∙ c.requires.court in
     let P : CourtView → Type 0 = λ named. AllHold (HoldLines named) c.in-Ok.noted.notes.items made.lists in
     rw c.deref-3.ensures.value (made.lists, subst P (sym court) made.held, made.as_many)
@@ -37,19 +37,19 @@ returns g c =
     let journal = c.in-Ok-close.journal in
     let tallies = c.in-Ok.noted.tallies.items in
     let opened = rw c.in-Some.is at c.in_ok-office.ensures in
-    let made = notes_made (HoldLines g.L.NamesCourt.court) g.L.Names.bench rows c.args.clerks c.args.journal_limit _ _ c.in-Ok.noted.notes.items tallies opened c.in-Ok.ensures in
+    let made = notes_made (HoldLines g.L.NamesCourt.court) g.L.NamesOffice.setup rows c.args.clerks c.args.journal_limit _ _ c.in-Ok.noted.notes.items tallies opened c.in-Ok.ensures in
     let court : c.deref-2.result.now ≡ g.L.NamesCourt.court = c.deref-2.ensures ∙ c.requires.court in
     let P : CourtView → Type 0 = λ named. AllHold (HoldLines named) c.in-Ok.noted.notes.items made.lists in
     let held : AllHold (HoldLines c.deref-2.result.now) c.deref-3.result.now made.lists = rw c.deref-3.ensures.value (subst P (sym court) made.held) in
     let written = c.in_ok-text_of.ensures made.lists held made.as_many in
     let answers = written.1.answers in
-    let run = run_made g.L.Names.bench c.args.clerks c.args.journal_limit _ _ rows answers tallies journal opened (record { as_many = written.1.as_many; worked = made.worked answers written.1.merged }) c.in-Ok-close.ensures.closed c.in-Ok-close.ensures.seats in
-    let R : Bench → Type 0 = λ bench. IsSharedRun bench c.args.clerks c.args.journal_limit rows answers journal in
-    let closing = closing_text c.deref-2.result.now (parts_of (rows_of (bench_of c.deref-2.result.now) journal)) in
-    let Q : CourtView → Type 0 = λ named. c.in_ok-text_of.field-0.items ≡ answer_lines named 1 rows answers ++ closing_text named (parts_of (rows_of (bench_of named) journal)) in
+    let run = run_made g.L.NamesOffice.setup c.args.clerks c.args.journal_limit _ _ rows answers tallies journal opened (record { as_many = written.1.as_many; worked = made.worked answers written.1.merged }) c.in-Ok-close.ensures.closed c.in-Ok-close.ensures.seats in
+    let R : CourtSetup → Type 0 = λ setup. IsSharedRun setup c.args.clerks c.args.journal_limit rows answers journal in
+    let closing = closing_text c.deref-2.result.now (parts_of (rows_of (setup_of c.deref-2.result.now) journal)) in
+    let Q : CourtView → Type 0 = λ named. c.in_ok-text_of.field-0.items ≡ answer_lines named 1 rows answers ++ closing_text named (parts_of (rows_of (setup_of named) journal)) in
     record {
       answers = answers;
       journal = journal;
-      run = subst R c.requires.bench run;
+      run = subst R c.requires.setup run;
       text_is = subst Q c.deref-2.ensures (written.2 ∙ ap (λ (t : List ℕ). t ++ closing) written.1.text_is);
     }

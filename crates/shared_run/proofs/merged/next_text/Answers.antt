@@ -1,16 +1,16 @@
 use Rattle.std.proofs.Common.{◌≡◌, ◌-◌, ◌<◌, ◌∷◌, List, length, ℕ, ap, arith, sym, subst, set, get_or}
 use Rattle.court_days.specs.Words.{CourtView}
-use Rattle.clerk_workers.specs.declared.answer.RowAnswer.{RowAnswer}
+use Rattle.clerk_workers.specs.declared.answer.SharedReply.{SharedReply}
 use Rattle.clerk_workers.specs.Words.{AllHold, list_at}
 use Rattle.shared_run.specs.Lines.{HoldTexts, TextsView}
 use Rattle.shared_run.proofs.HoldLemmas.{first_of, held_at, held_with}
 use Rattle.shared_run.proofs.merged.next_text.Goals as goal
 
 -- what is left at a place holds the list there, which has a first answer
-next_at : (court : CourtView) (left : List TextsView) (lists : List (List RowAnswer)) (place : ℕ) (lines : TextsView) (answer : RowAnswer) (others : List RowAnswer) → AllHold (HoldTexts court) left lists → place < length left → lines ≡ get_or left place lines → list_at place lists ≡ answer ∷ others → HoldTexts court lines (answer ∷ others)
+next_at : (court : CourtView) (left : List TextsView) (lists : List (List SharedReply)) (place : ℕ) (lines : TextsView) (answer : SharedReply) (others : List SharedReply) → AllHold (HoldTexts court) left lists → place < length left → lines ≡ get_or left place lines → list_at place lists ≡ answer ∷ others → HoldTexts court lines (answer ∷ others)
 next_at court left lists place lines answer others held lt at is =
     let P : TextsView → Type 0 = λ those. HoldTexts court those (answer ∷ others) in
-    let Q : List RowAnswer → Type 0 = λ list. HoldTexts court (get_or left place lines) list in
+    let Q : List SharedReply → Type 0 = λ list. HoldTexts court (get_or left place lines) list in
     subst P (sym at) (subst Q is (held_at (HoldTexts court) left lists place lines held lt))
 
 pub next-requires : goal.next-requires

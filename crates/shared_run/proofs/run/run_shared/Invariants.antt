@@ -2,8 +2,8 @@ use Rattle.std.specs.Arc.{arc_value}
 use Rattle.shared_run.proofs.run.run_shared.Given as goal
 
 -- an office of the history and the court that its publisher has, and of the blank's ledger
-abbrev pub ghosts-attempt-L-Names : goal.ghosts-attempt-L-Names
-ghosts-attempt-L-Names g a = record { history = a.publisher.trail.book; bench = a.publisher.parts }
+abbrev pub ghosts-attempt-L-NamesOffice : goal.ghosts-attempt-L-NamesOffice
+ghosts-attempt-L-NamesOffice g a = record { history = a.publisher.trail.book; setup = a.publisher.parts }
 
 abbrev pub ghosts-attempt-L-Ledger : goal.ghosts-attempt-L-Ledger
 ghosts-attempt-L-Ledger g a = record { name = a.blank.name; parts = a.blank.parts }

@@ -4,5 +4,5 @@ use Rattle.stored_office.proofs.offices.is_opened.Given as goal
 abbrev pub ghosts-is_done-L-Ledger : goal.ghosts-is_done-L-Ledger
 ghosts-is_done-L-Ledger g a = record { name = a.blank.name; parts = a.blank.parts }
 
-abbrev pub ghosts-is_done-L-Names : goal.ghosts-is_done-L-Names
-ghosts-is_done-L-Names g a = record { history = a.publisher.trail.book; bench = a.publisher.parts }
+abbrev pub ghosts-is_done-L-NamesOffice : goal.ghosts-is_done-L-NamesOffice
+ghosts-is_done-L-NamesOffice g a = record { history = a.publisher.trail.book; setup = a.publisher.parts }

@@ -2,7 +2,7 @@ use Rattle.std.proofs.Common.{refl}
 use Rattle.std.proofs.lemmas.Bool.{both_ways}
 use Rattle.toml.specs.View.{table_view}
 use Rattle.court_days.specs.Court.{court_in}
-use Rattle.court_days.proofs.CourtLemmas.ReadingLemmas.{toml_of-text, toml_of-none}
+use Rattle.court_file_text.proofs.CallerLemmas.{toml_of-text, toml_of-none}
 use Rattle.court_days.proofs.court.Court.from_bytes.Goals as goal
 
 pub returns-in-Ok : goal.returns-in-Ok

@@ -1,6 +1,6 @@
 use Rattle.std.proofs.lemmas.Result.{err_from_is_err_and}
 use Rattle.court_days.specs.Court.Reading.{and_date}
-use Rattle.court_days.proofs.CourtLemmas.ReadingLemmas.{goes_on, fails, is_done}
+use Rattle.court_file_text.proofs.CallerLemmas.{goes_on, fails, is_done}
 use Rattle.court_days.proofs.court.reading.dates_of.Goals as goal
 
 pub returns-in_err-add_date : goal.returns-in_err-add_date

@@ -1,6 +1,7 @@
 use Rattle.std.proofs.Common.{◌≡◌, [], drop}
 use Rattle.toml.specs.View.{items_view}
-use Rattle.court_days.specs.Court.Reading.{and_date, each_item}
+use Rattle.court_file_text.specs.Words.{each_item}
+use Rattle.court_days.specs.Court.Reading.{and_date}
 use Rattle.court_days.proofs.court.reading.dates_of.Given as goal
 
 -- the dates so far and those of the items left are those of all items

@@ -3,7 +3,7 @@ use Rattle.docket_core.proofs.docket.Docket.apply.Goals as goal
 
 pub invariant_of-self : goal.invariant_of-self
 invariant_of-self c =
-    still_docket c.self.inside.holdings c.apply.new.self c.args.command.now c.apply.result c.apply.ensures.bench c.apply.ensures.parts c.apply.ensures.err c.self.invariant
+    still_docket c.self.inside.holdings c.apply.new.self c.args.command.now c.apply.result c.apply.ensures.setup c.apply.ensures.parts c.apply.ensures.err c.self.invariant
 
 pub returns-clause-rows : goal.returns-clause-rows
 returns-clause-rows c =
@@ -11,4 +11,4 @@ returns-clause-rows c =
 
 pub returns-clause-lawful : goal.returns-clause-lawful
 returns-clause-lawful c =
-    still_docket c.self.inside.holdings c.apply.new.self c.args.command.now c.apply.result c.apply.ensures.bench c.apply.ensures.parts c.apply.ensures.err c.self.invariant
+    still_docket c.self.inside.holdings c.apply.new.self c.args.command.now c.apply.result c.apply.ensures.setup c.apply.ensures.parts c.apply.ensures.err c.self.invariant

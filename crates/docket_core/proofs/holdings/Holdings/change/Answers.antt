@@ -21,18 +21,18 @@ rebook-requires-clause-rooms c =
 pub returns-in-Some-rebooking_of-clause-ok : goal.returns-in-Some-rebooking_of-clause-ok
 returns-in-Some-rebooking_of-clause-ok c =
     let d = c.args.self.now in
-    let places = subst (λ (d : DocketView). HasPlaces d.bench d.cases d.judges d.rooms) c.self.view_is c.self.invariant in
+    let places = subst (λ (d : DocketView). HasPlaces d.setup d.cases d.judges d.rooms) c.self.view_is c.self.invariant in
     let after = hearing_changed d c.args.command.now c.in-Some-rebooking_of.rebooking c.requires places.of_judges places.of_rooms c.in-Some-rebooking_of.ensures in
     on_ok_weaker c.rebook.result (λ e. subst (λ (n : DocketView). IsAfter d c.args.command.now n) (sym e) after) c.rebook.ensures.ok
 
 pub change_case-requires : goal.change_case-requires
 change_case-requires c =
-    can_change_record c.args.self.now.bench (parts_held c.args.self.now) c.args.command.now _ c.requires
-    (ap (option_and_then (parts_held c.args.self.now).case) (sym c.in-Some-case_of.ensures))
+    can_change_record c.args.self.now.setup (parts_held c.args.self.now) c.args.command.now _ c.requires
+    (ap (option_and_then (parts_held c.args.self.now).case) (sym c.in-Some-case_of_command.ensures))
 
-pub returns-in-Some-case_of-clause-ok : goal.returns-in-Some-case_of-clause-ok
-returns-in-Some-case_of-clause-ok c =
+pub returns-in-Some-case_of_command-clause-ok : goal.returns-in-Some-case_of_command-clause-ok
+returns-in-Some-case_of_command-clause-ok c =
     let d = c.args.self.now in
-    let places = subst (λ (d : DocketView). HasPlaces d.bench d.cases d.judges d.rooms) c.self.view_is c.self.invariant in
-    let after = only_case_changed d.bench d c.args.command.now c.in-Some-case_of.number c.requires places.of_cases (sym c.in_ok-days.ensures.value ∙ c.in_default.is) (sym c.in_default-rebooking_of.ensures) c.in-Some-case_of.ensures in
+    let places = subst (λ (d : DocketView). HasPlaces d.setup d.cases d.judges d.rooms) c.self.view_is c.self.invariant in
+    let after = only_case_changed d.setup d c.args.command.now c.in-Some-case_of_command.number c.requires places.of_cases (sym c.in_ok-days.ensures.value ∙ c.in_default.is) (sym c.in_default-rebooking_of.ensures) c.in-Some-case_of_command.ensures in
     on_ok_weaker c.change_case.result (λ e. subst (λ (n : DocketView). IsAfter d c.args.command.now n) (sym e) after) c.change_case.ensures.ok

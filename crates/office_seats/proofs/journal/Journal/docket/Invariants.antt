@@ -1,5 +1,5 @@
 use Rattle.std.proofs.Common.{◌≡◌, take}
-use Rattle.docket_rows.specs.Words.{bench_of}
+use Rattle.docket_rows.specs.Words.{setup_of}
 use Rattle.docket_core.specs.Words.{StandsFor}
 use Rattle.shared_docket.specs.Words.{rows_of}
 use Rattle.office_seats.proofs.journal.Journal.docket.Given as goal
@@ -7,6 +7,6 @@ use Rattle.office_seats.proofs.journal.Journal.docket.Given as goal
 -- the docket has made the commands of the entries so far
 abbrev pub invariant-loop-entry : goal.invariant-loop-entry
 invariant-loop-entry l = record {
-  bench : l.docket.bench ≡ bench_of l.court;
-  rows : StandsFor l.docket (rows_of (bench_of l.court) (take l.entry-index l.self));
+  setup : l.docket.setup ≡ setup_of l.court;
+  rows : StandsFor l.docket (rows_of (setup_of l.court) (take l.entry-index l.self));
 }

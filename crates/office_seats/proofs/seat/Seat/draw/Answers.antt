@@ -14,7 +14,7 @@ pub invariant_of-self-in-Some-Ok : goal.invariant_of-self-in-Some-Ok
 invariant_of-self-in-Some-Ok g c =
     let d = c.in-Some-Ok.draft in
     let clerk : d.clerk ≡ c.from-clerk.result = rw (c.in-Some-Ok.is, c.in-Some-Ok.field-0-is) at c.looked-reader.ensures.clerk in
-    let read : IsReadAll (docket_rules g.L.Names.bench) c.looked-reader.new.trail.log d = rw (c.in-Some-Ok.is, c.in-Some-Ok.field-0-is) at c.looked-reader.ensures.read in
+    let read : IsReadAll (docket_rules g.L.NamesOffice.setup) c.looked-reader.new.trail.log d = rw (c.in-Some-Ok.is, c.in-Some-Ok.field-0-is) at c.looked-reader.ensures.read in
     let room : length c.reserve.new.self.items < vec_capacity c.reserve.new.self = omega (arith, c.in-Ok.ensures.ok, c.reserve.new.self.ok) in
     seat_drafted c.self.invariant c.looked-reader.new.trail (view c.looked-reader.result.0.place) c.reserve.new.self.items (vec_capacity c.reserve.new.self)
     c.looked-reader.ensures.looks c.reserve.ensures.items d (record { prepared = read.prepared; clerk = clerk ∙ c.from-clerk.ensures; room = room })

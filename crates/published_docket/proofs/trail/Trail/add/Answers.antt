@@ -1,5 +1,5 @@
 use Rattle.std.proofs.Common.{◌≡◌, sym, ◌∙◌, ap}
-use Rattle.published_docket.specs.Trails.{Past}
+use Rattle.published_docket.specs.Trails.{TrailView}
 use Rattle.published_docket.proofs.TrailLemmas.{adds_moves}
 use Rattle.published_docket.proofs.trail.Trail.add.Goals as goal
 
@@ -8,7 +8,7 @@ compare_exchange-found-requires c =
     let h = c.requires.head in
     let offer = c.plain-offer.ensures in
     let pen = c.no_pen-pen.ensures in
-    let book : c.self.inside.seen.book ≡ c.args.head.now.book = ap (λ (p : Past). p.book) c.self.view_is ∙ sym (ap (λ w. w.book) h) in (
+    let book : c.self.inside.seen.book ≡ c.args.head.now.book = ap (λ (p : TrailView). p.book) c.self.view_is ∙ sym (ap (λ w. w.book) h) in (
       ap (λ w. w.tracked) h,
       book,
       pen.0 ∙ book,

@@ -1,0 +1,4 @@
+pub mod Text
+pub mod Choice
+pub mod UniqueText
+pub mod Words

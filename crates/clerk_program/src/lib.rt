@@ -1,0 +1,16 @@
+//! What the clerk's program reads of its words, and what it writes: the answers of one clerk, or of several who share a
+//! docket.
+#![tactic(auto)]
+
+mod answers;
+mod laws;
+mod office;
+mod program;
+#[cfg(test)]
+mod tests;
+mod text;
+
+pub use answers::Answers;
+pub use laws::texts_are_unique;
+pub use office::run_office;
+pub use program::ClerkOffice;

@@ -1,0 +1,3 @@
+pub mod NamesLemmas
+pub mod ReadingLemmas
+pub mod CallerLemmas

@@ -1,9 +1,0 @@
-use Rattle.std.proofs.Common.{ℕ, List, drop, string_bytes}
-use Rattle.deadline_memo.specs.Sheets.{IsDeadline}
-use Rattle.deadline_memo.specs.Texts.{Adds, Each}
-use Rattle.deadline_memo.proofs.sheets.push_deadlines.Given as goal
-
--- whatever adds the deadlines that are left to the text so far adds all of them
-abbrev pub invariant-loop-deadline : goal.invariant-loop-deadline
-invariant-loop-deadline l =
-    (new : List ℕ) → Adds (Each (IsDeadline l.court l.names l.days) (drop l.deadline-index l.deadlines)) (string_bytes l.text) new → Adds (Each (IsDeadline l.court l.names l.days) l.deadlines) (string_bytes l.fn.text) new

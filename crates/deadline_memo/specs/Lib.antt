@@ -1,8 +1,0 @@
-pub mod Names
-pub mod Texts
-pub mod Reasons
-pub mod Sheets
-pub mod Replies
-pub mod Memo
-pub mod CommandLine
-pub mod Program

@@ -1,5 +1,0 @@
-use Rattle.std.proofs.Common.{length}
-use Rattle.docket_core.proofs.hearings.panel.+sits.Given as goal
-
-abbrev pub decreases-sits : goal.decreases-sits
-decreases-sits l = length l.panel.now

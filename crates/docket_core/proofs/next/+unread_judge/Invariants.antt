@@ -1,5 +1,0 @@
-use Rattle.std.proofs.Common.{length}
-use Rattle.docket_core.proofs.next.+unread_judge.Given as goal
-
-abbrev pub decreases-unread_judge : goal.decreases-unread_judge
-decreases-unread_judge l = length l.judges.now

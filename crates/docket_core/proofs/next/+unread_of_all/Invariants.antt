@@ -1,4 +1,0 @@
-use Rattle.docket_core.proofs.next.+unread_of_all.Given as goal
-
-abbrev pub decreases-unread_of_all : goal.decreases-unread_of_all
-decreases-unread_of_all l = l.count

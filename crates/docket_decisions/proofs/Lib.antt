@@ -1,0 +1,2 @@
+pub mod HolidayLemmas
+pub mod NextLemmas

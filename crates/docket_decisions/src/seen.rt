@@ -1,0 +1,98 @@
+//! What the parts show of a case.
+
+ghost use Rattle.std.specs.Prelude.{◌≡◌, length, option_copied, option_map};
+ghost use Rattle.rule_periods.specs.Words.{is_beyond};
+ghost use Rattle.docket_rows.specs.Words.{is_case_number, has_case, deadlines_in, deadline_in, motions_in, motion_in, hearing_in, shown_now};
+
+use crate::rules::DocketRules;
+use crate::sight::Sight;
+use docket_rows::{Hearing, LAST_CASE, MotionRecord};
+use rule_periods::{DeadlineRow, DocketRow, shown};
+use rule6::Shown;
+
+/// Whether cases have such a number.
+pub(crate) fn is_case_number(case: u32) -> bool
+    ensures { result ≡ is_case_number case }
+{
+    1 <= case && case <= LAST_CASE
+}
+
+/// Whether the case is open.
+pub fn has_case<S: Sight>(sight: &S, case: u32) -> bool
+    ensures { result ≡ has_case (S.parts sight.now) case }
+{
+    if !is_case_number(case) {
+        return false;
+    }
+    match sight.case(case) {
+        Some(_) => true,
+        None => false,
+    }
+}
+
+/// How many deadlines the case has.
+pub(crate) fn deadlines_count<S: Sight>(sight: &S, case: u32) -> usize
+    ensures { result ≡ length (deadlines_in (S.parts sight.now) case) }
+{
+    match sight.case(case) {
+        Some(record) => record.deadlines().len(),
+        None => 0,
+    }
+}
+
+/// The deadline of that number in the case, if there is one.
+pub fn deadline_in<S: Sight>(sight: &S, case: u32, number: u32) -> Option<&DocketRow>
+    ensures { option_copied result ≡ deadline_in (S.parts sight.now) case number }
+{
+    match sight.case(case) {
+        Some(record) => record.deadline(number),
+        None => None,
+    }
+}
+
+/// How many motions the case has.
+pub(crate) fn motions_count<S: Sight>(sight: &S, case: u32) -> usize
+    ensures { result ≡ length (motions_in (S.parts sight.now) case) }
+{
+    match sight.case(case) {
+        Some(record) => record.motions().len(),
+        None => 0,
+    }
+}
+
+/// The motion of that number in the case, if there is one.
+pub fn motion_in<S: Sight>(sight: &S, case: u32, number: u32) -> Option<MotionRecord>
+    ensures { option_map (λ m. record { number = number; served = m.served; need = m.need; hearing = m.hearing }) result ≡ motion_in (S.parts sight.now) case number }
+{
+    match sight.case(case) {
+        Some(record) => record.motion(number),
+        None => None,
+    }
+}
+
+/// The hearing that is set for the motion, if one is.
+pub fn hearing_in<S: Sight>(sight: &S, case: u32, motion: u32) -> Option<Hearing>
+    ensures { result ≡ hearing_in (S.parts sight.now) case motion }
+{
+    match motion_in(sight, case, motion) {
+        Some(motion) => motion.hearing,
+        None => None,
+    }
+}
+
+/// When the time of a deadline ends, by the days as they are docketed now.
+pub fn shown_now<S: Sight>(rules: &DocketRules, sight: &S, row: &DeadlineRow) -> Shown
+    ensures { result ≡ shown_now rules.now (S.parts sight.now) row.now }
+{
+    shown(sight.days(), rules.clock(), row)
+}
+
+/// Whether no covered day qualifies as the end.
+pub fn is_beyond(shown: Shown) -> bool
+    ensures { result ≡ is_beyond shown }
+{
+    match shown {
+        Shown::Beyond => true,
+        _ => false,
+    }
+}

@@ -1,0 +1,46 @@
+-- The names that a court's file gives to holidays.
+use Rattle.std.specs.Prelude.{ℕ, ◌==◌, ◌&&◌, ◌||◌, not, nat_lt, Bool, ℤ, List, [], ◌∷◌, ◌++◌, length, take, Option, Some, None, codes, if◌then◌else◌}
+use Rattle.std.specs.List.{list_all}
+use Rattle.std.specs.Option.{option_and_then}
+use Rattle.toml.specs.Data.{Data, Members, no_members, member, as_str, as_table, get_member}
+use Rattle.court_file_text.specs.Words.{toml_of}
+use Rattle.court_clock.specs.Words.{day_of_text}
+use Rattle.docket_rows.specs.Words.{most_dates}
+use Rattle.reason_texts.specs.Words.{NamedDay}
+
+-- a byte of no ASCII control character
+abbrev pub is_printed_byte : ℕ → Bool
+is_printed_byte b = not (nat_lt b 32 || (b == 127))
+
+-- a text that can stand in a line as a name: it isn't empty, and has no such character
+abbrev pub is_printed : List ℕ → Bool
+is_printed text = not (length text == 0) && list_all is_printed_byte text
+
+-- a day and its name, where there are both
+abbrev pub named_day : Option ℤ → Option (List ℕ) → List NamedDay
+named_day (Some day) (Some text) = if is_printed text then (record { day = day; name = text } ∷ []) else []
+named_day (Some day) None = []
+named_day None text = []
+
+-- what an entry of the table names: its key is a date, written as elsewhere in the file, and its value a name; any other
+-- entry is passed over
+abbrev pub named_by : List ℕ → Data → List NamedDay
+named_by key value = named_day (day_of_text key) (as_str value)
+
+-- what the entries of a table name, in its order
+unfoldable pub named_among : Members → List NamedDay
+named_among no_members = []
+named_among (member key value rest) = named_by key value ++ named_among rest
+
+-- what a table names, where there is one
+abbrev pub named_in : Option Members → List NamedDay
+named_in (Some table) = named_among table
+named_in None = []
+
+-- the table `[holiday_names]` of a document, where it has one
+abbrev pub table_of_names : Members → Option Members
+table_of_names document = option_and_then as_table (get_member (codes "holiday_names") document)
+
+-- the names that a court's file gives to holidays, as many at the most as a list of holidays has dates
+abbrev pub holiday_names : List ℕ → List NamedDay
+holiday_names file = take most_dates (named_in (option_and_then table_of_names (toml_of file)))

@@ -1,0 +1,61 @@
+//! The command line, as `clap` is told of it.
+
+ghost use Rattle.std.specs.Prelude.{◌≡◌, true, IfErr, IfOk};
+ghost use Rattle.clap.specs.Faults.{fault_of};
+ghost use Rattle.clap.specs.Walk.{texts};
+ghost use Rattle.clap.specs.Words.{app_of, takes};
+ghost use Rattle.office_options.specs.Words.{IsAnswerFor};
+ghost use Rattle.memo_program.specs.CommandLine.{command_line};
+
+use clap::Command;
+use office_options::{OptionsFault, fault_from};
+use std::alloc::{AllocError, Global};
+
+// What the program is. `clap` breaks no lines, so they are broken here.
+const ABOUT: &str =
+    "Why a deadline is the day that it is. It answers as clerk_office does, and gives
+the reasons of each deadline that it shows: a line each, with the day, what
+happened, and the section of the Federal Rules of Civil Procedure.";
+
+// What it reads and writes, and where that is described.
+const FORMATS: &str =
+    "It reads standard input: a court's file (the zone, the office's hours, the span
+of days, holidays, judges and rooms), a line of %% alone, and rows, each of them
+a command or a question. It writes to standard output: an answer to each row
+and under it the reasons of the deadline that it shows, then the docket sheets
+of the cases that are open, with the reasons under each deadline, and each
+judge's calendar. 'ours' stands in place of a section where the Rules leave a
+choice. A holiday is called by the name that it has in a table [holiday_names]
+of the court's file, as 2025-09-01 = \"Labor Day\".
+
+    deadline_memo < day.txt
+
+docs/FORMATS.md describes the court's file, the rows, the answers, the reasons
+and what a run ends with; docs/RULES.md has each section.";
+
+/// The command line's definition, for one reading of words.
+fn command<'a>(alloc: Global) -> Result<Command<'a>, AllocError>
+    ensures { IfOk result (λ command. app_of command ≡ command_line) }
+{
+    Ok(
+        Command::new(alloc, "deadline_memo")
+            .no_binary_name(true)
+            .version("0.1.0")
+            .about(ABOUT)
+            .after_help(FORMATS),
+    )
+}
+
+/// Reads the words, which are those after the program's name. No word is taken but those for the help and the version.
+/// BadWords where `clap` refuses the words, Help where they ask for the help or the version first, and OutOfMemory where
+/// memory runs out.
+pub(crate) fn check_texts(alloc: Global, words: &[&str]) -> Result<(), OptionsFault>
+    ensures faults { IsAnswerFor (fault_of command_line (texts words.now)) result }
+    ensures taken { takes command_line (texts words.now) ≡ true → IfErr result (λ fault. fault ≡ OptionsFault.OutOfMemory) }
+{
+    let command = command(alloc)?;
+    match command.try_get_matches_from(words) {
+        Ok(_) => Ok(()),
+        Err(error) => Err(fault_from(alloc, &error)),
+    }
+}

@@ -1,0 +1,15 @@
+//! What the program that says why reads of its words, and what it writes: the answers of one clerk, with the reasons of
+//! each deadline that they show.
+#![tactic(auto)]
+
+mod command;
+mod memo;
+mod names;
+mod program;
+mod reasons;
+mod replies;
+mod report;
+mod sheets;
+
+pub use program::DeadlineMemo;
+pub use report::Memo;

@@ -1,0 +1,32 @@
+//! The whole text.
+
+ghost use Rattle.std.specs.Prelude.{string_bytes, IfOk};
+ghost use Rattle.memo_program.specs.Memo.{IsMemo};
+
+use crate::replies::push_replies;
+use crate::sheets::push_sheets;
+use court_days::Court;
+use docket_core::Docket;
+use docket_rows::LAST_CASE;
+use office_rows::Row;
+use office_run::push_calendars;
+use reason_texts::HolidayName;
+use std::alloc::{AllocError, Global};
+
+/// The reply to each row in turn, with the reasons of the deadlines that it shows, then the sheets of all open cases,
+/// with those of their deadlines, and the calendars of all judges. `Err` says that memory ran out.
+pub(crate) fn memo_text(
+    alloc: Global,
+    court: &Court,
+    names: &[HolidayName],
+    rows: &[Row],
+) -> Result<String, AllocError>
+    ensures { IfOk result (λ text. IsMemo court.now names.now rows.now (string_bytes text)) }
+{
+    let mut docket = Docket::new(alloc, court)?;
+    let mut text = String::new(alloc);
+    push_replies(alloc, &mut text, court, names, &mut docket, rows)?;
+    push_sheets(alloc, &mut text, court, names, &docket, 1, LAST_CASE)?;
+    push_calendars(&mut text, court, &docket, 0, court.judges())?;
+    Ok(text)
+}

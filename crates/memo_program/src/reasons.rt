@@ -1,0 +1,75 @@
+//! The reasons of deadlines.
+
+ghost use Rattle.std.specs.Prelude.{◌≡◌, None};
+ghost use Rattle.rule_periods.specs.Words.{start_refusal};
+ghost use Rattle.docket_rows.specs.Words.{Rows, setup_of, started};
+ghost use Rattle.office_run.specs.Words.{Holds};
+ghost use Rattle.memo_program.specs.Reasons.{AreReasons, AreReasonsDocketed};
+ghost use Rattle.memo_program.specs.Texts.{Pushes};
+
+use court_clock::Day;
+use court_days::{Court, Days};
+use deadline_reasons::reasons_of;
+use docket_core::Docket;
+use reason_texts::{Course, HolidayName, push_reasons};
+use rule_periods::{DeadlineRow, DocketRow, Event, Period, check_start};
+use rule6::ServiceKind;
+use std::alloc::{AllocError, Global};
+
+/// Adds the reasons of the deadline, a line each, where the days are these. `Err` says that memory ran out.
+pub(crate) fn push_deadline_reasons(
+    alloc: Global,
+    text: &mut String,
+    court: &Court,
+    names: &[HolidayName],
+    days: &Days,
+    row: &DeadlineRow,
+) -> Result<(), AllocError>
+    ensures { Pushes (AreReasons court.now names.now days.now row.now) result text.old text.new }
+{
+    let reasons = reasons_of(alloc, days, court.clock(), row)?;
+    let course = Course::of(&row.period());
+    push_reasons(text, court.clock(), names, course, reasons.as_slice())
+}
+
+/// Adds the reasons of the docketed deadline of that number, if there is one.
+pub(crate) fn push_docketed_reasons(
+    alloc: Global,
+    text: &mut String,
+    court: &Court,
+    names: &[HolidayName],
+    docket: &Docket,
+    case: u32,
+    number: u32,
+) -> Result<(), AllocError>
+    ensures { (docketed : Rows) → Holds (setup_of court.now) docket.now docketed → Pushes (AreReasonsDocketed court.now names.now docketed case number) result text.old text.new }
+{
+    match docket.deadline(case, number) {
+        Some(row) => push_deadline_reasons(alloc, text, court, names, docket.days(), row.row()),
+        None => Ok(()),
+    }
+}
+
+/// Adds the reasons of a deadline that starts now, where it can start.
+pub(crate) fn push_started_reasons(
+    alloc: Global,
+    text: &mut String,
+    court: &Court,
+    names: &[HolidayName],
+    days: &Days,
+    period: &Period,
+    event: &Event,
+    second: &Option<Day>,
+    service: &Option<ServiceKind>,
+) -> Result<(), AllocError>
+    ensures { start_refusal days.now period.now event.now second.now service.now ≡ None →
+        Pushes (AreReasons court.now names.now days.now (started period.now event.now second.now service.now)) result text.old text.new }
+{
+    match check_start(days, period, *event, *second, *service) {
+        Ok(()) => {
+            let row = DocketRow::start(alloc, *period, *event, *second, *service);
+            push_deadline_reasons(alloc, text, court, names, days, row.row())
+        }
+        Err(_) => Ok(()),
+    }
+}

@@ -1,0 +1,200 @@
+//! The replies to rows, with the reasons of each deadline that they show.
+
+ghost use Rattle.std.specs.Prelude.{◌≡◌, option_copied, OnOk};
+ghost use Rattle.rule6.specs.declared.timeliness.Shown.{Shown};
+ghost use Rattle.docket_rows.specs.declared.view.View.TheVariants.{Computed};
+ghost use Rattle.docket_rows.specs.Words.{Rows, setup_of, opening_rows, view_of};
+ghost use Rattle.office_run.specs.declared.reply.Reply.TheVariants.{Viewed};
+ghost use Rattle.office_run.specs.Words.{Holds, docketed_after, docketed_then};
+ghost use Rattle.memo_program.specs.Reasons.{AreReasonsIfAny};
+ghost use Rattle.memo_program.specs.Replies.{AreReasonsWith, AreReplies, HasAnswered, IsReply, IsRow, deadline_asked, deadline_extended, deadline_queried, deadline_started, deadline_told, is_computed, sheet_replied};
+ghost use Rattle.memo_program.specs.Texts.{Pushes};
+
+use crate::reasons::{push_docketed_reasons, push_started_reasons};
+use crate::sheets::push_sheet;
+use court_days::Court;
+use docket_core::Docket;
+use docket_rows::{Answer, Command, Query, Sheet, View};
+use office_rows::{Row, Work};
+use office_run::{Reply, push_numbers, push_reply, reply_to};
+use reason_texts::HolidayName;
+use std::alloc::{AllocError, Global};
+
+/// Carries out each row in turn, and adds the reply to it. `Err` says that memory ran out.
+pub(crate) fn push_replies(
+    alloc: Global,
+    text: &mut String,
+    court: &Court,
+    names: &[HolidayName],
+    docket: &mut Docket,
+    rows: &[Row],
+) -> Result<(), AllocError>
+    requires { Holds (setup_of court.now) docket.old (opening_rows (setup_of court.now)) }
+    ensures text { Pushes (AreReplies court.now names.now (opening_rows (setup_of court.now)) 1 rows.now) result text.old text.new }
+    ensures docket { OnOk result (Holds (setup_of court.now) docket.new (docketed_after (setup_of court.now) (opening_rows (setup_of court.now)) rows.now)) }
+{
+    let mut number = 1u64;
+    for row in rows {
+        push_row(alloc, text, court, names, docket, number, row)?;
+        number += 1;
+    }
+    Ok(())
+}
+
+/// Carries out a row of that number, counted from 1, and adds the reply to it.
+fn push_row(
+    alloc: Global,
+    text: &mut String,
+    court: &Court,
+    names: &[HolidayName],
+    docket: &mut Docket,
+    number: u64,
+    row: &Row,
+) -> Result<(), AllocError>
+    ensures text { (docketed : Rows) → Holds (setup_of court.now) docket.old docketed → Pushes (IsRow court.now names.now docketed number row.now) result text.old text.new }
+    ensures docket { (docketed : Rows) → Holds (setup_of court.now) docket.old docketed → OnOk result (Holds (setup_of court.now) docket.new (docketed_then (setup_of court.now) docketed row.now.work)) }
+{
+    let reply = reply_to(alloc, docket, &row.work)?;
+    push_numbers(text, number, row.clerk)?;
+    push_explained(alloc, text, court, names, docket, &row.work, &reply)
+}
+
+/// Adds the reply to what was asked for, and the reasons of the deadlines that it shows, where the docket is as it was
+/// left.
+fn push_explained(
+    alloc: Global,
+    text: &mut String,
+    court: &Court,
+    names: &[HolidayName],
+    docket: &Docket,
+    work: &Work,
+    reply: &Reply,
+) -> Result<(), AllocError>
+    ensures { (docketed : Rows) → HasAnswered court.now docket.now docketed work.now reply.now → Pushes (IsReply court.now names.now docketed work.now reply.now) result text.old text.new }
+{
+    match sheet_replied(reply) {
+        Some(sheet) => {
+            text.push_str("sheet\n")?;
+            push_sheet(alloc, text, court, names, docket.days(), sheet)
+        }
+        None => {
+            push_reply(text, court, reply)?;
+            push_reasons_told(alloc, text, court, names, docket, work, reply)
+        }
+    }
+}
+
+/// The sheet that a reply shows.
+fn sheet_replied(reply: &Reply) -> Option<&Sheet>
+    ensures { option_copied result ≡ sheet_replied reply.now }
+{
+    match reply {
+        Reply::Viewed(View::Sheet(sheet)) => Some(sheet),
+        _ => None,
+    }
+}
+
+/// Adds the reasons of the deadline that a reply tells, if it tells one.
+fn push_reasons_told(
+    alloc: Global,
+    text: &mut String,
+    court: &Court,
+    names: &[HolidayName],
+    docket: &Docket,
+    work: &Work,
+    reply: &Reply,
+) -> Result<(), AllocError>
+    ensures { (docketed : Rows) → HasAnswered court.now docket.now docketed work.now reply.now → Pushes (AreReasonsWith court.now names.now docketed work.now reply.now) result text.old text.new }
+{
+    match deadline_told(work, reply) {
+        Some((case, number)) => push_docketed_reasons(
+            alloc, text, court, names, docket, case, number,
+        ),
+        None if is_computed(reply) => push_reasons_asked(alloc, text, court, names, docket, work),
+        None => Ok(()),
+    }
+}
+
+/// Whether a reply is the end that was asked for.
+fn is_computed(reply: &Reply) -> bool
+    ensures { result ≡ is_computed reply.now }
+{
+    matches!(reply, Reply::Viewed(View::Computed(_)))
+}
+
+/// Adds the reasons of the deadline whose end was asked for and is computed.
+fn push_reasons_asked(
+    alloc: Global,
+    text: &mut String,
+    court: &Court,
+    names: &[HolidayName],
+    docket: &Docket,
+    work: &Work,
+) -> Result<(), AllocError>
+    ensures { (docketed : Rows) (shown : Shown) → HasAnswered court.now docket.now docketed work.now (Viewed (Computed shown)) →
+        Pushes (AreReasonsIfAny court.now names.now docketed.days (deadline_asked work.now)) result text.old text.new }
+{
+    match work {
+        Work::Query(query) => push_reasons_queried(alloc, text, court, names, docket, query),
+        _ => Ok(()),
+    }
+}
+
+/// Adds the reasons of the deadline whose end a query asked for and is computed.
+fn push_reasons_queried(
+    alloc: Global,
+    text: &mut String,
+    court: &Court,
+    names: &[HolidayName],
+    docket: &Docket,
+    query: &Query,
+) -> Result<(), AllocError>
+    ensures { (docketed : Rows) (shown : Shown) → Computed shown ≡ view_of (setup_of court.now) docketed query.now → Holds (setup_of court.now) docket.now docketed →
+        Pushes (AreReasonsIfAny court.now names.now docketed.days (deadline_queried query.now)) result text.old text.new }
+{
+    match query {
+        Query::Compute(period, event, second, service) => push_started_reasons(
+            alloc,
+            text,
+            court,
+            names,
+            docket.days(),
+            period,
+            event,
+            second,
+            service,
+        ),
+        _ => Ok(()),
+    }
+}
+
+/// The case and the number of the docketed deadline whose end a reply tells.
+fn deadline_told(work: &Work, reply: &Reply) -> Option<(u32, u32)>
+    ensures { result ≡ deadline_told work.now reply.now }
+{
+    match reply {
+        Reply::Made(Answer::Started(number, _)) => deadline_started(work, *number),
+        Reply::Made(Answer::Extended(_)) => deadline_extended(work),
+        _ => None,
+    }
+}
+
+/// The case and the number of the deadline that was to start, and was given that number.
+fn deadline_started(work: &Work, number: u32) -> Option<(u32, u32)>
+    ensures { result ≡ deadline_started work.now number }
+{
+    match work {
+        Work::Command(Command::Start { case, .. }) => Some((*case, number)),
+        _ => None,
+    }
+}
+
+/// The case and the number of the deadline whose time was to be extended.
+fn deadline_extended(work: &Work) -> Option<(u32, u32)>
+    ensures { result ≡ deadline_extended work.now }
+{
+    match work {
+        Work::Command(Command::Extend { case, deadline, .. }) => Some((*case, *deadline)),
+        _ => None,
+    }
+}

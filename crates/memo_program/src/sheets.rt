@@ -1,0 +1,101 @@
+//! Sheets with the reasons of their deadlines.
+
+ghost use Rattle.std.specs.Prelude.{◌+◌, ◌≤◌};
+ghost use Rattle.docket_rows.specs.Words.{Rows, setup_of};
+ghost use Rattle.office_run.specs.Words.{Holds};
+ghost use Rattle.memo_program.specs.Memo.{AreSheets};
+ghost use Rattle.memo_program.specs.Sheets.{IsDeadline, IsSheet, IsSheetShown};
+ghost use Rattle.memo_program.specs.Texts.{Each, Pushes};
+
+use crate::reasons::push_deadline_reasons;
+use court_days::{Court, Days};
+use docket_core::Docket;
+use docket_rows::{Query, Sheet, SheetDeadline, View};
+use office_texts::{push_case, push_deadline, push_motions};
+use reason_texts::HolidayName;
+use std::alloc::{AllocError, Global};
+
+/// Adds the lines of a sheet, with the reasons of each deadline behind its line. `Err` says that memory ran out.
+pub(crate) fn push_sheet(
+    alloc: Global,
+    text: &mut String,
+    court: &Court,
+    names: &[HolidayName],
+    days: &Days,
+    sheet: &Sheet,
+) -> Result<(), AllocError>
+    ensures { Pushes (IsSheet court.now names.now days.now sheet.now) result text.old text.new }
+{
+    push_case(text, sheet)?;
+    push_deadlines(alloc, text, court, names, days, sheet.deadlines.as_slice())?;
+    push_motions(text, court, sheet.motions.as_slice())
+}
+
+/// Adds the line of each deadline and its reasons.
+fn push_deadlines(
+    alloc: Global,
+    text: &mut String,
+    court: &Court,
+    names: &[HolidayName],
+    days: &Days,
+    deadlines: &[SheetDeadline],
+) -> Result<(), AllocError>
+    ensures { Pushes (Each (IsDeadline court.now names.now days.now) deadlines.now) result text.old text.new }
+{
+    for deadline in deadlines {
+        push_explained(alloc, text, court, names, days, deadline)?;
+    }
+    Ok(())
+}
+
+/// Adds the line of a deadline and its reasons.
+fn push_explained(
+    alloc: Global,
+    text: &mut String,
+    court: &Court,
+    names: &[HolidayName],
+    days: &Days,
+    deadline: &SheetDeadline,
+) -> Result<(), AllocError>
+    ensures { Pushes (IsDeadline court.now names.now days.now deadline.now) result text.old text.new }
+{
+    push_deadline(text, court.clock(), deadline)?;
+    push_deadline_reasons(alloc, text, court, names, days, &deadline.row)
+}
+
+/// Adds the sheets of the open ones of so many cases, from the first number on.
+pub(crate) fn push_sheets(
+    alloc: Global,
+    text: &mut String,
+    court: &Court,
+    names: &[HolidayName],
+    docket: &Docket,
+    first: u32,
+    count: u32,
+) -> Result<(), AllocError>
+    requires numbers { first + count ≤ 5_000 }
+    ensures { (docketed : Rows) → Holds (setup_of court.now) docket.now docketed → Pushes (AreSheets court.now names.now docketed first count) result text.old text.new }
+{
+    for case in first..first + count {
+        let view = docket.show(alloc, &Query::Sheet(case))?;
+        push_sheet_shown(alloc, text, court, names, docket.days(), &view)?;
+    }
+    Ok(())
+}
+
+/// Adds the lines of a sheet and the reasons of its deadlines, where the view is one.
+fn push_sheet_shown(
+    alloc: Global,
+    text: &mut String,
+    court: &Court,
+    names: &[HolidayName],
+    days: &Days,
+    view: &View,
+) -> Result<(), AllocError>
+    ensures { Pushes (IsSheetShown court.now names.now days.now view.now) result text.old text.new }
+{
+    match view {
+        View::Sheet(sheet) => push_sheet(alloc, text, court, names, days, sheet),
+        _ => Ok(()),
+    }
+}

@@ -1,0 +1,39 @@
+//! What a program writes of a run.
+
+ghost use Rattle.std.specs.Prelude.{◌≡◌, ℕ, List, All, IfOk};
+ghost use Rattle.std.specs.Thread.{IsSync};
+ghost use Rattle.office_rows.specs.Words.{IsOfClerk};
+ghost use Rattle.office_streams.specs.Office.{Input};
+ghost use Rattle.office_streams.specs.Report.{input_checked};
+
+use crate::checking::CheckedInput;
+use std::alloc::{AllocError, Global};
+use std::sync::Wait;
+use std::thread::Threads;
+
+/// What a program writes of a run: its text, and by how many clerks the rows are done.
+pub trait Report {
+    // How many clerks there are.
+    ghost clerk_count: { Self → ℕ };
+
+    // What is a text of an input, whose court's file has these bytes.
+    ghost is_text: { Self → (file : List ℕ) → Input → List ℕ → Type 0 };
+
+    /// How many clerks there are: a row of another clerk has a fault.
+    fn clerks(&self) -> u8
+        ensures { result ≡ clerk_count self.now };
+
+    /// The bytes of the text of an input that was checked, in which this is the court's file. `Err` says that memory ran
+    /// out, that a thread couldn't be started, or that a clerk got no place to read from. Clause `shared` is the bound
+    /// `Sync` once more, for the proofs of `impl`s.
+    fn text<H: Threads + Wait + Sync>(
+        &self,
+        rt: &H,
+        alloc: Global,
+        file: &[u8],
+        checked: CheckedInput,
+    ) -> Result<Vec<u8>, AllocError>
+        requires shared { IsSync H.row }
+        requires rows { All (IsOfClerk (clerk_count self.now)) checked.rows.items }
+        ensures { IfOk result (λ text. is_text self.now file.now (input_checked checked) text.items) };
+}

@@ -1,0 +1,11 @@
+//! A test of the program that says why: it reads the words of its process, and ends with the status of words that are
+//! refused.
+#![tactic(auto)]
+
+use memo_program::DeadlineMemo;
+use office_program::{Ended, run_on_process};
+
+/// Runs the program as its own `main` does.
+fn main(rt: HostRuntime) -> Ended {
+    run_on_process(&rt, &rt, &DeadlineMemo)
+}
