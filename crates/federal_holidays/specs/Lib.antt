@@ -1,0 +1,5 @@
+pub mod Weekdays
+pub mod Statute
+pub mod Calendar
+pub mod Observed
+pub mod Words

@@ -1,0 +1,59 @@
+//! The day on which a holiday is observed that is on a Saturday or a Sunday.
+
+ghost use Rattle.std.specs.Prelude.{◌≡◌, ◌+ℤ◌, ◌-ℤ◌, pos};
+ghost use Rattle.court_clock.specs.Words.{IsDayNumber};
+ghost use Rattle.federal_holidays.specs.Observed.{observed_for, observed_on};
+
+use crate::calendar::holiday_on;
+use crate::statute::FederalHoliday;
+use court_clock::Day;
+
+/// The day on which a holiday of the day is observed in its place: the Friday before a Saturday, and the Monday after a
+/// Sunday. None for any other day, whose holiday is observed on that day itself.
+#[tactic(auto, using(crate::proofs::ObservedLemmas::friday_is_day, crate::proofs::ObservedLemmas::monday_is_day), unfolding(crate::specs::Observed::observed_for))]
+pub fn observed_for(day: Day) -> Option<Day>
+    ensures { result ≡ observed_for day }
+{
+    let _number = day.number();
+    match day.weekday() {
+        5 => Some(before(day)),
+        6 => Some(after(day)),
+        _ => None,
+    }
+}
+
+/// The holiday that is observed on the day in the place of the day set by law, which is the Saturday after it or the Sunday
+/// before. None for any other day.
+#[tactic(auto, using(crate::proofs::ObservedLemmas::saturday_is_day, crate::proofs::ObservedLemmas::sunday_is_day), unfolding(crate::specs::Observed::observed_on))]
+pub fn observed_on(day: Day) -> Option<FederalHoliday>
+    ensures { result ≡ observed_on day }
+{
+    let _number = day.number();
+    match day.weekday() {
+        4 => holiday_on(after(day), false),
+        0 => holiday_on(before(day), false),
+        _ => None,
+    }
+}
+
+/// The day before.
+fn before(day: Day) -> Day
+    requires { IsDayNumber (day -ℤ pos 1) }
+    ensures { result ≡ day -ℤ pos 1 }
+{
+    match Day::new(day.number() - 1) {
+        Some(before) => before,
+        None => unreachable!(),
+    }
+}
+
+/// The day after.
+fn after(day: Day) -> Day
+    requires { IsDayNumber (day +ℤ pos 1) }
+    ensures { result ≡ day +ℤ pos 1 }
+{
+    match Day::new(day.number() + 1) {
+        Some(after) => after,
+        None => unreachable!(),
+    }
+}
