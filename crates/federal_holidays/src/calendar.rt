@@ -1,11 +1,11 @@
 //! The holidays of a year, and the holiday that a day is.
 
 ghost use Rattle.std.specs.Prelude.{◌≡◌, ◌++◌, OnOk, IfOk};
-ghost use Rattle.std.specs.Option.{option_to_list};
 ghost use Rattle.std.specs.List.{filter_map, find};
+ghost use Rattle.std.specs.Option.{option_to_list};
 ghost use Rattle.jiff_core.specs.Date.{epoch_day};
 ghost use Rattle.jiff_tz.specs.Year.{year_of_day};
-ghost use Rattle.federal_holidays.specs.Calendar.{dated, kept_on, holiday_on, holidays_in, is_day, is_kept};
+ghost use Rattle.federal_holidays.specs.Calendar.{dated, holiday_on, holidays_in, is_day, is_kept, kept_on};
 
 use crate::statute::FederalHoliday;
 use court_clock::Day;

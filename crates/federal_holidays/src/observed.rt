@@ -14,6 +14,7 @@ use court_clock::Day;
 pub fn observed_for(day: Day) -> Option<Day>
     ensures { result ≡ observed_for day }
 {
+    // The number's range says that the day beside the weekend is a day.
     let _number = day.number();
     match day.weekday() {
         5 => Some(before(day)),
@@ -28,6 +29,7 @@ pub fn observed_for(day: Day) -> Option<Day>
 pub fn observed_on(day: Day) -> Option<FederalHoliday>
     ensures { result ≡ observed_on day }
 {
+    // The number's range says that the day beside the weekend is a day.
     let _number = day.number();
     match day.weekday() {
         4 => holiday_on(after(day), false),

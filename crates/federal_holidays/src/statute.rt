@@ -2,7 +2,7 @@
 
 ghost use Rattle.std.specs.Prelude.{◌≡◌, pos};
 ghost use Rattle.jiff_core.specs.Calendar.{IsBetween};
-ghost use Rattle.federal_holidays.specs.Statute.{is_stated, statute_name, set_in, since, words_of};
+ghost use Rattle.federal_holidays.specs.Statute.{is_stated, set_in, since, statute_name, words_of};
 ghost use Rattle.federal_holidays.specs.declared.statute.FederalHoliday.TheVariants.{InaugurationDay};
 
 use crate::weekdays::{last_weekday, nth_weekday, on};

@@ -1,0 +1,2 @@
+pub mod ReviewLemmas
+pub mod ExactLemmas
