@@ -4,4 +4,5 @@ pub mod CalendarLemmas
 pub mod ObservedLemmas
 pub mod PlaceLemmas
 pub mod OnDayLemmas
+pub mod InPlaceLemmas
 pub mod CallerLemmas

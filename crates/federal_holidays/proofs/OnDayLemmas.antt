@@ -76,7 +76,7 @@ at_place VeteransDay = record { within = omega arith; is = refl }
 at_place ThanksgivingDay = record { within = omega arith; is = refl }
 at_place ChristmasDay = record { within = omega arith; is = refl }
 
-kept : (h : FederalHoliday) → ¬ (h ≡ InaugurationDay) → is_kept false h ≡ true
+pub kept : (h : FederalHoliday) → ¬ (h ≡ InaugurationDay) → is_kept false h ≡ true
 kept NewYearsDay other = refl
 kept BirthdayOfMartinLutherKingJr other = refl
 kept InaugurationDay other = absurd (other refl)

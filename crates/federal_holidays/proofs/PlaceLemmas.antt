@@ -55,14 +55,14 @@ pub record IsPlaced (h : FederalHoliday) (y d : ℤ) : Type 0 where
   pub low : low_key h ≤ 32 * date.month + date.day
   pub high : 32 * date.month + date.day ≤ high_key h
 
-some_same : (a b : ℤ) → Some a ≡ Some b → a ≡ b
+pub some_same : (a b : ℤ) → Some a ≡ Some b → a ≡ b
 some_same a b h = cc
 
 one_of : (test : Bool) (a b d : ℤ) → (if test then a else b) ≡ d → (a ≡ d) ⊎ (b ≡ d)
 one_of true a b d h = inl h
 one_of false a b d h = inr h
 
-if_so : (test : Bool) (o : Option ℤ) (d : ℤ) → (if test then o else None) ≡ Some d → (test ≡ true) × (o ≡ Some d)
+pub if_so : (test : Bool) (o : Option ℤ) (d : ℤ) → (if test then o else None) ≡ Some d → (test ≡ true) × (o ≡ Some d)
 if_so true o d h = (refl, h)
 if_so false o d h = absurd (cc)
 

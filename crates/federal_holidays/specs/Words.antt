@@ -5,4 +5,5 @@ pub use Rattle.federal_holidays.specs.Statute.{is_stated, is_inauguration_year, 
 unfoldable pub use Rattle.federal_holidays.specs.Statute.{set_in}
 pub use Rattle.federal_holidays.specs.Calendar.{all_holidays, is_kept, kept_on, dated, is_day, DaysAreTheirHolidays}
 unfoldable pub use Rattle.federal_holidays.specs.Calendar.{holidays_in, holiday_on}
+pub use Rattle.federal_holidays.specs.Observed.{beside_weekend, ObservedAreInPlace}
 unfoldable pub use Rattle.federal_holidays.specs.Observed.{observed_for, observed_on}

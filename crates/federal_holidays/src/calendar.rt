@@ -28,9 +28,9 @@ const ALL: [FederalHoliday; 12] = [
     FederalHoliday::ChristmasDay,
 ];
 
-/// The holidays of a year with the days that the law sets aside for them, in their order. `capital` says whether the court
-/// is in the capital's region, which alone has Inauguration Day. There are none for a year that isn't one of 1970 to 2199.
-/// An `Err` says that memory ran out.
+/// The holidays of a year with the days that the law sets aside for them, in their order. `capital` says whether the
+/// court is in the capital's region, which alone has Inauguration Day. There are none for a year that isn't one of 1970
+/// to 2199. An `Err` says that memory ran out.
 #[tactic(auto, unfolding(crate::specs::Calendar::holidays_in))]
 pub fn holidays_of(
     alloc: Global,
@@ -42,8 +42,8 @@ pub fn holidays_of(
     all_dated(alloc, &ALL[..], year, capital)
 }
 
-/// The holiday that the day is by law: of two on one day, which only Inauguration Day may be, the other. None for any other
-/// day, and for a day that isn't in the years 1970 to 2199.
+/// The holiday that the day is by law. Where it is Inauguration Day and another, the other. None for any other day, and
+/// for a day that isn't in the years 1970 to 2199.
 #[tactic(auto, unfolding(crate::specs::Calendar::holiday_on))]
 pub fn holiday_on(day: Day, capital: bool) -> Option<FederalHoliday>
     ensures { result ≡ holiday_on day capital }
@@ -95,7 +95,7 @@ fn kept_on(capital: bool, year: i16, holiday: FederalHoliday) -> Option<Day>
 }
 
 /// Whether a court has the holiday.
-fn is_kept(capital: bool, holiday: FederalHoliday) -> bool
+pub(crate) fn is_kept(capital: bool, holiday: FederalHoliday) -> bool
     ensures { result ≡ is_kept capital holiday }
 {
     match holiday {

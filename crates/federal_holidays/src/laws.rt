@@ -1,6 +1,8 @@
-//! Laws of the definitions: what the nth and the last weekday of a month mean, and what follows from the words of the statute.
+//! Laws of the definitions: what the nth and the last weekday of a month mean, and what follows from the words of the
+//! statute.
 
 ghost use Rattle.federal_holidays.specs.Calendar.{DaysAreTheirHolidays};
+ghost use Rattle.federal_holidays.specs.Observed.{ObservedAreInPlace};
 ghost use Rattle.federal_holidays.specs.Weekdays.{LastWeekdaysAreLast, WeekdaysAreCounted};
 ghost use Rattle.federal_holidays.specs.Statute.{HolidaysLieInTheirYear, LaborDayIsAMonday, NoTwoShareADay};
 
@@ -32,4 +34,9 @@ pub fn no_two_share_a_day()
 /// Outside the capital's region a day is the holiday that the law sets on it for some year, and none where there is none.
 pub fn days_are_their_holidays()
     ensures { DaysAreTheirHolidays }
+{}
+
+/// A holiday is observed on a day exactly where it's that of a day in whose place the day is.
+pub fn observed_are_in_place()
+    ensures { ObservedAreInPlace }
 {}

@@ -2,29 +2,26 @@
 
 ghost use Rattle.std.specs.Prelude.{◌≡◌, ◌+ℤ◌, ◌-ℤ◌, pos};
 ghost use Rattle.court_clock.specs.Words.{IsDayNumber};
-ghost use Rattle.federal_holidays.specs.Observed.{observed_for, observed_on};
+ghost use Rattle.federal_holidays.specs.Observed.{beside_weekend, observed_for, observed_on};
 
-use crate::calendar::holiday_on;
+use crate::calendar::{holiday_on, is_kept};
 use crate::statute::FederalHoliday;
 use court_clock::Day;
 
-/// The day on which a holiday of the day is observed in its place: the Friday before a Saturday, and the Monday after a
-/// Sunday. None for any other day, whose holiday is observed on that day itself.
-#[tactic(auto, using(crate::proofs::ObservedLemmas::friday_is_day, crate::proofs::ObservedLemmas::monday_is_day), unfolding(crate::specs::Observed::observed_for))]
-pub fn observed_for(day: Day) -> Option<Day>
-    ensures { result ≡ observed_for day }
+/// The day on which the holiday of the day is observed in its place: the Friday before a Saturday, and the Monday after
+/// a Sunday. None for any other day, on which the holiday is observed itself, and none for Inauguration Day.
+#[tactic(auto, unfolding(crate::specs::Observed::observed_for))]
+pub fn observed_for(holiday: FederalHoliday, day: Day) -> Option<Day>
+    ensures { result ≡ observed_for holiday day }
 {
-    // The number's range says that the day beside the weekend is a day.
-    let _number = day.number();
-    match day.weekday() {
-        5 => Some(before(day)),
-        6 => Some(after(day)),
-        _ => None,
+    if !is_kept(false, holiday) {
+        return None;
     }
+    beside_weekend(day)
 }
 
-/// The holiday that is observed on the day in the place of the day set by law, which is the Saturday after it or the Sunday
-/// before. None for any other day.
+/// The holiday that is observed on the day in the place of the day set by law, which is the Saturday after it or the
+/// Sunday before. None for any other day.
 #[tactic(auto, using(crate::proofs::ObservedLemmas::saturday_is_day, crate::proofs::ObservedLemmas::sunday_is_day), unfolding(crate::specs::Observed::observed_on))]
 pub fn observed_on(day: Day) -> Option<FederalHoliday>
     ensures { result ≡ observed_on day }
@@ -34,6 +31,20 @@ pub fn observed_on(day: Day) -> Option<FederalHoliday>
     match day.weekday() {
         4 => holiday_on(after(day), false),
         0 => holiday_on(before(day), false),
+        _ => None,
+    }
+}
+
+/// The Friday before a Saturday, and the Monday after a Sunday.
+#[tactic(auto, using(crate::proofs::ObservedLemmas::friday_is_day, crate::proofs::ObservedLemmas::monday_is_day))]
+fn beside_weekend(day: Day) -> Option<Day>
+    ensures { result ≡ beside_weekend day }
+{
+    // The number's range says that the day beside the weekend is a day.
+    let _number = day.number();
+    match day.weekday() {
+        5 => Some(before(day)),
+        6 => Some(after(day)),
         _ => None,
     }
 }

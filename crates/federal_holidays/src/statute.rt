@@ -9,15 +9,15 @@ use crate::weekdays::{last_weekday, nth_weekday, on};
 use court_clock::Day;
 use jiff_core::civil::Weekday;
 
-/// A federal holiday, in the order of their days in a year.
+/// A federal holiday. They are in the order of their days in a year.
 #[derive(Clone, Copy, Debug, PartialEq, Eq)]
 pub enum FederalHoliday {
     /// 1 January.
     NewYearsDay,
     /// The third Monday in January, since 1986.
     BirthdayOfMartinLutherKingJr,
-    /// 20 January of the years after those that four divides, or the 21st where the 20th is a Sunday. It is a holiday in the
-    /// capital's region only (5 U.S.C. 6103(c)), and none that Rule 6(a)(6)(A) lists.
+    /// 20 January of the years after those that four divides, or the 21st where the 20th is a Sunday. It is a holiday in
+    /// the capital's region only (5 U.S.C. 6103(c)), and none that Rule 6(a)(6)(A) lists.
     InaugurationDay,
     /// The third Monday in February; before 1971 the 22nd.
     WashingtonsBirthday,
@@ -61,7 +61,7 @@ impl FederalHoliday {
     }
 
     /// The day that the law sets aside for the holiday in the year. None where the law has no such holiday in the year,
-    /// and for any year that isn't one of 1970 to 2199.
+    /// and for a year that isn't one of 1970 to 2199.
     #[tactic(auto, unfolding(crate::specs::Statute::set_in))]
     pub fn day_in(self, year: i16) -> Option<Day>
         ensures { result ≡ set_in self year }
