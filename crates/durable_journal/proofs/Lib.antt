@@ -1,0 +1,9 @@
+pub mod BatchLemmas
+pub mod CrashLemmas
+pub mod DiskLemmas
+pub mod FrameLemmas
+pub mod KeptLemmas
+pub mod NextLemmas
+pub mod OneList
+pub mod RecoverLemmas
+pub mod WalkLemmas

@@ -1,0 +1,26 @@
+use Rattle.std.proofs.Common.{◌≡◌, ◌+◌, length, sym, ◌∙◌, ap, subst, arith, length-append}
+use Rattle.std.proofs.lemmas.Bool.{false≢true}
+use Rattle.durable_journal.specs.Frames.{first_checksum, frames}
+use Rattle.durable_journal.specs.Reading.{IsDamaged}
+use Rattle.durable_journal.proofs.recovery.read_file.Goals as goal
+use Rattle.durable_journal.proofs.RecoverLemmas.{damaged_behind, whole_file}
+
+pub returns-then-was_open-clause-damaged : goal.returns-then-was_open-clause-damaged
+returns-then-was_open-clause-damaged c = λ number is.
+    let same : c.len-count.result + 1 ≡ number = cc in
+    subst (IsDamaged c.args.bytes.now) same (damaged_behind c.args.bytes.now c.in_ok-walked.walked.entries.items c.in_ok-walked.walked.last c.in_ok-walked.walked.rest.now c.len-count.result c.in_ok-walked.ensures.read c.in_ok-walked.ensures.shut (c.len-count.ensures ∙ c.in_ok-walked.walked.entries.ok.0) (c.was_open.ensures.0 c.if-was_open.true))
+
+pub returns-clause-found : goal.returns-clause-found
+returns-clause-found c =
+    let read = c.in_ok-walked.ensures.read in
+    record {
+      rest = c.in_ok-walked.walked.rest.now;
+      read = read;
+      shut = c.in_ok-walked.ensures.shut;
+      end_is = omega (arith, ap length read.parts, length-append (frames first_checksum read.fs) c.in_ok-walked.walked.rest.now);
+      few = c.in_ok-walked.ensures.few;
+    }
+
+pub returns-clause-whole : goal.returns-clause-whole
+returns-clause-whole c =
+    whole_file c.args.bytes.now c.in_ok-walked.walked.entries.items c.in_ok-walked.walked.last c.in_ok-walked.walked.rest.now c.len-count.result c.in_ok-walked.ensures.read c.in_ok-walked.ensures.shut (c.len-count.ensures ∙ c.in_ok-walked.walked.entries.ok.0) (λ was. false≢true (sym c.if-was_open.false ∙ c.was_open.ensures.1 was))

@@ -1,0 +1,7 @@
+pub mod Frames
+pub mod Words
+pub mod Disks
+pub mod Reading
+pub mod Batches
+pub mod Kept
+pub mod Recovered

@@ -1,0 +1,2 @@
+-- The words for the crates above.
+pub use Rattle.durable_journal.specs.Frames.{StandsFor}

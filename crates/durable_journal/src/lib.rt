@@ -1,0 +1,19 @@
+//! Entries in one file, over any disk: what was appended lasts, through any crash.
+//! It knows nothing of courts.
+#![tactic(auto)]
+
+mod checksum;
+mod fault;
+mod gate;
+mod journal;
+mod laws;
+mod next;
+mod pack;
+mod publish;
+mod recovery;
+mod walk;
+
+pub use fault::JournalFault;
+pub use journal::Journal;
+pub use laws::stands_for_one_list;
+pub use recovery::{Recovered, recover};
