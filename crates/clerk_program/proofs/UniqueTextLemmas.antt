@@ -1,5 +1,5 @@
 -- Two texts of one input are equal, since their courts are one.
-use Rattle.std.proofs.Common.{◌≡◌, ◌∙◌, refl, sym}
+use Rattle.std.proofs.Common.{◌∙◌, refl, sym}
 use Rattle.court_clock.specs.Words.{TextsNameClocks}
 use Rattle.court_days.proofs.CallerLemmas.{same_court}
 use Rattle.office_run.proofs.CallerLemmas.{run_text_alike}

@@ -19,7 +19,7 @@ pub stands : (file : List ℕ) (fs : List Frame) (end : List ℕ) → All IsFram
 stands file fs end whole parts shut = record { fs = fs; end = end; is = record { whole = whole; parts = parts; shut = shut }; same = refl }
 
 module _ (fs : List Frame) (whole : All IsFrame fs) where
-  -- bytes behind the shut gate
+  -- bytes after the shut gate
   pub stands_longer : (file : List ℕ) → IsLonger (frames first_checksum fs ++ 45 ∷ []) file → StandsFor file (entries_of fs)
   stands_longer file longer =
       stands file fs (45 ∷ longer.0) whole (longer.1 ∙ append_assoc (frames first_checksum fs) (45 ∷ []) longer.0) (shut_gate longer.0)

@@ -28,7 +28,7 @@ fronted front rest c long same =
     ∙ ap (λ (l : List ℕ). l ++ drop (length front) c)
     (front_kept (length front) (front ++ rest) c (omega (arith, length-append front rest)) long same ∙ take_at front rest (length front) refl)
 
--- a write behind the end leaves all that stands before it
+-- a write after the end leaves all that comes before it
 pub torn_end : (file c : List ℕ) (n : ℕ) → Torn (length file) n file c → c ≡ file ++ drop (length file) c
 torn_end file c n torn =
     fronted file [] c torn.no_shorter (λ i low. torn.below i low low ∙ ap (λ (l : List ℕ). get_or l i 0) (sym (append-nil file)))
@@ -44,7 +44,7 @@ written_end file bytes c torn holds =
     there = ext_get_or 0 (drop (length file) c) bytes (omega (arith, length-drop (length file) c, long))
         (λ i inside. get_or-drop (length file) c i 0 ∙ holds.each i (omega (arith, length-drop (length file) c, long)))
 
--- a write of one byte leaves what stands before and behind it
+-- a write of one byte leaves what comes before and after it
 pub torn_gate : (front tail c : List ℕ) (old : ℕ) → Torn (length front) 1 (front ++ old ∷ tail) c → c ≡ front ++ get_or c (length front) 0 ∷ tail
 torn_gate front tail c old torn =
     fronted front (old ∷ tail) c (omega (arith, long, whole)) (λ i low. torn.below i (omega (arith, whole)) low)
@@ -71,7 +71,7 @@ written_gate front tail c old gate torn holds =
     here : get_or c (length front) 0 ≡ gate
     here = ap (λ (i : ℕ). get_or c i 0) (sym (add-zero (length front))) ∙ holds.each 0 (omega arith)
 
--- a cut one byte behind the front leaves the front, and begins no frame
+-- a cut one byte after the front leaves the front, and begins no frame
 short_shut : (l : List ℕ) → length l ≤ 1 → IsShut l
 short_shut [] short = tt
 short_shut (a ∷ []) short = tt

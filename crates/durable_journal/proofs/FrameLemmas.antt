@@ -25,7 +25,7 @@ frames-push previous fs f =
     frames-append previous fs (f ∷ [])
     ∙ ap (λ (l : List ℕ). frames previous fs ++ 43 ∷ l) (append-nil (packed (last_checksum previous fs) f))
 
--- the bytes of a frame, and of what stands behind it
+-- the bytes of a frame, and of what comes after it
 pub record Laid (previous : List ℕ) (f : Frame) (rest bytes : List ℕ) : Type 0 where
   pub durable : take 4 bytes ≡ f.durable
   pub size : take 4 (drop 4 bytes) ≡ f.size

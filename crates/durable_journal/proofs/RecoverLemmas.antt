@@ -20,7 +20,7 @@ pub held_whole : (file bytes : List ℕ) → length bytes ≡ length file → (0
 held_whole file bytes long holds =
     ext_get_or 0 bytes file long (λ i inside. let some : 0 < length bytes = omega arith in sym ((holds some).each i inside) ∙ ap (λ (k : ℕ). get_or file k 0) (zero-add i))
 
--- whatever is left behind the front that was read stands for the same entries
+-- whatever is left after the front that was read, the file stands for the same entries
 pub left_stands : (file : List ℕ) (entries : List (Vec ℕ Global)) (last rest c : List ℕ) (stood : List (List ℕ)) (read : IsReadTo file entries last rest) → IsShut rest → StandsFor file stood
     → StaysShut (frames first_checksum read.fs) rest c → StandsFor c stood
 left_stands file entries last rest c stood read shut stands_for stays =
@@ -43,7 +43,7 @@ module _ (file : List ℕ) (entries : List (Vec ℕ Global)) (last rest : List �
   frames_many : count ≡ length read.fs
   frames_many = count_is ∙ counted file entries last rest read
 
-  -- frames behind the shut gate say that it was once open
+  -- frames after the shut gate say that it was once open
   pub damaged_behind : WasOpen count last rest → IsDamaged file (count + 1)
   damaged_behind was = record {
     fs = read.fs;

@@ -31,7 +31,7 @@ read_more file entries after v last rest behind sum entry next durable so_far ga
           ∙ sym (map_push (λ (f : Frame). f.entry) so_far.fs is.frame);
     }
 
--- a frame is shorter by what stands behind it
+-- a frame is shorter by what comes after it
 pub next_shorter : (last behind sum entry next : List ℕ) (durable : ℕ) → IsNext last behind durable sum entry next → length next < length behind
 next_shorter last behind sum entry next durable is = omega (arith, (laid last is.frame next behind is.whole is.parts).long)
 
@@ -40,7 +40,7 @@ pub counted : (file : List ℕ) (entries : List (Vec ℕ Global)) (last rest : L
 counted file entries last rest so_far =
     sym (length-map entries (λ (w : Vec ℕ Global). w.items)) ∙ ap length so_far.same ∙ length-map so_far.fs (λ (f : Frame). f.entry)
 
--- an open gate, and no frame behind it
+-- an open gate, and no frame after it
 pub damaged_here : (file : List ℕ) (entries : List (Vec ℕ Global)) (last rest behind : List ℕ) (count : ℕ) → IsReadTo file entries last rest → rest ≡ 43 ∷ behind → behind ≢ []
     → HasNoFrame last behind → count ≡ length entries → IsDamaged file (count + 1)
 damaged_here file entries last rest behind count so_far gate some none count_is =
@@ -54,7 +54,7 @@ damaged_here file entries last rest behind count so_far gate some none count_is 
       cause = inl (refl, some, subst (λ (l : List ℕ). HasNoFrame l behind) so_far.last_is none);
     }
 
--- frames behind a gate that say one number
+-- frames after a gate that say one number
 abbrev pub Says : ℕ → Frame → Type 0
 Says durable f = number_of f.durable ≡ durable
 

@@ -7,6 +7,6 @@ use Rattle.durable_journal.specs.Frames.{Frame, framed}
 abbrev pub batch_of : List (Vec ℕ Global) → List (List ℕ)
 batch_of batch = map (λ v. v.items) batch
 
--- their frames, where so many entries are durable before them
+-- their frames, where this number of entries is durable before them
 abbrev pub frames_of : ℕ → List (Vec ℕ Global) → List Frame
 frames_of durable batch = map (λ v. framed durable v.items) batch

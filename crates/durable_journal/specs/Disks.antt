@@ -11,11 +11,11 @@ pub record IsDurable {D : Type 0} (seen : D → List ℕ) (may_leave : D → Lis
   pub only : Only file (may_leave disk)
   pub usable : IsTrue (is_usable disk)
 
--- the file, with any bytes behind its end
+-- the file, with any bytes after its end
 abbrev pub IsLonger : List ℕ → List ℕ → Type 0
 IsLonger file left = (tail : List ℕ) × (left ≡ file ++ tail)
 
--- some byte stands between these two
+-- some byte is between these two
 abbrev pub IsAround : List ℕ → List ℕ → List ℕ → Type 0
 IsAround front tail left = (gate : ℕ) × (left ≡ front ++ gate ∷ tail)
 

@@ -3,8 +3,8 @@ use Rattle.std.specs.Prelude.{◌≡◌, ◌≢◌, ℕ, List, [], ◌∷◌, �
 use Rattle.std.specs.Int.{w32, from_be_bytes, to_be_bytes}
 use Rattle.sha2.specs.Sha256.{sha256}
 
--- What stands behind a gate: how many entries were durable before the entry's batch, how long the entry is, each as four
--- bytes, and its bytes. Between these stands the checksum.
+-- What follows a gate: how many entries were durable before the entry's batch, how long the entry is, each as four bytes,
+-- and its bytes. Between the length and the entry's bytes is the checksum.
 pub record Frame : Type 0 where
   pub durable : List ℕ
   pub size : List ℕ
@@ -20,7 +20,7 @@ pub record IsFrame (f : Frame) : Type 0 where
   pub four_more : length f.size ≡ 4
   pub sized : number_of f.size ≡ length f.entry
 
--- the frame of an entry, where so many entries are durable before its batch
+-- the frame of an entry, where this number of entries is durable before its batch
 unfoldable pub framed : ℕ → List ℕ → Frame
 framed durable entry = record { durable = to_be_bytes w32 durable; size = to_be_bytes w32 (length entry); entry = entry }
 
@@ -32,11 +32,11 @@ checksum previous f = sha256 (previous ++ f.durable ++ f.size ++ f.entry)
 unfoldable pub first_checksum : List ℕ
 first_checksum = replicate 32 0
 
--- a frame as it stands behind its gate, where the entry before it has that checksum
+-- a frame as it is written after its gate, where the entry before it has that checksum
 abbrev pub packed : List ℕ → Frame → List ℕ
 packed previous f = f.durable ++ (f.size ++ (checksum previous f ++ f.entry))
 
--- frames in their order, each behind an open gate, 43
+-- frames in their order, each after an open gate, 43
 abbrev pub frames : List ℕ → List Frame → List ℕ
 frames previous [] = []
 frames previous (f ∷ fs) = 43 ∷ (packed previous f ++ frames (checksum previous f) fs)
@@ -62,7 +62,7 @@ pub record IsFileOf (file : List ℕ) (fs : List Frame) (end : List ℕ) : Type 
   pub parts : file ≡ frames first_checksum fs ++ end
   pub shut : IsShut end
 
--- the entries of a file, whatever stands behind its shut gate
+-- the entries of a file, whatever comes after its shut gate
 pub record StandsFor (file : List ℕ) (entries : List (List ℕ)) : Type 0 where
   pub fs : List Frame
   pub end : List ℕ

@@ -12,7 +12,7 @@ disk_of journal = journal.disk
 abbrev pub count_of : {D : Type 0} → Journal D → ℕ
 count_of journal = journal.count
 
--- where its shut gate stands
+-- the place of its shut gate
 abbrev pub end_of : {D : Type 0} → Journal D → ℕ
 end_of journal = journal.end
 

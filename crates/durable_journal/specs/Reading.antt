@@ -4,7 +4,7 @@ use Rattle.std.specs.declared.alloc.Global.{Global}
 use Rattle.durable_journal.specs.Frames.{Frame, IsFrame, IsShut, number_of, checksum, first_checksum, last_checksum, packed, frames, entries_of}
 use Rattle.durable_journal.specs.Batches.{batch_of}
 
--- a frame stands here, with this number, checksum and entry, and `rest` behind it
+-- a frame is here, with this number, checksum and entry, and `rest` after it
 pub record IsNext (previous bytes : List ℕ) (durable : ℕ) (sum entry rest : List ℕ) : Type 0 where
   pub frame : Frame
   pub whole : IsFrame frame
@@ -21,7 +21,7 @@ pub record IsReadTo (file : List ℕ) (entries : List (Vec ℕ Global)) (last re
   pub last_is : last ≡ last_checksum first_checksum fs
   pub same : batch_of entries ≡ entries_of fs
 
--- Behind a gate stand whole frames of which one says another number of durable entries: so the gate was once open.
+-- After a gate come whole frames of which one says another number of durable entries: so the gate was once open.
 pub record SaysOther (durable : ℕ) (previous behind : List ℕ) : Type 0 where
   pub before : List Frame
   pub frame : Frame
@@ -30,11 +30,11 @@ pub record SaysOther (durable : ℕ) (previous behind : List ℕ) : Type 0 where
   pub parts : 43 ∷ behind ≡ frames previous (before ++ frame ∷ []) ++ more
   pub other : number_of frame.durable ≢ durable
 
--- behind an open gate stands no whole frame
+-- no whole frame follows an open gate
 abbrev pub HasNoFrame : List ℕ → List ℕ → Type 0
 HasNoFrame previous behind = (f : Frame) (rest : List ℕ) → IsFrame f → behind ≡ packed previous f ++ rest → ⊥
 
--- The entry of this number is damaged, or the gate before it: behind the entries before it stands an open gate and no
+-- The entry of this number is damaged, or the gate before it: after the entries before it comes an open gate and no
 -- frame, or a shut gate that was once open.
 pub record IsDamaged (file : List ℕ) (number : ℕ) : Type 0 where
   pub fs : List Frame
@@ -49,7 +49,7 @@ pub record IsDamaged (file : List ℕ) (number : ℕ) : Type 0 where
 abbrev pub IsWhole : List ℕ → Type 0
 IsWhole file = (number : ℕ) → IsDamaged file number → ⊥
 
--- The file's entries are read up to its shut gate, which stands at `end`.
+-- The file's entries are read up to its shut gate, which is at `end`.
 pub record IsFound (file : List ℕ) (entries : List (Vec ℕ Global)) (last : List ℕ) (end : ℕ) : Type 0 where
   pub rest : List ℕ
   pub read : IsReadTo file entries last rest

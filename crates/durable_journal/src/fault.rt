@@ -5,7 +5,7 @@ ghost use Rattle.durable_journal.specs.declared.fault.JournalFault.TheVariants.{
 use std::alloc::{AllocError, AllocFailed};
 use thiserror::Error;
 
-/// What stands against opening a journal, or against appending to it.
+/// Why a journal can't be opened, or a batch can't be appended.
 #[derive(Clone, Copy, Debug, PartialEq, Eq, Error)]
 pub enum JournalFault {
     /// The entry of this number, counted from 1, is damaged, or the gate before it. The file is as it was.

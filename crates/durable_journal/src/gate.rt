@@ -21,7 +21,7 @@ fn sync<D: Disk>(disk: &mut D) -> Result<(), JournalFault>
     }
 }
 
-/// Writes these bytes behind the end of the file.
+/// Writes these bytes after the end of the file.
 pub fn write_end<D: Disk>(disk: &mut D, end: usize, bytes: &[u8]) -> Result<(), JournalFault>
     requires usable { IsTrue (D.Disk.is_usable disk.old) }
     requires some { 0 < length bytes.now }
@@ -58,7 +58,7 @@ pub fn write_gate<D: Disk>(disk: &mut D, at: usize, gate: u8) -> Result<(), Jour
     }
 }
 
-/// Cuts the file one byte behind this place, or lengthens it to there.
+/// Cuts the file one byte after this place, or lengthens it to there.
 pub fn cut_behind<D: Disk>(disk: &mut D, at: usize) -> Result<(), JournalFault>
     requires usable { IsTrue (D.Disk.is_usable disk.old) }
     requires fits { at + 1 < 2 ^ 64 }

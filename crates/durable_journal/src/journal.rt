@@ -20,7 +20,7 @@ pub const MOST: usize = 1_000_000;
 #[derive(Drop)]
 pub struct Journal<D: Disk> {
     pub(crate) disk: D,
-    // Where the shut gate stands.
+    // The place of the shut gate, counted from the file's first byte as 0.
     pub(crate) end: usize,
     pub(crate) count: u32,
     // The checksum of the last entry.
@@ -29,7 +29,7 @@ pub struct Journal<D: Disk> {
     pub(crate) buffer: Vec<u8>,
 }
 
-// Packs a batch, with the open gate before it and the shut gate behind it, and gives the checksum of its last entry.
+// Packs a batch, with the open gate before it and the shut gate after it, and gives the checksum of its last entry.
 fn pack_whole(
     buffer: &mut Vec<u8>,
     previous: &[u8; 32],
@@ -47,7 +47,7 @@ fn pack_whole(
     Ok(last)
 }
 
-// So many entries more are no more than a journal has room for.
+// Whether a journal has room for this number of entries more.
 fn has_room(count: u32, more: usize) -> bool
     ensures { IsTrue result ↔ (count + more ≤ 1000000) }
 {
@@ -83,7 +83,7 @@ impl<D: Disk> Journal<D> {
         }
     }
 
-    /// Appends a batch. At `Ok` its entries are kept behind those before them. Whatever a crash leaves at any moment within
+    /// Appends a batch. At `Ok` its entries are kept after those before them. Whatever a crash leaves at any moment within
     /// the call stands for the entries before it, with all of the batch or none of it.
     /// At `Full` the journal is as it was: there would be more than 1,000,000 entries, or an entry has more than
     /// 16,777,216 bytes. At another `Err` open it anew.

@@ -10,7 +10,7 @@ use crate::checksum::checksum_of;
 /// The most bytes of an entry.
 pub const LONGEST: usize = 16_777_216;
 
-// Adds an entry's frame behind an open gate, and gives its checksum.
+// Adds an open gate and an entry's frame after it, and gives its checksum.
 fn push_frame(
     buffer: &mut Vec<u8>,
     previous: &[u8; 32],
@@ -33,7 +33,7 @@ fn push_frame(
     Ok(sum)
 }
 
-/// Adds the frames of a batch, each behind an open gate, and gives the checksum of the last.
+/// Adds the frames of a batch, each after an open gate, and gives the checksum of the last.
 pub fn pack(
     buffer: &mut Vec<u8>,
     previous: &[u8; 32],

@@ -7,7 +7,7 @@ use crate::JournalFault;
 use crate::gate::{write_end, write_gate};
 use sqlite_disk::Disk;
 
-/// Writes these bytes behind the shut gate that stands at `end`, and opens the gate once they are on the disk.
+/// Writes these bytes after the shut gate at `end`, and opens the gate once they are on the disk.
 pub fn publish<D: Disk>(disk: &mut D, end: usize, behind: &[u8]) -> Result<(), JournalFault>
     requires usable { IsTrue (D.Disk.is_usable disk.old) }
     requires some { 0 < length behind.now }

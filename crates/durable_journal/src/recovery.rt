@@ -41,7 +41,7 @@ fn read_all<D: Disk>(alloc: Global, disk: &mut D) -> Result<Vec<u8>, JournalFaul
     }
 }
 
-// Frames behind the gate that stands here show that it was once open.
+// Whether frames after this gate show that it was once open.
 fn was_open(rest: &[u8], last: &[u8; 32], count: u32) -> bool
     ensures { IsTrue result ↔ WasOpen count last.now rest.now }
 {
@@ -69,7 +69,7 @@ fn read_file(alloc: Global, bytes: &[u8]) -> Result<Recovered, JournalFault>
     })
 }
 
-// Cuts what stands behind the gate at this place, and then shuts it: in this order, since a torn write could open it.
+// Cuts what comes after the gate at this place, and then shuts it: in this order, since a torn write could open it.
 fn repair<D: Disk>(disk: &mut D, end: usize) -> Result<(), JournalFault>
     requires usable { IsTrue (D.Disk.is_usable disk.old) }
     requires fits { end + 1 < 2 ^ 64 }

@@ -9,7 +9,7 @@ use crate::journal::MOST;
 use crate::next::next_frame;
 use std::alloc::Global;
 
-/// Entries that were read, the checksum of the last, and what stands behind them.
+/// Entries that were read, the checksum of the last, and what comes after them.
 #[derive(Drop)]
 pub struct Walked<'a> {
     pub entries: Vec<Vec<u8>>,
@@ -17,7 +17,7 @@ pub struct Walked<'a> {
     pub rest: &'a [u8],
 }
 
-// What stands behind an open gate, where there is one and something behind it.
+// What comes after an open gate, where there is one and anything after it.
 fn behind_gate(rest: &[u8]) -> Option<&[u8]>
     ensures { MatchOption result (IsShut rest.now) (λ behind. (rest.now ≡ 43 ∷ behind.now) × (behind.now ≢ [])) }
 {
@@ -27,7 +27,7 @@ fn behind_gate(rest: &[u8]) -> Option<&[u8]>
     Some(rest.split_at(1).1)
 }
 
-/// The entries up to the first gate that isn't open: `Damaged` where no whole frame stands behind an open one.
+/// The entries up to the first gate that isn't open: `Damaged` where no whole frame follows an open one.
 pub fn walk_entries<'a>(alloc: Global, bytes: &'a [u8]) -> Result<Walked<'a>, JournalFault>
     ensures read { IfOk result (λ w. IsReadTo bytes.now w.entries.items w.last w.rest.now) }
     ensures few { IfOk result (λ w. length w.entries.items ≤ 1000000) }
@@ -57,7 +57,7 @@ pub fn walk_entries<'a>(alloc: Global, bytes: &'a [u8]) -> Result<Walked<'a>, Jo
     })
 }
 
-/// Whole frames stand behind a shut gate, and one of them says another number of durable entries than this.
+/// Whether whole frames follow a shut gate of which one says another number of durable entries than this.
 pub fn says_other(start: &[u8], previous: &[u8; 32], durable: u32) -> bool
     ensures { IsTrue result ↔ SaysOther durable previous.now start.now }
 {

@@ -1,8 +1,6 @@
-use Rattle.std.proofs.Common.{◌≡◌, subst, sym}
-use Rattle.court_days.specs.Words.{file_of}
+use Rattle.std.proofs.Common.{subst}
 use Rattle.office_streams.specs.Division.{court_part}
 use Rattle.office_streams.specs.Office.{Input, IsChecked, input_of}
-use Rattle.office_streams.specs.Report.{input_checked}
 use Rattle.office_streams.proofs.InputLemmas.{made_further, same_input}
 use Rattle.office_streams.proofs.text.text_of.Goals as goal
 
