@@ -45,8 +45,8 @@ written_end file bytes c torn holds =
         (λ i inside. get_or-drop (length file) c i 0 ∙ holds.each i (omega (arith, length-drop (length file) c, long)))
 
 -- a write of one byte leaves what comes before and after it
-pub torn_gate : (front tail c : List ℕ) (old : ℕ) → Torn (length front) 1 (front ++ old ∷ tail) c → c ≡ front ++ get_or c (length front) 0 ∷ tail
-torn_gate front tail c old torn =
+pub torn_latch : (front tail c : List ℕ) (old : ℕ) → Torn (length front) 1 (front ++ old ∷ tail) c → c ≡ front ++ get_or c (length front) 0 ∷ tail
+torn_latch front tail c old torn =
     fronted front (old ∷ tail) c (omega (arith, long, whole)) (λ i low. torn.below i (omega (arith, whole)) low)
     ∙ ap (λ (l : List ℕ). front ++ l) (drop_more c (length front) 0 (omega (arith, long, whole)) ∙ ap (λ (l : List ℕ). get_or c (length front) 0 ∷ l) behind)
   where
@@ -64,11 +64,11 @@ torn_gate front tail c old torn =
         ∙ ap (λ (l : List ℕ). drop (length front + 1) l) split
         ∙ drop_at (front ++ old ∷ []) tail (length front + 1) (omega (arith, length-append front (old ∷ [])))
 
-pub written_gate : (front tail c : List ℕ) (old gate : ℕ) → Torn (length front) 1 (front ++ old ∷ tail) c → Holds c (length front) (gate ∷ []) → c ≡ front ++ gate ∷ tail
-written_gate front tail c old gate torn holds =
-    torn_gate front tail c old torn ∙ ap (λ (b : ℕ). front ++ b ∷ tail) here
+pub written_latch : (front tail c : List ℕ) (old latch : ℕ) → Torn (length front) 1 (front ++ old ∷ tail) c → Holds c (length front) (latch ∷ []) → c ≡ front ++ latch ∷ tail
+written_latch front tail c old latch torn holds =
+    torn_latch front tail c old torn ∙ ap (λ (b : ℕ). front ++ b ∷ tail) here
   where
-    here : get_or c (length front) 0 ≡ gate
+    here : get_or c (length front) 0 ≡ latch
     here = ap (λ (i : ℕ). get_or c i 0) (sym (add-zero (length front))) ∙ holds.each 0 (omega arith)
 
 -- a cut one byte after the front leaves the front, and begins no frame
@@ -77,10 +77,10 @@ short_shut [] short = tt
 short_shut (a ∷ []) short = tt
 short_shut (a ∷ b ∷ l) short = absurd (omega arith)
 
-first_shut : (l : List ℕ) (gate : ℕ) → get_or l 0 0 ≡ gate → gate ≢ 43 → IsShut l
-first_shut [] gate is shut = tt
-first_shut (a ∷ []) gate is shut = tt
-first_shut (a ∷ b ∷ l) gate is shut = λ is_open. shut (sym is ∙ is_open)
+first_shut : (l : List ℕ) (latch : ℕ) → get_or l 0 0 ≡ latch → latch ≢ 43 → IsShut l
+first_shut [] latch is shut = tt
+first_shut (a ∷ []) latch is shut = tt
+first_shut (a ∷ b ∷ l) latch is shut = λ is_open. shut (sym is ∙ is_open)
 
 pub cut_front : (front end c : List ℕ) → Cut (length front + 1) (front ++ end) c → c ≡ front ++ drop (length front) c
 cut_front front end c cut =
@@ -105,11 +105,11 @@ cut_done front end c cut long =
     (drop_more c (length front) 0 (omega (arith, long)) ∙ ap (λ (l : List ℕ). get_or c (length front) 0 ∷ l) (drop_all (length front + 1) c (omega (arith, long))))
 
 -- the same where the file before it and the place are known by other names
-pub gate_written : (front tail : List ℕ) (at old gate : ℕ) (before after : List ℕ) → length front ≡ at → before ≡ front ++ old ∷ tail → Torn at 1 before after → Holds after at (gate ∷ []) → after ≡ front ++ gate ∷ tail
-gate_written front tail at old gate before after is was torn holds =
-    written_gate front tail after old gate
+pub latch_written : (front tail : List ℕ) (at old latch : ℕ) (before after : List ℕ) → length front ≡ at → before ≡ front ++ old ∷ tail → Torn at 1 before after → Holds after at (latch ∷ []) → after ≡ front ++ latch ∷ tail
+latch_written front tail at old latch before after is was torn holds =
+    written_latch front tail after old latch
     (subst (λ (a : ℕ). Torn a 1 (front ++ old ∷ tail) after) (sym is) (subst (λ (f : List ℕ). Torn at 1 f after) was torn))
-    (subst (λ (a : ℕ). Holds after a (gate ∷ [])) (sym is) holds)
+    (subst (λ (a : ℕ). Holds after a (latch ∷ [])) (sym is) holds)
 
 pub cut_made : (front end : List ℕ) (at : ℕ) (before after : List ℕ) → length front ≡ at → before ≡ front ++ end → Cut (at + 1) before after → length after ≡ at + 1 → after ≡ front ++ get_or after (length front) 0 ∷ []
 cut_made front end at before after is was cut long =
@@ -124,11 +124,11 @@ crash_end file at n old new is only follows c left =
     let torn : Torn (length file) n file c = subst (λ (a : ℕ). Torn a n file c) (sym is) (subst (λ (f : List ℕ). Torn at n f c) (only from.0 from.1) from.2) in
     (drop (length file) c, torn_end file c n torn)
 
-pub crash_gate : (front tail : List ℕ) (at was : ℕ) (old new : List ℕ → Type 0) → length front ≡ at → Only (front ++ was ∷ tail) old → Follows (Torn at 1) old new → (c : List ℕ) → new c → IsAround front tail c
-crash_gate front tail at was old new is only follows c left =
+pub crash_latch : (front tail : List ℕ) (at was : ℕ) (old new : List ℕ → Type 0) → length front ≡ at → Only (front ++ was ∷ tail) old → Follows (Torn at 1) old new → (c : List ℕ) → new c → IsAround front tail c
+crash_latch front tail at was old new is only follows c left =
     let from = follows c left in
     let torn : Torn (length front) 1 (front ++ was ∷ tail) c = subst (λ (a : ℕ). Torn a 1 (front ++ was ∷ tail) c) (sym is) (subst (λ (f : List ℕ). Torn at 1 f c) (only from.0 from.1) from.2) in
-    (get_or c (length front) 0, torn_gate front tail c was torn)
+    (get_or c (length front) 0, torn_latch front tail c was torn)
 
 pub crash_cut : (front end : List ℕ) (at : ℕ) (old new : List ℕ → Type 0) → length front ≡ at → Only (front ++ end) old → Follows (Cut (at + 1)) old new → (c : List ℕ) → new c → StaysShut front end c
 crash_cut front end at old new is only follows c left =

@@ -8,7 +8,7 @@ use Rattle.durable_journal.specs.Batches.{batch_of, frames_of}
 use Rattle.durable_journal.specs.Disks.{IsLonger, IsAround}
 use Rattle.durable_journal.specs.Kept.{KeepsFrames, IsKept}
 use Rattle.durable_journal.specs.declared.journal.Journal.{Journal}
-use Rattle.durable_journal.proofs.CrashLemmas.{stands, shut_gate, stands_longer, stands_around}
+use Rattle.durable_journal.proofs.CrashLemmas.{stands, shut_latch, stands_longer, stands_around}
 use Rattle.durable_journal.proofs.FrameLemmas.{frames-append, last_checksum-append}
 use Rattle.durable_journal.proofs.BatchLemmas.{entries_of-frames_of, are_frames}
 
@@ -64,7 +64,7 @@ either_stands c fs n batch entries same (inr after) = inr (subst (StandsFor c) (
 module _ {D : Type 0} (seen : D → List ℕ) (may_leave : D → List ℕ → Type 0) (is_usable : D → Bool) (journal : Journal D) where
   -- between two calls a crash leaves what is kept
   pub rest_stands : (fs : List Frame) → KeepsFrames seen may_leave is_usable fs journal → (c : List ℕ) → may_leave journal.disk c → StandsFor c (entries_of fs)
-  rest_stands fs kept c left = stands c fs (45 ∷ []) kept.whole (kept.file.only c left) (shut_gate [])
+  rest_stands fs kept c left = stands c fs (45 ∷ []) kept.whole (kept.file.only c left) (shut_latch [])
 
   pub rest_kept : (entries : List (List ℕ)) → IsKept seen may_leave is_usable entries journal → (c : List ℕ) → may_leave journal.disk c → StandsFor c entries
   rest_kept entries kept c left = subst (StandsFor c) (sym kept.same) (rest_stands kept.fs kept.kept c left)

@@ -1,6 +1,7 @@
 pub mod BatchLemmas
 pub mod CrashLemmas
 pub mod DiskLemmas
+pub mod FaultLemmas
 pub mod FrameLemmas
 pub mod KeptLemmas
 pub mod NextLemmas

@@ -6,11 +6,11 @@ use Rattle.std.proofs.lemmas.List.Elements.{All-head, All-tail}
 use Rattle.durable_journal.specs.Frames.{Frame, IsFrame, IsShut, StandForOneList, checksum, first_checksum, last_checksum, packed, frames, entries_of}
 use Rattle.durable_journal.proofs.FrameLemmas.{laid, same_frame, SameFrame}
 
--- no frame follows an open gate
+-- no frame follows an open latch
 pub record Ends (previous end : List ℕ) : Type 0 where
   pub none : (f : Frame) (rest : List ℕ) → IsFrame f → end ≡ 43 ∷ (packed previous f ++ rest) → ⊥
 
--- an open gate with a frame after it isn't shut
+-- an open latch with a frame after it isn't shut
 pub open_not_shut : (f : Frame) (previous rest : List ℕ) → IsFrame f → IsShut (43 ∷ (packed previous f ++ rest)) → ⊥
 open_not_shut f previous rest is shut = opened (packed previous f ++ rest) long shut
   where

@@ -20,7 +20,7 @@ pub held_whole : (file bytes : List ℕ) → length bytes ≡ length file → (0
 held_whole file bytes long holds =
     ext_get_or 0 bytes file long (λ i inside. let some : 0 < length bytes = omega arith in sym ((holds some).each i inside) ∙ ap (λ (k : ℕ). get_or file k 0) (zero-add i))
 
--- whatever is left after the front that was read, the file stands for the same entries
+-- whatever is left after the front that was read stands for the same entries
 pub left_stands : (file : List ℕ) (entries : List (Vec ℕ Global)) (last rest c : List ℕ) (stood : List (List ℕ)) (read : IsReadTo file entries last rest) → IsShut rest → StandsFor file stood
     → StaysShut (frames first_checksum read.fs) rest c → StandsFor c stood
 left_stands file entries last rest c stood read shut stands_for stays =
@@ -35,19 +35,19 @@ found_stands file entries last end found =
 pub same_stands : (file c : List ℕ) (entries : List (List ℕ)) → c ≡ file → StandsFor file entries → StandsFor c entries
 same_stands file c entries same stood = subst (λ (f : List ℕ). StandsFor f entries) (sym same) stood
 
-shut_or_alone : (gate : ℕ) (behind : List ℕ) → gate ≡ 43 → behind ≢ [] → IsShut (gate ∷ behind) → ⊥
-shut_or_alone gate [] is_open some shut = some refl
-shut_or_alone gate (b ∷ behind) is_open some shut = shut is_open
+shut_or_alone : (latch : ℕ) (behind : List ℕ) → latch ≡ 43 → behind ≢ [] → IsShut (latch ∷ behind) → ⊥
+shut_or_alone latch [] is_open some shut = some refl
+shut_or_alone latch (b ∷ behind) is_open some shut = shut is_open
 
 module _ (file : List ℕ) (entries : List (Vec ℕ Global)) (last rest : List ℕ) (count : ℕ) (read : IsReadTo file entries last rest) (shut : IsShut rest) (count_is : count ≡ length entries) where
   frames_many : count ≡ length read.fs
   frames_many = count_is ∙ counted file entries last rest read
 
-  -- frames after the shut gate say that it was once open
+  -- frames after the shut latch say that it was once open
   pub damaged_behind : WasOpen count last rest → IsDamaged file (count + 1)
   damaged_behind was = record {
     fs = read.fs;
-    gate = was.0;
+    latch = was.0;
     behind = was.1;
     whole = read.whole;
     parts = read.parts ∙ ap (λ (l : List ℕ). frames first_checksum read.fs ++ l) was.2;
@@ -59,15 +59,15 @@ module _ (file : List ℕ) (entries : List (Vec ℕ Global)) (last rest : List �
   pub whole_file : (WasOpen count last rest → ⊥) → IsWhole file
   whole_file never number damaged = elim damaged.cause [
     | inl torn ↦
-        let walk = same_walk first_checksum read.fs damaged.fs rest (damaged.gate ∷ damaged.behind) read.whole damaged.whole (ends_shut (last_checksum first_checksum read.fs) rest shut)
+        let walk = same_walk first_checksum read.fs damaged.fs rest (damaged.latch ∷ damaged.behind) read.whole damaged.whole (ends_shut (last_checksum first_checksum read.fs) rest shut)
         (record { none = λ f more is e. torn.2 f more is (ap (drop 1) e) }) (sym read.parts ∙ damaged.parts) in
-        shut_or_alone damaged.gate damaged.behind torn.0 torn.1 (subst IsShut walk.ends_are shut)
+        shut_or_alone damaged.latch damaged.behind torn.0 torn.1 (subst IsShut walk.ends_are shut)
     | inr hole ↦
-        let walk = same_walk first_checksum read.fs damaged.fs rest (damaged.gate ∷ damaged.behind) read.whole damaged.whole (ends_shut (last_checksum first_checksum read.fs) rest shut)
-        (ends_shut (last_checksum first_checksum damaged.fs) (damaged.gate ∷ damaged.behind) hole.0) (sym read.parts ∙ damaged.parts) in
+        let walk = same_walk first_checksum read.fs damaged.fs rest (damaged.latch ∷ damaged.behind) read.whole damaged.whole (ends_shut (last_checksum first_checksum read.fs) rest shut)
+        (ends_shut (last_checksum first_checksum damaged.fs) (damaged.latch ∷ damaged.behind) hole.0) (sym read.parts ∙ damaged.parts) in
         let many : length damaged.fs ≡ count = sym (frames_many ∙ ap length walk.frames_are) in
         let sum : last_checksum first_checksum damaged.fs ≡ last = sym (read.last_is ∙ ap (last_checksum first_checksum) walk.frames_are) in
-        never (damaged.gate, damaged.behind, walk.ends_are, subst (λ (n : ℕ). SaysOther n last damaged.behind) many (subst (λ (l : List ℕ). SaysOther (length damaged.fs) l damaged.behind) sum hole.1))
+        never (damaged.latch, damaged.behind, walk.ends_are, subst (λ (n : ℕ). SaysOther n last damaged.behind) many (subst (λ (l : List ℕ). SaysOther (length damaged.fs) l damaged.behind) sum hole.1))
   ]
 
 -- the disk after reads alone

@@ -18,11 +18,11 @@ read_none file = record { fs = []; whole = All-nil IsFrame; parts = refl; last_i
 pub read_more : (file : List ℕ) (entries after : List (Vec ℕ Global)) (v : Vec ℕ Global) (last rest behind sum entry next : List ℕ) (durable : ℕ)
     → IsReadTo file entries last rest → rest ≡ 43 ∷ behind → IsNext last behind durable sum entry next → after ≡ entries ++ v ∷ [] → v.items ≡ entry
     → IsReadTo file after sum next
-read_more file entries after v last rest behind sum entry next durable so_far gate is after_is copied =
+read_more file entries after v last rest behind sum entry next durable so_far latch is after_is copied =
     record {
       fs = so_far.fs ++ is.frame ∷ [];
       whole = All-push IsFrame so_far.fs is.frame so_far.whole is.whole;
-      parts = so_far.parts ∙ ap (λ (l : List ℕ). frames first_checksum so_far.fs ++ l) (gate ∙ ap (λ (l : List ℕ). 43 ∷ l) (is.parts ∙ ap (λ (l : List ℕ). packed l is.frame ++ next) so_far.last_is))
+      parts = so_far.parts ∙ ap (λ (l : List ℕ). frames first_checksum so_far.fs ++ l) (latch ∙ ap (λ (l : List ℕ). 43 ∷ l) (is.parts ∙ ap (λ (l : List ℕ). packed l is.frame ++ next) so_far.last_is))
           ∙ sym (append_assoc (frames first_checksum so_far.fs) (43 ∷ packed (last_checksum first_checksum so_far.fs) is.frame) next)
           ∙ ap (λ (l : List ℕ). l ++ next) (sym (frames-push first_checksum so_far.fs is.frame));
       last_is = is.sum_is ∙ ap (λ (l : List ℕ). checksum l is.frame) so_far.last_is ∙ sym (last_checksum-append first_checksum so_far.fs (is.frame ∷ []));
@@ -40,21 +40,21 @@ pub counted : (file : List ℕ) (entries : List (Vec ℕ Global)) (last rest : L
 counted file entries last rest so_far =
     sym (length-map entries (λ (w : Vec ℕ Global). w.items)) ∙ ap length so_far.same ∙ length-map so_far.fs (λ (f : Frame). f.entry)
 
--- an open gate, and no frame after it
+-- an open latch, and no frame after it
 pub damaged_here : (file : List ℕ) (entries : List (Vec ℕ Global)) (last rest behind : List ℕ) (count : ℕ) → IsReadTo file entries last rest → rest ≡ 43 ∷ behind → behind ≢ []
     → HasNoFrame last behind → count ≡ length entries → IsDamaged file (count + 1)
-damaged_here file entries last rest behind count so_far gate some none count_is =
+damaged_here file entries last rest behind count so_far latch some none count_is =
     record {
       fs = so_far.fs;
-      gate = 43;
+      latch = 43;
       behind = behind;
       whole = so_far.whole;
-      parts = so_far.parts ∙ ap (λ (l : List ℕ). frames first_checksum so_far.fs ++ l) gate;
+      parts = so_far.parts ∙ ap (λ (l : List ℕ). frames first_checksum so_far.fs ++ l) latch;
       counts = ap (λ (n : ℕ). n + 1) (count_is ∙ counted file entries last rest so_far);
       cause = inl (refl, some, subst (λ (l : List ℕ). HasNoFrame l behind) so_far.last_is none);
     }
 
--- frames after a gate that say one number
+-- frames after a latch that say one number
 abbrev pub Says : ℕ → Frame → Type 0
 Says durable f = number_of f.durable ≡ durable
 
@@ -98,11 +98,11 @@ module _ (durable : ℕ) (previous start last behind : List ℕ) (walked : IsWal
       same_onward = All-push (Says durable) walked.fs is.frame walked.same (is.durable_is ∙ agrees)
 
       pub walked_more : (next : List ℕ) → rest ≡ 43 ∷ next → IsWalked durable previous start sum next
-      walked_more next gate = record {
+      walked_more next latch = record {
         fs = walked.fs ++ is.frame ∷ [];
         whole = whole_onward;
         same = same_onward;
-        parts = onward ∙ ap (λ (l : List ℕ). frames previous (walked.fs ++ is.frame ∷ []) ++ l) gate;
+        parts = onward ∙ ap (λ (l : List ℕ). frames previous (walked.fs ++ is.frame ∷ []) ++ l) latch;
         last_is = is.sum_is ∙ ap (λ (l : List ℕ). checksum l is.frame) walked.last_is ∙ sym (last_checksum-append previous walked.fs (is.frame ∷ []));
       }
 

@@ -2,8 +2,6 @@
 use Rattle.std.specs.Prelude.{◌≡◌, ℕ, List, ◌∷◌, ◌++◌, Bool, IsTrue}
 use Rattle.sqlite_disk.specs.Disk.{Only}
 use Rattle.durable_journal.specs.Frames.{IsShut}
-use Rattle.durable_journal.specs.declared.fault.JournalFault.{JournalFault}
-use Rattle.durable_journal.specs.declared.fault.JournalFault.TheVariants.{Damaged, Full, Read, Write, Sync, OutOfMemory}
 
 -- a read returns this file, a crash leaves it and nothing else, and no sync has failed
 pub record IsDurable {D : Type 0} (seen : D → List ℕ) (may_leave : D → List ℕ → Type 0) (is_usable : D → Bool) (file : List ℕ) (disk : D) : Type 0 where
@@ -17,17 +15,8 @@ IsLonger file left = (tail : List ℕ) × (left ≡ file ++ tail)
 
 -- some byte is between these two
 abbrev pub IsAround : List ℕ → List ℕ → List ℕ → Type 0
-IsAround front tail left = (gate : ℕ) × (left ≡ front ++ gate ∷ tail)
+IsAround front tail left = (latch : ℕ) × (left ≡ front ++ latch ∷ tail)
 
 -- What follows `front` begins no frame if `end` doesn't.
 abbrev pub StaysShut : List ℕ → List ℕ → List ℕ → Type 0
 StaysShut front end left = (tail : List ℕ) × (left ≡ front ++ tail) × (IsShut end → IsShut tail)
-
--- a call of the disk has failed
-abbrev pub IsOfDisk : JournalFault → Type 0
-IsOfDisk (Damaged number) = ⊥
-IsOfDisk Full = ⊥
-IsOfDisk Read = Unit {0}
-IsOfDisk Write = Unit {0}
-IsOfDisk Sync = Unit {0}
-IsOfDisk OutOfMemory = ⊥

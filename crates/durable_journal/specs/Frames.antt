@@ -1,10 +1,10 @@
--- What a journal's file is: frames, each an open gate and an entry, and then a shut gate.
+-- What a journal's file is: frames, each an open latch and an entry, and then a shut latch.
 use Rattle.std.specs.Prelude.{◌≡◌, ◌≢◌, ℕ, List, [], ◌∷◌, ◌++◌, length, map, replicate, All}
 use Rattle.std.specs.Int.{w32, from_be_bytes, to_be_bytes}
 use Rattle.sha2.specs.Sha256.{sha256}
 
--- What follows a gate: how many entries were durable before the entry's batch, how long the entry is, each as four bytes,
--- and its bytes. Between the length and the entry's bytes is the checksum.
+-- What follows a latch: how many entries were durable before the entry's batch, how long the entry is, each as four
+-- bytes, and its bytes. Between the length and the entry's bytes is the checksum.
 pub record Frame : Type 0 where
   pub durable : List ℕ
   pub size : List ℕ
@@ -32,11 +32,11 @@ checksum previous f = sha256 (previous ++ f.durable ++ f.size ++ f.entry)
 unfoldable pub first_checksum : List ℕ
 first_checksum = replicate 32 0
 
--- a frame as it is written after its gate, where the entry before it has that checksum
+-- a frame as it is written after its latch, where the entry before it has that checksum
 abbrev pub packed : List ℕ → Frame → List ℕ
 packed previous f = f.durable ++ (f.size ++ (checksum previous f ++ f.entry))
 
--- frames in their order, each after an open gate, 43
+-- frames in their order, each after an open latch, 43
 abbrev pub frames : List ℕ → List Frame → List ℕ
 frames previous [] = []
 frames previous (f ∷ fs) = 43 ∷ (packed previous f ++ frames (checksum previous f) fs)
@@ -50,11 +50,11 @@ last_checksum previous (f ∷ fs) = last_checksum (checksum previous f) fs
 abbrev pub entries_of : List Frame → List (List ℕ)
 entries_of fs = map (λ f. f.entry) fs
 
--- No frame begins here: a gate that isn't open, or a last byte alone, which a crash may have left of a gate.
+-- No frame begins here: a latch that isn't open, or a last byte alone, which a crash may have left of a latch.
 abbrev pub IsShut : List ℕ → Type 0
 IsShut [] = Unit {0}
-IsShut (gate ∷ []) = Unit {0}
-IsShut (gate ∷ next ∷ rest) = gate ≢ 43
+IsShut (latch ∷ []) = Unit {0}
+IsShut (latch ∷ next ∷ rest) = latch ≢ 43
 
 -- the file is these frames, and what follows them begins no frame
 pub record IsFileOf (file : List ℕ) (fs : List Frame) (end : List ℕ) : Type 0 where
@@ -62,7 +62,7 @@ pub record IsFileOf (file : List ℕ) (fs : List Frame) (end : List ℕ) : Type 
   pub parts : file ≡ frames first_checksum fs ++ end
   pub shut : IsShut end
 
--- the entries of a file, whatever comes after its shut gate
+-- the entries of a file, whatever comes after its shut latch
 pub record StandsFor (file : List ℕ) (entries : List (List ℕ)) : Type 0 where
   pub fs : List Frame
   pub end : List ℕ

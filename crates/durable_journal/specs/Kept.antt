@@ -12,11 +12,11 @@ disk_of journal = journal.disk
 abbrev pub count_of : {D : Type 0} → Journal D → ℕ
 count_of journal = journal.count
 
--- the place of its shut gate
+-- the place of its shut latch
 abbrev pub end_of : {D : Type 0} → Journal D → ℕ
 end_of journal = journal.end
 
--- these frames and a shut gate are all of the file, and all of it is on the disk
+-- these frames and a shut latch are all of the file, and all of it is on the disk
 pub record KeepsFrames {D : Type 0} (seen : D → List ℕ) (may_leave : D → List ℕ → Type 0) (is_usable : D → Bool) (fs : List Frame) (journal : Journal D) : Type 0 where
   pub whole : All IsFrame fs
   pub file : IsDurable seen may_leave is_usable (frames first_checksum fs ++ 45 ∷ []) journal.disk
@@ -24,7 +24,7 @@ pub record KeepsFrames {D : Type 0} (seen : D → List ℕ) (may_leave : D → L
   pub count : journal.count ≡ length fs
   pub last : journal.last ≡ last_checksum first_checksum fs
 
--- the entries are kept: a read gives their frames and a shut gate, and so does each read after a crash
+-- the entries are kept: a read gives their frames and a shut latch, and so does each read after a crash
 pub record IsKept {D : Type 0} (seen : D → List ℕ) (may_leave : D → List ℕ → Type 0) (is_usable : D → Bool) (entries : List (List ℕ)) (journal : Journal D) : Type 0 where
   pub fs : List Frame
   pub kept : KeepsFrames seen may_leave is_usable fs journal

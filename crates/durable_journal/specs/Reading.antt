@@ -21,7 +21,7 @@ pub record IsReadTo (file : List ℕ) (entries : List (Vec ℕ Global)) (last re
   pub last_is : last ≡ last_checksum first_checksum fs
   pub same : batch_of entries ≡ entries_of fs
 
--- After a gate come whole frames of which one says another number of durable entries: so the gate was once open.
+-- After a latch come whole frames of which one says another number of durable entries: so the latch was once open.
 pub record SaysOther (durable : ℕ) (previous behind : List ℕ) : Type 0 where
   pub before : List Frame
   pub frame : Frame
@@ -30,29 +30,38 @@ pub record SaysOther (durable : ℕ) (previous behind : List ℕ) : Type 0 where
   pub parts : 43 ∷ behind ≡ frames previous (before ++ frame ∷ []) ++ more
   pub other : number_of frame.durable ≢ durable
 
--- no whole frame follows an open gate
+-- no whole frame follows an open latch
 abbrev pub HasNoFrame : List ℕ → List ℕ → Type 0
 HasNoFrame previous behind = (f : Frame) (rest : List ℕ) → IsFrame f → behind ≡ packed previous f ++ rest → ⊥
 
--- The entry of this number is damaged, or the gate before it: after the entries before it comes an open gate and no
--- frame, or a shut gate that was once open.
+-- The entry of this number is damaged, or the latch before it: after the entries before it comes an open latch and no
+-- frame, or a shut latch that was once open.
 pub record IsDamaged (file : List ℕ) (number : ℕ) : Type 0 where
   pub fs : List Frame
-  pub gate : ℕ
+  pub latch : ℕ
   pub behind : List ℕ
   pub whole : All IsFrame fs
-  pub parts : file ≡ frames first_checksum fs ++ gate ∷ behind
+  pub parts : file ≡ frames first_checksum fs ++ latch ∷ behind
   pub counts : number ≡ length fs + 1
-  pub cause : ((gate ≡ 43) × (behind ≢ []) × HasNoFrame (last_checksum first_checksum fs) behind) ⊎ (IsShut (gate ∷ behind) × SaysOther (length fs) (last_checksum first_checksum fs) behind)
+  pub cause : ((latch ≡ 43) × (behind ≢ []) × HasNoFrame (last_checksum first_checksum fs) behind) ⊎ (IsShut (latch ∷ behind) × SaysOther (length fs) (last_checksum first_checksum fs) behind)
 
 -- no entry of the file is damaged
 abbrev pub IsWhole : List ℕ → Type 0
 IsWhole file = (number : ℕ) → IsDamaged file number → ⊥
 
--- The file's entries are read up to its shut gate, which is at `end`.
+-- The file's entries are read up to its shut latch, which is at `end`.
 pub record IsFound (file : List ℕ) (entries : List (Vec ℕ Global)) (last : List ℕ) (end : ℕ) : Type 0 where
   pub rest : List ℕ
   pub read : IsReadTo file entries last rest
   pub shut : IsShut rest
   pub end_is : length (frames first_checksum read.fs) ≡ end
   pub few : length entries ≤ 1000000
+
+-- an open latch follows 1,000,000 entries
+pub record HasTooMany (file : List ℕ) : Type 0 where
+  pub fs : List Frame
+  pub behind : List ℕ
+  pub whole : All IsFrame fs
+  pub many : length fs ≡ 1000000
+  pub parts : file ≡ frames first_checksum fs ++ 43 ∷ behind
+  pub some : behind ≢ []

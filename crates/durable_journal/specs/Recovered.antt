@@ -4,23 +4,12 @@ use Rattle.std.specs.declared.alloc.Global.{Global}
 use Rattle.durable_journal.specs.Frames.{first_checksum, frames}
 use Rattle.durable_journal.specs.Disks.{IsDurable}
 use Rattle.durable_journal.specs.Reading.{IsFound, IsWhole, SaysOther}
-use Rattle.durable_journal.specs.declared.fault.JournalFault.{JournalFault}
-use Rattle.durable_journal.specs.declared.fault.JournalFault.TheVariants.{Damaged, Full, Read, Write, Sync, OutOfMemory}
 
--- the gate that begins `rest` was once open
+-- the latch that begins `rest` was once open
 abbrev pub WasOpen : ℕ → List ℕ → List ℕ → Type 0
-WasOpen durable previous rest = (gate : ℕ) × (behind : List ℕ) × (rest ≡ gate ∷ behind) × SaysOther durable previous behind
+WasOpen durable previous rest = (latch : ℕ) × (behind : List ℕ) × (rest ≡ latch ∷ behind) × SaysOther durable previous behind
 
--- a read failed, or memory ran out
-abbrev pub HasReadFault : JournalFault → Type 0
-HasReadFault (Damaged number) = ⊥
-HasReadFault Full = ⊥
-HasReadFault Read = Unit {0}
-HasReadFault Write = ⊥
-HasReadFault Sync = ⊥
-HasReadFault OutOfMemory = Unit {0}
-
--- the file is read, none of its entries is damaged, and its frames and a shut gate are all that is on the disk
+-- the file is read, none of its entries is damaged, and its frames and a shut latch are all that is on the disk
 pub record IsRepaired {D : Type 0} (seen : D → List ℕ) (may_leave : D → List ℕ → Type 0) (is_usable : D → Bool) (file : List ℕ) (entries : List (Vec ℕ Global)) (last : List ℕ) (end : ℕ) (disk : D) : Type 0 where
   pub found : IsFound file entries last end
   pub whole : IsWhole file

@@ -8,7 +8,7 @@ use thiserror::Error;
 /// Why a journal can't be opened, or a batch can't be appended.
 #[derive(Clone, Copy, Debug, PartialEq, Eq, Error)]
 pub enum JournalFault {
-    /// The entry of this number, counted from 1, is damaged, or the gate before it. The file is as it was.
+    /// The entry of this number, counted from 1, is damaged, or the latch before it. The file is as it was.
     #[error("entry {0} is damaged")]
     Damaged(u32),
     /// More than 1,000,000 entries, an entry of more than 16,777,216 bytes, or no room for its end in a number.

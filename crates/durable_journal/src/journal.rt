@@ -1,10 +1,10 @@
 //! A journal that was opened: entries in one file, and what is appended to them.
 ghost use Rattle.std.specs.Prelude.{◌≡◌, ◌⊎◌, ◌<◌, ◌≤◌, ◌+◌, ◌++◌, [], ◌∷◌, List, ℕ, length, All, IsTrue, IfOk, IfErr, OnOk, IsErrOf, ◌↔◌};
-ghost use Rattle.std.specs.List.{Any};
 ghost use Rattle.durable_journal.specs.Frames.{Frame, StandsFor, frames, last_checksum, entries_of};
 ghost use Rattle.durable_journal.specs.Batches.{batch_of, frames_of};
 ghost use Rattle.durable_journal.specs.Disks.{IsDurable};
-ghost use Rattle.durable_journal.specs.Reading.{IsDamaged};
+ghost use Rattle.durable_journal.specs.Faults.{HasAppendFault, HasOpenFault, HasPackFault};
+ghost use Rattle.durable_journal.specs.Reading.{IsWhole};
 
 use crate::JournalFault;
 use crate::pack::pack;
@@ -20,7 +20,7 @@ pub const MOST: usize = 1_000_000;
 #[derive(Drop)]
 pub struct Journal<D: Disk> {
     pub(crate) disk: D,
-    // The place of the shut gate, counted from the file's first byte as 0.
+    // The place of the shut latch, counted from the file's first byte as 0.
     pub(crate) end: usize,
     pub(crate) count: u32,
     // The checksum of the last entry.
@@ -29,7 +29,7 @@ pub struct Journal<D: Disk> {
     pub(crate) buffer: Vec<u8>,
 }
 
-// Packs a batch, with the open gate before it and the shut gate after it, and gives the checksum of its last entry.
+// Packs a batch, with the open latch before it and the shut latch after it, and gives the checksum of its last entry.
 fn pack_whole(
     buffer: &mut Vec<u8>,
     previous: &[u8; 32],
@@ -39,7 +39,7 @@ fn pack_whole(
     ensures bytes { IfOk result (λ _. buffer.new.items ≡ frames previous.now (frames_of durable batch.now) ++ 45 ∷ []) }
     ensures sum { IfOk result (λ sum. sum ≡ last_checksum previous.now (frames_of durable batch.now)) }
     ensures short { IfOk result (λ _. All (λ v. length v.items ≤ 16777216) batch.now) }
-    ensures full { IsErrOf result JournalFault.Full → Any (λ v. 16777216 < length v.items) batch.now }
+    ensures cause { IfErr result (HasPackFault batch.now) }
 {
     buffer.clear();
     let last = pack(buffer, previous, durable, batch)?;
@@ -68,6 +68,8 @@ impl<D: Disk> Journal<D> {
             → StandsFor c (entries_of fs) ⊎ StandsFor c (entries_of (fs ++ frames_of (length fs) batch.now)) }
         ensures refused { (fs : List Frame) → KeepsFrames D.Disk.seen D.Disk.may_leave D.Disk.is_usable fs self.old
             → IsErrOf result JournalFault.Full → KeepsFrames D.Disk.seen D.Disk.may_leave D.Disk.is_usable fs self.new }
+        ensures cause { (fs : List Frame) → KeepsFrames D.Disk.seen D.Disk.may_leave D.Disk.is_usable fs self.old
+            → IfErr result (HasAppendFault (D.Disk.faults self.old.disk) (D.Disk.faults self.new.disk) (entries_of fs) batch.now) }
     {
         let last = pack_whole(&mut self.buffer, &self.last, self.count, batch)?;
         let (_, behind) = self.buffer.split_at(1);
@@ -94,6 +96,8 @@ impl<D: Disk> Journal<D> {
             → StandsFor c entries ⊎ StandsFor c (entries ++ batch_of batch.now) }
         ensures refused { (entries : List (List ℕ)) → IsKept D.Disk.seen D.Disk.may_leave D.Disk.is_usable entries self.old
             → IsErrOf result JournalFault.Full → IsKept D.Disk.seen D.Disk.may_leave D.Disk.is_usable entries self.new }
+        ensures cause { (entries : List (List ℕ)) → IsKept D.Disk.seen D.Disk.may_leave D.Disk.is_usable entries self.old
+            → IfErr result (HasAppendFault (D.Disk.faults (disk_of self.old)) (D.Disk.faults (disk_of self.new)) entries batch.now) }
         // Each frame says how many entries were durable before its batch.
         ensures numbered { (fs : List Frame) → KeepsFrames D.Disk.seen D.Disk.may_leave D.Disk.is_usable fs self.old
             → OnOk result (KeepsFrames D.Disk.seen D.Disk.may_leave D.Disk.is_usable (fs ++ frames_of (length fs) batch.now) self.new) }
@@ -114,11 +118,14 @@ impl<D: Disk> Journal<D> {
     /// stands for the same entries. An `Err` gives the disk back.
     pub fn open(alloc: Global, mut disk: D) -> Result<(Journal<D>, Vec<Vec<u8>>), (JournalFault, D)>
         ensures kept { (file : List ℕ) → IsDurable D.Disk.seen D.Disk.may_leave D.Disk.is_usable file disk → IfOk result (λ opened. IsTrue (D.Disk.is_clean (disk_of opened.0))
-            → StandsFor file (batch_of opened.1.items) × IsKept D.Disk.seen D.Disk.may_leave D.Disk.is_usable (batch_of opened.1.items) opened.0) }
+            → StandsFor file (batch_of opened.1.items) × IsWhole file × IsKept D.Disk.seen D.Disk.may_leave D.Disk.is_usable (batch_of opened.1.items) opened.0) }
         ensures crash { (file : List ℕ) (entries : List (List ℕ)) → IsDurable D.Disk.seen D.Disk.may_leave D.Disk.is_usable file disk → StandsFor file entries
             → IfErr result (λ e. IsTrue (D.Disk.is_clean e.1) → (c : List ℕ) → D.Disk.may_leave e.1 c → StandsFor c entries) }
-        ensures damaged { (file : List ℕ) (number : ℕ) → IsDurable D.Disk.seen D.Disk.may_leave D.Disk.is_usable file disk → IfErr result (λ e. e.0 ≡ JournalFault.Damaged number → IsTrue (D.Disk.is_clean e.1)
-            → IsDamaged file number × IsDurable D.Disk.seen D.Disk.may_leave D.Disk.is_usable file e.1) }
+        ensures cause { (file : List ℕ) → IsDurable D.Disk.seen D.Disk.may_leave D.Disk.is_usable file disk
+            → IfErr result (λ e. IsTrue (D.Disk.is_clean e.1) → HasOpenFault (D.Disk.faults disk) (D.Disk.faults e.1) file e.0) }
+        // Where an entry is damaged, nothing is written.
+        ensures untouched { (file : List ℕ) (number : ℕ) → IsDurable D.Disk.seen D.Disk.may_leave D.Disk.is_usable file disk
+            → IfErr result (λ e. e.0 ≡ JournalFault.Damaged number → IsDurable D.Disk.seen D.Disk.may_leave D.Disk.is_usable file e.1) }
     {
         match recover(alloc, &mut disk) {
             Err(fault) => Err((fault, disk)),

@@ -4,13 +4,15 @@
 
 mod checksum;
 mod fault;
-mod gate;
 mod journal;
+mod latch;
 mod laws;
 mod next;
 mod pack;
 mod publish;
 mod recovery;
+#[cfg(test)]
+mod tests;
 mod walk;
 
 pub use fault::JournalFault;

@@ -5,7 +5,7 @@ ghost use Rattle.durable_journal.specs.Reading.{IsNext};
 
 use crate::checksum::{checksum_of, number_in};
 
-/// A frame that follows a gate, and what comes after the frame.
+/// A frame that follows a latch, and what comes after the frame.
 #[derive(Clone, Copy)]
 pub struct Found<'a> {
     /// How many entries were durable before the entry's batch.

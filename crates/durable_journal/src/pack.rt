@@ -1,8 +1,8 @@
 //! A batch, packed into the bytes that are written for it.
-ghost use Rattle.std.specs.Prelude.{◌≡◌, ◌<◌, ◌≤◌, ◌^◌, ◌++◌, [], ◌∷◌, length, All, IfOk, IsErrOf};
-ghost use Rattle.std.specs.List.{Any};
+ghost use Rattle.std.specs.Prelude.{◌≡◌, ◌<◌, ◌≤◌, ◌^◌, ◌++◌, [], ◌∷◌, length, All, IfOk, IfErr};
 ghost use Rattle.durable_journal.specs.Frames.{checksum, packed, frames, framed, last_checksum};
 ghost use Rattle.durable_journal.specs.Batches.{frames_of};
+ghost use Rattle.durable_journal.specs.Faults.{HasPackFault};
 
 use crate::JournalFault;
 use crate::checksum::checksum_of;
@@ -10,7 +10,7 @@ use crate::checksum::checksum_of;
 /// The most bytes of an entry.
 pub const LONGEST: usize = 16_777_216;
 
-// Adds an open gate and an entry's frame after it, and gives its checksum.
+// Adds an open latch and an entry's frame after it, and gives its checksum.
 fn push_frame(
     buffer: &mut Vec<u8>,
     previous: &[u8; 32],
@@ -20,7 +20,7 @@ fn push_frame(
     requires { length entry.now < 2 ^ 32 }
     ensures bytes { IfOk result (λ _. buffer.new.items ≡ buffer.old.items ++ 43 ∷ packed previous.now (framed durable entry.now)) }
     ensures sum { IfOk result (λ sum. sum ≡ checksum previous.now (framed durable entry.now)) }
-    ensures full { IsErrOf result JournalFault.Full → ⊥ }
+    ensures cause { IfErr result (λ e. e ≡ JournalFault.OutOfMemory) }
 {
     let durable = durable.to_be_bytes();
     let size = (entry.len() as u32).to_be_bytes();
@@ -33,7 +33,7 @@ fn push_frame(
     Ok(sum)
 }
 
-/// Adds the frames of a batch, each after an open gate, and gives the checksum of the last.
+/// Adds the frames of a batch, each after an open latch, and gives the checksum of the last.
 pub fn pack(
     buffer: &mut Vec<u8>,
     previous: &[u8; 32],
@@ -44,7 +44,7 @@ pub fn pack(
     ensures bytes { IfOk result (λ _. buffer.new.items ≡ frames previous.now (frames_of durable batch.now)) }
     ensures sum { IfOk result (λ sum. sum ≡ last_checksum previous.now (frames_of durable batch.now)) }
     ensures short { IfOk result (λ _. All (λ v. length v.items ≤ 16777216) batch.now) }
-    ensures full { IsErrOf result JournalFault.Full → Any (λ v. 16777216 < length v.items) batch.now }
+    ensures cause { IfErr result (HasPackFault batch.now) }
 {
     let mut sum = *previous;
     for entry in batch {

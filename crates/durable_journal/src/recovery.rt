@@ -1,17 +1,19 @@
 //! A file that a crash may have left: its entries are read, and its end is repaired.
-ghost use Rattle.std.specs.Prelude.{◌≡◌, ◌<◌, ◌≤◌, ◌+◌, ◌^◌, ℕ, [], ◌∷◌, ◌++◌, List, length, IsTrue, IfOk, IfErr, OnOk, IsErrOf, ◌↔◌};
+ghost use Rattle.std.specs.Prelude.{◌≡◌, ◌<◌, ◌≤◌, ◌+◌, ◌^◌, ℕ, [], ◌∷◌, ◌++◌, List, length, IsTrue, IfOk, IfErr, OnOk, IsErrOf, MatchResult, ◌↔◌};
+ghost use Rattle.sqlite_disk.specs.Disk.{CountsFault, MoreFaults};
 ghost use Rattle.durable_journal.specs.Frames.{StandsFor};
-ghost use Rattle.durable_journal.specs.Disks.{IsDurable, StaysShut, IsOfDisk};
-ghost use Rattle.durable_journal.specs.Reading.{IsFound, IsDamaged, IsWhole};
-ghost use Rattle.durable_journal.specs.Recovered.{IsRepaired, WasOpen, HasReadFault};
+ghost use Rattle.durable_journal.specs.Disks.{IsDurable, StaysShut};
+ghost use Rattle.durable_journal.specs.Faults.{HasFileFault, HasOpenFault, HasReadFault, HasWriteFault};
+ghost use Rattle.durable_journal.specs.Reading.{IsFound, IsWhole};
+ghost use Rattle.durable_journal.specs.Recovered.{IsRepaired, WasOpen};
 
 use crate::JournalFault;
-use crate::gate::{cut_behind, write_gate};
+use crate::latch::{cut_behind, write_latch};
 use crate::walk::{says_other, walk_entries};
 use sqlite_disk::Disk;
 use std::alloc::Global;
 
-/// The entries of a file, the place of its shut gate, and the checksum of the last entry.
+/// The entries of a file, the place of its shut latch, and the checksum of the last entry.
 #[derive(Drop)]
 pub struct Recovered {
     pub entries: Vec<Vec<u8>>,
@@ -27,6 +29,7 @@ fn read_all<D: Disk>(alloc: Global, disk: &mut D) -> Result<Vec<u8>, JournalFaul
     ensures crash { (c : List ℕ) → D.Disk.may_leave disk.new c → D.Disk.may_leave disk.old c }
     ensures usable { IsTrue (D.Disk.is_usable disk.new) }
     ensures clean { IsTrue (D.Disk.is_clean disk.new) → IsTrue (D.Disk.is_clean disk.old) }
+    ensures faults { MatchResult result (λ _. D.Disk.faults disk.new ≡ D.Disk.faults disk.old) (λ e. e ≡ JournalFault.Read → MoreFaults (D.Disk.faults disk.old) (D.Disk.faults disk.new)) }
     ensures cause { IfErr result HasReadFault }
 {
     match disk.len() {
@@ -41,7 +44,7 @@ fn read_all<D: Disk>(alloc: Global, disk: &mut D) -> Result<Vec<u8>, JournalFaul
     }
 }
 
-// Whether frames after this gate show that it was once open.
+// Whether frames after this latch show that it was once open.
 fn was_open(rest: &[u8], last: &[u8; 32], count: u32) -> bool
     ensures { IsTrue result ↔ WasOpen count last.now rest.now }
 {
@@ -55,7 +58,7 @@ fn was_open(rest: &[u8], last: &[u8; 32], count: u32) -> bool
 fn read_file(alloc: Global, bytes: &[u8]) -> Result<Recovered, JournalFault>
     ensures found { IfOk result (λ r. IsFound bytes.now r.entries.items r.last r.end) }
     ensures whole { OnOk result (IsWhole bytes.now) }
-    ensures damaged { (number : ℕ) → IsErrOf result (JournalFault.Damaged number) → IsDamaged bytes.now number }
+    ensures cause { IfErr result (HasFileFault bytes.now) }
 {
     let walked = walk_entries(alloc, bytes)?;
     let count = walked.entries.len() as u32;
@@ -69,7 +72,7 @@ fn read_file(alloc: Global, bytes: &[u8]) -> Result<Recovered, JournalFault>
     })
 }
 
-// Cuts what comes after the gate at this place, and then shuts it: in this order, since a torn write could open it.
+// Cuts what comes after the latch at this place, and then shuts it: in this order, since a torn write could open it.
 fn repair<D: Disk>(disk: &mut D, end: usize) -> Result<(), JournalFault>
     requires usable { IsTrue (D.Disk.is_usable disk.old) }
     requires fits { end + 1 < 2 ^ 64 }
@@ -78,10 +81,11 @@ fn repair<D: Disk>(disk: &mut D, end: usize) -> Result<(), JournalFault>
     ensures crash { (front tail : List ℕ) → length front ≡ end → IsDurable D.Disk.seen D.Disk.may_leave D.Disk.is_usable (front ++ tail) disk.old
         → (c : List ℕ) → D.Disk.may_leave disk.new c → StaysShut front tail c }
     ensures clean { D.Disk.is_clean disk.new ≡ D.Disk.is_clean disk.old }
-    ensures cause { IfErr result IsOfDisk }
+    ensures faults { CountsFault result (D.Disk.faults disk.old) (D.Disk.faults disk.new) }
+    ensures cause { IfErr result HasWriteFault }
 {
     match cut_behind(disk, end) {
-        Ok(()) => write_gate(disk, end, 45),
+        Ok(()) => write_latch(disk, end, 45),
         Err(fault) => Err(fault),
     }
 }
@@ -94,8 +98,10 @@ pub fn recover<D: Disk>(alloc: Global, disk: &mut D) -> Result<Recovered, Journa
     ensures few { IfOk result (λ r. length r.entries.items ≤ 1000000) }
     ensures crash { (file : List ℕ) (entries : List (List ℕ)) → IsDurable D.Disk.seen D.Disk.may_leave D.Disk.is_usable file disk.old → StandsFor file entries
         → IsTrue (D.Disk.is_clean disk.new) → (c : List ℕ) → D.Disk.may_leave disk.new c → StandsFor c entries }
-    ensures damaged { (file : List ℕ) (number : ℕ) → IsDurable D.Disk.seen D.Disk.may_leave D.Disk.is_usable file disk.old → IsErrOf result (JournalFault.Damaged number)
-        → IsTrue (D.Disk.is_clean disk.new) → IsDamaged file number × IsDurable D.Disk.seen D.Disk.may_leave D.Disk.is_usable file disk.new }
+    ensures cause { (file : List ℕ) → IsDurable D.Disk.seen D.Disk.may_leave D.Disk.is_usable file disk.old
+        → IfErr result (λ e. IsTrue (D.Disk.is_clean disk.new) → HasOpenFault (D.Disk.faults disk.old) (D.Disk.faults disk.new) file e) }
+    ensures untouched { (file : List ℕ) (number : ℕ) → IsDurable D.Disk.seen D.Disk.may_leave D.Disk.is_usable file disk.old → IsErrOf result (JournalFault.Damaged number)
+        → IsDurable D.Disk.seen D.Disk.may_leave D.Disk.is_usable file disk.new }
 {
     if !disk.may_be_used() {
         return Err(JournalFault::Sync);

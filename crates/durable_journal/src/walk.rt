@@ -1,7 +1,8 @@
-//! The entries of a file's bytes, up to its shut gate, and whether that gate was once open.
-ghost use Rattle.std.specs.Prelude.{◌≡◌, ◌≢◌, ◌≤◌, ◌↔◌, ℕ, [], ◌∷◌, length, IsTrue, IfOk, IsErrOf, MatchOption};
+//! The entries of a file's bytes, up to its shut latch, and whether that latch was once open.
+ghost use Rattle.std.specs.Prelude.{◌≡◌, ◌≢◌, ◌≤◌, ◌↔◌, ℕ, [], ◌∷◌, length, IsTrue, IfOk, IfErr, MatchOption};
 ghost use Rattle.durable_journal.specs.Frames.{IsShut};
-ghost use Rattle.durable_journal.specs.Reading.{IsReadTo, SaysOther, IsDamaged};
+ghost use Rattle.durable_journal.specs.Faults.{HasFileFault};
+ghost use Rattle.durable_journal.specs.Reading.{IsReadTo, SaysOther};
 
 use crate::JournalFault;
 use crate::checksum::first;
@@ -17,8 +18,8 @@ pub struct Walked<'a> {
     pub rest: &'a [u8],
 }
 
-// What comes after an open gate, where there is one and anything after it.
-fn behind_gate(rest: &[u8]) -> Option<&[u8]>
+// What comes after an open latch, where there is one and anything after it.
+fn behind_latch(rest: &[u8]) -> Option<&[u8]>
     ensures { MatchOption result (IsShut rest.now) (λ behind. (rest.now ≡ 43 ∷ behind.now) × (behind.now ≢ [])) }
 {
     if rest.len() < 2 || rest[0] != 43 {
@@ -27,17 +28,17 @@ fn behind_gate(rest: &[u8]) -> Option<&[u8]>
     Some(rest.split_at(1).1)
 }
 
-/// The entries up to the first gate that isn't open: `Damaged` where no whole frame follows an open one.
+/// The entries up to the first latch that isn't open: `Damaged` where no whole frame follows an open one.
 pub fn walk_entries<'a>(alloc: Global, bytes: &'a [u8]) -> Result<Walked<'a>, JournalFault>
     ensures read { IfOk result (λ w. IsReadTo bytes.now w.entries.items w.last w.rest.now) }
     ensures few { IfOk result (λ w. length w.entries.items ≤ 1000000) }
     ensures shut { IfOk result (λ w. IsShut w.rest.now) }
-    ensures damaged { (number : ℕ) → IsErrOf result (JournalFault.Damaged number) → IsDamaged bytes.now number }
+    ensures cause { IfErr result (HasFileFault bytes.now) }
 {
     let mut entries = Vec::new(alloc);
     let mut last = first();
     let mut rest = bytes;
-    while let Some(behind) = behind_gate(rest) {
+    while let Some(behind) = behind_latch(rest) {
         if entries.len() >= MOST {
             return Err(JournalFault::Full);
         }
@@ -57,7 +58,7 @@ pub fn walk_entries<'a>(alloc: Global, bytes: &'a [u8]) -> Result<Walked<'a>, Jo
     })
 }
 
-/// Whether whole frames follow a shut gate of which one says another number of durable entries than this.
+/// Whether whole frames follow a shut latch of which one says another number of durable entries than this.
 pub fn says_other(start: &[u8], previous: &[u8; 32], durable: u32) -> bool
     ensures { IsTrue result ↔ SaysOther durable previous.now start.now }
 {
@@ -67,7 +68,7 @@ pub fn says_other(start: &[u8], previous: &[u8; 32], durable: u32) -> bool
         if found.durable != durable {
             return true;
         }
-        match behind_gate(found.rest) {
+        match behind_latch(found.rest) {
             None => return false,
             Some(next) => {
                 last = found.checksum;

@@ -2,7 +2,7 @@
 
 ghost use Rattle.std.specs.Prelude.{◌≡◌, []};
 ghost use Rattle.docket_rows.specs.Words.{setup_of};
-ghost use Rattle.published_docket.specs.Words.{past};
+ghost use Rattle.published_docket.specs.Words.{trail_view};
 ghost use Rattle.clerk_workers.specs.Words.{AreOfClerks};
 
 use clerk_gates::{Gate, OpenGate};
@@ -140,7 +140,7 @@ fn answers_in<L: NamesOffice + Send + Sync, R: Threads + Wait + Sync + Abort, G:
     requires name { blank.name ≡ L.name }
     requires parts { blank.parts ≡ L.parts }
     requires all { L.parts ≡ 64 }
-    requires publisher { publisher ≡ record { parts = L.setup; trail = past L.history [] } }
+    requires publisher { publisher ≡ record { parts = L.setup; trail = trail_view L.history [] } }
     requires court { L.setup ≡ setup_of court.now }
     requires clerks { AreOfClerks seats rows.now }
 {

@@ -15,6 +15,6 @@ loop-entry-preserved c = record {
       (subst (λ (v : Vec ℕ Global). length v.items ≤ 16777216) c.entry-item.is (omega (arith, ap length c.as_slice-bytes.ensures.value)));
 }
 
-pub returns-then-bytes-gt-LONGEST-clause-full : goal.returns-then-bytes-gt-LONGEST-clause-full
-returns-then-bytes-gt-LONGEST-clause-full c = λ full.
+pub returns-then-bytes-gt-LONGEST-clause-cause : goal.returns-then-bytes-gt-LONGEST-clause-cause
+returns-then-bytes-gt-LONGEST-clause-cause c =
     (c.loop-entry.entry-index, c.entry-item.result, c.loop-entry-test.true, sym c.entry-item.is, omega (arith, ap length c.as_slice-bytes.ensures.value))

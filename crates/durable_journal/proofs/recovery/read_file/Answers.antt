@@ -1,14 +1,12 @@
-use Rattle.std.proofs.Common.{◌≡◌, ◌+◌, length, sym, ◌∙◌, ap, subst, arith, length-append}
+use Rattle.std.proofs.Common.{length, sym, ◌∙◌, ap, arith, length-append}
 use Rattle.std.proofs.lemmas.Bool.{false≢true}
 use Rattle.durable_journal.specs.Frames.{first_checksum, frames}
-use Rattle.durable_journal.specs.Reading.{IsDamaged}
 use Rattle.durable_journal.proofs.recovery.read_file.Goals as goal
 use Rattle.durable_journal.proofs.RecoverLemmas.{damaged_behind, whole_file}
 
-pub returns-then-was_open-clause-damaged : goal.returns-then-was_open-clause-damaged
-returns-then-was_open-clause-damaged c = λ number is.
-    let same : c.len-count.result + 1 ≡ number = cc in
-    subst (IsDamaged c.args.bytes.now) same (damaged_behind c.args.bytes.now c.in_ok-walked.walked.entries.items c.in_ok-walked.walked.last c.in_ok-walked.walked.rest.now c.len-count.result c.in_ok-walked.ensures.read c.in_ok-walked.ensures.shut (c.len-count.ensures ∙ c.in_ok-walked.walked.entries.ok.0) (c.was_open.ensures.0 c.if-was_open.true))
+pub returns-then-was_open-clause-cause : goal.returns-then-was_open-clause-cause
+returns-then-was_open-clause-cause c =
+    damaged_behind c.args.bytes.now c.in_ok-walked.walked.entries.items c.in_ok-walked.walked.last c.in_ok-walked.walked.rest.now c.len-count.result c.in_ok-walked.ensures.read c.in_ok-walked.ensures.shut (c.len-count.ensures ∙ c.in_ok-walked.walked.entries.ok.0) (c.was_open.ensures.0 c.if-was_open.true)
 
 pub returns-clause-found : goal.returns-clause-found
 returns-clause-found c =

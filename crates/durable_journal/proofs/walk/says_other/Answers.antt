@@ -20,7 +20,7 @@ returns-in-None c = (
 pub loop-found-preserved : goal.loop-found-preserved
 loop-found-preserved c =
     walked_more c.args.durable c.args.previous.now c.args.start.now c.loop-found.last c.loop-found.behind.now c.loop-found.invariant
-    c.in-Some.found.durable c.in-Some.found.checksum c.in-Some.found.entry.now c.in-Some.found.rest.now c.in-Some.ensures.some (omega arith) c.in-Some-behind_gate.next.now c.in-Some-behind_gate.ensures.0
+    c.in-Some.found.durable c.in-Some.found.checksum c.in-Some.found.entry.now c.in-Some.found.rest.now c.in-Some.ensures.some (omega arith) c.in-Some-behind_latch.next.now c.in-Some-behind_latch.ensures.0
 
 pub returns : goal.returns
 returns c = (

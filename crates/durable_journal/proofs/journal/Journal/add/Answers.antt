@@ -6,6 +6,7 @@ use Rattle.durable_journal.specs.Disks.{IsDurable}
 use Rattle.durable_journal.proofs.journal.Journal.add.Goals as goal
 use Rattle.durable_journal.proofs.BatchLemmas.{are_frames}
 use Rattle.durable_journal.proofs.CrashLemmas.{opened}
+use Rattle.durable_journal.proofs.FaultLemmas.{no_number}
 use Rattle.durable_journal.proofs.KeptLemmas.{packed_is, end_more, count_more, last_more, left_of_append}
 
 pub returns-in_err-publish-in-Some-clause-crash : goal.returns-in_err-publish-in-Some-clause-crash
@@ -30,3 +31,10 @@ returns-in_ok-publish-in-Some-clause-kept g c = λ fs kept.
       count = count_more fs c.args.batch.now c.requires.some c.args.self.now.count c.args.self.now.last c.pack_whole.new.buffer.items c.split_at.result.1.now kept.count kept.last c.in_ok-last.ensures.bytes (c.split_at.ensures.back ∙ ap (drop 1) c.deref.ensures.value) (c.args.self.now.count + length c.args.batch.now) refl;
       last = last_more fs c.args.batch.now c.requires.some c.args.self.now.count c.args.self.now.last c.pack_whole.new.buffer.items c.split_at.result.1.now kept.count kept.last c.in_ok-last.ensures.bytes (c.split_at.ensures.back ∙ ap (drop 1) c.deref.ensures.value) c.in_ok-last.last c.in_ok-last.ensures.sum;
     }
+
+pub returns-in-None-clause-cause : goal.returns-in-None-clause-cause
+returns-in-None-clause-cause g c = λ fs kept.
+    no_number fs (length fs) c.args.batch.now (c.args.self.now.end + length c.split_at.result.1.now)
+    (All-append IsFrame fs (frames_of (length fs) c.args.batch.now) kept.whole (are_frames (length fs) c.args.batch.now c.in_ok-last.ensures.short))
+    (end_more fs c.args.batch.now c.requires.some c.args.self.now.count c.args.self.now.last c.pack_whole.new.buffer.items c.split_at.result.1.now kept.count kept.last c.in_ok-last.ensures.bytes (c.split_at.ensures.back ∙ ap (drop 1) c.deref.ensures.value) c.args.self.now.end (c.args.self.now.end + length c.split_at.result.1.now) kept.end refl)
+    (omega (arith, c.in-None.ensures))

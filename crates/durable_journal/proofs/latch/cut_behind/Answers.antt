@@ -1,7 +1,7 @@
 use Rattle.std.proofs.Common.{List, ℕ, length, get_or, subst}
 use Rattle.std.proofs.lemmas.Result.{on_ok_weaker}
 use Rattle.durable_journal.specs.Disks.{IsDurable}
-use Rattle.durable_journal.proofs.gate.cut_behind.Goals as goal
+use Rattle.durable_journal.proofs.latch.cut_behind.Goals as goal
 use Rattle.durable_journal.proofs.DiskLemmas.{crash_cut, cut_made}
 
 pub returns-in-Ok-clause-durable : goal.returns-in-Ok-clause-durable

@@ -1,5 +1,5 @@
 use Rattle.std.proofs.Common.{length}
-use Rattle.durable_journal.proofs.gate.write_end.Goals as goal
+use Rattle.durable_journal.proofs.latch.write_end.Goals as goal
 use Rattle.durable_journal.proofs.DiskLemmas.{crash_end}
 
 pub returns-in-Ok-clause-crash : goal.returns-in-Ok-clause-crash
