@@ -1,4 +1,5 @@
 pub mod BatchLemmas
+pub mod CallerLemmas
 pub mod CrashLemmas
 pub mod DiskLemmas
 pub mod FaultLemmas

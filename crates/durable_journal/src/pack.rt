@@ -10,7 +10,7 @@ use crate::checksum::checksum_of;
 /// The most bytes of an entry.
 pub const LONGEST: usize = 16_777_216;
 
-// Adds an open latch and an entry's frame after it, and gives its checksum.
+// Adds an entry's frame after an open latch, and gives its checksum.
 fn push_frame(
     buffer: &mut Vec<u8>,
     previous: &[u8; 32],
