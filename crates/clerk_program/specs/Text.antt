@@ -20,7 +20,7 @@ pub record IsTextOf (clerks journal : ℕ) (input : Input) (text : List ℕ) : T
   pub is_court : file_of court ≡ input.file
   pub is_text : IsTextBy clerks journal court input.rows text
 
--- the run of an office of so many clerks, whose journal takes so many entries: its text is that of the answers, sheets
+-- the run of an office of that number of clerks, with that limit of its journal: its text is that of the answers, sheets
 -- and calendars
 abbrev pub IsRun : (clerks journal : ℕ) → Option (List ℕ) → Option (List ℕ) → Result (Unit {0}) OfficeFault → Result Input OfficeFault → Type 0
 IsRun clerks journal old new result said = IsRunBy (IsTextOf clerks journal) old new result said

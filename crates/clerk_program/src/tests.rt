@@ -47,7 +47,7 @@ impl Read for Pieces<'_> {
     }
 }
 
-// A reader that gives so many line ends at a time, and never ends.
+// A reader that gives a number of line ends at a time, and never ends.
 #[derive(Drop)]
 struct Endless {
     most: usize,
@@ -85,7 +85,7 @@ impl Write for Page {
     }
 }
 
-// Rows of the sample court, and blank lines up to so many bytes.
+// Rows of the sample court, and blank lines up to a number of bytes.
 fn input_of(alloc: Global, rows: &str, bytes: usize) -> Result<String, AllocError> {
     let mut input = format!(in alloc; "{}%%\n{rows}", file())?;
     for _ in input.len()..bytes {
@@ -94,8 +94,8 @@ fn input_of(alloc: Global, rows: &str, bytes: usize) -> Result<String, AllocErro
     Ok(input)
 }
 
-// A run of so many clerks, whose reads give so many bytes, and of whose reads so many succeed; its writer, and whether its
-// input ended.
+// A run of these clerks, each of whose reads gives at most this number of bytes, and whose reads fail after this number of
+// them; its writer, and whether its input ended.
 fn run<H: Threads + Wait + Sync>(
     rt: &H,
     alloc: Global,
@@ -144,7 +144,7 @@ fn takes_two_megabytes_in_any_pieces(rt: HostRuntime) -> Result<(), Fail> {
     Ok(())
 }
 
-// Lets each read fail of a run of so many clerks with these rows.
+// Lets each read fail of a run of these clerks with these rows.
 fn fail_each_read<H: Threads + Wait + Sync + Abort>(
     rt: &H,
     alloc: Global,
@@ -185,7 +185,7 @@ fn stops_where_the_input_never_ends(rt: HostRuntime) -> Result<(), Fail> {
     Ok(())
 }
 
-// Lets a write fail, behind so many bytes of that text, of a run of so many clerks with these rows.
+// Lets a write fail, after this number of bytes of that text, of a run of these clerks with these rows.
 fn fail_a_write<H: Threads + Wait + Sync + Abort>(
     rt: &H,
     alloc: Global,

@@ -13,7 +13,7 @@ use std::alloc::{AllocError, Global};
 use std::sync::Wait;
 use std::thread::Threads;
 
-// The bytes of the text of the run of these rows in this court, by so many clerks.
+// The bytes of the text of the run of these rows in this court, by one clerk or by several.
 pub(crate) fn text_of<H: Threads + Wait + Sync, G: Gate>(
     rt: &H,
     alloc: Global,

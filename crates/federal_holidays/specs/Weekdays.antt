@@ -26,7 +26,7 @@ pub record IsInMonth (month : ℕ) (year d : ℤ) : Type 0 where
   pub from_its_first : days_from_civil year month 1 ≤ℤ d
   pub to_its_last : d ≤ℤ days_from_civil year month (days_in_month year month)
 
--- r is the nth such weekday of the month: so many weeks before it are the month's too, and not one more
+-- r is the nth such weekday of the month: n - 1 weeks before it the day is one of the month too, and n weeks before it isn't
 pub record IsNthWeekday (n : ℕ) (w : Weekday) (month : ℕ) (year r : ℤ) : Type 0 where
   pub weekday : weekday_of r ≡ monday_zero w
   pub in_month : IsInMonth month year r

@@ -16,7 +16,7 @@ use Rattle.memo_program.specs.Texts.{Each, Is, Then}
 abbrev pub IsSheetOf : CourtView → List NamedDay → (docketed : Rows) → (case : ℕ) → List ℕ → Type 0
 IsSheetOf court names docketed case = IsSheetShown court names docketed.days (view_of (setup_of court) docketed (query.Sheet case))
 
--- the sheets of so many cases from a first number on
+-- the sheets of a number of cases from a first number on
 abbrev pub AreSheets : CourtView → List NamedDay → (docketed : Rows) → (first count : ℕ) → List ℕ → Type 0
 AreSheets court names docketed first count = Each (IsSheetOf court names docketed) (range_with_len first count)
 

@@ -63,7 +63,7 @@ fn push_explained(
     push_deadline_reasons(alloc, text, court, names, days, &deadline.row)
 }
 
-/// Adds the sheets of the open ones of so many cases, from the first number on.
+/// Adds the sheets of the open ones of that number of cases, from the first number on.
 pub(crate) fn push_sheets(
     alloc: Global,
     text: &mut String,

@@ -15,7 +15,7 @@ pub struct Options {
 }
 
 impl Options {
-    /// A run with so many clerks, whose journal takes so many entries. None outside 1 to 64 clerks and 0 to
+    /// A run with that number of clerks, whose journal takes that number of entries. None outside 1 to 64 clerks and 0 to
     /// 1,000,000 entries.
     pub fn new(clerks: u8, journal: u32) -> Option<Options>
         ensures within { IsSome result ↔ ((1 ≤ clerks) × (clerks ≤ 64) × (journal ≤ 1_000_000)) }

@@ -10,7 +10,7 @@ use Rattle.office_streams.specs.Office.{Input, IsRunBy, input_of}
 abbrev pub input_checked : CheckedInput → Input
 input_checked checked = record { file = file_of checked.court; rows = checked.rows.items }
 
--- By its answer, a run of so many clerks has written a text of its input or, where a write failed, a beginning of one; or
+-- By its answer, a run of that number of clerks has written a text of its input or, where a write failed, a beginning of one; or
 -- the input has the fault that the answer names. What a text is may also hang on the bytes of the court's file.
 abbrev pub IsReportRun : (clerks : ℕ) → (IsText : (file : List ℕ) → Input → List ℕ → Type 0) → (old new : Option (List ℕ)) → Result (Unit {0}) OfficeFault → (input : List ℕ) → Type 0
 IsReportRun clerks IsText old new result input = IsRunBy (IsText (court_part input)) old new result (input_of clerks input)

@@ -22,7 +22,7 @@ pub struct CheckedInput {
 }
 
 /// The court and the rows of an input, or its first fault: one of the court's file, or else the first of a row that has
-/// one. There are so many clerks. `OutOfMemory` alone comes where memory ran out.
+/// one. Rows may be of that number of clerks. `OutOfMemory` alone comes where memory ran out.
 #[tactic(auto, unfolding(crate::specs::Office::input_of))]
 pub fn check_input(alloc: Global, input: &[u8], clerks: u8) -> Result<CheckedInput, OfficeFault>
     ensures said { AnswersInput IsChecked result (input_of clerks input.now) }

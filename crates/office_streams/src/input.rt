@@ -56,7 +56,7 @@ pub fn read_all<R: Read>(alloc: Global, reader: &mut Watched<R>) -> Result<Vec<u
     Err(OfficeFault::ReadFault)
 }
 
-// Room for so many bytes. It lies on the heap, since a function pays at its entry for the size of its locals.
+// Room for that number of bytes. It lies on the heap, since a function pays at its entry for the size of its locals.
 fn buffer_of(alloc: Global, count: usize) -> Result<Vec<u8>, OfficeFault>
     ensures room { IfOk result (λ buffer. vec_len buffer ≡ count) }
     ensures fault { IfErr result (λ fault. fault ≡ OfficeFault.OutOfMemory) }

@@ -47,7 +47,7 @@ fn a_change_leaves_the_older_days(rt: HostRuntime) -> Result<(), Fail> {
     Ok(())
 }
 
-/// The day that lies so many days behind the first that is covered.
+/// The day that is that number of days after the first that is covered.
 fn day_from_first(rt: &impl Abort, days: &Days, n: u16) -> Day {
     Day::new(days.from().number() + i32::from(n)).expect(rt, "a day")
 }
