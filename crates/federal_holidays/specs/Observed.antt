@@ -5,7 +5,7 @@
 -- before a Saturday is a legal holiday for the pay and leave of employees (6103(b)(1)), and the Monday after a Sunday is given
 -- to them by Executive Order 11582 of 1971 (for 1970 by Executive Order 10358). Rule 6 names neither. Whether a court takes
 -- them as legal holidays, because it closes or as declared by the President or Congress (6(a)(6)(B)), is for the court to say.
--- So these days are told apart from those set by law.
+-- So these days are kept apart from those set by law.
 --
 -- Inauguration Day has no other day: 6103(c) itself moves it from a Sunday.
 use Rattle.std.specs.Prelude.{◌≡◌, ◌↔◌, ◌==◌, ℤ, pos, ◌+ℤ◌, ◌-ℤ◌, false, Option, Some, None, if◌then◌else◌}

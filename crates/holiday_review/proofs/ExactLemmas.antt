@@ -1,4 +1,4 @@
--- Which days are told: those of the span that pass, in their order.
+-- Which days a review has: those of the span that pass, in their order.
 use Rattle.std.proofs.Common.{◌≡◌, ◌⊎◌, inl, inr, ◌<◌, ℕ, zero, suc, ℤ, pos, negsuc, ◌+ℤ◌, ◌-ℤ◌, ◌≤ℤ◌, ◌<ℤ◌, unsigned_abs, Bool, true, false, List, ◌∷◌, length, get_or, Option, Some, None, filter_map, if◌then◌else◌, arith, refl, ap, sym, ◌∙◌}
 use Rattle.std.specs.List.{AllPairs, Contains, cons_option}
 use Rattle.std.proofs.lemmas.Int.{ints}
@@ -21,7 +21,7 @@ first_cases (Some x) ys y h = elim (cons_cases x y ys h.0 h.1 h.2) [
   | inr rest ↦ inr rest
 ]
 
--- an item that is told is told of one of the days
+-- each item of a review is of one of the days
 pub record IsToldOf {Y : Type 0} (h : ℤ → Option Y) (first : ℤ) (n : ℕ) (y : Y) : Type 0 where
   pub place : ℕ
   pub within : place < n
@@ -49,7 +49,7 @@ first_has : {Y : Type 0} (o : Option Y) (ys : List Y) (y : Y) → o ≡ Some y �
 first_has None ys y h = absurd (cc)
 first_has (Some x) ys y h = let same : x ≡ y = cc in (0, omega arith, same)
 
--- and each that passes is told
+-- and the review has each that passes
 is_told : {Y : Type 0} (h : ℤ → Option Y) (first : ℤ) (n k : ℕ) (y : Y) → k < n → h (first +ℤ pos k) ≡ Some y → Contains (filter_map h (days_from first n)) y
 unfolding days_from
 is_told h first zero k y within told = absurd (omega (arith, within))
@@ -145,7 +145,7 @@ unknowns_are_exact c capital d = (
       is_told (unknown c capital) c.from (days_through c.from c.to) spot.place d spot.within (ap (unknown c capital) spot.is ∙ told)),
 )
 
--- what is told of later days comes later
+-- what it has of later days comes later
 put_first : {Y : Type 0} (h : ℤ → Option Y) (key : Y → ℤ) → ((e : ℤ) (y : Y) → h e ≡ Some y → key y ≡ e) → (first : ℤ) (n : ℕ) → AllPairs (λ a b. key a <ℤ key b) (filter_map h (days_from (first +ℤ pos 1) n)) → (o : Option Y) → h first ≡ o → AllPairs (λ a b. key a <ℤ key b) (cons_option o (filter_map h (days_from (first +ℤ pos 1) n)))
 put_first h key keyed first n rest None is = rest
 put_first {Y} h key keyed first n rest (Some x) is = AllPairs-cons (λ a b. key a <ℤ key b) x (filter_map h (days_from (first +ℤ pos 1) n)) (λ k d within.

@@ -1,4 +1,4 @@
--- What is told of one day more, and which days are told.
+-- What a review has of one day more.
 use Rattle.std.proofs.Common.{◌≡◌, ℕ, zero, suc, ◌+◌, ℤ, pos, ◌+ℤ◌, List, [], ◌∷◌, ◌++◌, option_to_list, Option, Some, None, filter_map, ap, sym, ◌∙◌, refl, arith}
 use Rattle.std.specs.List.{cons_option}
 use Rattle.std.proofs.lemmas.Int.{ints}

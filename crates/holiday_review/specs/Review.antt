@@ -17,7 +17,7 @@ due_of None None = None
 abbrev pub due_on : Bool → ℤ → Option Due
 due_on capital d = due_of (holiday_on d capital) (observed_on d)
 
--- what is told of a day that the list lacks: the day and the reason, if there is one
+-- what the review has of a day that the list lacks: the day and the reason, if there is one
 abbrev pub with_reason : ℤ → Option Due → Option (ℤ × Due)
 with_reason d None = None
 with_reason d (Some due) = Some (d, due)
@@ -25,7 +25,7 @@ with_reason d (Some due) = Some (d, due)
 abbrev pub lacked : DaysView → Bool → ℤ → Option (ℤ × Due)
 lacked c capital d = if is_among c.federal d then None else with_reason d (due_on capital d)
 
--- what is told of a day that the list has: the day, if there is no reason
+-- what the review has of a day that is in the list: the day, if there is no reason
 abbrev pub unless_due : ℤ → Option Due → Option ℤ
 unless_due d (Some due) = None
 unless_due d None = Some d
@@ -45,13 +45,13 @@ lacking c capital = filter_map (lacked c capital) (days_from c.from (days_throug
 unfoldable pub unknowns : DaysView → Bool → List ℤ
 unknowns c capital = filter_map (unknown c capital) (days_from c.from (days_through c.from c.to))
 
--- the review is exact: each day that is told is one of the span, and each such day is told
+-- the review is exact: it has just the days of the span that are due and not listed, or listed and not due
 abbrev pub LackingIsExact : Type 0
 LackingIsExact = (c : DaysView) (capital : Bool) (d : ℤ) (due : Due) → Contains (lacking c capital) (d, due) ↔ ((is_covered c d ≡ true) × (is_among c.federal d ≡ false) × (due_on capital d ≡ Some due))
 
 abbrev pub UnknownsAreExact : Type 0
 UnknownsAreExact = (c : DaysView) (capital : Bool) (d : ℤ) → Contains (unknowns c capital) d ↔ ((is_covered c d ≡ true) × (is_among c.federal d ≡ true) × (due_on capital d ≡ None))
 
--- days are told in their order, each once
+-- days are in their order, each once
 abbrev pub ReviewIsInOrder : Type 0
 ReviewIsInOrder = (c : DaysView) (capital : Bool) → (AllPairs (λ a b. a.0 <ℤ b.0) (lacking c capital)) × (AllPairs (λ a b. a <ℤ b) (unknowns c capital))

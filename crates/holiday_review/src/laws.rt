@@ -2,17 +2,17 @@
 
 ghost use Rattle.holiday_review.specs.Review.{LackingIsExact, ReviewIsInOrder, UnknownsAreExact};
 
-/// A day is told to be lacking exactly where it's one of the span, is due, and isn't in the list.
+/// A day is lacking exactly where it's one of the span, is due, and isn't in the list.
 pub fn lacking_is_exact()
     ensures { LackingIsExact }
 {}
 
-/// A day is told to be unknown exactly where it's one of the span, is in the list, and isn't due.
+/// A day is unknown exactly where it's one of the span, is in the list, and isn't due.
 pub fn unknowns_are_exact()
     ensures { UnknownsAreExact }
 {}
 
-/// Days are told in their order, each once.
+/// Days are in their order, each once.
 pub fn review_is_in_order()
     ensures { ReviewIsInOrder }
 {}

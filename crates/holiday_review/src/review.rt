@@ -67,7 +67,7 @@ pub fn unknown_days(alloc: Global, days: &Days, capital: bool) -> Result<Vec<Day
     Ok(unknowns)
 }
 
-/// What is told of a day that the list lacks.
+/// What the review has of a day, if the list lacks it.
 fn lacked(days: &Days, capital: bool, day: Day) -> Option<(Day, Due)>
     ensures { result ≡ lacked days.now capital day }
 {
@@ -78,7 +78,7 @@ fn lacked(days: &Days, capital: bool, day: Day) -> Option<(Day, Due)>
     Some((day, due))
 }
 
-/// What is told of a day that the list has.
+/// What the review has of a day, if it is in the list.
 fn unknown(days: &Days, capital: bool, day: Day) -> Option<Day>
     ensures { result ≡ unknown days.now capital day }
 {
@@ -111,7 +111,7 @@ fn covered_day(days: &Days, place: usize) -> Day
     }
 }
 
-/// Puts what is told of a day, if anything, at the end of the list.
+/// Puts what the review has of a day, if anything, at the end of the list.
 fn push_lacked(list: &mut Vec<(Day, Due)>, item: Option<(Day, Due)>) -> Result<(), AllocError>
     ensures { OnOk result (list.new.items ≡ list.old.items ++ option_to_list item) }
 {
