@@ -4,6 +4,7 @@ pub mod Fault
 pub mod Columns
 pub mod Forms
 pub mod Rows
+pub mod Line
 pub mod Records
 pub mod FirstFault
 pub mod Bounds

@@ -3,6 +3,7 @@
 ghost use Rattle.std.specs.Prelude.{◌≡◌, [], true, Ok};
 ghost use Rattle.std.specs.List.{list_all};
 ghost use Rattle.std.specs.Str.{is_utf8};
+ghost use Rattle.csv.specs.Reading.{default_config, records, strip_bom};
 ghost use Rattle.csv.specs.Records.{fields_of};
 ghost use Rattle.office_rows.specs.Rows.{AnswersRow, AnswersRows, clerk_of, row_of, rows_read_from, rows_read};
 ghost use Rattle.office_rows.specs.CourtNames.{names_of};
@@ -31,11 +32,19 @@ pub fn read_rows(
 ) -> Result<Vec<Row>, RowError>
     ensures { AnswersRows (λ rows. rows.items) result (rows_read clerks (names_of court.now) bytes.now) }
 {
-    let mut reader = ReaderBuilder::new()
+    let mut reader = rows_reader(alloc, bytes);
+    take_rows(alloc, &mut reader, clerks, court)
+}
+
+// A reader of rows. The text has no header, and its records may differ in their number of fields.
+pub(crate) fn rows_reader(alloc: Global, bytes: &[u8]) -> Reader<&[u8]>
+    ensures any_row { TakesAnyRow result }
+    ensures records { records_left result ≡ records default_config (strip_bom bytes.now) }
+{
+    ReaderBuilder::new()
         .has_headers(false)
         .flexible(true)
-        .from_reader(alloc, bytes);
-    take_rows(alloc, &mut reader, clerks, court)
+        .from_reader(alloc, bytes)
 }
 
 // The rows of the records that the reader has left.
@@ -85,7 +94,7 @@ fn numbered_row(
 
 // The row that a record spells, for a run with this number of clerks.
 #[tactic(auto, unfolding(crate::specs::Rows::row_of))]
-fn row_of(clerks: u8, court: &Court, fields: &StringRecord) -> Result<Row, RowCause>
+pub(crate) fn row_of(clerks: u8, court: &Court, fields: &StringRecord) -> Result<Row, RowCause>
     requires { list_all is_utf8 (fields_of fields.now) ≡ true }
     ensures { result ≡ row_of clerks (names_of court.now) (fields_of fields.now) }
 {
@@ -112,7 +121,7 @@ fn clerk_of(clerks: u8, field: &str) -> Option<u8>
 
 // What comes next of the rows.
 #[derive(Clone, Copy)]
-enum Next {
+pub(crate) enum Next {
     // A record, each field of which is text.
     Text,
     // A record with a field that is no text.
@@ -122,7 +131,7 @@ enum Next {
 }
 
 // Reads the next record into `fields`.
-fn read_next(reader: &mut Reader<&[u8]>, fields: &mut StringRecord) -> Result<Next, AllocError>
+pub(crate) fn read_next(reader: &mut Reader<&[u8]>, fields: &mut StringRecord) -> Result<Next, AllocError>
     requires { TakesAnyRow reader.old }
     ensures text { result ≡ Ok Next.Text → TakesText reader.old reader.new (fields_of fields.new) }
     ensures no_text { result ≡ Ok Next.NotText → MeetsNoText reader.old }

@@ -1,0 +1,4 @@
+pub mod Entries
+pub mod Register
+pub mod Laws
+pub mod Words

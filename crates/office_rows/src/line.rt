@@ -1,0 +1,47 @@
+//! One line, read as a row.
+
+ghost use Rattle.std.specs.Prelude.{◌≡◌, ◌≢◌, IfOk};
+ghost use Rattle.csv.specs.Records.{fields_of};
+ghost use Rattle.office_rows.specs.CourtNames.{names_of};
+ghost use Rattle.office_rows.specs.Line.{line_read, fields_read};
+
+use crate::fault::RowCause;
+use crate::records::{Next, read_next, row_of, rows_reader};
+use crate::row::Row;
+use court_days::Court;
+use csv::StringRecord;
+use std::alloc::{AllocError, Global};
+
+/// What a line says.
+#[derive(Clone, Copy, Debug, PartialEq, Eq)]
+pub enum Line {
+    /// Nothing: it is blank.
+    Blank,
+    /// No row, for this cause.
+    Fault(RowCause),
+    /// This row.
+    Row(Row),
+}
+
+/// Reads the first row of a text, which may be a line alone, for an office with this number of clerks. The fields of the
+/// row are put into `fields`. `Err` says that memory ran out.
+pub fn read_line(
+    alloc: Global,
+    bytes: &[u8],
+    clerks: u8,
+    court: &Court,
+    fields: &mut StringRecord,
+) -> Result<Line, AllocError>
+    ensures said { IfOk result (λ line. line ≡ line_read clerks (names_of court.now) bytes.now) }
+    ensures fields { IfOk result (λ line. (row : Row) → line ≡ Line.Row row → fields_of fields.new ≡ fields_read bytes.now) }
+{
+    let mut reader = rows_reader(alloc, bytes);
+    match read_next(&mut reader, fields)? {
+        Next::End => Ok(Line::Blank),
+        Next::NotText => Ok(Line::Fault(RowCause::NotText)),
+        Next::Text => match row_of(clerks, court, fields) {
+            Ok(row) => Ok(Line::Row(row)),
+            Err(cause) => Ok(Line::Fault(cause)),
+        },
+    }
+}
