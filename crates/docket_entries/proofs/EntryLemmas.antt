@@ -1,25 +1,28 @@
 -- An entry is read again as the row that it was made of.
-use Rattle.std.proofs.Common.{◌≡◌, ◌∙◌, ◌+◌, ◌==◌, ◌&&◌, ℕ, suc, Bool, cond, List, [], ◌∷◌, ◌++◌, Option, Some, None, Result, Ok, Err, true, false, not, leb, ltb, length, refl, sym, ap, subst, arith, lit<}
+use Rattle.std.proofs.Common.{◌≡◌, ◌∙◌, ◌+◌, ◌≤◌, ◌==◌, ◌&&◌, ℕ, suc, Bool, cond, List, [], ◌∷◌, ◌++◌, Option, Some, None, Result, Ok, Err, true, false, not, leb, ltb, length, refl, sym, ap, subst, append_assoc, arith}
 use Rattle.std.proofs.lemmas.Grind.{common_steps}
 use Rattle.std.specs.Char.{is_ascii_digit}
 use Rattle.std.specs.List.{list_all, list_any}
 use Rattle.std.specs.Option.{ok_or, option_and_then}
 use Rattle.std.specs.Str.{is_utf8}
-use Rattle.std.proofs.lemmas.Bool.{cases_Bool}
-use Rattle.csv.specs.Machine.{Read, next_record}
+use Rattle.std.specs.Str.Parse.{digits_value}
+use Rattle.std.proofs.lemmas.Bool.Decides.{nat_tests}
 use Rattle.csv.specs.Reading.{default_config, is_bom, records, records_from, records_next, strip_bom}
-use Rattle.csv.specs.Writing.{default_writer, escaped, field_text, needs_byte, read_back, row_text}
+use Rattle.csv.specs.Records.{field_at}
+use Rattle.csv.specs.Writing.{default_writer, escaped, field_text, fields_text, is_blank, needs_byte, read_back, row_text}
 use Rattle.csv.specs.declared.parser.State.TheVariants as st
 use Rattle.csv.proofs.RoundTrip.{read-write}
 use Rattle.court_days.specs.Words.{CourtView}
 use Rattle.office_rows.specs.declared.fault.RowCause.{RowCause}
-use Rattle.office_rows.specs.declared.fault.RowCause.TheVariants.{BadClerk, NotText, WrongCount}
+use Rattle.office_rows.specs.declared.fault.RowCause.TheVariants.{BadClerk, NotText, TooManyRows, WrongCount}
 use Rattle.office_rows.specs.declared.line.Line.{Line}
 use Rattle.office_rows.specs.declared.line.Line.TheVariants as line
 use Rattle.office_rows.specs.declared.row.Row.{Row}
 use Rattle.office_rows.specs.declared.row.Work.{Work}
-use Rattle.office_rows.specs.Words.{CourtNames, clerk_of, column, fields_read, first_fields, first_line, is_number, line_read, line_spelling, names_of, number_of, row_of, work_of}
-use Rattle.docket_entries.specs.Entries.{answer_to, entry_of, follows, leaves, left_of, most_clerks, within}
+use Rattle.office_rows.specs.Columns.{◌>>=◌}
+use Rattle.office_rows.specs.Words.{CourtNames, clerk_of, column, fields_read, is_number, line_read, names_of, number_of, row_of, work_of}
+use Rattle.office_rows.proofs.CallerLemmas.{has_fields, says_first, says_row}
+use Rattle.docket_entries.specs.Entries.{answer_to, entry_of, leaves, left_of, most_clerks, most_entries, within}
 use Rattle.docket_entries.specs.Laws.{WhatIsLeftFollows}
 
 -- a text that doesn't begin with the first byte of a byte order mark has none
@@ -39,7 +42,7 @@ digit_is_other b digit = by (b == 239) refl
 
 -- the field of a number, and what comes after it, begins with a digit or a quote
 number_first : (x more : List ℕ) → is_number x ≡ true → strip_bom (field_text default_writer x ++ more) ≡ field_text default_writer x ++ more
-number_first [] more number = absurd (omega arith)
+number_first [] more number = cc number
 number_first (b ∷ x) more number = by (list_any (needs_byte default_writer) (b ∷ x))
   where
     digit : is_ascii_digit b ≡ true
@@ -49,14 +52,98 @@ number_first (b ∷ x) more number = by (list_any (needs_byte default_writer) (b
     by true = no_mark 34 ((escaped default_writer (b ∷ x) ++ 34 ∷ []) ++ more) refl
     by false = no_mark b (x ++ more) (digit_is_other b digit)
 
--- what a record of a row spells, of which the first field is the clerk's number
-few_fields : (names : CourtNames) (fields : List (List ℕ)) (text few : Bool) (row : Row) → list_all is_utf8 fields ≡ text → ltb (length fields) 2 ≡ few → row_of most_clerks names fields ≡ Ok row
-    → (few ≡ false) × ((clerk : ℕ) × (clerk_of most_clerks (column fields 1) ≡ Some clerk))
-unfolding row_of
-few_fields names fields false few row text_is few_is spelled = cc (rw text_is at spelled)
-few_fields names fields true true row text_is few_is spelled = cc (rw (text_is, few_is) at spelled)
-few_fields names fields true false row text_is few_is spelled = (refl, by (clerk_of most_clerks (column fields 1)) (rw (text_is, few_is) at spelled))
+-- a clerk's number is a number
+clerk_is_number : (x : List ℕ) (clerk : ℕ) → clerk_of most_clerks x ≡ Some clerk → is_number x ≡ true
+unfolding clerk_of number_of
+clerk_is_number x clerk h = by (is_number x) refl h
   where
-    by : (found : Option ℕ) → (ok_or found BadClerk >>= (λ clerk. work_of names fields >>= (λ work. Ok (record { clerk = clerk; work = work })))) ≡ Ok row → (clerk : ℕ) × (found ≡ Some clerk)
-    by None e = cc e
-    by (Some clerk) e = (clerk, refl)
+    by : (number : Bool) → is_number x ≡ number → option_and_then (λ n. cond (leb 1 n && leb n most_clerks) (Some n) None) (cond number (Some (digits_value 10 x)) None) ≡ Some clerk → number ≡ true
+    by true e h = refl
+    by false e h = cc h
+
+-- a row has at least two fields, and the first is a number
+pub spells_row : (names : CourtNames) (fields : List (List ℕ)) (row : Row) → row_of most_clerks names fields ≡ Ok row → (2 ≤ length fields) × (is_number (column fields 1) ≡ true)
+unfolding row_of
+spells_row names fields row h = by (list_all is_utf8 fields) (ltb (length fields) 2) refl (clerk_of most_clerks (column fields 1)) refl (work_of names fields) h
+  where
+    by : (text few : Bool) → ltb (length fields) 2 ≡ few → (found : Option ℕ) → clerk_of most_clerks (column fields 1) ≡ found → (work : Result Work RowCause)
+        → cond (not text) (Err NotText) (cond few (Err WrongCount) (ok_or found BadClerk >>= (λ clerk. work >>= (λ work. Ok (record { clerk = clerk; work = work }))))) ≡ Ok row
+        → (2 ≤ length fields) × (is_number (column fields 1) ≡ true)
+    by false few e found same work h = cc h
+    by true true e found same work h = cc h
+    by true false e None same work h = cc h
+    by true false e (Some clerk) same work h =
+        let many : 2 ≤ length fields = grind (arith, nat_tests) in
+        (many, clerk_is_number (column fields 1) clerk same)
+
+-- the text of a row has no byte order mark
+row_has_no_mark : (fields : List (List ℕ)) (tail : List ℕ) → 2 ≤ length fields → is_number (column fields 1) ≡ true → strip_bom (row_text default_writer fields ++ tail) ≡ row_text default_writer fields ++ tail
+unfolding field_at
+row_has_no_mark [] tail many number = absurd (omega (arith, many))
+row_has_no_mark (x ∷ rest) tail many number =
+    let ending = cond (is_blank default_writer (x ∷ rest)) (34 ∷ 34 ∷ []) [] ++ 10 ∷ [] in
+    let parts : row_text default_writer (x ∷ rest) ++ tail ≡ field_text default_writer x ++ (fields_text default_writer rest ++ (ending ++ tail)) = simp append_assoc in
+    ap strip_bom parts ∙ number_first x (fields_text default_writer rest ++ (ending ++ tail)) number ∙ sym parts
+
+one_more : (n : ℕ) → n + 1 ≡ suc n
+one_more n = omega arith
+
+read_as_itself : (fields : List (List ℕ)) → 2 ≤ length fields → read_back fields ≡ fields
+read_as_itself [] many = absurd (omega (arith, many))
+read_as_itself (x ∷ rest) many = refl
+
+-- the first record of an entry is that of its row
+first_record : (fields : List (List ℕ)) (tail : List ℕ) → 2 ≤ length fields → (more : List (List (List ℕ))) × (records default_config (row_text default_writer fields ++ tail) ≡ fields ∷ more)
+unfolding records_from
+first_record fields tail many =
+    let text = row_text default_writer fields ++ tail in
+    (records_from default_config (length text) st.StartRecord tail,
+    ap (λ n. records_from default_config n st.StartRecord text) (one_more (length text))
+    ∙ ap (records_next (records_from default_config (length text))) (read-write fields tail)
+    ∙ ap (λ (r : List (List ℕ)). r ∷ records_from default_config (length text) st.StartRecord tail) (read_as_itself fields many))
+
+-- what an entry says that is made of a row
+module _ (names : CourtNames) (fields : List (List ℕ)) (row : Row) (tail : List ℕ) (spelled : row_of most_clerks names fields ≡ Ok row) where
+  there : (more : List (List (List ℕ))) × (records default_config (strip_bom (row_text default_writer fields ++ tail)) ≡ fields ∷ more)
+  there =
+      let (many, number) = spells_row names fields row spelled in
+      let (more, first) = first_record fields tail many in
+      (more, ap (records default_config) (row_has_no_mark fields tail many number) ∙ first)
+
+  pub says_its_row : line_read most_clerks names (row_text default_writer fields ++ tail) ≡ line.Row row
+  says_its_row = sym (says_first most_clerks names (row_text default_writer fields ++ tail) fields there.0 (Ok row) there.1 spelled)
+
+  pub has_its_fields : fields_read (row_text default_writer fields ++ tail) ≡ fields
+  has_its_fields = sym (has_fields most_clerks names (row_text default_writer fields ++ tail) fields there.0 there.1)
+
+-- a line that says a row within the limit says that row, and there is room for it
+pub within_row : (kept : List (List ℕ)) (said : Line) (row : Row) → within kept said ≡ line.Row row → (said ≡ line.Row row) × (ltb (length kept) most_entries ≡ true)
+within_row kept line.Blank row h = cc h
+within_row kept (line.Fault cause) row h = cc h
+within_row kept (line.Row r) row h = by (ltb (length kept) most_entries) refl h
+  where
+    by : (room : Bool) → ltb (length kept) most_entries ≡ room → cond room (line.Row r) (line.Fault TooManyRows) ≡ line.Row row → (line.Row r ≡ line.Row row) × (ltb (length kept) most_entries ≡ true)
+    by true e h = (h, e)
+    by false e h = cc h
+
+-- what is made of a row leaves itself
+pub leaves_itself : (court : CourtView) (kept : List (List ℕ)) (fields : List (List ℕ)) (row : Row) → row_of most_clerks (names_of court) fields ≡ Ok row → ltb (length kept) most_entries ≡ true
+    → leaves court kept (entry_of court kept fields row) ≡ entry_of court kept fields row ∷ []
+unfolding leaves
+leaves_itself court kept fields row spelled room =
+    ap (λ (l : Line). left_of court kept (fields_read (entry_of court kept fields row)) (within kept l)) (says_its_row (names_of court) fields row (answer_to court kept row) spelled)
+    ∙ ap (λ (f : List (List ℕ)). left_of court kept f (within kept (line.Row row))) (has_its_fields (names_of court) fields row (answer_to court kept row) spelled)
+    ∙ ap (λ (b : Bool). left_of court kept fields (cond b (line.Row row) (line.Fault TooManyRows))) room
+
+-- the law
+pub left_follows : WhatIsLeftFollows
+unfolding leaves
+left_follows court kept bytes entry h = by (within kept (line_read most_clerks (names_of court) bytes)) refl h
+  where
+    by : (l : Line) → within kept (line_read most_clerks (names_of court) bytes) ≡ l → left_of court kept (fields_read bytes) l ≡ entry ∷ [] → leaves court kept entry ≡ entry ∷ []
+    by line.Blank same h = cc h
+    by (line.Fault cause) same h = cc h
+    by (line.Row row) same h =
+        let (said, room) = within_row kept (line_read most_clerks (names_of court) bytes) row same in
+        let is_entry : entry_of court kept (fields_read bytes) row ≡ entry = cc h in
+        subst (λ (e : List ℕ). leaves court kept e ≡ e ∷ []) is_entry (leaves_itself court kept (fields_read bytes) row (says_row most_clerks (names_of court) bytes row said) room)

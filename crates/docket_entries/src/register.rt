@@ -68,6 +68,7 @@ impl DocketRegister {
     }
 
     // Does a row, and gives its answer and its entry.
+    #[tactic(auto, unfolding(crate::specs::Entries::answer_to))]
     fn done(
         &mut self,
         alloc: Global,

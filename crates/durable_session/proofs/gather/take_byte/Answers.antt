@@ -1,0 +1,33 @@
+use Rattle.std.proofs.Common.{◌∙◌, ℕ, List, [], ◌∷◌, sym, subst}
+use Rattle.durable_journal.specs.Words.{batch_of}
+use Rattle.durable_session.specs.Taken.{TakesLines}
+use Rattle.durable_session.proofs.LineLemmas.{line_ends, line_goes_on, next_begins, no_line_ends}
+use Rattle.durable_session.proofs.TakenLemmas.{none_taken, one_taken}
+use Rattle.durable_session.proofs.gather.take_byte.Goals as goal
+
+pub returns-then-ends_line-clause-begun : goal.returns-then-ends_line-clause-begun
+returns-then-ends_line-clause-begun g c =
+    c.clear.ensures.items ∙ sym (next_begins c.args.begun.now.items c.args.byte (sym c.ends_line.ensures ∙ c.if-ends_line.true))
+
+pub returns-then-ends_line-clause-taken : goal.returns-then-ends_line-clause-taken
+returns-then-ends_line-clause-taken g c = λ kept stands.
+    let leaves = g.O.Register.leaves c.args.setup.now in
+    let answers = g.O.Register.answers c.args.setup.now in
+    let after = g.O.Register.stands c.args.setup.now c.take.new.self in
+    let whole = one_taken leaves answers after kept c.deref.result.now (batch_of c.args.batch.now.items) (batch_of c.take.new.batch.items) c.args.text.now.items c.take.new.text.items (c.in_ok-take.ensures kept stands) in
+    let line = subst (λ (l : List ℕ). TakesLines leaves answers after kept (l ∷ []) (batch_of c.args.batch.now.items) (batch_of c.take.new.batch.items) c.args.text.now.items c.take.new.text.items) c.deref.ensures.value whole in
+    subst (λ (l : List (List ℕ)). TakesLines leaves answers after kept l (batch_of c.args.batch.now.items) (batch_of c.take.new.batch.items) c.args.text.now.items c.take.new.text.items)
+    (sym (line_ends c.args.begun.now.items c.args.byte (sym c.ends_line.ensures ∙ c.if-ends_line.true))) line
+
+pub returns-clause-begun : goal.returns-clause-begun
+returns-clause-begun g c =
+    c.in_ok-go_on.ensures ∙ sym (line_goes_on c.args.begun.now.items c.args.byte (sym c.ends_line.ensures ∙ c.if-ends_line.false))
+
+pub returns-clause-taken : goal.returns-clause-taken
+returns-clause-taken g c = λ kept stands.
+    let leaves = g.O.Register.leaves c.args.setup.now in
+    let answers = g.O.Register.answers c.args.setup.now in
+    let as_before = g.O.Register.stands c.args.setup.now c.args.register.now in
+    subst (λ (l : List (List ℕ)). TakesLines leaves answers as_before kept l (batch_of c.args.batch.now.items) (batch_of c.args.batch.now.items) c.args.text.now.items c.args.text.now.items)
+    (sym (no_line_ends c.args.begun.now.items c.args.byte (sym c.ends_line.ensures ∙ c.if-ends_line.false)))
+    (none_taken leaves answers as_before kept (batch_of c.args.batch.now.items) c.args.text.now.items stands)

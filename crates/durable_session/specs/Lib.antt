@@ -1,0 +1,4 @@
+pub mod Lines
+pub mod Taken
+pub mod Served
+pub mod Words

@@ -1,0 +1,23 @@
+-- What a session leaves on its disk, and what it has written.
+use Rattle.std.specs.Prelude.{◌≤◌, ℕ, List, ◌++◌, Option, take}
+use Rattle.std.specs.Io.KnownBytes.{Appends, Consumes}
+use Rattle.durable_journal.specs.Words.{StandsFor}
+use Rattle.office_streams.specs.Words.{AppendsFront}
+use Rattle.durable_session.specs.Taken.{left_by, told_to}
+
+-- all of these lines are kept and answered
+pub record IsServed (leaves : List (List ℕ) → List ℕ → List (List ℕ)) (answers : List (List ℕ) → List ℕ → List ℕ) (Keeps Stands : List (List ℕ) → Type 0) (kept lines : List (List ℕ)) (before after : Option (List ℕ)) : Type 0 where
+  pub keeps : Keeps (kept ++ left_by leaves kept lines)
+  pub stands : Stands (kept ++ left_by leaves kept lines)
+  pub told : Appends before after (told_to leaves answers kept lines)
+
+-- However a session ends that has come to these lines: what was written is a beginning of the answers to the first `told`
+-- of them, and whatever a crash leaves stands for what these left, and for what some of those after them left, in order.
+pub record IsPromised (leaves : List (List ℕ) → List ℕ → List (List ℕ)) (answers : List (List ℕ) → List ℕ → List ℕ) (kept lines : List (List ℕ)) (before after : Option (List ℕ)) (MayLeave : List ℕ → Type 0) : Type 0 where
+  pub told : ℕ
+  pub written : AppendsFront before after (told_to leaves answers kept (take told lines))
+  pub lasts : (file : List ℕ) → MayLeave file → (n : ℕ) × (told ≤ n) × StandsFor file (kept ++ left_by leaves kept (take n lines))
+
+-- some bytes were read, and this is so of them
+abbrev pub AfterBytes : (before after : Option (List ℕ)) → (List ℕ → Type 0) → Type 0
+AfterBytes before after IsSo = (bytes : List ℕ) × Consumes before after bytes × IsSo bytes

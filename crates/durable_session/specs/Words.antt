@@ -1,0 +1,5 @@
+-- The words for the crates above, from one place.
+pub use Rattle.durable_session.specs.Lines.{lines_of, unfinished_of}
+pub use Rattle.durable_session.specs.Taken.{CannotFollow, TakesLine}
+unfoldable pub use Rattle.durable_session.specs.Taken.{left_by, told_to}
+pub use Rattle.durable_session.specs.Served.{AfterBytes, IsPromised, IsServed}

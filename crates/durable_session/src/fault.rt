@@ -1,0 +1,54 @@
+//! Why a session ends before its input does.
+ghost use Rattle.std.specs.Prelude.{◌≡◌};
+ghost use Rattle.durable_session.specs.declared.fault.SessionFault.TheVariants.{Journal, OutOfMemory};
+
+use durable_journal::JournalFault;
+use std::alloc::{AllocError, AllocFailed};
+use thiserror::Error;
+
+/// Why a session ends before its input does. What was answered is kept, whatever it is.
+#[derive(Clone, Copy, Debug, PartialEq, Eq, Error)]
+pub enum SessionFault {
+    /// The lines that were read last can't be kept, and aren't answered.
+    #[error("{0}")]
+    Journal(JournalFault),
+    /// The input can't be read.
+    #[error("the input can't be read")]
+    Read,
+    /// The answers can't be written. The lines that were read last are kept.
+    #[error("the answers can't be written")]
+    Write,
+    /// A line has more than 65,536 bytes. It and the lines that were read with it aren't kept.
+    #[error("a line has more than 65536 bytes")]
+    LongLine,
+    /// The last line has no end, so that it may have been cut. It isn't kept; all lines before it are.
+    #[error("the last line has no end, and isn't taken")]
+    Unfinished,
+    /// Memory ran out. The lines that were read last aren't kept.
+    #[error("out of memory")]
+    OutOfMemory,
+}
+
+impl From<JournalFault> for SessionFault {
+    ghost from_gives = { λ fault e. e ≡ Journal fault };
+
+    fn from(fault: JournalFault) -> SessionFault {
+        SessionFault::Journal(fault)
+    }
+}
+
+impl From<AllocError> for SessionFault {
+    ghost from_gives = { λ _ e. e ≡ OutOfMemory };
+
+    fn from(_: AllocError) -> SessionFault {
+        SessionFault::OutOfMemory
+    }
+}
+
+impl<T: Drop> From<AllocFailed<T>> for SessionFault {
+    ghost from_gives = { λ _ e. e ≡ OutOfMemory };
+
+    fn from(_: AllocFailed<T>) -> SessionFault {
+        SessionFault::OutOfMemory
+    }
+}

@@ -1,0 +1,73 @@
+//! Lines, gathered from the bytes that come.
+ghost use Rattle.std.specs.Prelude.{◌≡◌, ◌++◌, ◌∷◌, [], ℕ, List, OnOk};
+ghost use Rattle.durable_journal.specs.Words.{batch_of};
+ghost use Rattle.durable_session.specs.Lines.{ends_line, lines_from, unfinished_from};
+ghost use Rattle.durable_session.specs.Taken.{TakesLines};
+
+use crate::fault::SessionFault;
+use crate::register::Register;
+use std::alloc::Global;
+
+/// The most bytes of a line, without its end.
+pub const MAX_LINE: usize = 65_536;
+
+// Whether the byte ends a line.
+fn ends_line(byte: u8) -> bool
+    ensures { result ≡ ends_line byte }
+{
+    byte == b'\n' || byte == b'\r'
+}
+
+// Adds a byte to a line that has begun.
+fn go_on(begun: &mut Vec<u8>, byte: u8) -> Result<(), SessionFault>
+    ensures { OnOk result (begun.new.items ≡ begun.old.items ++ byte ∷ []) }
+{
+    if begun.len() >= MAX_LINE {
+        return Err(SessionFault::LongLine);
+    }
+    begun.push(byte)?;
+    Ok(())
+}
+
+// Takes one byte: it ends the line that has begun, or goes on with it.
+fn take_byte<O: Register>(
+    setup: &O::Setup,
+    alloc: Global,
+    register: &mut O,
+    begun: &mut Vec<u8>,
+    byte: u8,
+    batch: &mut Vec<Vec<u8>>,
+    text: &mut Vec<u8>,
+) -> Result<(), SessionFault>
+    ensures begun { OnOk result (begun.new.items ≡ unfinished_from begun.old.items (byte ∷ [])) }
+    ensures taken { (kept : List (List ℕ)) → O.stands setup.now register.old kept → OnOk result
+        (TakesLines (O.leaves setup.now) (O.answers setup.now) (O.stands setup.now register.new) kept (lines_from begun.old.items (byte ∷ [])) (batch_of batch.old.items) (batch_of batch.new.items) text.old.items text.new.items) }
+{
+    if ends_line(byte) {
+        register.take(setup, alloc, begun, batch, text)?;
+        begun.clear();
+        return Ok(());
+    }
+    go_on(begun, byte)?;
+    Ok(())
+}
+
+// Takes the lines that these bytes end, the first of which has begun. What comes after the last end begins the next.
+pub(crate) fn gather<O: Register>(
+    setup: &O::Setup,
+    alloc: Global,
+    register: &mut O,
+    begun: &mut Vec<u8>,
+    bytes: &[u8],
+    batch: &mut Vec<Vec<u8>>,
+    text: &mut Vec<u8>,
+) -> Result<(), SessionFault>
+    ensures begun { OnOk result (begun.new.items ≡ unfinished_from begun.old.items bytes.now) }
+    ensures taken { (kept : List (List ℕ)) → O.stands setup.now register.old kept → OnOk result
+        (TakesLines (O.leaves setup.now) (O.answers setup.now) (O.stands setup.now register.new) kept (lines_from begun.old.items bytes.now) (batch_of batch.old.items) (batch_of batch.new.items) text.old.items text.new.items) }
+{
+    'bytes: for byte in bytes {
+        take_byte(setup, alloc, register, begun, *byte, batch, text)?;
+    }
+    Ok(())
+}

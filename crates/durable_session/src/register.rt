@@ -1,0 +1,47 @@
+//! What takes lines and answers them.
+ghost use Rattle.std.specs.Prelude.{◌≡◌, ◌++◌, ◌∷◌, [], ℕ, List, IsTrue, IfOk, OnOk, ◌↔◌};
+ghost use Rattle.durable_journal.specs.Words.{batch_of};
+ghost use Rattle.durable_session.specs.Taken.{TakesLine};
+
+use std::alloc::{AllocError, Global};
+
+/// What takes lines and answers them, each by the entries that the lines before it have left in a journal.
+pub trait Register {
+    /// What it goes by, which no line changes.
+    type Setup;
+
+    // It is as these entries leave it.
+    ghost stands: { Self.Setup → Self → (kept : List (List ℕ)) → Type 0 };
+
+    // What a line leaves after these entries: an entry, or none.
+    ghost leaves: { Self.Setup → (kept : List (List ℕ)) → (line : List ℕ) → List (List ℕ) };
+
+    // What a line is answered after these entries.
+    ghost answers: { Self.Setup → (kept : List (List ℕ)) → (line : List ℕ) → List ℕ };
+
+    // This may be the next entry after these.
+    ghost follows: { Self.Setup → (kept : List (List ℕ)) → (entry : List ℕ) → Type 0 };
+
+    /// Takes a line, without its end: adds the entry that it leaves, if any, to the batch, and its answer to the text. `Err`
+    /// says that memory ran out.
+    fn take(
+        &mut self,
+        setup: &Self::Setup,
+        alloc: Global,
+        line: &[u8],
+        batch: &mut Vec<Vec<u8>>,
+        text: &mut Vec<u8>,
+    ) -> Result<(), AllocError>
+        ensures { (kept : List (List ℕ)) → stands setup.now self.old kept → OnOk result
+            (TakesLine (leaves setup.now) (answers setup.now) (stands setup.now self.new) kept line.now (batch_of batch.old.items) (batch_of batch.new.items) text.old.items text.new.items) };
+
+    /// Takes an entry that a line left before, if it may be the next. `Err` says that memory ran out.
+    fn retake(
+        &mut self,
+        setup: &Self::Setup,
+        alloc: Global,
+        entry: &[u8],
+    ) -> Result<bool, AllocError>
+        ensures fits { (kept : List (List ℕ)) → stands setup.now self.old kept → IfOk result (λ fits. IsTrue fits ↔ follows setup.now kept entry.now) }
+        ensures taken { (kept : List (List ℕ)) → stands setup.now self.old kept → IfOk result (λ fits. IsTrue fits → stands setup.now self.new (kept ++ entry.now ∷ [])) };
+}

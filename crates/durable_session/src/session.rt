@@ -1,0 +1,66 @@
+//! A session, from the first line of its input to the last.
+ghost use Rattle.std.specs.Prelude.{◌≡◌, [], ℕ, List, true, false, IfSome, OnOk};
+ghost use Rattle.durable_journal.specs.Words.{IsKept, disk_of};
+ghost use Rattle.office_streams.specs.Words.{has_ended, has_failed, watched};
+ghost use Rattle.durable_session.specs.Lines.{lines_of, unfinished_of};
+ghost use Rattle.durable_session.specs.Served.{AfterBytes, IsPromised, IsServed};
+
+use crate::batch::serve_bytes;
+use crate::fault::SessionFault;
+use crate::register::Register;
+use durable_journal::Journal;
+use office_streams::Watched;
+use sqlite_disk::Disk;
+use std::alloc::Global;
+use std::io::{Read, Write};
+
+// How many bytes are asked for at once.
+const CHUNK: usize = 65_536;
+
+// How a session ends whose input has ended.
+fn ended(begun: &Vec<u8>) -> Result<(), SessionFault>
+    ensures { OnOk result (begun.now.items ≡ []) }
+{
+    if begun.is_empty() {
+        Ok(())
+    } else {
+        Err(SessionFault::Unfinished)
+    }
+}
+
+/// Serves the lines of an input until it ends. The lines that one read gives are made durable together, and then they are
+/// answered. However the session ends, what was answered is kept.
+pub fn serve<D: Disk, O: Register, R: Read, W: Write>(
+    setup: &O::Setup,
+    alloc: Global,
+    journal: &mut Journal<D>,
+    register: &mut O,
+    reader: &mut Watched<R>,
+    writer: &mut Watched<W>,
+) -> Result<(), SessionFault>
+    requires writer_works { has_failed writer.old ≡ false }
+    ensures promised { (kept : List (List ℕ)) → IsKept D.Disk.seen D.Disk.may_leave D.Disk.is_usable kept journal.old → O.stands setup.now register.old kept →
+        AfterBytes (R.remaining (watched reader.old)) (R.remaining (watched reader.new)) (λ bytes.
+        IsPromised (O.leaves setup.now) (O.answers setup.now) kept (lines_of bytes) (W.contents (watched writer.old)) (W.contents (watched writer.new)) (D.Disk.may_leave (disk_of journal.new))) }
+    ensures served { (kept : List (List ℕ)) → IsKept D.Disk.seen D.Disk.may_leave D.Disk.is_usable kept journal.old → O.stands setup.now register.old kept → OnOk result
+        (IfSome (R.remaining (watched reader.old)) (λ input.
+        IsServed (O.leaves setup.now) (O.answers setup.now) (λ entries. IsKept D.Disk.seen D.Disk.may_leave D.Disk.is_usable entries journal.new) (O.stands setup.now register.new) kept (lines_of input) (W.contents (watched writer.old)) (W.contents (watched writer.new)))) }
+    ensures finished { OnOk result (IfSome (R.remaining (watched reader.old)) (λ input. unfinished_of input ≡ [])) }
+    ensures working { OnOk result (has_failed writer.new ≡ false) }
+{
+    let mut begun = Vec::new(alloc);
+    let mut buffer = vec![in alloc; 0u8; CHUNK]?;
+    let chunk = buffer.as_mut_slice();
+    'reads: for _ in 0..u64::MAX {
+        match reader.read(chunk) {
+            Err(_) => return Err(SessionFault::Read),
+            Ok(count) => {
+                if count == 0 {
+                    return ended(&begun);
+                }
+                serve_bytes(setup, alloc, journal, register, writer, &mut begun, &chunk[..count])?;
+            }
+        }
+    }
+    Err(SessionFault::Read)
+}
