@@ -1,5 +1,5 @@
 -- What these definitions come to.
-use Rattle.std.specs.Prelude.{◌≡◌, ◌<◌, ℕ, List, [], ◌∷◌, length}
+use Rattle.std.specs.Prelude.{◌≡◌, ℕ, List, [], ◌∷◌}
 use Rattle.court_days.specs.Words.{CourtView}
 use Rattle.docket_entries.specs.Entries.{follows, leaves}
 

@@ -3,19 +3,22 @@ ghost use Rattle.std.specs.Prelude.{◌≡◌, ◌<◌, ◌++◌, ◌∷◌, [],
 ghost use Rattle.csv.specs.Records.{fields_of};
 ghost use Rattle.office_rows.specs.Words.{fields_read, line_read, names_of};
 ghost use Rattle.office_rows.specs.declared.row.Row.{Row as RowOf};
-ghost use Rattle.office_rows.specs.declared.line.Line.TheVariants as line;
+ghost use Rattle.office_rows.specs.declared.line.Line.TheVariants as says;
 ghost use Rattle.office_streams.specs.Words.{told_line};
 ghost use Rattle.docket_entries.specs.Entries.{most_clerks, most_entries, within};
 ghost use Rattle.docket_entries.specs.Register.{IsDone, StandsAt};
 
 use crate::entry::{answer_of, entry_of};
+use court_clock::Day;
 use court_days::Court;
 use csv::StringRecord;
 use docket_core::Docket;
+use docket_rows::{Command, Query};
 use durable_session::Register;
-use office_rows::{Line, Row, RowCause, read_line};
+use office_rows::{Line, Row, RowCause, Work, read_line};
 use office_run::reply_to;
 use office_streams::{OfficeFault, fault_line};
+use rule_periods::{Grant, Request};
 use std::alloc::{AllocError, Global};
 
 /// How many clerks may enter rows.
@@ -23,6 +26,10 @@ pub const MOST_CLERKS: u8 = 64;
 
 // How many entries a journal has at most, and the court's file is the first of them.
 const MOST_ENTRIES: u32 = 1_000_000;
+
+// The types inside a row. The checker finds them only where they have names, so a function that takes a row out of a line
+// has a variable of this type.
+type RowTypes = Option<(Work, Command, Query, Option<Day>, Grant, Request)>;
 
 /// A court's docket as the entries of a journal come to it, of which the first is the court's file.
 #[derive(Drop)]
@@ -49,10 +56,10 @@ impl DocketRegister {
     // What a line says, whose fields are kept where it says a row.
     fn said(&mut self, alloc: Global, court: &Court, line: &[u8]) -> Result<Line, AllocError>
         ensures said { (kept : List (List ℕ)) → self.old.number ≡ length kept → IfOk result (λ said. said ≡ within kept (line_read most_clerks (names_of court.now) line.now)) }
-        ensures fields { IfOk result (λ said. (row : RowOf) → said ≡ line.Row row → fields_of self.new.fields ≡ fields_read line.now) }
+        ensures fields { IfOk result (λ said. (row : RowOf) → said ≡ says.Row row → fields_of self.new.fields ≡ fields_read line.now) }
         ensures docket { self.new.docket ≡ self.old.docket }
         ensures number { self.new.number ≡ self.old.number }
-        ensures room { IfOk result (λ said. (row : RowOf) → said ≡ line.Row row → self.old.number < most_entries) }
+        ensures room { IfOk result (λ said. (row : RowOf) → said ≡ says.Row row → self.old.number < most_entries) }
     {
         let said = read_line(alloc, line, MOST_CLERKS, court, &mut self.fields)?;
         match said {
@@ -122,6 +129,7 @@ impl Register for DocketRegister {
         batch: &mut Vec<Vec<u8>>,
         text: &mut Vec<u8>,
     ) -> Result<(), AllocError> {
+        let _types: RowTypes = None;
         match self.said(alloc, court, line)? {
             Line::Blank => Ok(()),
             Line::Fault(cause) => push_fault(alloc, text, self.number, cause),
@@ -135,6 +143,7 @@ impl Register for DocketRegister {
     }
 
     fn retake(&mut self, court: &Court, alloc: Global, entry: &[u8]) -> Result<bool, AllocError> {
+        let _types: RowTypes = None;
         match self.said(alloc, court, entry)? {
             Line::Row(row) => {
                 let (_, again) = self.done(alloc, court, &row)?;
