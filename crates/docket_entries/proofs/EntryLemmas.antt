@@ -96,11 +96,12 @@ read_as_itself (x ∷ rest) many = refl
 first_record : (fields : List (List ℕ)) (tail : List ℕ) → 2 ≤ length fields → (more : List (List (List ℕ))) × (records default_config (row_text default_writer fields ++ tail) ≡ fields ∷ more)
 unfolding records_from
 first_record fields tail many =
-    let text = row_text default_writer fields ++ tail in
-    (records_from default_config (length text) st.StartRecord tail,
-    ap (λ n. records_from default_config n st.StartRecord text) (one_more (length text))
-    ∙ ap (records_next (records_from default_config (length text))) (read-write fields tail)
-    ∙ ap (λ (r : List (List ℕ)). r ∷ records_from default_config (length text) st.StartRecord tail) (read_as_itself fields many))
+    let text = row_text default_writer fields ++ tail in (
+      records_from default_config (length text) st.StartRecord tail,
+      ap (λ n. records_from default_config n st.StartRecord text) (one_more (length text))
+          ∙ ap (records_next (records_from default_config (length text))) (read-write fields tail)
+          ∙ ap (λ (r : List (List ℕ)). r ∷ records_from default_config (length text) st.StartRecord tail) (read_as_itself fields many),
+    )
 
 -- what an entry says that is made of a row
 module _ (names : CourtNames) (fields : List (List ℕ)) (row : Row) (tail : List ℕ) (spelled : row_of most_clerks names fields ≡ Ok row) where

@@ -81,8 +81,11 @@ module _ (leaves : List (List ℕ) → List ℕ → List (List ℕ)) (answers : 
   promised_more Keeps Stands MayLeave kept some more before between after first second =
       record {
         told = length some + second.told;
-        written = (told_to leaves answers kept some ++ second.written.0, Appends-trans before between after _ _ first.told second.written.1,
-            starts_with_of_append _ _ _ (said second.told ∙ ap (λ (l : List ℕ). told_to leaves answers kept some ++ l) (starts_with_rest _ _ second.written.2) ∙ sym (append_assoc (told_to leaves answers kept some) second.written.0 _)));
+        written = (
+          told_to leaves answers kept some ++ second.written.0,
+          Appends-trans before between after _ _ first.told second.written.1,
+          starts_with_of_append _ _ _ (said second.told ∙ ap (λ (l : List ℕ). told_to leaves answers kept some ++ l) (starts_with_rest _ _ second.written.2) ∙ sym (append_assoc (told_to leaves answers kept some) second.written.0 _)),
+        );
         lasts = λ file left. let (n, later, stands) = second.lasts file left in
             (length some + n, omega (arith, later), subst (StandsFor file) (sym (all_of n)) stands);
       }

@@ -58,7 +58,15 @@ pub fn serve<D: Disk, O: Register, R: Read, W: Write>(
                 if count == 0 {
                     return ended(&begun);
                 }
-                serve_bytes(setup, alloc, journal, register, writer, &mut begun, &chunk[..count])?;
+                serve_bytes(
+                    setup,
+                    alloc,
+                    journal,
+                    register,
+                    writer,
+                    &mut begun,
+                    &chunk[..count],
+                )?;
             }
         }
     }

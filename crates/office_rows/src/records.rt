@@ -131,7 +131,10 @@ pub(crate) enum Next {
 }
 
 // Reads the next record into `fields`.
-pub(crate) fn read_next(reader: &mut Reader<&[u8]>, fields: &mut StringRecord) -> Result<Next, AllocError>
+pub(crate) fn read_next(
+    reader: &mut Reader<&[u8]>,
+    fields: &mut StringRecord,
+) -> Result<Next, AllocError>
     requires { TakesAnyRow reader.old }
     ensures text { result ≡ Ok Next.Text → TakesText reader.old reader.new (fields_of fields.new) }
     ensures no_text { result ≡ Ok Next.NotText → MeetsNoText reader.old }

@@ -13,29 +13,41 @@ use Rattle.durable_session.proofs.PromiseLemmas.{none_read, none_served, promise
 use Rattle.durable_session.proofs.session.serve.Goals as goal
 
 pub returns-in_err-buffer-clause-promised : goal.returns-in_err-buffer-clause-promised
-returns-in_err-buffer-clause-promised g c = λ kept keeps stands.
-    ([], Consumes-nil _, unanswered (g.O.Register.leaves c.args.setup.now) (g.O.Register.answers c.args.setup.now) kept (lines_of []) _ _
-    (λ file left. inl (rest_kept g.D.Disk.seen g.D.Disk.may_leave g.D.Disk.is_usable c.args.journal.now kept keeps file left)))
+returns-in_err-buffer-clause-promised g c = λ kept keeps stands. (
+  [],
+  Consumes-nil _,
+  unanswered (g.O.Register.leaves c.args.setup.now) (g.O.Register.answers c.args.setup.now) kept (lines_of []) _ _
+      (λ file left. inl (rest_kept g.D.Disk.seen g.D.Disk.may_leave g.D.Disk.is_usable c.args.journal.now kept keeps file left)),
+)
 
 pub reads-init : goal.reads-init
 unfolding lines_from unfinished_from
-reads-init g c =
-    ([], Consumes-nil _, c.new-begun.ensures.items, c.requires.writer_works, λ kept keeps stands.
-    none_served (g.O.Register.leaves c.args.setup.now) (g.O.Register.answers c.args.setup.now) (λ entries. IsKept g.D.Disk.seen g.D.Disk.may_leave g.D.Disk.is_usable entries c.args.journal.now) (g.O.Register.stands c.args.setup.now c.args.register.now) kept _ keeps stands)
+reads-init g c = (
+  [],
+  Consumes-nil _,
+  c.new-begun.ensures.items,
+  c.requires.writer_works,
+  λ kept keeps stands.
+      none_served (g.O.Register.leaves c.args.setup.now) (g.O.Register.answers c.args.setup.now) (λ entries. IsKept g.D.Disk.seen g.D.Disk.may_leave g.D.Disk.is_usable entries c.args.journal.now) (g.O.Register.stands c.args.setup.now c.args.register.now) kept _ keeps stands,
+)
 
 pub returns-in-Err-clause-promised : goal.returns-in-Err-clause-promised
 returns-in-Err-clause-promised g c = λ kept keeps stands.
-    let (bytes, consumed, begun, working, served) = c.reads.invariant in
-    (bytes, Consumes-kept _ _ _ bytes consumed c.in-Err.ensures.bytes,
-    served_promised (g.O.Register.leaves c.args.setup.now) (g.O.Register.answers c.args.setup.now) (λ entries. IsKept g.D.Disk.seen g.D.Disk.may_leave g.D.Disk.is_usable entries c.reads.journal) (g.O.Register.stands c.args.setup.now c.reads.register) _ kept (lines_of bytes) _ _
-    (λ entries k file left. rest_kept g.D.Disk.seen g.D.Disk.may_leave g.D.Disk.is_usable c.reads.journal entries k file left) (served kept keeps stands))
+    let (bytes, consumed, begun, working, served) = c.reads.invariant in (
+      bytes,
+      Consumes-kept _ _ _ bytes consumed c.in-Err.ensures.bytes,
+      served_promised (g.O.Register.leaves c.args.setup.now) (g.O.Register.answers c.args.setup.now) (λ entries. IsKept g.D.Disk.seen g.D.Disk.may_leave g.D.Disk.is_usable entries c.reads.journal) (g.O.Register.stands c.args.setup.now c.reads.register) _ kept (lines_of bytes) _ _
+          (λ entries k file left. rest_kept g.D.Disk.seen g.D.Disk.may_leave g.D.Disk.is_usable c.reads.journal entries k file left) (served kept keeps stands),
+    )
 
 pub returns-then-count-eq0-clause-promised : goal.returns-then-count-eq0-clause-promised
 returns-then-count-eq0-clause-promised g c = λ kept keeps stands.
-    let (bytes, consumed, begun, working, served) = c.reads.invariant in
-    (bytes, none_read _ _ _ bytes c.read.new.buf c.in-Ok.count consumed c.in-Ok.ensures.bytes.0 c.if-count-eq0.true,
-    served_promised (g.O.Register.leaves c.args.setup.now) (g.O.Register.answers c.args.setup.now) (λ entries. IsKept g.D.Disk.seen g.D.Disk.may_leave g.D.Disk.is_usable entries c.reads.journal) (g.O.Register.stands c.args.setup.now c.reads.register) _ kept (lines_of bytes) _ _
-    (λ entries k file left. rest_kept g.D.Disk.seen g.D.Disk.may_leave g.D.Disk.is_usable c.reads.journal entries k file left) (served kept keeps stands))
+    let (bytes, consumed, begun, working, served) = c.reads.invariant in (
+      bytes,
+      none_read _ _ _ bytes c.read.new.buf c.in-Ok.count consumed c.in-Ok.ensures.bytes.0 c.if-count-eq0.true,
+      served_promised (g.O.Register.leaves c.args.setup.now) (g.O.Register.answers c.args.setup.now) (λ entries. IsKept g.D.Disk.seen g.D.Disk.may_leave g.D.Disk.is_usable entries c.reads.journal) (g.O.Register.stands c.args.setup.now c.reads.register) _ kept (lines_of bytes) _ _
+          (λ entries k file left. rest_kept g.D.Disk.seen g.D.Disk.may_leave g.D.Disk.is_usable c.reads.journal entries k file left) (served kept keeps stands),
+    )
 
 pub returns-then-count-eq0-clause-served : goal.returns-then-count-eq0-clause-served
 returns-then-count-eq0-clause-served g c = λ kept keeps stands.
@@ -66,10 +78,12 @@ returns-in_err-serve_bytes-in-Ok-clause-promised g c = λ kept keeps stands.
     let more = take c.in-Ok.count c.read.new.buf in
     let first = served kept keeps stands in
     let second = c.serve_bytes.ensures.promised (kept ++ left_by leaves kept (lines_of bytes)) first.keeps first.stands in
-    let lines = ap (λ (b : List ℕ). lines_of bytes ++ lines_from b more) begun ∙ sym (lines_from-append [] bytes more) in
-    (bytes ++ more, Consumes-trans _ _ _ bytes more consumed c.in-Ok.ensures.bytes.0,
-    subst (λ (l : List (List ℕ)). IsPromised leaves answers kept l (g.W.Write.contents (watched c.args.writer.now)) (g.W.Write.contents (watched c.serve_bytes.new.writer)) (g.D.Disk.may_leave (disk_of c.serve_bytes.new.journal))) lines
-    (promised_more leaves answers (λ entries. IsKept g.D.Disk.seen g.D.Disk.may_leave g.D.Disk.is_usable entries c.reads.journal) (g.O.Register.stands c.args.setup.now c.reads.register) (g.D.Disk.may_leave (disk_of c.serve_bytes.new.journal)) kept (lines_of bytes) (lines_from c.reads.begun.items more) (g.W.Write.contents (watched c.args.writer.now)) (g.W.Write.contents (watched c.reads.writer)) (g.W.Write.contents (watched c.serve_bytes.new.writer)) first second))
+    let lines = ap (λ (b : List ℕ). lines_of bytes ++ lines_from b more) begun ∙ sym (lines_from-append [] bytes more) in (
+      bytes ++ more,
+      Consumes-trans _ _ _ bytes more consumed c.in-Ok.ensures.bytes.0,
+      subst (λ (l : List (List ℕ)). IsPromised leaves answers kept l (g.W.Write.contents (watched c.args.writer.now)) (g.W.Write.contents (watched c.serve_bytes.new.writer)) (g.D.Disk.may_leave (disk_of c.serve_bytes.new.journal))) lines
+          (promised_more leaves answers (λ entries. IsKept g.D.Disk.seen g.D.Disk.may_leave g.D.Disk.is_usable entries c.reads.journal) (g.O.Register.stands c.args.setup.now c.reads.register) (g.D.Disk.may_leave (disk_of c.serve_bytes.new.journal)) kept (lines_of bytes) (lines_from c.reads.begun.items more) (g.W.Write.contents (watched c.args.writer.now)) (g.W.Write.contents (watched c.reads.writer)) (g.W.Write.contents (watched c.serve_bytes.new.writer)) first second),
+    )
 
 pub reads-preserved : goal.reads-preserved
 reads-preserved g c =
@@ -79,19 +93,23 @@ reads-preserved g c =
     let more = take c.in-Ok.count c.read.new.buf in
     let lines = ap (λ (b : List ℕ). lines_of bytes ++ lines_from b more) begun ∙ sym (lines_from-append [] bytes more) in
     let keeps_then : List (List ℕ) → Type 0 = λ entries. IsKept g.D.Disk.seen g.D.Disk.may_leave g.D.Disk.is_usable entries c.serve_bytes.new.journal in
-    let stands_then : List (List ℕ) → Type 0 = g.O.Register.stands c.args.setup.now c.serve_bytes.new.register in
-    (bytes ++ more, Consumes-trans _ _ _ bytes more consumed c.in-Ok.ensures.bytes.0,
-    c.in_ok-serve_bytes-in-Ok.ensures.begun ∙ ap (λ (b : List ℕ). unfinished_from b more) begun ∙ sym (unfinished_from-append [] bytes more),
-    c.in_ok-serve_bytes-in-Ok.ensures.working,
-    λ kept keeps stands.
-    let first = served kept keeps stands in
-    let second = c.in_ok-serve_bytes-in-Ok.ensures.served (kept ++ left_by leaves kept (lines_of bytes)) first.keeps first.stands in
-    subst (λ (l : List (List ℕ)). IsServed leaves answers keeps_then stands_then kept l (g.W.Write.contents (watched c.args.writer.now)) (g.W.Write.contents (watched c.serve_bytes.new.writer))) lines
-    (served_more leaves answers (λ entries. IsKept g.D.Disk.seen g.D.Disk.may_leave g.D.Disk.is_usable entries c.reads.journal) (g.O.Register.stands c.args.setup.now c.reads.register) keeps_then stands_then kept (lines_of bytes) (lines_from c.reads.begun.items more) (g.W.Write.contents (watched c.args.writer.now)) (g.W.Write.contents (watched c.reads.writer)) (g.W.Write.contents (watched c.serve_bytes.new.writer)) first second))
+    let stands_then : List (List ℕ) → Type 0 = g.O.Register.stands c.args.setup.now c.serve_bytes.new.register in (
+      bytes ++ more,
+      Consumes-trans _ _ _ bytes more consumed c.in-Ok.ensures.bytes.0,
+      c.in_ok-serve_bytes-in-Ok.ensures.begun ∙ ap (λ (b : List ℕ). unfinished_from b more) begun ∙ sym (unfinished_from-append [] bytes more),
+      c.in_ok-serve_bytes-in-Ok.ensures.working,
+      λ kept keeps stands.
+          let first = served kept keeps stands in
+          let second = c.in_ok-serve_bytes-in-Ok.ensures.served (kept ++ left_by leaves kept (lines_of bytes)) first.keeps first.stands in
+          subst (λ (l : List (List ℕ)). IsServed leaves answers keeps_then stands_then kept l (g.W.Write.contents (watched c.args.writer.now)) (g.W.Write.contents (watched c.serve_bytes.new.writer))) lines
+          (served_more leaves answers (λ entries. IsKept g.D.Disk.seen g.D.Disk.may_leave g.D.Disk.is_usable entries c.reads.journal) (g.O.Register.stands c.args.setup.now c.reads.register) keeps_then stands_then kept (lines_of bytes) (lines_from c.reads.begun.items more) (g.W.Write.contents (watched c.args.writer.now)) (g.W.Write.contents (watched c.reads.writer)) (g.W.Write.contents (watched c.serve_bytes.new.writer)) first second),
+    )
 
 pub returns-clause-promised : goal.returns-clause-promised
 returns-clause-promised g c = λ kept keeps stands.
-    let (bytes, consumed, begun, working, served) = c.reads.invariant in
-    (bytes, consumed,
-    served_promised (g.O.Register.leaves c.args.setup.now) (g.O.Register.answers c.args.setup.now) (λ entries. IsKept g.D.Disk.seen g.D.Disk.may_leave g.D.Disk.is_usable entries c.reads.journal) (g.O.Register.stands c.args.setup.now c.reads.register) _ kept (lines_of bytes) _ _
-    (λ entries k file left. rest_kept g.D.Disk.seen g.D.Disk.may_leave g.D.Disk.is_usable c.reads.journal entries k file left) (served kept keeps stands))
+    let (bytes, consumed, begun, working, served) = c.reads.invariant in (
+      bytes,
+      consumed,
+      served_promised (g.O.Register.leaves c.args.setup.now) (g.O.Register.answers c.args.setup.now) (λ entries. IsKept g.D.Disk.seen g.D.Disk.may_leave g.D.Disk.is_usable entries c.reads.journal) (g.O.Register.stands c.args.setup.now c.reads.register) _ kept (lines_of bytes) _ _
+          (λ entries k file left. rest_kept g.D.Disk.seen g.D.Disk.may_leave g.D.Disk.is_usable c.reads.journal entries k file left) (served kept keeps stands),
+    )

@@ -13,5 +13,5 @@ invariant-reads g l =
     × (l.begun.items ≡ unfinished_of bytes)
     × (has_failed l.writer ≡ false)
     × ((kept : List (List ℕ)) → IsKept g.D.Disk.seen g.D.Disk.may_leave g.D.Disk.is_usable kept l.fn.journal → g.O.Register.stands l.setup l.fn.register kept →
-        IsServed (g.O.Register.leaves l.setup) (g.O.Register.answers l.setup) (λ entries. IsKept g.D.Disk.seen g.D.Disk.may_leave g.D.Disk.is_usable entries l.journal) (g.O.Register.stands l.setup l.register) kept (lines_of bytes)
-        (g.W.Write.contents (watched l.fn.writer)) (g.W.Write.contents (watched l.writer)))
+    IsServed (g.O.Register.leaves l.setup) (g.O.Register.answers l.setup) (λ entries. IsKept g.D.Disk.seen g.D.Disk.may_leave g.D.Disk.is_usable entries l.journal) (g.O.Register.stands l.setup l.register) kept (lines_of bytes)
+    (g.W.Write.contents (watched l.fn.writer)) (g.W.Write.contents (watched l.writer)))
