@@ -12,7 +12,7 @@ CHECKS   := $(shell python3 checks/run.py --names)
 SEED     :=
 COUNT    :=
 
-.PHONY: build try run memo test times bench check check-long help $(CHECKS)
+.PHONY: build try run memo desk test times bench check check-long help $(CHECKS)
 
 # Proves the program and the libraries below it, and builds it at $(PROGRAM), with a line for each crate that is proved.
 # Where nothing has changed it proves nothing anew.
@@ -29,6 +29,10 @@ run: build
 # The program that gives reasons, proved and built at $(MEMO).
 memo:
 	@python3 tools/prove.py deadline_memo
+
+# The program that keeps rows in a folder, proved and built at crates/docket_desk/out/docket_desk.
+desk:
+	@python3 tools/prove.py docket_desk
 
 # Everything from nothing: proofs, edits that the prover must refuse, tests, and the program's stored run.
 test:
@@ -54,6 +58,7 @@ help:
 	@echo "make             proves and builds the program, which is then $(PROGRAM)"
 	@echo "make try         runs $(EXAMPLE) from the sources in a minute or two, and proves nothing"
 	@echo "make memo        the same for the one that gives reasons, $(MEMO)"
+	@echo "make desk        the same for the one that keeps rows in a folder, crates/docket_desk/out/docket_desk"
 	@echo "make run         proves and builds the program, and runs it on $(EXAMPLE)"
 	@echo "make test        proves and tests everything from nothing (rt ci): the gate"
 	@echo "make times       the same, with a table of the seconds of each crate; it needs Linux"
