@@ -44,7 +44,7 @@ class Check(NamedTuple):
 
 ALL = [
     Check("docs_check", [CLERK, MEMO, DESK], [["docs_check.py"]],
-          "the examples, and the commands that documents show", "5 s", quick=True),
+          "the examples, and commands that documents show", "5 s", quick=True),
     Check("runs_check", [CLERK], [["runs_join.py", "--check"], ["runs_check.py", built(CLERK)]],
           "all whole runs of runs/, byte by byte", "10 s", quick=True),
     Check("check_program", [CLERK, MEMO], [["check_program.py", built(CLERK)], ["check_program.py", built(MEMO)]],
