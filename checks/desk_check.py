@@ -6,8 +6,8 @@
 For each example of examples/ of one clerk, and for COUNT inputs drawn at random (20 without it): the rows are entered in
 two sessions, and the answers must be those that clerk_office begins with; what `rows` writes must be an input that
 clerk_office answers the same as the whole. Then COUNT times a session is killed at a random moment: every row that was
-answered must be kept, with its answer. Then each byte of a short journal is changed: the journal must be refused, or
-hold the first of its rows. A second program must be refused the folder of one that runs. It needs Python 3.8 or later.
+answered must be kept, with its answer. Then each of the last 400 bytes of a short journal is changed: the journal must be
+refused, or hold the first of its rows. A second program must be refused the folder of one that runs. It needs Python 3.8 or later.
 """
 import pathlib
 import random

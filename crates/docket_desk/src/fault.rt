@@ -1,4 +1,4 @@
-//! What can go wrong, and how it is told.
+//! The faults with which the program ends, their lines and their statuses.
 
 use court_file_text::{CourtFault, NumberedFault};
 use durable_journal::JournalFault;

@@ -31,7 +31,7 @@ unfoldable pub rows_in : CourtNames → List (List ℕ) → List Row
 rows_in names [] = []
 rows_in names (entry ∷ entries) = row_in (line_read most_clerks names entry) ++ rows_in names entries
 
--- what is docketed after entries: nothing is by the first, which is the court's file
+-- what is docketed after entries, of which the first is the court's file, and each later one begins with a row
 unfoldable pub docketed_by : CourtView → (kept : List (List ℕ)) → Rows
 docketed_by court kept = docketed_after (setup_of court) (opening_rows (setup_of court)) (rows_in (names_of court) (drop 1 kept))
 

@@ -11,8 +11,8 @@ pub record IsServed (leaves : List (List ℕ) → List ℕ → List (List ℕ)) 
   pub stands : Stands (kept ++ left_by leaves kept lines)
   pub told : Appends before after (told_to leaves answers kept lines)
 
--- However a session ends that has come to these lines: what was written is a beginning of the answers to the first `told`
--- of them, and whatever a crash leaves stands for what these left, and for what some of those after them left, in order.
+-- What is so of a session that has read these lines, however it ends: what it wrote is a beginning of the answers to the
+-- first `told` of them, and whatever a crash leaves stands for the entries that the first n of them left, n at least `told`.
 pub record IsPromised (leaves : List (List ℕ) → List ℕ → List (List ℕ)) (answers : List (List ℕ) → List ℕ → List ℕ) (kept lines : List (List ℕ)) (before after : Option (List ℕ)) (MayLeave : List ℕ → Type 0) : Type 0 where
   pub told : ℕ
   pub written : AppendsFront before after (told_to leaves answers kept (take told lines))
