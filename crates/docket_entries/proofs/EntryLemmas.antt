@@ -15,13 +15,14 @@ use Rattle.csv.proofs.RoundTrip.{read-write}
 use Rattle.court_days.specs.Words.{CourtView}
 use Rattle.office_rows.specs.declared.fault.RowCause.{RowCause}
 use Rattle.office_rows.specs.declared.fault.RowCause.TheVariants.{BadClerk, NotText, TooManyRows, WrongCount}
-use Rattle.office_rows.specs.declared.line.Line.{Line}
-use Rattle.office_rows.specs.declared.line.Line.TheVariants as line
+use Rattle.row_line.specs.declared.line.Line.{Line}
+use Rattle.row_line.specs.declared.line.Line.TheVariants as line
 use Rattle.office_rows.specs.declared.row.Row.{Row}
 use Rattle.office_rows.specs.declared.row.Work.{Work}
 use Rattle.office_rows.specs.Columns.{◌>>=◌}
-use Rattle.office_rows.specs.Words.{CourtNames, clerk_of, column, fields_read, is_number, line_read, names_of, number_of, row_of, work_of}
-use Rattle.office_rows.proofs.CallerLemmas.{has_fields, says_first, says_row}
+use Rattle.office_rows.specs.Words.{CourtNames, clerk_of, column, is_number, names_of, number_of, row_of, work_of}
+use Rattle.row_line.specs.Words.{fields_read, line_read}
+use Rattle.row_line.proofs.CallerLemmas.{has_fields, says_first, says_row}
 use Rattle.docket_entries.specs.Entries.{answer_to, entry_of, leaves, left_of, most_clerks, most_entries, within}
 use Rattle.docket_entries.specs.Laws.{WhatIsLeftFollows}
 

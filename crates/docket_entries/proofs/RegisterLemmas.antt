@@ -5,11 +5,12 @@ use Rattle.std.specs.declared.alloc.Global.{Global}
 use Rattle.court_days.specs.Words.{CourtView}
 use Rattle.docket_rows.specs.Words.{setup_of, opening_rows}
 use Rattle.docket_core.specs.Words.{DocketView}
-use Rattle.office_rows.specs.declared.line.Line.{Line}
-use Rattle.office_rows.specs.declared.line.Line.TheVariants as line
+use Rattle.row_line.specs.declared.line.Line.{Line}
+use Rattle.row_line.specs.declared.line.Line.TheVariants as line
 use Rattle.office_rows.specs.declared.row.Row.{Row}
-use Rattle.office_rows.specs.Words.{CourtNames, fields_read, line_read, names_of, row_of}
-use Rattle.office_rows.proofs.CallerLemmas.{says_row}
+use Rattle.office_rows.specs.Words.{CourtNames, names_of, row_of}
+use Rattle.row_line.specs.Words.{fields_read, line_read}
+use Rattle.row_line.proofs.CallerLemmas.{says_row}
 use Rattle.office_run.specs.Words.{Holds, docketed_after, docketed_then}
 use Rattle.office_run.proofs.CallerLemmas.{docketed_more}
 use Rattle.durable_session.specs.Words.{TakesLine}

@@ -4,10 +4,11 @@ use Rattle.csv.specs.Writing.{default_writer, row_text}
 use Rattle.court_days.specs.Words.{CourtView}
 use Rattle.docket_rows.specs.Words.{Rows, setup_of, opening_rows}
 use Rattle.office_rows.specs.declared.fault.RowCause.TheVariants.{TooManyRows}
-use Rattle.office_rows.specs.declared.line.Line.{Line}
-use Rattle.office_rows.specs.declared.line.Line.TheVariants as line
+use Rattle.row_line.specs.declared.line.Line.{Line}
+use Rattle.row_line.specs.declared.line.Line.TheVariants as line
 use Rattle.office_rows.specs.declared.row.Row.{Row}
-use Rattle.office_rows.specs.Words.{CourtNames, fields_read, line_read, names_of}
+use Rattle.office_rows.specs.Words.{CourtNames, names_of}
+use Rattle.row_line.specs.Words.{fields_read, line_read}
 use Rattle.office_run.specs.Words.{docketed_after, line_of, reply_to}
 use Rattle.office_streams.specs.declared.fault.OfficeFault.TheVariants.{Row as RowFault}
 use Rattle.office_streams.specs.Words.{told_line}

@@ -1,9 +1,10 @@
 //! The register of a court's rows.
 ghost use Rattle.std.specs.Prelude.{◌≡◌, ◌<◌, ◌++◌, ◌∷◌, [], ℕ, List, length, IfOk, OnOk};
 ghost use Rattle.csv.specs.Records.{fields_of};
-ghost use Rattle.office_rows.specs.Words.{fields_read, line_read, names_of};
+ghost use Rattle.office_rows.specs.Words.{names_of};
 ghost use Rattle.office_rows.specs.declared.row.Row.{Row as RowOf};
-ghost use Rattle.office_rows.specs.declared.line.Line.TheVariants as says;
+ghost use Rattle.row_line.specs.Words.{fields_read, line_read};
+ghost use Rattle.row_line.specs.declared.line.Line.TheVariants as says;
 ghost use Rattle.office_streams.specs.Words.{told_line};
 ghost use Rattle.docket_entries.specs.Entries.{most_clerks, most_entries, within};
 ghost use Rattle.docket_entries.specs.Register.{IsDone, StandsAt};
@@ -15,9 +16,10 @@ use csv::StringRecord;
 use docket_core::Docket;
 use docket_rows::{Command, Query};
 use durable_session::Register;
-use office_rows::{Line, Row, RowCause, Work, read_line};
+use office_rows::{Row, RowCause, Work};
 use office_run::reply_to;
 use office_streams::{OfficeFault, fault_line};
+use row_line::{Line, read_line};
 use rule_periods::{Grant, Request};
 use std::alloc::{AllocError, Global};
 

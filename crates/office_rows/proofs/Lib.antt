@@ -4,7 +4,6 @@ pub mod CutLemmas
 pub mod PanelLemmas
 pub mod PeriodLemmas
 pub mod FormLemmas
-pub mod LineLemmas
 pub mod RecordsLemmas
 pub mod ReadingLemmas
 pub mod RowsLemmas

@@ -4,7 +4,6 @@ pub mod Fault
 pub mod Columns
 pub mod Forms
 pub mod Rows
-pub mod Line
 pub mod Records
 pub mod FirstFault
 pub mod Bounds

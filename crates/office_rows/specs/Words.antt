@@ -15,8 +15,7 @@ pub use Rattle.office_rows.specs.Forms.{CommandWordsNameForms, RowsAskByTheirWor
 unfoldable pub use Rattle.office_rows.specs.Forms.{form_of, work_of}
 pub use Rattle.office_rows.specs.Rows.{AnswersRows, in_row, most_rows, numbered_row}
 unfoldable pub use Rattle.office_rows.specs.Rows.{clerk_of, row_of, rows_read_from, rows_read}
-unfoldable pub use Rattle.office_rows.specs.Line.{line_read, fields_read}
-pub use Rattle.office_rows.specs.Line.{first_line, first_fields, line_spelling}
+pub use Rattle.office_rows.specs.Records.{MeetsNoText, TakesAnyRow, TakesText, records_left}
 pub use Rattle.office_rows.specs.FirstFault.{AreSpelled, FirstFaultIsTold, IsFirstFault}
 pub use Rattle.office_rows.specs.Fault.{cause_text}
 pub use Rattle.office_rows.specs.Bounds.{IsClerk, IsOfClerk, RowsAreBounded}

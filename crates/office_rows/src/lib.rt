@@ -6,7 +6,6 @@ mod fault;
 mod fields;
 mod forms;
 mod laws;
-mod line;
 mod records;
 mod row;
 
@@ -15,6 +14,5 @@ pub use laws::{
     codes_are_read_back, command_words_name_forms, first_fault_is_told, rows_are_bounded,
     rows_ask_by_their_words,
 };
-pub use line::{Line, read_line};
-pub use records::{MAX_ROWS, read_rows};
+pub use records::{MAX_ROWS, Next, read_next, read_rows, row_of, rows_reader};
 pub use row::{Row, Work};

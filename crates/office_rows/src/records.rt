@@ -36,8 +36,8 @@ pub fn read_rows(
     take_rows(alloc, &mut reader, clerks, court)
 }
 
-// A reader of rows. The text has no header, and its records may differ in their number of fields.
-pub(crate) fn rows_reader(alloc: Global, bytes: &[u8]) -> Reader<&[u8]>
+/// A reader of rows. The text has no header, and its records may differ in their number of fields.
+pub fn rows_reader(alloc: Global, bytes: &[u8]) -> Reader<&[u8]>
     ensures any_row { TakesAnyRow result }
     ensures records { records_left result ≡ records default_config (strip_bom bytes.now) }
 {
@@ -92,9 +92,9 @@ fn numbered_row(
     }
 }
 
-// The row that a record spells, for a run with this number of clerks.
+/// The row that a record spells, for an office with this number of clerks, or the cause why it spells none.
 #[tactic(auto, unfolding(crate::specs::Rows::row_of))]
-pub(crate) fn row_of(clerks: u8, court: &Court, fields: &StringRecord) -> Result<Row, RowCause>
+pub fn row_of(clerks: u8, court: &Court, fields: &StringRecord) -> Result<Row, RowCause>
     requires { list_all is_utf8 (fields_of fields.now) ≡ true }
     ensures { result ≡ row_of clerks (names_of court.now) (fields_of fields.now) }
 {
@@ -119,22 +119,19 @@ fn clerk_of(clerks: u8, field: &str) -> Option<u8>
     }
 }
 
-// What comes next of the rows.
-#[derive(Clone, Copy)]
-pub(crate) enum Next {
-    // A record, each field of which is text.
+/// What comes next of the rows.
+#[derive(Clone, Copy, Debug, PartialEq, Eq)]
+pub enum Next {
+    /// A record, each field of which is text.
     Text,
-    // A record with a field that is no text.
+    /// A record with a field that is no text.
     NotText,
-    // No record.
+    /// No record.
     End,
 }
 
-// Reads the next record into `fields`.
-pub(crate) fn read_next(
-    reader: &mut Reader<&[u8]>,
-    fields: &mut StringRecord,
-) -> Result<Next, AllocError>
+/// Reads the next record into `fields`. `Err` says that memory ran out.
+pub fn read_next(reader: &mut Reader<&[u8]>, fields: &mut StringRecord) -> Result<Next, AllocError>
     requires { TakesAnyRow reader.old }
     ensures text { result ≡ Ok Next.Text → TakesText reader.old reader.new (fields_of fields.new) }
     ensures no_text { result ≡ Ok Next.NotText → MeetsNoText reader.old }

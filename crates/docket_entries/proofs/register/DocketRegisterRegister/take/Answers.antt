@@ -4,7 +4,7 @@ use Rattle.std.proofs.lemmas.List.{map_push}
 use Rattle.std.proofs.lemmas.Result.{on_ok_weaker}
 use Rattle.csv.specs.Records.{fields_of}
 use Rattle.durable_journal.specs.Words.{batch_of}
-use Rattle.office_rows.specs.declared.line.Line.TheVariants as says
+use Rattle.row_line.specs.declared.line.Line.TheVariants as says
 use Rattle.office_streams.specs.declared.fault.OfficeFault.TheVariants.{Row as RowFault}
 use Rattle.office_streams.specs.Words.{told_line}
 use Rattle.docket_entries.proofs.RegisterLemmas.{as_it_was, nothing_left, row_left}

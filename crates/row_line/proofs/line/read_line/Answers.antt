@@ -1,11 +1,10 @@
 use Rattle.std.proofs.Common.{◌∙◌, Ok, Err, ap, sym}
 use Rattle.csv.specs.Records.{fields_of}
 use Rattle.office_rows.specs.declared.fault.RowCause.TheVariants.{NotText}
-use Rattle.office_rows.specs.CourtNames.{names_of}
-use Rattle.office_rows.specs.Records.{records_left}
-use Rattle.office_rows.proofs.LineLemmas.{has_fields, says_first, says_nothing}
-use Rattle.office_rows.proofs.RowsLemmas.{row_of-no_text}
-use Rattle.office_rows.proofs.line.read_line.Goals as goal
+use Rattle.office_rows.specs.Words.{names_of, records_left}
+use Rattle.office_rows.proofs.CallerLemmas.{row_of-no_text}
+use Rattle.row_line.proofs.LineLemmas.{has_fields, says_first, says_nothing}
+use Rattle.row_line.proofs.line.read_line.Goals as goal
 
 pub returns-in-End-clause-said : goal.returns-in-End-clause-said
 returns-in-End-clause-said c =

@@ -2,14 +2,12 @@
 
 ghost use Rattle.std.specs.Prelude.{◌≡◌, ◌≢◌, IfOk};
 ghost use Rattle.csv.specs.Records.{fields_of};
-ghost use Rattle.office_rows.specs.CourtNames.{names_of};
-ghost use Rattle.office_rows.specs.Line.{line_read, fields_read};
+ghost use Rattle.office_rows.specs.Words.{names_of};
+ghost use Rattle.row_line.specs.Line.{line_read, fields_read};
 
-use crate::fault::RowCause;
-use crate::records::{Next, read_next, row_of, rows_reader};
-use crate::row::Row;
 use court_days::Court;
 use csv::StringRecord;
+use office_rows::{Next, Row, RowCause, read_next, row_of, rows_reader};
 use std::alloc::{AllocError, Global};
 
 /// What a line says.

@@ -2,12 +2,11 @@
 use Rattle.std.proofs.Common.{◌≡◌, ◌∙◌, ℕ, List, [], ◌∷◌, Result, Ok, Err, refl, sym, ap}
 use Rattle.csv.specs.Reading.{default_config, records, strip_bom}
 use Rattle.office_rows.specs.declared.fault.RowCause.{RowCause}
-use Rattle.office_rows.specs.declared.line.Line.{Line}
-use Rattle.office_rows.specs.declared.line.Line.TheVariants as line
+use Rattle.row_line.specs.declared.line.Line.{Line}
+use Rattle.row_line.specs.declared.line.Line.TheVariants as line
 use Rattle.office_rows.specs.declared.row.Row.{Row}
-use Rattle.office_rows.specs.CourtNames.{CourtNames}
-use Rattle.office_rows.specs.Line.{fields_read, first_fields, first_line, line_read, line_spelling}
-use Rattle.office_rows.specs.Rows.{row_of}
+use Rattle.office_rows.specs.Words.{CourtNames, row_of}
+use Rattle.row_line.specs.Line.{fields_read, first_fields, first_line, line_read, line_spelling}
 
 module _ (clerks : ℕ) (names : CourtNames) (bytes : List ℕ) where
   -- there is no record

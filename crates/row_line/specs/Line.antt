@@ -2,11 +2,10 @@
 use Rattle.std.specs.Prelude.{ℕ, List, [], ◌∷◌, Result, Ok, Err}
 use Rattle.csv.specs.Reading.{default_config, records, strip_bom}
 use Rattle.office_rows.specs.declared.fault.RowCause.{RowCause}
-use Rattle.office_rows.specs.declared.line.Line.{Line}
-use Rattle.office_rows.specs.declared.line.Line.TheVariants.{Blank, Fault, Row}
+use Rattle.row_line.specs.declared.line.Line.{Line}
+use Rattle.row_line.specs.declared.line.Line.TheVariants.{Blank, Fault, Row}
 use Rattle.office_rows.specs.declared.row.Row.{Row as RowOf}
-use Rattle.office_rows.specs.CourtNames.{CourtNames}
-use Rattle.office_rows.specs.Rows.{row_of}
+use Rattle.office_rows.specs.Words.{CourtNames, row_of}
 
 -- what a record says
 abbrev pub line_spelling : Result RowOf RowCause → Line
