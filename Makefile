@@ -34,11 +34,12 @@ memo:
 desk:
 	@python3 tools/prove.py docket_desk
 
-# Everything from nothing: proofs, edits that the prover must refuse, tests, and the program's stored run.
+# Proofs, edits that the prover must refuse, tests, and the programs' stored runs: all that no earlier run of the gate on
+# this machine has passed for the same files. `rt ci --anew` takes nothing from earlier runs.
 test:
 	@rt ci
 
-# The same, and then a table of the processor seconds that each crate took.
+# Everything from nothing, and then a table of the processor seconds that each crate took.
 times:
 	@python3 tools/gate_times.py
 
@@ -60,8 +61,8 @@ help:
 	@echo "make memo        the same for the one that gives reasons, $(MEMO)"
 	@echo "make desk        the same for the one that keeps rows in a folder, crates/docket_desk/out/docket_desk"
 	@echo "make run         proves and builds the program, and runs it on $(EXAMPLE)"
-	@echo "make test        proves and tests everything from nothing (rt ci): the gate"
-	@echo "make times       the same, with a table of the seconds of each crate; it needs Linux"
+	@echo "make test        the gate (rt ci): proves and tests all that no earlier run on this machine has passed"
+	@echo "make times       the gate from nothing, with a table of the seconds of each crate; it needs Linux"
 	@echo "make bench       prints the program's rows per second and peak memory; it needs Linux"
 	@echo "make check       all quick checks beside the gate"
 	@echo "make check-long  the long ones"

@@ -3,10 +3,11 @@
 
     gate_times.py
 
-`rt ci` prints no times, so this looks at its processes twice a second and adds up the processor time of each: what
-proving a crate took, building it by two compilers, proving its tests, its must-fail edits, and the runs of its program
-and tests. Processes that end within half a second may be missed. The table has the crates that took most first. The
-status is that of `rt ci`. It needs Linux and Python 3.8 or later.
+It runs `rt ci --anew`, which takes nothing from earlier runs. That prints no times, so this looks at its processes
+twice a second and adds up the processor time of each: what proving a crate took, building it by two compilers, proving
+its tests, its must-fail edits, and the runs of its program and tests. Processes that end within half a second may be
+missed. The table has the crates that took most first. The status is that of the gate. It needs Linux and Python 3.8 or
+later.
 """
 import collections
 import os
@@ -95,7 +96,7 @@ def print_table(rows, minutes):
 
 def main():
     began = time.monotonic()
-    gate = subprocess.Popen(["rt", "ci"], cwd=str(TOP))
+    gate = subprocess.Popen(["rt", "ci", "--anew"], cwd=str(TOP))
     times = Times(gate.pid)
     try:
         while gate.poll() is None:
