@@ -5,9 +5,10 @@ ghost use Rattle.csv.specs.Records.{fields_of};
 ghost use Rattle.office_rows.specs.Words.{names_of};
 ghost use Rattle.row_line.specs.Line.{line_read, fields_read};
 
+use crate::first::read_first;
 use court_days::Court;
 use csv::StringRecord;
-use office_rows::{Next, Row, RowCause, read_next, row_of, rows_reader};
+use office_rows::{Next, Row, RowCause, row_of};
 use std::alloc::{AllocError, Global};
 
 /// What a line says.
@@ -33,8 +34,7 @@ pub fn read_line(
     ensures said { IfOk result (λ line. line ≡ line_read clerks (names_of court.now) bytes.now) }
     ensures fields { IfOk result (λ line. (row : Row) → line ≡ Line.Row row → fields_of fields.new ≡ fields_read bytes.now) }
 {
-    let mut reader = rows_reader(alloc, bytes);
-    match read_next(&mut reader, fields)? {
+    match read_first(alloc, bytes, fields)? {
         Next::End => Ok(Line::Blank),
         Next::NotText => Ok(Line::Fault(RowCause::NotText)),
         Next::Text => match row_of(clerks, court, fields) {

@@ -1,31 +1,30 @@
-use Rattle.std.proofs.Common.{◌∙◌, Ok, Err, ap, sym}
+use Rattle.std.proofs.Common.{Ok, Err, ap, sym}
 use Rattle.csv.specs.Records.{fields_of}
 use Rattle.office_rows.specs.declared.fault.RowCause.TheVariants.{NotText}
-use Rattle.office_rows.specs.Words.{names_of, records_left}
+use Rattle.office_rows.specs.Words.{names_of}
 use Rattle.office_rows.proofs.CallerLemmas.{row_of-no_text}
 use Rattle.row_line.proofs.LineLemmas.{has_fields, says_first, says_nothing}
 use Rattle.row_line.proofs.line.read_line.Goals as goal
 
 pub returns-in-End-clause-said : goal.returns-in-End-clause-said
-returns-in-End-clause-said c =
-    says_nothing c.args.clerks (names_of c.args.court.now) c.args.bytes.now (sym c.rows_reader-reader.ensures.records ∙ c.in_ok-read_next.ensures.end (ap Ok c.in-End.is))
+returns-in-End-clause-said c = says_nothing c.args.clerks (names_of c.args.court.now) c.args.bytes.now (c.in_ok-read_first.ensures.end (ap Ok c.in-End.is))
 
 pub returns-in-NotText-clause-said : goal.returns-in-NotText-clause-said
 returns-in-NotText-clause-said c =
-    let meets = c.in_ok-read_next.ensures.no_text (ap Ok c.in-NotText.is) in
-    says_first c.args.clerks (names_of c.args.court.now) c.args.bytes.now meets.fields meets.later (Err NotText) (sym c.rows_reader-reader.ensures.records ∙ meets.next) (row_of-no_text c.args.clerks (names_of c.args.court.now) meets.fields meets.no_text)
+    let (met, begins, no_text) = c.in_ok-read_first.ensures.no_text (ap Ok c.in-NotText.is) in
+    says_first c.args.clerks (names_of c.args.court.now) c.args.bytes.now met begins.later (Err NotText) begins.is (row_of-no_text c.args.clerks (names_of c.args.court.now) met no_text)
 
 pub returns-in-Ok-clause-said : goal.returns-in-Ok-clause-said
 returns-in-Ok-clause-said c =
-    let takes = c.in_ok-read_next.ensures.text (ap Ok c.in-Text.is) in
-    says_first c.args.clerks (names_of c.args.court.now) c.args.bytes.now (fields_of c.read_next.new.fields) (records_left c.read_next.new.reader) (Ok c.in-Ok.row) (sym c.rows_reader-reader.ensures.records ∙ takes.next) (sym c.in-Ok.ensures)
+    let (begins, text) = c.in_ok-read_first.ensures.text (ap Ok c.in-Text.is) in
+    says_first c.args.clerks (names_of c.args.court.now) c.args.bytes.now (fields_of c.read_first.new.fields) begins.later (Ok c.in-Ok.row) begins.is (sym c.in-Ok.ensures)
 
 pub returns-in-Ok-clause-fields : goal.returns-in-Ok-clause-fields
 returns-in-Ok-clause-fields c = λ row same.
-    let takes = c.in_ok-read_next.ensures.text (ap Ok c.in-Text.is) in
-    has_fields c.args.clerks (names_of c.args.court.now) c.args.bytes.now (fields_of c.read_next.new.fields) (records_left c.read_next.new.reader) (sym c.rows_reader-reader.ensures.records ∙ takes.next)
+    let (begins, text) = c.in_ok-read_first.ensures.text (ap Ok c.in-Text.is) in
+    has_fields c.args.clerks (names_of c.args.court.now) c.args.bytes.now (fields_of c.read_first.new.fields) begins.later begins.is
 
 pub returns-clause-said : goal.returns-clause-said
 returns-clause-said c =
-    let takes = c.in_ok-read_next.ensures.text (ap Ok c.in-Text.is) in
-    says_first c.args.clerks (names_of c.args.court.now) c.args.bytes.now (fields_of c.read_next.new.fields) (records_left c.read_next.new.reader) (Err c.in-Err.cause) (sym c.rows_reader-reader.ensures.records ∙ takes.next) (sym c.in-Err.ensures)
+    let (begins, text) = c.in_ok-read_first.ensures.text (ap Ok c.in-Text.is) in
+    says_first c.args.clerks (names_of c.args.court.now) c.args.bytes.now (fields_of c.read_first.new.fields) begins.later (Err c.in-Err.cause) begins.is (sym c.in-Err.ensures)
