@@ -1,8 +1,7 @@
 -- What a line says, by the records that its reader has.
-use Rattle.std.proofs.Common.{◌≡◌, ◌∙◌, ℕ, List, [], ◌∷◌, Result, Ok, Err, refl, sym, ap}
+use Rattle.std.proofs.Common.{◌≡◌, ◌∙◌, ℕ, List, [], ◌∷◌, Result, Ok, Err, sym, ap}
 use Rattle.csv.specs.Reading.{default_config, records, strip_bom}
 use Rattle.office_rows.specs.declared.fault.RowCause.{RowCause}
-use Rattle.row_line.specs.declared.line.Line.{Line}
 use Rattle.row_line.specs.declared.line.Line.TheVariants as line
 use Rattle.office_rows.specs.declared.row.Row.{Row}
 use Rattle.office_rows.specs.Words.{CourtNames, row_of}

@@ -24,7 +24,7 @@ returns-in-Ok-clause-fields c = λ row same.
     let (begins, text) = c.in_ok-read_first.ensures.text (ap Ok c.in-Text.is) in
     has_fields c.args.clerks (names_of c.args.court.now) c.args.bytes.now (fields_of c.read_first.new.fields) begins.later begins.is
 
-pub returns-clause-said : goal.returns-clause-said
-returns-clause-said c =
+pub returns-in-Err-clause-said : goal.returns-in-Err-clause-said
+returns-in-Err-clause-said c =
     let (begins, text) = c.in_ok-read_first.ensures.text (ap Ok c.in-Text.is) in
     says_first c.args.clerks (names_of c.args.court.now) c.args.bytes.now (fields_of c.read_first.new.fields) begins.later (Err c.in-Err.cause) begins.is (sym c.in-Err.ensures)

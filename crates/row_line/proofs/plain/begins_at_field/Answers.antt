@@ -1,4 +1,3 @@
-use Rattle.std.proofs.Common.{refl}
 use Rattle.row_line.proofs.PlainLemmas.{begins_at_field}
 use Rattle.row_line.proofs.plain.begins_at_field.Goals as goal
 

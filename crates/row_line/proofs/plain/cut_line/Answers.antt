@@ -1,8 +1,7 @@
-use Rattle.std.proofs.Common.{◌≡◌, ◌∙◌, ◌+◌, ◌≤◌, ◌++◌, ◌∷◌, [], Some, get_or, inl, inr, refl, sym, ap, arith}
+use Rattle.std.proofs.Common.{◌≡◌, ◌∙◌, Some, get_or, inl, inr, ap, arith}
 use Rattle.std.specs.Prelude.{◌⊎◌}
 use Rattle.std.specs.List.{slice_range}
 use Rattle.csv.specs.Records.{fields_of, partial_of}
-use Rattle.row_line.specs.Plain.{cut}
 use Rattle.row_line.proofs.PlainLemmas.{cut_comma, cut_end, cut_past, cut_within, one_field, range_more}
 use Rattle.row_line.proofs.plain.cut_line.Goals as goal
 use Rattle.row_line.proofs.plain.cut_line.Goals.{then-byte-eq13-via-then-byte-eq13, then-byte-eq13-via-else-byte-eq13+then-byte-eq10, then-byte-eq44+in_ok-push_field-2, else-byte-eq44}

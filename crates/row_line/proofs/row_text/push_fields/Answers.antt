@@ -1,6 +1,6 @@
 use Rattle.std.proofs.Common.{◌≤◌, ◌++◌, ◌∙◌, ap, sym, length, arith}
 use Rattle.csv.specs.Records.{fields_of}
-use Rattle.csv.specs.Writing.{default_writer, field_text, fields_text, row_body}
+use Rattle.csv.specs.Writing.{default_writer, field_text, row_body}
 use Rattle.row_line.proofs.RowTextLemmas.{field_there, fields_first, fields_more, fields_none, fields_past}
 use Rattle.row_line.proofs.row_text.push_fields.Goals as goal
 use Rattle.row_line.proofs.row_text.push_fields.Goals.{in-Some+in_ok-push_field_text, in_default, in-Some-get+in_ok-push+in_ok-push_field_text-2, in_default-get}
