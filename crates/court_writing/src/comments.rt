@@ -1,0 +1,56 @@
+//! What is written before the lists and after them.
+
+use crate::courts::CourtName;
+use std::alloc::AllocError;
+use std::fmt::Write;
+
+/// Adds all that comes before the holidays.
+pub(crate) fn push_head(
+    text: &mut String,
+    court: CourtName,
+    from: u16,
+    to: u16,
+) -> Result<(), AllocError> {
+    let (code, title) = (court.code, court.title);
+    write!(
+        text,
+        "# The court's file of the United States District Court for the {title}, {from} to {to}.\n"
+    )?;
+    write!(
+        text,
+        "# Written by `court_file write --court {code} --from {from} --to {to}`. A court has to check the zone, the hours\n"
+    )?;
+    text.push_str(
+        "# and each holiday against the statutes as they stand and against its own orders before it relies on this file.
+# The hours are an example, and the names of judges and rooms are invented: replace them by the court's.
+
+",
+    )?;
+    text.push_str(court.zone.comment())?;
+    let zone = court.zone.text();
+    write!(text, "zone = \"{zone}\"\n")?;
+    text.push_str(
+        "
+# When the clerk's office opens and is scheduled to close.
+opens = \"08:30\"
+closes = \"17:00\"
+
+# The days that the holidays below cover. A period that would end outside them is answered \"beyond\".
+",
+    )?;
+    write!(text, "from = \"{from}-01-01\"\nto = \"{to}-12-31\"\n\n")
+}
+
+/// Adds the judges and rooms, and the head of the table of names.
+pub(crate) fn push_names_head(text: &mut String) -> Result<(), AllocError> {
+    text.push_str(
+        "
+# Judges and rooms: at most 32 names each, of letters, digits, `-`, `_` and `.`.
+judges = [\"Ames\", \"Brandt\", \"Calloway\"]
+rooms = [\"1\", \"2\", \"3\"]
+
+# What each of these holidays is called, with the statute that names it. `deadline_memo` prints the names.
+[holiday_names]
+",
+    )
+}
