@@ -49,7 +49,7 @@ ALL = [
           "all whole runs of runs/, byte by byte", "10 s", quick=True),
     Check("check_program", [CLERK, MEMO], [["check_program.py", built(CLERK)], ["check_program.py", built(MEMO)]],
           "each status that both programs end with", "10 s", quick=True),
-    Check("courts_check", [CLERK], [["courts_make.py", "--check", "examples/courts"],
+    Check("courts_check", [CLERK], [["courts_days.py", "examples/courts"],
                                     ["courts_check.py", built(CLERK), "examples/courts"]],
           "the courts' files of eleven districts", "2 s", quick=True),
     Check("office_compare", [CLERK], [["office_compare.py", built(CLERK)]],
