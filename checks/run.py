@@ -26,6 +26,7 @@ def built(crate):
 
 
 CLERK, MEMO, DESK, STEPS, OFFICE = "clerk_office", "deadline_memo", "docket_desk", "stored_steps", "stored_office"
+FILE = "court_file"
 
 
 class Check(NamedTuple):
@@ -72,6 +73,8 @@ ALL = [
           "each growth refused to an office's seats (cc)", "1 min"),
     Check("refuse_clerks", [OFFICE], [["refuse_clerks.py", built(OFFICE), "checks/refuse_clerks.txt"]],
           "each growth refused to clerks at work (cc)", "1 min"),
+    Check("holidays_check", [FILE], [["holidays_check.py", built(FILE)]],
+          "holidays, and two libraries of Debian's", "1 min"),
     Check("edits_check", [], [["edits_check.py"]],
           "wrong programs that the gate doesn't try", "1 h"),
 ]
