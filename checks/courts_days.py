@@ -37,11 +37,10 @@ def years_of(text):
                  for key, day in (("from", "01-01"), ("to", "12-31")))
 
 
-def differences(path):
-    """A line for each day that the file and the rules don't have alike."""
-    text = path.read_text()
-    by_hand = path.stem == WRITTEN_BY_HAND
-    state = "new_york" if by_hand else state_of(path.stem)
+def differences(court, text):
+    """A line for each day that the file of the court and the rules don't have alike."""
+    by_hand = court == WRITTEN_BY_HAND
+    state = "new_york" if by_hand else state_of(court)
     first, last = years_of(text)
     if f'\nzone = "{ZONES[state]}"\n' not in text:
         yield f"the zone isn't {ZONES[state]}"
@@ -67,7 +66,7 @@ def main():
     courts = sorted(folder.glob("*.toml"))
     alike = 0
     for path in [*courts, folder.parent / f"{WRITTEN_BY_HAND}.toml"]:
-        lines = list(differences(path))
+        lines = list(differences(path.stem, path.read_text()))
         for line in lines:
             print(f"{path}: {line}")
         alike += not lines

@@ -9,7 +9,8 @@ Friday:
 
 - those of the United States, from 1970 to 2069: what `check` says that an empty list lacks, and what python3-holidays has;
 - those of each state and of the United States, from 2016 to 2069: what `write` writes for a court of the state, and what
-  each library has.
+  each library has;
+- those that `write` writes for a hundred years, and the rules of checks/lib/holiday_rules.py.
 
 Each difference must be one that is explained below. A line for each comparison says how many days agree. The status is
 0 where nothing is left unexplained.
@@ -22,10 +23,12 @@ import tempfile
 import warnings
 from datetime import date
 
-from courts_days import list_of, names_of
+from courts_days import differences, list_of, names_of
 
 DEBIAN_PACKAGES = "/usr/lib/python3/dist-packages"
 FIRST_OF_FEDERAL, FIRST, LAST = 1970, 2016, 2069
+# the longest files
+LONG_SPANS = ((2016, 2115), (2100, 2199))
 
 # a court of each state, and the state as each library names it; python3-workalendar has the legal holidays of Florida apart
 # from the paid ones
@@ -129,9 +132,13 @@ ONLY_LIBRARY = [
 
 
 def written(program, court, first, last):
-    """The days that the program writes for a court, with their names."""
+    """The file that the program writes for a court."""
     words = [program, "write", "--court", court, "--from", str(first), "--to", str(last)]
-    text = subprocess.run(words, capture_output=True, text=True, check=True).stdout
+    return subprocess.run(words, capture_output=True, text=True, check=True).stdout
+
+
+def days_of(text):
+    """The days that a court's file lists, with their names."""
     names = names_of(text)
     return {day: names[day] for key in ("federal", "state") for day in list_of(text, key)}
 
@@ -181,6 +188,14 @@ def compared(what, library, ours, theirs):
     return len(alone)
 
 
+def as_ruled(program, court, first, last):
+    """How many days of the file that the program writes for these years aren't those of the rules."""
+    lines = list(differences(court, written(program, court, first, last)))
+    for line in lines:
+        print(f"{court}, {first} to {last}: {line}")
+    return len(lines)
+
+
 def libraries():
     """The two libraries, of which the second may be missing."""
     sys.path.append(DEBIAN_PACKAGES)
@@ -205,10 +220,11 @@ def main():
     ours = lacking(program, FIRST_OF_FEDERAL, LAST)
     left = compared("united_states", "python3-holidays", ours, of_holidays(holidays, None, FIRST_OF_FEDERAL, LAST))
     for court, (state, calendar) in COURTS.items():
-        ours = written(program, court, FIRST, LAST)
+        ours = days_of(written(program, court, FIRST, LAST))
         left += compared(court, "python3-holidays", ours, of_holidays(holidays, state, FIRST, LAST))
         if usa and calendar:
             left += compared(court, "python3-workalendar", ours, of_workalendar(usa, calendar, FIRST, LAST))
+        left += sum(as_ruled(program, court, *years) for years in LONG_SPANS)
     print("each difference is explained" if not left else f"{left} differences aren't explained")
     sys.exit(1 if left else 0)
 
