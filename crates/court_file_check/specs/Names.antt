@@ -1,6 +1,7 @@
--- Names as a list of references to texts.
-use Rattle.std.specs.Prelude.{ℕ, List, Bor, map}
+-- Names as strings.
+use Rattle.std.specs.Prelude.{ℕ, List, String, map, string_bytes}
+use Rattle.std.specs.declared.alloc.Global.{Global}
 
--- the texts
-abbrev pub texts_of : List (Bor (List ℕ)) → List (List ℕ)
-texts_of names = map (λ (name : Bor (List ℕ)). name.now) names
+-- their texts
+abbrev pub texts_of : List (String Global) → List (List ℕ)
+texts_of names = map string_bytes names

@@ -1,10 +1,10 @@
 //! Faults of a list of dates.
 
-ghost use Rattle.std.specs.Prelude.{◌≡◌, ◌++◌, OnOk};
+ghost use Rattle.std.specs.Prelude.{◌≡◌, ◌++◌, OnOk, Some};
 ghost use Rattle.toml.specs.View.{table_view, view, items_view};
 ghost use Rattle.court_file_text.specs.Words.{date_of_item};
 ghost use Rattle.court_file_check.specs.Faults.{dates_faults, each_date, faulty};
-ghost use Rattle.std.specs.Prelude.{Some};
+
 
 use crate::faults::Faults;
 use court_file_text::{Key, date_of_item, list_at};

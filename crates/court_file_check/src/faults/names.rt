@@ -1,7 +1,8 @@
 //! Faults of a list of names.
 
-ghost use Rattle.std.specs.Prelude.{◌≡◌, ◌++◌, ◌∷◌, ℕ, List, [], Bor, Some, map, OnOk, IfOk};
+ghost use Rattle.std.specs.Prelude.{◌≡◌, ◌||◌, ◌++◌, [], Some, OnOk};
 ghost use Rattle.std.specs.List.{list_all};
+ghost use Rattle.std.specs.Str.{bytes_eq};
 ghost use Rattle.toml.specs.View.{table_view, view, items_view};
 ghost use Rattle.court_file_text.specs.Words.{and_name, is_name, is_name_byte, is_named};
 ghost use Rattle.court_file_check.specs.Faults.{and_good, each_name, faulty, names_faults};
@@ -49,12 +50,12 @@ fn check_items(
 
 /// Adds that of one item, or else its name to the good ones.
 #[tactic(auto, unfolding(court_file_text::specs::Reading::and_name))]
-fn check_item<'a>(
+fn check_item(
     alloc: Global,
-    value: &'a Value,
+    value: &Value,
     key: Key,
     number: usize,
-    names: &mut Vec<&'a str>,
+    names: &mut Vec<String>,
     faults: &mut Faults,
 ) -> Result<(), AllocError>
     ensures faults { OnOk result (faults.new ≡ faults.old ++ faulty key (Some number) (and_name key (texts_of names.old.items) (view value.now))) }
@@ -72,15 +73,26 @@ fn check_item<'a>(
         let what = What::TwiceNamed(String::from_str(alloc, text)?);
         return faults.add(Fault { key, item, what });
     }
-    names.push(text)?;
+    names.push(String::from_str(alloc, text)?)?;
     Ok(())
 }
 
 /// Whether the text is one of the names.
-fn is_named(names: &[&str], text: &str) -> bool
+fn is_named(names: &[String], text: &str) -> bool
     ensures { result ≡ is_named (texts_of names.now) text.now }
 {
-    names.iter().any(|name| text == *name)
+    let mut found = false;
+    for name in names {
+        found = is_same_or(found, text, name.as_str());
+    }
+    found
+}
+
+/// Whether two texts are the same, or another was found before.
+fn is_same_or(found: bool, text: &str, name: &str) -> bool
+    ensures { result ≡ (found || bytes_eq text.now name.now) }
+{
+    found || text == name
 }
 
 /// Whether a text may name a judge or a room.
