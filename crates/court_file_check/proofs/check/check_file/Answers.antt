@@ -9,7 +9,7 @@ use Rattle.court_file_check.proofs.check.check_file.Goals as goal
 pub returns-in_ok-checked-in-Ok : goal.returns-in_ok-checked-in-Ok
 returns-in_ok-checked-in-Ok c =
     let ok = c.in-Ok.ensures.ok in
-    of_document c.args.asked.now c.args.bytes.now (table_view c.in-Ok.file) _ (toml_of-text c.args.bytes.now (table_view c.in-Ok.file) ok.0 ok.1) c.in_ok-checked.ensures
+    of_document c.args.asked.now c.args.bytes.now (table_view c.in-Ok.file) _ (toml_of-text c.args.bytes.now (table_view c.in-Ok.file) ok.0 ok.1) c.in_ok-checked-in-Ok.ensures
 
 pub returns-else-is_memory : goal.returns-else-is_memory
 unfolding court_in
