@@ -1,7 +1,7 @@
 -- A list of faults begins with the one that reading gives.
-use Rattle.std.proofs.Common.{◌≡◌, ℕ, suc, nat_lt, ℤ, List, [], ◌∷◌, ◌++◌, Option, Some, None, Result, Ok, Err, refl, ap, append_assoc}
+use Rattle.std.proofs.Common.{◌≡◌, ℕ, suc, nat_lt, ℤ, List, [], ◌++◌, Option, Some, None, Result, Ok, Err, refl, ap, append_assoc}
 use Rattle.std.specs.Result.{result_ok}
-use Rattle.toml.specs.Data.{Data, Items, no_items, item, Members}
+use Rattle.toml.specs.Data.{Items, no_items, item, Members}
 use Rattle.court_file_text.specs.declared.key.Key.{Key}
 use Rattle.court_file_text.specs.declared.key.Key.TheVariants as key
 use Rattle.court_file_text.specs.declared.fault.CourtFault.{CourtFault}

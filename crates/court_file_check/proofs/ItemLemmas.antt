@@ -1,5 +1,5 @@
 -- The faults of the items of a list, item by item.
-use Rattle.std.proofs.Common.{◌≡◌, ℕ, ◌+◌, ◌<◌, ◌≤◌, List, [], ◌∷◌, ◌++◌, ℤ, Option, Some, option_map, option_to_list, length, drop, get_or, refl, sym, ap, ◌∙◌, add-one, append_assoc, append-nil}
+use Rattle.std.proofs.Common.{◌≡◌, ℕ, ◌+◌, ◌<◌, ◌≤◌, List, [], ◌++◌, ℤ, Option, Some, option_map, option_to_list, length, drop, get_or, refl, sym, ◌∙◌, add-one, append_assoc, append-nil}
 use Rattle.std.proofs.lemmas.List.{drop_all}
 use Rattle.toml.specs.Data.{Members}
 use Rattle.toml.specs.declared.value.Value.{Value}

@@ -1,12 +1,12 @@
 -- What is told as lacking: what the review has, but for Saturdays and Sundays.
-use Rattle.std.proofs.Common.{◌≡◌, ◌⊎◌, inl, inr, ℕ, zero, suc, ◌<◌, ℤ, ◌<ℤ◌, Bool, true, false, not, List, [], ◌∷◌, length, get_or, filter, cond, Some, refl, sym, ap, ◌∙◌, arith}
-use Rattle.std.specs.List.{AllPairs, Contains}
+use Rattle.std.proofs.Common.{◌≡◌, ◌⊎◌, inl, inr, ℕ, zero, suc, ◌<◌, ℤ, ◌<ℤ◌, Bool, true, false, not, List, [], ◌∷◌, length, get_or, filter, cond, refl, sym, ap, ◌∙◌, arith}
+use Rattle.std.specs.List.{Contains}
 use Rattle.std.proofs.lemmas.List.Kept.{AllPairs-filter}
 use Rattle.court_clock.specs.Words.{is_weekend}
 use Rattle.holiday_review.specs.declared.review.Due.{Due}
 use Rattle.holiday_review.specs.Words.{lacking}
 use Rattle.holiday_review.proofs.ExactLemmas.{lacking_is_exact, review_is_in_order}
-use Rattle.court_file_check.specs.Warnings.{lacking_told, LackingIsTold, LackingIsToldOnce}
+use Rattle.court_file_check.specs.Warnings.{LackingIsTold, LackingIsToldOnce}
 
 has_first : {X : Type 0} (x y : X) (ys : List X) → Contains (y ∷ ys) x → (y ≡ x) ⊎ Contains ys x
 has_first x y ys has = cases has.0 has.1 has.2 where

@@ -1,5 +1,5 @@
 -- All that is told of what may be wrong with a court's file.
-use Rattle.std.specs.Prelude.{◌≡◌, ℕ, Bool, ℤ, List, [], Option, None, Result, Ok, Err}
+use Rattle.std.specs.Prelude.{◌≡◌, ℕ, List, [], None, Result, Ok, Err}
 use Rattle.toml.specs.Data.{Items, Members}
 use Rattle.court_file_text.specs.declared.key.Key.TheVariants.{Federal, State}
 use Rattle.court_file_text.specs.declared.fault.CourtFault.{CourtFault}

@@ -1,5 +1,5 @@
 -- What a check finds in the bytes of a court's file.
-use Rattle.std.specs.Prelude.{◌≡◌, ℕ, List, ◌∷◌, Option, Some, None, Result, Ok, Err, map}
+use Rattle.std.specs.Prelude.{◌≡◌, ℕ, List, ◌∷◌, Some, Ok, Err, map}
 use Rattle.toml.specs.Data.{Members}
 use Rattle.toml.specs.View.{table_view}
 use Rattle.court_file_text.specs.declared.fault.CourtFault.TheVariants.{NotToml as BadToml}

@@ -186,16 +186,17 @@ pub(crate) fn item_of(file: &Table, key: Key, day: Day) -> Option<usize> {
     values.iter().position(|value| day_of_item(value) == Some(day))
 }
 
-/// The number of the first item of a key's list that is a later date.
+/// The number of the first item of a key's list that is a later date of the span.
 pub(crate) fn item_after(file: &Table, key: Key, day: Day) -> Option<usize> {
     let values = file.get(key.name()).and_then(Value::as_array)?;
-    values.iter().position(|value| is_later(value, day))
+    let last = day_of_item(file.get(Key::To.name())?)?;
+    values.iter().position(|value| is_between(value, day, last))
 }
 
-/// Whether the item is a date later than this one.
-fn is_later(value: &Value, day: Day) -> bool {
+/// Whether the item is a date after the first of these days, and not after the second.
+fn is_between(value: &Value, first: Day, last: Day) -> bool {
     match day_of_item(value) {
-        Some(other) => other.number() > day.number(),
+        Some(day) => first.number() < day.number() && day.number() <= last.number(),
         None => false,
     }
 }

@@ -20,6 +20,7 @@ pub(crate) fn push_syntax(sheet: &mut Sheet<'_>, error: &Error) -> Result<(), Al
 }
 
 /// What is wrong, and before which byte.
+#[derive(Clone, Copy)]
 struct Found {
     at: usize,
     says: &'static str,

@@ -1,7 +1,5 @@
-use Rattle.std.proofs.Common.{◌≡◌, ◌∙◌, ◌||◌, ◌-ℤ◌, ◌+ℤ◌, pos, unsigned_abs, ap, sym, arith}
-use Rattle.std.specs.List.{list_any}
+use Rattle.std.proofs.Common.{◌∙◌, ◌||◌, ◌+ℤ◌, pos, ap, sym}
 use Rattle.court_days.specs.Words.{is_among}
-use Rattle.holiday_review.specs.Words.{days_from}
 use Rattle.court_file_check.proofs.AnyLemmas.{day_more, no_days}
 use Rattle.court_file_check.proofs.warnings.years.has_day.Goals as goal
 
