@@ -44,7 +44,7 @@ class Check(NamedTuple):
 
 
 ALL = [
-    Check("docs_check", [CLERK, MEMO, DESK], [["docs_check.py"]],
+    Check("docs_check", [CLERK, MEMO, DESK, FILE], [["docs_check.py"]],
           "the examples, and commands that documents show", "5 s", quick=True),
     Check("runs_check", [CLERK], [["runs_join.py", "--check"], ["runs_check.py", built(CLERK)]],
           "all whole runs of runs/, byte by byte", "10 s", quick=True),
@@ -53,6 +53,8 @@ ALL = [
     Check("courts_check", [CLERK], [["courts_days.py", "examples/courts"],
                                     ["courts_check.py", built(CLERK), "examples/courts"]],
           "the courts' files of eleven districts", "2 s", quick=True),
+    Check("court_file_check", [FILE, CLERK], [["court_file_check.py", built(FILE), built(CLERK)]],
+          "courts' files spoiled as people spoil them", "10 s", quick=True, seeded=True, seeds=(2, 3)),
     Check("office_compare", [CLERK], [["office_compare.py", built(CLERK)]],
           "the program and a reference in Python agree", "1 min", quick=True, seeded=True, seeds=(2, 3, 4, 5, 6)),
     Check("desk_check", [DESK, CLERK], [["desk_check.py", built(DESK), built(CLERK)]],

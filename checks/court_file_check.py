@@ -1,0 +1,282 @@
+#!/usr/bin/env python3
+"""Checks what the built program court_file says of courts' files.
+
+    court_file_check.py COURT_FILE CLERK_OFFICE [SEED [COUNT]]
+    court_file_check.py COURT_FILE --write
+
+runs/court_file/court.toml is a file in which nothing is found. It is spoiled in some hundred ways, as people spoil such
+files; what is said of each must be what runs/court_file/said.txt has. --write writes that file anew: read it as someone who
+made the mistake. Then one character of the file, and of examples/district.toml, is changed at random, COUNT times (300
+without it). Each change must give a fault, of which one is at the line that was changed or at one beside it, or a warning, or
+the same court; only hours, names, the state's holidays and the ends of the span may be other ones unseen. In all of them
+clerk_office must refuse a file exactly where court_file finds faults, with the fault that it names. It needs Python 3.11 or
+later.
+"""
+import pathlib
+import random
+import re
+import subprocess
+import sys
+import tempfile
+import tomllib
+
+TOP = pathlib.Path(__file__).resolve().parent.parent
+FOLDER = TOP / "runs" / "court_file"
+COURT = (FOLDER / "court.toml").read_text()
+SAID = FOLDER / "said.txt"
+KEYS = ["zone", "opens", "closes", "from", "to", "federal", "state", "judges", "rooms"]
+# What may differ unseen: nothing says which hours, names and holidays of the state are right.
+FREE = {"opens", "closes", "from", "to", "state", "judges", "rooms"}
+
+
+def put(old, new, text=COURT):
+    """The court's file with one text in place of another, which it has."""
+    assert old in text, old
+    return text.replace(old, new, 1)
+
+
+def spoiled():
+    """The ways to spoil the file: a name, and the bytes."""
+    ways = []
+
+    def way(name, text, encoding="utf-8"):
+        ways.append((name, text if isinstance(text, bytes) else text.encode(encoding)))
+
+    # what is no TOML
+    way("a comma is missing in a list", put('"2025-09-01",', '"2025-09-01"'))
+    way("a comma is missing, without comments", put('"Ames", "Brandt"', '"Ames" "Brandt"'))
+    way("semicolons in place of commas", put('"Ames", "Brandt"', '"Ames"; "Brandt"'))
+    way("the closing quote of an item is missing", put('"2025-09-01",', '"2025-09-01,'))
+    way("the opening quote of an item is missing", put('"2025-09-01",', '2025-09-01",'))
+    way("the closing quote of the zone is missing", put('M11.1.0/2"', "M11.1.0/2"))
+    way("the zone isn't in quotes", put('"EST5EDT,M3.2.0/2,M11.1.0/2"', "EST5EDT,M3.2.0/2,M11.1.0/2"))
+    way("a name isn't in quotes", put('"Brandt"', "Brandt"))
+    way("curly quotes at the zone", put('"EST5EDT,M3.2.0/2,M11.1.0/2"', "\u201cEST5EDT,M3.2.0/2,M11.1.0/2\u201d"))
+    way("curly quotes at a date", put('"2025-09-01"', "\u201c2025-09-01\u201d"))
+    way("curly quotes at a name", put('"Brandt"', "\u201cBrandt\u201d"))
+    way("one curly quote at the end", put('"17:00"', '"17:00\u201d'))
+    way("single curly quotes", put('"17:00"', "\u201817:00\u2019"))
+    way("low quotes", put('"17:00"', "\u201e17:00\u201c"))
+    way("guillemets", put('"17:00"', "\u00ab17:00\u00bb"))
+    way("curly quotes in a comment", put("# When the clerk's", "# When the \u201cclerk\u2019s\u201d"))
+    way("curly quotes in an old encoding", put('"17:00"', "\u201c17:00\u201d"), "cp1252")
+    way("an accent in an old encoding", put('"Brandt"', '"Br\u00e4ndt"'), "cp1252")
+    way("UTF-16, little end first", COURT, "utf-16")
+    way("UTF-16, big end first", b"\xfe\xff" + COURT.encode("utf-16-be"))
+    way("the bracket that opens a list is missing", put("federal = [", "federal ="))
+    way("the bracket that closes a list is missing", put(']\n\nstate', '\nstate'))
+    way("the bracket that closes the last list is missing", put('"11B"]', '"11B"'))
+    way("two lines of a list are joined by nothing", put('"2026-11-03", # Election Day\n]', '"2026-11-03" "2026-12-01"\n]'))
+    way("a list without brackets", put('["11A", "11B"]', '"11A", "11B"'))
+    way("a colon in place of =", put('opens = "08:30"', 'opens: "08:30"'))
+    way("nothing in place of =", put('opens = "08:30"', 'opens "08:30"'))
+    way("two =", put('opens = "08:30"', 'opens == "08:30"'))
+    way("a value is missing", put('opens = "08:30"', "opens ="))
+    way("a key twice", put('opens = "08:30"', 'opens = "08:30"\nopens = "09:00"'))
+    way("a line of text without #", put("# When the clerk's office", "When the clerk's office"))
+    way("// before a comment", put("# When the clerk's office", "// When the clerk's office"))
+    way("an end of line within =", put('opens = "08:30"', 'opens =\n"08:30"'))
+    way("lines in quotes, as a spreadsheet saves them", "".join('"{}"\n'.format(line.replace('"', '""')) for line in COURT.splitlines()))
+    way("JSON", '{"zone": "EST5EDT,M3.2.0/2,M11.1.0/2", "opens": "08:30"}\n')
+    way("YAML", 'zone: "EST5EDT,M3.2.0/2,M11.1.0/2"\nopens: "08:30"\n')
+    way("a blank that doesn't break", put('opens = "08:30"', 'opens\u00a0= "08:30"'))
+    way("a blank without width", put('opens = "08:30"', 'opens = \u200b"08:30"'))
+    way("a byte order mark in the middle", put("\nopens", "\n\ufeffopens"))
+    way("two byte order marks", "\ufeff\ufeff" + COURT)
+    way("line ends of old Macs", COURT.replace("\n", "\r"))
+    way("a backslash", put('"Ames"', '"Ames\\Smith"'))
+    way("a zero byte", put('"Ames"', '"Ames\0"'))
+    way("the rows after it", COURT + "%%\n1,compute,59e,2025-08-04,,,\n")
+    way("a date that TOML has not, without quotes", put('"2025-09-01"', "2025-09-31"))
+    way("an American date without quotes", put('"2025-09-01"', "9/1/2025"))
+    way("cut off within a list", COURT[:COURT.index("2025-11-11") + 4])
+
+    # what is TOML and the same court
+    way("a byte order mark at the beginning", "\ufeff" + COURT)
+    way("line ends of Windows", COURT.replace("\n", "\r\n"))
+    way("tabs in place of blanks", COURT.replace("    ", "\t").replace(" = ", "\t=\t"))
+    way("no end of the last line", COURT.rstrip("\n"))
+    way("single quotes", COURT.replace('"', "'"))
+    way("keys in quotes", put('opens = "08:30"', '"opens" = "08:30"'))
+    way("no comma after the last item, and none needed", put('"2026-11-03", #', '"2026-11-03" #'))
+    way("names of holidays", COURT + '\n[holiday_names]\n2025-09-01 = "Labor Day"\n')
+    way("a key that the program ignores", COURT + 'phone = "555-0100"\n')
+    way("lists in one line", re.sub(r'",\s*(#[^\n]*)?\n\s*', '", ', COURT))
+
+    # keys
+    way("no zone", put('zone = "EST5EDT,M3.2.0/2,M11.1.0/2"\n', ""))
+    way("a key is misspelt", put("federal = [", "fedral = ["))
+    way("keys in capitals", put("opens =", "Opens ="))
+    way("a key below a header", put("judges =", '[holiday_names]\n2025-09-01 = "Labor Day"\n\njudges ='))
+    way("a list as a table", put('rooms = ["11A", "11B"]', '[rooms]\na = "11A"'))
+    way("an empty file", "")
+    way("comments alone", "# nothing yet\n")
+    way("a table of a spreadsheet", "zone,opens,closes\nEST5EDT,08:30,17:00\n")
+
+    # kinds
+    way("a date without quotes", put('"2025-09-01"', "2025-09-01"))
+    way("all dates without quotes", re.sub(r'"(\d{4}-\d\d-\d\d)"', r"\1", COURT))
+    way("a time without quotes", put('"08:30"', "08:30:00"))
+    way("a number in place of a time", put('"08:30"', "830"))
+    way("a number in place of a room", put('"11A"', "11"))
+    way("a text in place of a list", put('["Ames", "Brandt", "Calloway"]', '"Ames, Brandt, Calloway"'))
+    way("a list in a list", put('"11A"', '["11A"]'))
+
+    # dates
+    way("a month of one digit", put('"2025-09-01"', '"2025-9-1"'))
+    way("an American date", put('"2025-09-01"', '"9/1/2025"'))
+    way("a date with slashes", put('"2025-09-01"', '"2025/09/01"'))
+    way("a date without dashes", put('"2025-09-01"', '"20250901"'))
+    way("a date in words", put('"2025-09-01"', '"1 September 2025"'))
+    way("a day that isn't", put('"2025-09-01"', '"2025-02-29"'))
+    way("a month and a day changed", put('"2025-12-25"', '"2025-25-12"'))
+    way("a year of two digits", put('"2025-09-01"', '"25-09-01"'))
+    way("a date with a time", put('"2025-09-01"', '"2025-09-01 00:00"'))
+    way("blanks round a date", put('"2025-09-01"', '" 2025-09-01 "'))
+    way("an empty date", put('"2025-09-01"', '""'))
+    way("from is no date", put('"2025-01-01"', '"January 2025"'))
+    way("a long text in place of a date", put('"2025-09-01"', '"' + "Labor Day, which is the first Monday in September, " * 3 + '"'))
+    way("faults in many places", put("17:00", "5 pm", put("EST5EDT,M3", "Eastern,M3", put("2025-09-01", "2025-9-1", put('"Ames"', '"J. Ames"')))))
+
+    # zones
+    for zone in ["America/New_York", "Eastern", "EST", "EST5EDT", "UTC-5", "-5:00", "\u221205:00", "MST7", "EST5",
+                 "CET-1CEST,M3.5.0,M10.5.0/3", "EST5EDT,M4.1.0/2,M10.5.0/2", "EST5EDT,M3.2.0/2,M11.1.0/3", "-05:00"]:
+        way("the zone " + zone, put("EST5EDT,M3.2.0/2,M11.1.0/2", zone))
+
+    # hours
+    for hour in ["5:00", "5:00 pm", "5 PM", "17.00", "1700", "24:00", "17:00:00", "05:00", "11:30", "23:00"]:
+        way("closes at " + hour, put("17:00", hour))
+    way("opens at 8:30", put("08:30", "8:30"))
+
+    # the span
+    way("to is before from", put('to = "2026-12-31"', 'to = "2024-12-31"'))
+    way("to is moved", put('to = "2026-12-31"', 'to = "2030-12-31"'))
+    way("to is a hundred years off", put('to = "2026-12-31"', 'to = "2126-12-31"'))
+    way("a short span", put('to = "2026-12-31"', 'to = "2025-03-01"'))
+
+    # holidays
+    way("a holiday is missing", put('    "2025-09-01", # Labor Day\n', ""))
+    way("the last holiday is missing", put('    "2026-12-25", # Christmas Day\n', ""))
+    way("a holiday of the wrong year", put('"2025-09-01"', '"2052-09-01"'))
+    way("a holiday on the wrong day", put('"2025-09-01"', '"2025-09-08"'))
+    way("a holiday twice", put('    "2025-09-01", # Labor Day\n', '    "2025-09-01",\n    "2025-09-01",\n'))
+    way("holidays out of order", put('    "2025-09-01", # Labor Day\n', "", put('"2025-11-11",', '"2025-11-11",\n    "2025-09-01",')))
+    way("a federal holiday in the state list", put('    "2025-09-01", # Labor Day\n', "", put('"2025-11-04",', '"2025-09-01",\n    "2025-11-04",')))
+    way("a holiday in both lists", put('"2025-11-04",', '"2025-09-01",\n    "2025-11-04",'))
+    way("the day set by law in place of the observed one", put('"2026-07-03"', '"2026-07-04"'))
+    way("a closing by executive order", put('"2025-12-25",', '"2025-12-24",\n    "2025-12-25",\n    "2025-12-26",'))
+    way("Inauguration Day outside the capital", put("2025-01-01", "2021-01-01", put('"2025-01-01",', '"2021-01-20",')))
+    way("an empty federal list", re.sub(r"federal = \[.*?\]", "federal = []", COURT, flags=re.S))
+
+    # names
+    way("an apostrophe in a name", put('"Ames"', '"O\'Brien"'))
+    way("a blank in a name", put('"Ames"', '"Mary Ames"'))
+    way("an accent in a name", put('"Ames"', '"Nu\u00f1ez"'))
+    way("an empty name", put('"Ames"', '""'))
+    way("a name twice", put('"Calloway"', '"Ames"'))
+    way("a name in another case", put('"Calloway"', '"AMES"'))
+    way("too many judges", put('"Ames"', ", ".join('"J{}"'.format(n) for n in range(40))))
+    return ways
+
+
+class Programs:
+    """Both programs, over a file in a folder."""
+
+    def __init__(self, court_file, clerk_office, folder):
+        self.court_file, self.clerk_office = court_file, clerk_office
+        self.folder, self.path = folder, pathlib.Path(folder) / "court.toml"
+
+    def check(self, data, *words):
+        """The status of a check, and what is said."""
+        self.path.write_bytes(data)
+        ended = subprocess.run([str(self.court_file), "check", "court.toml", *words], cwd=self.folder, stdout=subprocess.PIPE,
+                               stderr=subprocess.PIPE, check=False)
+        assert not ended.stderr, ended.stderr
+        said = ended.stdout.decode("utf-8", "replace")
+        lines = said.split("\n")
+        assert lines[-1] == "" and all(line.startswith("court.toml:") or line.startswith("Mend ") for line in lines[:-1]), said
+        assert ended.returncode in (0, 2, 3), (ended.returncode, said)
+        if self.clerk_office:
+            self.compare(data, ended.returncode, said)
+        return ended.returncode, said
+
+    def compare(self, data, status, said):
+        """clerk_office refuses the file exactly where it has faults, with the fault that is named."""
+        if b"\n%%" in data:
+            return
+        office = subprocess.run([str(self.clerk_office)], input=data + b"\n%%\n", stdout=subprocess.PIPE, stderr=subprocess.PIPE, check=False)
+        assert (office.returncode == 2) == (status == 2), (office, said)
+        if status == 2:
+            named = re.search(r"refuses the file with: (court fault .*)", said).group(1)
+            assert office.stderr.decode("utf-8", "replace").startswith(named), (office.stderr, said)
+
+
+def all_said(programs):
+    """What is said of each spoiled file."""
+    parts = []
+    for name, data in spoiled():
+        status, said = programs.check(data)
+        parts.append("== {}: {}\n{}".format(name, status, said))
+    status, said = programs.check(COURT.encode(), "--today", "2026-03-02")
+    parts.append("== the file is used from 2026-03-02: {}\n{}".format(status, said))
+    return "".join(parts)
+
+
+def keys_of(text):
+    """The nine keys of a file that is TOML."""
+    document = tomllib.loads(text)
+    return {key: document.get(key) for key in KEYS}
+
+
+def check_change(programs, text, place, change):
+    """One character of the text is changed; what came of it."""
+    kind, character = change
+    rest = text[place + (kind != "insert"):]
+    changed = text[:place] + ("" if kind == "delete" else character) + rest
+    line = text.count("\n", 0, place) + 1
+    status, said = programs.check(changed.encode())
+    if status == 2:
+        lines = [int(found) for found in re.findall(r"^court\.toml:(\d+):", said, flags=re.M)]
+        missing = re.search(r"has no key", said)
+        assert missing or any(abs(found - line) <= 1 for found in lines), (place, change, line, said)
+        return "fault"
+    before, after = keys_of(text), keys_of(changed)
+    if before == after:
+        return "same"
+    differs = {key for key in KEYS if before[key] != after[key]}
+    if status == 3 and said != programs.check(text.encode())[1]:
+        return "warning"
+    assert differs <= FREE, (place, change, differs, said)
+    return "unseen"
+
+
+def main(words):
+    court_file = pathlib.Path(words[0]).resolve()
+    write = words[1:] == ["--write"]
+    with tempfile.TemporaryDirectory() as folder:
+        programs = Programs(court_file, None if write else pathlib.Path(words[1]).resolve(), folder)
+        status, said = programs.check(COURT.encode())
+        assert (status, said) == (0, "court.toml: nothing found\n"), said
+        said = all_said(programs)
+        if write:
+            SAID.write_text(said)
+            return
+        stored = SAID.read_text()
+        assert said == stored, "\n".join(
+            "is: {}\nwas: {}".format(a, b) for a, b in zip(said.split("\n"), stored.split("\n")) if a != b)[:2000]
+        draw = random.Random(int(words[2]) if len(words) > 2 else 1)
+        count = int(words[3]) if len(words) > 3 else 300
+        texts = [COURT, COURT, (TOP / "examples" / "district.toml").read_text()]
+        came = {"fault": 0, "warning": 0, "same": 0, "unseen": 0}
+        for _ in range(count):
+            text = draw.choice(texts)
+            change = (draw.choice(["delete", "replace", "insert"]), draw.choice("\"',[]=#-:. \t\n0123456789abzEMZ/"))
+            came[check_change(programs, text, draw.randrange(len(text)), change)] += 1
+    print("{} spoiled files; of {} changes of a character {} were faults, {} were warned of, {} left the same court, and {} other hours, names, days of the state or ends of the span"
+          .format(len(spoiled()), count, came["fault"], came["warning"], came["same"], came["unseen"]))
+
+
+if __name__ == "__main__":
+    if len(sys.argv) < 3:
+        sys.exit("usage: court_file_check.py COURT_FILE CLERK_OFFICE [SEED [COUNT]] | COURT_FILE --write")
+    main(sys.argv[1:])

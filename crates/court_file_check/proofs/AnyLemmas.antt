@@ -1,0 +1,45 @@
+-- A test of the items of a list, with one item more.
+use Rattle.std.proofs.Common.{◌≡◌, ℕ, ◌+◌, ◌<◌, ◌||◌, Bool, true, false, List, [], ◌∷◌, ◌++◌, String, string_bytes, length, get_or, take, ℤ, pos, negsuc, ◌+ℤ◌, ◌-ℤ◌, ◌≤ℤ◌, unsigned_abs, refl, sym, ap, ◌∙◌, arith}
+use Rattle.std.proofs.lemmas.Int.{ints}
+use Rattle.std.specs.List.{list_any}
+use Rattle.std.specs.declared.alloc.Global.{Global}
+use Rattle.std.proofs.lemmas.List.{take_more}
+use Rattle.std.proofs.lemmas.List.Folds.{list_any-append}
+use Rattle.holiday_review.specs.Words.{days_from}
+use Rattle.holiday_review.proofs.ReviewLemmas.{days_from-more}
+use Rattle.court_file_check.specs.Names.{texts_of}
+
+or_false : (b : Bool) → (b || false) ≡ b
+or_false b = elim b as (λ v. (v || false) ≡ v) [ true ↦ refl | false ↦ refl ]
+
+pub any_pushed : {X : Type 0} (p : X → Bool) (xs : List X) (x : X) → list_any p (xs ++ x ∷ []) ≡ (list_any p xs || p x)
+any_pushed p xs x = list_any-append p xs (x ∷ []) ∙ ap (λ b. list_any p xs || b) (or_false (p x))
+
+-- one name more
+pub name_more : (p : List ℕ → Bool) (names : List (String Global)) (i : ℕ) (name : String Global) → i < length names → name ≡ get_or names i name
+    → list_any p (texts_of (take (i + 1) names)) ≡ (list_any p (texts_of (take i names)) || p (string_bytes name))
+name_more p names i name below is =
+    let more : take (i + 1) names ≡ take i names ++ name ∷ [] = take_more names i name below ∙ ap (λ x. take i names ++ x ∷ []) (sym is) in
+    let texts : texts_of (take (i + 1) names) ≡ texts_of (take i names) ++ string_bytes name ∷ [] = rw more (pushed (take i names)) in
+    rw texts (any_pushed p (texts_of (take i names)) (string_bytes name)) where
+      pushed : (xs : List (String Global)) → texts_of (xs ++ name ∷ []) ≡ texts_of xs ++ string_bytes name ∷ []
+      pushed [] = refl
+      pushed (x ∷ xs) = ap (λ ts. string_bytes x ∷ ts) (pushed xs)
+
+-- one day more
+pub day_more : (p : ℤ → Bool) (first : ℤ) (n : ℕ) → list_any p (days_from first (n + 1)) ≡ (list_any p (days_from first n) || p (first +ℤ pos n))
+day_more p first n = ap (list_any p) (days_from-more first n) ∙ any_pushed p (days_from first n) (first +ℤ pos n)
+
+pub no_days : (p : ℤ → Bool) (first : ℤ) → list_any p (days_from first 0) ≡ false
+unfolding days_from
+no_days p first = refl
+
+nonneg_abs : (z : ℤ) → pos 0 ≤ℤ z → pos (unsigned_abs z) ≡ z
+nonneg_abs (pos n) h = refl
+nonneg_abs (negsuc n) h = absurd (omega (arith, ints, h))
+
+-- a day before a later one is in the range of days
+pub within_days : (first next : ℤ) (n : ℕ) → first ≤ℤ next → next ≤ℤ pos 110000 → n < unsigned_abs (next -ℤ first) → (first +ℤ pos n) ≤ℤ pos 110000
+within_days first next n ordered low below =
+    let whole : pos (unsigned_abs (next -ℤ first)) ≡ next -ℤ first = nonneg_abs (next -ℤ first) (omega (arith, ints, ordered)) in
+    omega (arith, ints, whole, below, low)

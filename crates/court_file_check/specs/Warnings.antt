@@ -1,0 +1,104 @@
+-- What may be wrong with a court's file that has no fault.
+use Rattle.std.specs.Prelude.{◌≡◌, ◌↔◌, ℕ, suc, ◌+◌, nat_lt, ◌&&◌, not, Bool, true, false, ℤ, pos, ◌+ℤ◌, ◌-ℤ◌, ◌<ℤ◌, int_le, int_lt, unsigned_abs, List, [], ◌++◌, filter, Option, Some, None, option_map, if◌then◌else◌}
+use Rattle.std.specs.List.{AllPairs, Contains, filter_map, list_any, range_with_len}
+use Rattle.std.specs.Ordering.{int_eq}
+use Rattle.std.specs.Option.{option_and_then, option_to_list}
+use Rattle.toml.specs.Data.{Data, Items, no_items, item, as_str}
+use Rattle.court_clock.specs.Words.{day_of_text, days_through, is_weekend}
+use Rattle.court_days.specs.Words.{DaysView, is_among, is_covered}
+use Rattle.federal_holidays.specs.Words.{set_in}
+use Rattle.federal_holidays.specs.declared.statute.FederalHoliday.TheVariants.{NewYearsDay}
+use Rattle.holiday_review.specs.declared.review.Due.{Due}
+use Rattle.holiday_review.specs.Words.{days_from, due_on, lacking}
+use Rattle.court_file_check.specs.declared.warnings.days.DayTest.{DayTest}
+use Rattle.court_file_check.specs.declared.warnings.days.DayTest.TheVariants.{FederalAtWeekend, StateAtWeekend, InBoth}
+use Rattle.court_file_check.specs.declared.warnings.slips.Slip.{Slip}
+use Rattle.court_file_check.specs.declared.warnings.slips.Slip.TheVariants.{Outside, Twice, Early}
+
+-- A day that the law sets or that is observed in its place, and that the list lacks, is told if it's no Saturday and no Sunday:
+-- there a holiday changes no period.
+abbrev pub lacking_told : DaysView → Bool → List (ℤ × Due)
+lacking_told c capital = filter (λ told. not (is_weekend told.0)) (lacking c capital)
+
+-- what it means: just the days of the span that are due, no Saturday or Sunday, and not in the list
+abbrev pub LackingIsTold : Type 0
+LackingIsTold = (c : DaysView) (capital : Bool) (d : ℤ) (due : Due) → Contains (lacking_told c capital) (d, due) ↔ ((is_covered c d ≡ true) × (is_among c.federal d ≡ false) × (due_on capital d ≡ Some due) × (is_weekend d ≡ false))
+
+-- each once, in the order of the days
+abbrev pub LackingIsToldOnce : Type 0
+LackingIsToldOnce = (c : DaysView) (capital : Bool) → AllPairs (λ a b. a.0 <ℤ b.0) (lacking_told c capital)
+
+-- a holiday on a Saturday or a Sunday, and a date that both lists have
+abbrev pub passes : DaysView → DayTest → ℤ → Bool
+passes c FederalAtWeekend d = is_weekend d && is_among c.federal d
+passes c StateAtWeekend d = is_weekend d && is_among c.state d
+passes c InBoth d = is_among c.federal d && is_among c.state d
+
+abbrev pub if_passes : DaysView → DayTest → ℤ → Option ℤ
+if_passes c test d = if passes c test d then Some d else None
+
+-- the days of the span that pass
+unfoldable pub days_that : DaysView → DayTest → List ℤ
+days_that c test = filter_map (if_passes c test) (days_from c.from (days_through c.from c.to))
+
+-- the days from a first up to another, which isn't one of them, lie in the span
+abbrev pub is_within : DaysView → ℤ → ℤ → Bool
+is_within c first next = int_le first next && (int_le c.from first && int_le next (c.to +ℤ pos 1))
+
+-- one of them is in the federal list
+abbrev pub has_day : DaysView → ℤ → ℤ → Bool
+has_day c first next = list_any (is_among c.federal) (days_from first (unsigned_abs (next -ℤ first)))
+
+-- a year that lies in the span, from its first day up to that of the next year, and of which no day is in the federal list
+abbrev pub is_bare : DaysView → Option ℤ → Option ℤ → Bool
+is_bare c (Some first) (Some next) = is_within c first next && not (has_day c first next)
+is_bare c (Some first) None = false
+is_bare c None next = false
+
+abbrev pub is_bare_year : DaysView → ℕ → Bool
+is_bare_year c year = is_bare c (set_in NewYearsDay (pos year)) (set_in NewYearsDay (pos (suc year)))
+
+-- those of 1970 to 2198
+unfoldable pub bare_years : DaysView → List ℕ
+bare_years c = filter (is_bare_year c) (range_with_len 1970 229)
+
+-- a date of a list, as it is written: it lies outside the span, so that it does nothing; it is the one before it once more; or it
+-- is earlier than the one before it. What is before it is the last date that lies in the span.
+abbrev pub slip_after : Option ℤ → ℤ → Option Slip
+slip_after None d = None
+slip_after (Some before) d = if int_eq before d then Some Twice else (if int_lt d before then Some Early else None)
+
+abbrev pub slip_of : DaysView → Option ℤ → Option ℤ → Option Slip
+slip_of c before None = None
+slip_of c before (Some d) = if is_covered c d then slip_after before d else Some Outside
+
+abbrev pub later : DaysView → Option ℤ → Option ℤ → Option ℤ
+later c before None = before
+later c before (Some d) = if is_covered c d then Some d else before
+
+-- the date that an item is
+abbrev pub day_of_data : Data → Option ℤ
+day_of_data value = option_and_then day_of_text (as_str value)
+
+-- the slips of the items of a list, with their numbers, counted on from one
+unfoldable pub slips_from : DaysView → ℕ → Option ℤ → Items → List (ℕ × Slip)
+slips_from c i before no_items = []
+slips_from c i before (item value rest) =
+    option_to_list (option_map (λ slip. (i, slip)) (slip_of c before (day_of_data value))) ++ slips_from c (suc i) (later c before (day_of_data value)) rest
+
+-- the office closes before noon, and it is open for more than twelve hours
+abbrev pub closes_early : ℕ → Bool
+closes_early closes = nat_lt closes 720
+
+abbrev pub is_long_day : ℕ → ℕ → Bool
+is_long_day opens closes = nat_lt (opens + 720) closes
+
+-- The span has less than the longest period of the table after its first day: 90 days, Fed. R. Civ. P. 4(m) and
+-- 12(a)(1)(A)(ii).
+abbrev pub is_short_span : DaysView → Bool
+is_short_span c = int_lt c.to (c.from +ℤ pos 90)
+
+-- the span ends within a year after a day, where one is given
+abbrev pub ends_soon : DaysView → Option ℤ → Bool
+ends_soon c None = false
+ends_soon c (Some today) = int_lt c.to (today +ℤ pos 365)

@@ -1,0 +1,15 @@
+//! All that is wrong with a court's file, and what may be wrong with it.
+#![tactic(auto)]
+
+mod check;
+mod faults;
+mod laws;
+mod warnings;
+
+pub use check::{Checked, check_file};
+pub use faults::{Fault, What};
+pub use laws::{faults_begin_with_the_courts, lacking_is_told, lacking_is_told_once};
+pub use warnings::names::Alike;
+pub use warnings::slips::Slip;
+pub use warnings::zone::ZoneDoubt;
+pub use warnings::{Asked, Warnings};

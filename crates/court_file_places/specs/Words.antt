@@ -1,0 +1,2 @@
+-- The words of clauses and definitions, for the crates above, from one place.
+pub use Rattle.court_file_places.specs.Place.{is_line_end, starts_character, last_line, line_of, column_of, place_text}

@@ -1,0 +1,11 @@
+//! Where each key, value and item is in the text of a court's file.
+#![tactic(auto)]
+
+mod keys;
+mod marks;
+mod place;
+mod scan;
+mod tokens;
+
+pub use marks::{Mark, Part, Places};
+pub use place::{Place, place_at};

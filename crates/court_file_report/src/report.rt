@@ -1,0 +1,47 @@
+//! The whole text.
+
+use crate::fault_lines::push_faults;
+use crate::sheet::Sheet;
+use crate::syntax_lines::push_syntax;
+use crate::warning_lines::push_warnings;
+use court_file_check::{Asked, Checked};
+use std::alloc::{AllocError, Global};
+
+/// What is said of a court's file.
+#[derive(Debug, Drop)]
+pub struct Report {
+    /// The text, whose lines all have an end.
+    pub text: String,
+    /// How many faults it tells.
+    pub faults: usize,
+    /// How many warnings.
+    pub warnings: usize,
+}
+
+/// What is said of the file with this name and these bytes, in which the check found this. An `Err` says that memory ran
+/// out.
+pub fn report_of(
+    alloc: Global,
+    name: &str,
+    bytes: &[u8],
+    asked: &Asked,
+    checked: &Checked,
+) -> Result<Report, AllocError> {
+    let mut sheet = Sheet::new(alloc, name, bytes)?;
+    match checked {
+        Checked::NotToml(error) => {
+            push_syntax(&mut sheet, error)?;
+            sheet.end_faults("1 NotToml")?;
+            Ok(sheet.faulty())
+        }
+        Checked::Faulty(file, faults) => {
+            push_faults(alloc, &mut sheet, file, faults)?;
+            Ok(sheet.faulty())
+        }
+        Checked::Taken(file, warnings) => {
+            push_warnings(&mut sheet, file, asked, warnings)?;
+            sheet.end_warnings()?;
+            Ok(sheet.taken())
+        }
+    }
+}
