@@ -81,7 +81,7 @@ def spoiled():
     way("YAML", 'zone: "EST5EDT,M3.2.0/2,M11.1.0/2"\nopens: "08:30"\n')
     way("a blank that doesn't break", put('opens = "08:30"', 'opens\u00a0= "08:30"'))
     way("a blank without width", put('opens = "08:30"', 'opens = \u200b"08:30"'))
-    way("a byte order mark in the middle", put("opens", "\ufeffopens"))
+    way("a byte order mark in the middle", put("\nopens", "\n\ufeffopens"))
     way("two byte order marks", "\ufeff\ufeff" + COURT)
     way("line ends of old Macs", COURT.replace("\n", "\r"))
     way("a backslash", put('"Ames"', '"Ames\\Smith"'))

@@ -104,7 +104,9 @@ fn push_wrong_kind(sheet: &mut Sheet<'_>, key: Key, item: Option<usize>) -> Resu
         }
         _ => {
             write!(sheet.text, "{shown} is no text")?;
-            sheet.end("; a text is in straight double quotes, as \"2025-09-01\", \"08:30\" or \"Ames\"")
+            sheet.end(
+                "; a text is in straight double quotes, as \"2025-09-01\", \"08:30\" or \"Ames\"",
+            )
         }
     }
 }
@@ -191,7 +193,9 @@ fn push_bad_name(sheet: &mut Sheet<'_>, key: Key, item: Option<usize>) -> Result
     let shown = sheet.shown(mark);
     sheet.begin_fault(key, mark)?;
     write!(sheet.text, "{shown} is no name that rows can use")?;
-    sheet.end("; a name has 1 to 32 of the letters A to Z and a to z, digits, - _ and . and no blanks, as OBrien or Smith-Jones")
+    sheet.end(
+        "; a name has 1 to 32 of the letters A to Z and a to z, digits, - _ and . and no blanks, as OBrien or Smith-Jones",
+    )
 }
 
 fn push_twice(

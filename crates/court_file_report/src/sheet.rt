@@ -167,7 +167,10 @@ pub(crate) fn shown(bytes: &[u8], start: usize, end: usize) -> &str {
     let Some(part) = bytes.get(start..end) else {
         return "";
     };
-    let line = match part.iter().position(|byte| *byte == b'\n' || *byte == b'\r') {
+    let line = match part
+        .iter()
+        .position(|byte| *byte == b'\n' || *byte == b'\r')
+    {
         Some(at) => part.get(..at).unwrap_or(part),
         None => part,
     };
@@ -183,7 +186,9 @@ pub(crate) fn shown(bytes: &[u8], start: usize, end: usize) -> &str {
 /// The number of the first item of a key's list that is this date.
 pub(crate) fn item_of(file: &Table, key: Key, day: Day) -> Option<usize> {
     let values = file.get(key.name()).and_then(Value::as_array)?;
-    values.iter().position(|value| day_of_item(value) == Some(day))
+    values
+        .iter()
+        .position(|value| day_of_item(value) == Some(day))
 }
 
 /// The number of the first item of a key's list that is a later date of the span.

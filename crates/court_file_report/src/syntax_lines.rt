@@ -34,6 +34,12 @@ fn found_at(bytes: &[u8], start: usize, message: &str) -> Found {
             says: encoding_hint(bytes),
         };
     }
+    if bytes.contains(&b'\r') && !bytes.contains(&b'\n') {
+        return Found {
+            at: start,
+            says: "the lines end with CR alone, as on old Macs; save the file with the line ends of Windows or Unix",
+        };
+    }
     let (begin, end) = line_around(bytes, start);
     let line = bytes.get(begin..end).unwrap_or(&[]);
     if let Some((place, says)) = odd_character(line) {
@@ -42,12 +48,17 @@ fn found_at(bytes: &[u8], start: usize, message: &str) -> Found {
             says,
         };
     }
+    let is_key = is_key_at(bytes, begin, start, line);
     if message.starts_with("missing comma between array") {
-        return missing_comma(bytes, start, line);
+        return missing_comma(bytes, start, is_key);
     }
     Found {
         at: start,
-        says: hint_of(message, line),
+        says: if message.starts_with("invalid value") && is_key {
+            NOT_CLOSED
+        } else {
+            hint_of(message, line)
+        },
     }
 }
 
@@ -98,10 +109,14 @@ const ODD: [(&[u8], &str); 15] = [
 ];
 
 const CURLY: &str = "this is a curly quote, as word processors write them; write straight ones, \"";
+
 const BLANK: &str = "this is a blank of another kind, which can't be seen; write a plain one";
+
 const MARK: &str =
     "here is a byte order mark, which can't be seen, and may be at the file's beginning alone; delete it";
+
 const COMMA: &str = "this is a wide comma; write a plain one";
+
 const DIVIDER: &str =
     "a line %% ends the court's file where rows come after it; check the court's file alone, without this line and the rows";
 
@@ -135,8 +150,11 @@ fn without_comment(line: &[u8]) -> &[u8] {
     }
 }
 
-/// A list goes on otherwise than with a comma or its bracket.
-fn missing_comma(bytes: &[u8], start: usize, line: &[u8]) -> Found {
+/// What is wrong where a key comes within a list.
+const NOT_CLOSED: &str = "the list above isn't closed: write ] before this line";
+
+/// A list goes on otherwise than with a comma or its bracket; `is_key` says whether with a key.
+fn missing_comma(bytes: &[u8], start: usize, is_key: bool) -> Found {
     match bytes.get(start..) {
         None | Some([]) => Found {
             at: last_end(bytes, start),
@@ -150,9 +168,13 @@ fn missing_comma(bytes: &[u8], start: usize, line: &[u8]) -> Found {
             at: start,
             says: "this quote closes what none opened; write one before the item too",
         },
-        _ if is_setting(line) => Found {
+        Some([b'/', ..]) => Found {
             at: start,
-            says: "the list above isn't closed: write ] before this line",
+            says: "a date is a text in quotes, written as \"2025-09-01\" (a spreadsheet may have changed it)",
+        },
+        _ if is_key => Found {
+            at: start,
+            says: NOT_CLOSED,
         },
         _ => Found {
             at: last_end(bytes, start),
@@ -161,8 +183,12 @@ fn missing_comma(bytes: &[u8], start: usize, line: &[u8]) -> Found {
     }
 }
 
-/// Whether the line begins with a key and `=`.
-fn is_setting(line: &[u8]) -> bool {
+/// Whether a line that begins after `begin` bytes has nothing before the byte at `start`, and there a key and `=`.
+fn is_key_at(bytes: &[u8], begin: usize, start: usize, line: &[u8]) -> bool {
+    let before = bytes.get(begin..start).unwrap_or(&[]);
+    if !before.iter().all(|byte| byte.is_ascii_whitespace()) {
+        return false;
+    }
     match line.iter().position(|byte| *byte == b'=') {
         Some(place) => match line.get(..place) {
             Some(key) => key.iter().all(|byte| is_key_byte(*byte)),
@@ -219,12 +245,23 @@ fn hint_of(message: &str, line: &[u8]) -> &'static str {
     "a value is missing or isn't in quotes: a text is in straight double quotes, as \"17:00\", and a list in square brackets"
 }
 
+/// Whether the line has a colon before any quote and `=`.
+fn has_colon_after_key(line: &[u8]) -> bool {
+    match line
+        .iter()
+        .position(|byte| *byte == b':' || *byte == b'"' || *byte == b'=')
+    {
+        Some(place) => line.get(place) == Some(&b':'),
+        None => false,
+    }
+}
+
 /// What to do with a line that begins with no key and `=`.
 fn key_hint(line: &[u8]) -> &'static str {
     if line.starts_with(b"\"") || line.starts_with(b",") {
         return "a line begins with a key and =, as closes = \"17:00\"; a spreadsheet may have put this one in quotes";
     }
-    if line.contains(&b':') && !line.contains(&b'=') {
+    if has_colon_after_key(line) {
         return "write = between the key and its value, and no colon";
     }
     "a line begins with a key and =, as closes = \"17:00\"; a comment begins with #"

@@ -108,7 +108,9 @@ fn push_short_span(sheet: &mut Sheet<'_>) -> Result<(), AllocError> {
         sheet.text,
         "the span ends on {shown}, less than 90 days after it begins"
     )?;
-    sheet.end(", and Rule 4(m) has 90 days; a period that ends after the span is answered 'beyond', so move to, and add the holidays until then")
+    sheet.end(
+        ", and Rule 4(m) has 90 days; a period that ends after the span is answered 'beyond', so move to, and add the holidays until then",
+    )
 }
 
 fn push_ends_soon(sheet: &mut Sheet<'_>, today: Day) -> Result<(), AllocError> {
@@ -119,7 +121,9 @@ fn push_ends_soon(sheet: &mut Sheet<'_>, today: Day) -> Result<(), AllocError> {
         sheet.text,
         "the span ends on {shown}, before a year has passed from {today}"
     )?;
-    sheet.end("; a period that ends after the span is answered 'beyond', so move to, and add the holidays until then")
+    sheet.end(
+        "; a period that ends after the span is answered 'beyond', so move to, and add the holidays until then",
+    )
 }
 
 fn push_bare_year(sheet: &mut Sheet<'_>, year: u16) -> Result<(), AllocError> {
@@ -144,12 +148,7 @@ fn where_to_add(sheet: &Sheet<'_>, file: &Table, day: Day) -> Option<Mark> {
     })
 }
 
-fn push_lacking(
-    sheet: &mut Sheet<'_>,
-    file: &Table,
-    day: Day,
-    due: Due,
-) -> Result<(), AllocError> {
+fn push_lacking(sheet: &mut Sheet<'_>, file: &Table, day: Day, due: Due) -> Result<(), AllocError> {
     let mark = where_to_add(sheet, file, day);
     sheet.begin_warning(Key::Federal, mark)?;
     match due {
@@ -162,7 +161,11 @@ fn push_lacking(
         }
         Due::Observed(holiday) => {
             let name = holiday.name();
-            let weekday = if day.weekday() == 4 { "Saturday" } else { "Sunday" };
+            let weekday = if day.weekday() == 4 {
+                "Saturday"
+            } else {
+                "Sunday"
+            };
             write!(
                 sheet.text,
                 "the list lacks {day}, on which {name} is observed, since it is on a {weekday}"
@@ -170,7 +173,9 @@ fn push_lacking(
         }
     }
     if item_of(file, Key::State, day).is_some() {
-        return sheet.end("; the state list has it, where it counts for periods after an event alone: move it here");
+        return sheet.end(
+            "; the state list has it, where it counts for periods after an event alone: move it here",
+        );
     }
     sheet.end("; add it here")
 }
@@ -180,13 +185,17 @@ fn push_unknown(sheet: &mut Sheet<'_>, file: &Table, day: Day) -> Result<(), All
     sheet.begin_warning(Key::Federal, mark)?;
     if due_on(day, true).is_some() {
         write!(sheet.text, "{day} is Inauguration Day")?;
-        return sheet.end(", a holiday in the capital's region alone; say --capital if the court is there, and leave the date out if it isn't");
+        return sheet.end(
+            ", a holiday in the capital's region alone; say --capital if the court is there, and leave the date out if it isn't",
+        );
     }
     write!(
         sheet.text,
         "{day} is no holiday by law, and none is observed on it"
     )?;
-    sheet.end("; it stays if an executive order closed the government on it and the court takes it for a holiday, else mend it")
+    sheet.end(
+        "; it stays if an executive order closed the government on it and the court takes it for a holiday, else mend it",
+    )
 }
 
 fn push_at_weekend(
@@ -197,7 +206,11 @@ fn push_at_weekend(
 ) -> Result<(), AllocError> {
     for day in days {
         let mark = sheet.mark_of(key, item_of(file, key, *day));
-        let weekday = if day.weekday() == 5 { "Saturday" } else { "Sunday" };
+        let weekday = if day.weekday() == 5 {
+            "Saturday"
+        } else {
+            "Sunday"
+        };
         sheet.begin_warning(key, mark)?;
         write!(
             sheet.text,
@@ -215,11 +228,7 @@ fn push_in_both(sheet: &mut Sheet<'_>, file: &Table, day: Day) -> Result<(), All
     sheet.end(", which is enough; leave it out here")
 }
 
-fn push_slips(
-    sheet: &mut Sheet<'_>,
-    key: Key,
-    slips: &[(usize, Slip)],
-) -> Result<(), AllocError> {
+fn push_slips(sheet: &mut Sheet<'_>, key: Key, slips: &[(usize, Slip)]) -> Result<(), AllocError> {
     for (item, slip) in slips {
         let mark = sheet.mark_of(key, Some(*item));
         let shown = sheet.shown(mark);
