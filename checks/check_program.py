@@ -120,7 +120,7 @@ OFFICE_RUNS = [
     ("a byte too many of four clerks", ["--clerks=4"], ROWS + b"\n" * (MOST_BYTES + 1 - len(ROWS)), 4, b"", b"read fault\n"),
 ]
 
-LABOR = b'2025-09-01 = "Labor Day"\n'
+LABOR = b'2025-09-01 = "Day of Labor"\n'
 
 
 def named(entries):
@@ -136,27 +136,27 @@ def other_names(count):
 
 # Names of holidays: what the table has, and by what name the holiday is then called.
 NAMES = [
-    ("a name", LABOR, b"Labor Day"),
-    ("a name at a key in quotes", b'"2025-09-01" = "Labor Day"\n', b"Labor Day"),
-    ("names of other days", b'2025-08-31 = "a"\n2025-09-02 = "b"\n2024-09-01 = "c"\n', b"legal holiday"),
-    ("keys that are no dates", b'2025-09-00 = "a"\n2025-9-1 = "b"\n"" = "c"\nx = "d"\n' + LABOR, b"Labor Day"),
-    ("keys that are no dates, alone", b'"2025-9-1" = "b"\n" 2025-09-01" = "c"\n20250901 = "d"\n', b"legal holiday"),
-    ("values that are no texts", b"1900-01-01 = 1\n1900-01-02 = []\n1900-01-03 = {}\n" + LABOR, b"Labor Day"),
-    ("a date for a name", b"2025-09-01 = 2025-09-01\n", b"legal holiday"),
-    ("an empty name", b'2025-09-01 = ""\n', b"legal holiday"),
-    ("a name with a line end", b'2025-09-01 = "Labor\\nDay"\n', b"legal holiday"),
-    ("a name with a control character", b'2025-09-01 = "Labor\\u007fDay"\n', b"legal holiday"),
+    ("a name", LABOR, b"Day of Labor"),
+    ("a name at a key in quotes", b'"2025-09-01" = "Day of Labor"\n', b"Day of Labor"),
+    ("names of other days", b'2025-08-31 = "a"\n2025-09-02 = "b"\n2024-09-01 = "c"\n', b"Labor Day"),
+    ("keys that are no dates", b'2025-09-00 = "a"\n2025-9-1 = "b"\n"" = "c"\nx = "d"\n' + LABOR, b"Day of Labor"),
+    ("keys that are no dates, alone", b'"2025-9-1" = "b"\n" 2025-09-01" = "c"\n20250901 = "d"\n', b"Labor Day"),
+    ("values that are no texts", b"1900-01-01 = 1\n1900-01-02 = []\n1900-01-03 = {}\n" + LABOR, b"Day of Labor"),
+    ("a date for a name", b"2025-09-01 = 2025-09-01\n", b"Labor Day"),
+    ("an empty name", b'2025-09-01 = ""\n', b"Labor Day"),
+    ("a name with a line end", b'2025-09-01 = "Labor\\nDay"\n', b"Labor Day"),
+    ("a name with a control character", b'2025-09-01 = "Labor\\u007fDay"\n', b"Labor Day"),
     ("a name of one letter", b'2025-09-01 = "L"\n', b"L"),
     ("a name of spaces", b'2025-09-01 = " "\n', b" "),
     ("a name that isn't ASCII", '2025-09-01 = "Día del Trabajo"\n'.encode(), "Día del Trabajo".encode()),
     ("a name that is wider than its column", b'2025-09-01 = "' + b"Labor Day " * 10 + b'"\n', b"Labor Day " * 10),
     ("a name of a million bytes", b'2025-09-01 = "' + b"L" * MEGABYTE + b'"\n', b"L" * MEGABYTE),
-    ("4,096 names", other_names(4095) + LABOR, b"Labor Day"),
-    ("a name too many", other_names(4096) + LABOR, b"legal holiday"),
+    ("4,096 names", other_names(4095) + LABOR, b"Day of Labor"),
+    ("a name too many", other_names(4096) + LABOR, b"Labor Day"),
 ]
 
 MEMO_RUNS = [(name, [], named(entries), 0, LINE + reasons(cause) + JUDGE, b"") for name, entries, cause in NAMES] + [
-    ("names that are no table", [], b"holiday_names = 3\n" + ROWS, 0, LINE + reasons(b"legal holiday") + JUDGE, b""),
+    ("names that are no table", [], b"holiday_names = 3\n" + ROWS, 0, LINE + reasons(b"Labor Day") + JUDGE, b""),
     ("a day that is named twice", [], named(LABOR + LABOR), 2, b"", b"court fault 1 NotToml\n"),
     ("an option of the office", ["--clerks", "1"], ROWS, 1, b"", usage(b"unexpected argument '--clerks' found\n")),
     ("help with the names of holidays", ["--help"], b"", 0, Has(b"[holiday_names]"), b""),
@@ -164,7 +164,7 @@ MEMO_RUNS = [(name, [], named(entries), 0, LINE + reasons(cause) + JUDGE, b"") f
 
 PROGRAMS = {
     "clerk_office": common_runs(b"clerk_office", b"") + OFFICE_RUNS,
-    "deadline_memo": common_runs(b"deadline_memo", reasons(b"legal holiday")) + MEMO_RUNS,
+    "deadline_memo": common_runs(b"deadline_memo", reasons(b"Labor Day")) + MEMO_RUNS,
 }
 
 

@@ -1,13 +1,15 @@
 #!/usr/bin/env python3
-"""Checks the reasons that deadline_memo prints, each line by the one before it.
+"""Checks what deadline_memo prints under answers: reasons each by the line before it, and the other lines by themselves.
 
     derivations_check.py PROGRAM [SEED] [COUNT]
 
 Rows are made at random from SEED (by default 1) until COUNT deadlines (by default 10000) were shown: ends that are
-computed, and deadlines that are started and extended, with holidays and outages that are entered meanwhile. Every
-deadline that an answer or a sheet shows must have reasons that lead to what is shown, by the steps of
-lib/derivation_steps.py alone, which computes no deadline. So must those of the examples and of the stored run. Then
-reasons of every shape are spoiled in every way below and must be refused. The status is 0 where all of this is so. It
+computed, and deadlines that are started and extended, with acts and hearings, and with holidays and outages that are
+entered meanwhile. Every deadline that an answer or a sheet shows must have its period in words, then reasons that lead to
+what is shown, by the steps of lib/derivation_steps.py alone, which computes no deadline, and then the other readings that
+give another end, which the second program in plain Python computes (lib/other_readings.py). The lines of an act and of a
+refusal must be those of lib/note_lines.py. So must those of the examples and of the stored run. Then lines of every shape
+are spoiled in every way below and must be refused. The status is 0 where all of this is so. It
 needs Python 3.8 or later.
 """
 import pathlib
@@ -17,10 +19,15 @@ import subprocess
 import sys
 from collections import Counter
 
-from lib.derivation_steps import AFTER, COLUMN, WEEKDAYS, Calendar, Deadline, Wrong, checked, line_of
+from lib import note_lines, other_readings
+from lib.derivation_steps import AFTER, COLUMN, WEEKDAYS, Calendar, Deadline, Line, Wrong, checked, expect, line_of
 from lib.made_inputs import CODES, HOLIDAYS, ZONES, listed, quoted
+from lib.period_words import heading
+from reference import periods
 from reference.civil import day_of_text, day_text, minute_of_text, weekday
 from reference.court_file import court_of, split, table_of
+from reference.docket import STEPS, opening, step, view
+from reference.rows_in import grant as grant_of, rows_of
 
 TOP = pathlib.Path(__file__).resolve().parent.parent
 
@@ -47,7 +54,7 @@ def deadline_of(period, date, time, second, kind):
         length, served, right_from = (entered[-1], int(entered[:-1])), start == "served", None
     return Deadline(length, direction, act, served, kind or None, day_of_text(date), minute_of_text(time or "00:00"),
                     day_of_text(second) if second else None, period == "4m",
-                    day_of_text(right_from) if right_from else None, [])
+                    day_of_text(right_from) if right_from else None, [], period)
 
 
 def calendar_of(file):
@@ -73,9 +80,12 @@ def enter(calendar, fields):
 
 
 def derivations(data, output):
-    """Each deadline that is shown: the calendar as it was then, the deadline, its lines, and what is shown."""
+    """Each deadline that is shown: the calendar as it was then, the deadline, its lines, and what is shown. Each other
+    answer: None, the lines that must follow, those that do, and the answer."""
     file, rows = split(data)
     calendar, started = calendar_of(file), {}
+    court = court_of(file)
+    docket, works = opening(court), [row.work for row in rows_of(rows, 1, court)]
     rows = [row.split(",") for row in rows.decode().splitlines() if row]
     lines = output.decode().split("\n")[:-1]
     at, number, case = 0, 0, None
@@ -96,8 +106,9 @@ def derivations(data, output):
         at += 1
         answer = re.fullmatch(r"(\d+) 1 (.*)", line)
         if answer and int(answer[1]) == number + 1 and number < len(rows):
-            fields, text = rows[number][1:], answer[2]
+            fields, text, work = rows[number][1:], answer[2], works[number]
             number += 1
+            docket, made = step(court, docket, work) if work[0] in STEPS else (docket, view(court, docket, work))
             shown = re.fullmatch(r"(?:deadline (\d+) |extended )?((?:last|until|beyond).*)", text)
             if shown and fields[0] in ("compute", "start", "extend"):
                 if fields[0] == "compute":
@@ -108,8 +119,10 @@ def derivations(data, output):
                     deadline = started[fields[1], fields[2]]
                     deadline.grants.append(fields[3])
                 yield copy(), deadline._replace(grants=list(deadline.grants)), told(), shown[2]
-            elif text in ("holiday entered", "outage entered"):
+                continue
+            if text in ("holiday entered", "outage entered"):
                 enter(calendar, fields)
+            yield None, note_lines.notes(court, docket, work, made), told(), text
             continue
         found = re.fullmatch(r"case (\d+) filed .*", line)
         if found:
@@ -124,10 +137,31 @@ def derivations(data, output):
             raise Wrong("reasons under an answer that shows no deadline: " + line)
 
 
+def asked(deadline):
+    """The deadline as the second program has it."""
+    grants = [grant_of(grant, None) for grant in deadline.grants]
+    event = periods.Event(deadline.event, deadline.minute)
+    return periods.Deadline(periods.period_of_text(deadline.text), event, deadline.second, deadline.kind, grants, None)
+
+
+def follow(calendar, deadline, texts, shown):
+    """That the lines are the deadline's period in words, its reasons, and the other readings."""
+    lines = [line_of(text) for text in texts]
+    event = deadline.event if deadline.second is None else max(deadline.event, deadline.second)
+    wanted = [Line(*line) for line in heading(deadline.text, event)]
+    expect(lines[:len(wanted)] == wanted, "the period is another")
+    left = checked(calendar, deadline, lines[len(wanted):], shown)
+    expect(left == [Line(*line) for line in other_readings.lines(calendar, asked(deadline))],
+           "other readings give other ends")
+
+
 def wrong_with(calendar, deadline, texts, shown):
-    """Why these lines aren't reasons for what is shown, or None."""
+    """Why these lines can't follow what is shown, or None. Without a calendar `deadline` is the lines that must follow."""
     try:
-        checked(calendar, deadline, [line_of(text) for text in texts], shown)
+        if calendar is None:
+            expect([line_of(text) for text in texts] == [Line(*line) for line in deadline], "other lines follow this answer")
+        else:
+            follow(calendar, deadline, texts, shown)
     except Wrong as wrong:
         return str(wrong)
     return None
@@ -168,15 +202,27 @@ def a_period(chance):
 
 
 def a_row(chance):
-    word = chance.choices(["compute", "start", "extend", "holiday", "inaccessible", "sheet"],
-                          [60, 6, 12, 3, 4, 1])[0]
+    word = chance.choices(["compute", "start", "extend", "holiday", "inaccessible", "sheet", "file", "motion", "book"],
+                          [60, 6, 12, 3, 4, 1, 5, 1, 8])[0]
     if word == "compute":
         return "1,compute," + a_period(chance)
     if word == "start":
         return "1,start,1," + a_period(chance)
     if word == "extend":
         grant = chance.choice(["+1d", "+7d", "+30d", "+24h", "+5h", a_date(chance), "2026-06-06"])
-        return "1,extend,1,{},{},2007-01-02,09:00,yes,yes,yes".format(chance.randrange(1, 12), grant)
+        asked_on = chance.choice(["2007-01-02,09:00", "2007-01-02,09:00", a_date(chance) + "," + a_time(chance)])
+        found = ",".join(chance.choice(["yes", "yes", "yes", "no"]) for _ in range(3))
+        return "1,extend,1,{},{},{},{}".format(chance.randrange(1, 12), grant, asked_on, found)
+    if word == "file":
+        time = chance.choice(["17:00", "16:30", "16:31", a_time(chance)])
+        return "1,file,1,{},{},{},{}".format(chance.randrange(1, 40), a_date(chance), time, chance.choice(["electronic", "paper"]))
+    if word == "motion":
+        return "1,motion,1,{},{}".format(a_date(chance), chance.choice(["14", "14", "7", "exparte"]))
+    if word == "book":
+        return "1,{},1,{},{},{},{},{},{},{}".format(
+            chance.choice(["book", "book", "move"]), chance.randrange(1, 6), chance.choice(["Ames", "Brandt", "Brandt+Ames"]),
+            chance.choice(["R1", "R2"]), a_date(chance), chance.choice(["08:00", "09:00", "10:00", "10:30", "16:00"]),
+            chance.choice(["1", "2", "3q"]), chance.choice(["2007-01-05", a_date(chance)]))
     if word == "holiday":
         return "1,holiday,{},{}".format(a_date(chance), chance.choice(["federal", "state"]))
     if word == "inaccessible":
@@ -190,7 +236,8 @@ def an_input(chance):
     federal, state = chance.sample(HOLIDAYS, 6), chance.sample(HOLIDAYS, 3)
     court = ["zone = " + quoted(chance.choice(ZONES)), 'opens = "08:30"',
              "closes = " + quoted(chance.choice(["16:30", "17:00"])), "from = " + quoted(first), "to = " + quoted(last),
-             "federal = " + listed(federal), "state = " + listed(state), "judges = []", "rooms = []"]
+             "federal = " + listed(federal), "state = " + listed(state), "judges = [\"Ames\", \"Brandt\"]",
+             "rooms = [\"R1\", \"R2\"]"]
     if chance.random() < 0.5:
         names = ["Labor Day", "Independence Day", "Christmas Day", "Columbus Day"]
         court += ["[holiday_names]"] + ["{} = {}".format(date, quoted(chance.choice(names)))
@@ -228,10 +275,12 @@ def lines_spoiled(texts):
         for name, line in line_spoiled(text):
             if line is not None and line != text:
                 yield name, before + [line] + after
-    if texts[0][18:].startswith("day of the event"):
-        yield "an older event that isn't one", [older_line(texts[0])] + texts
-    yield "an end left out", texts[:-1]
-    yield "nothing at all", []
+        if text[18:].startswith("day of the event") and "the rule as it reads" not in texts[place - 1]:
+            yield "an older event that isn't one", before + [older_line(text), text] + after
+    yield "a line more", texts + [older_line("  Mon 2025-09-01" + "  ")]
+    if texts:
+        yield "an end left out", texts[:-1]
+        yield "nothing at all", []
 
 
 def older_line(text):
@@ -257,6 +306,19 @@ def line_spoiled(text):
     found = re.match(r"day (\d+),", text[18:])
     if found:
         yield "a day too many", swapped(text, found[0], "day {},".format(int(found[1]) + 1))
+    found = re.match(r"(?:timely, |late, |asked at |case )?(\d+)", text[18:])
+    if found:
+        number = str(int(found[1]) + 1).zfill(len(found[1]))
+        yield "another number", swapped(text, found[0], found[0][:len(found[0]) - len(found[1])] + number)
+    yield "late for timely", swapped(text, "timely, ", "late, ")
+    yield "timely for late", swapped(text, "late, ", "timely, ")
+    yield "an act on paper", swapped(text, "electronically", "on paper")
+    yield "an electronic act", swapped(text, "on paper", "electronically")
+    yield "the judge for the room", swapped(text, "has the room", "has the judge")
+    yield "neglect for a motion", swapped(text, "a motion is needed", "neglect must be excused")
+    yield "a motion for neglect", swapped(text, "neglect must be excused", "a motion is needed")
+    yield "another reading", swapped(text, "the outage moves nothing", "outages move service too")
+    yield "a choice that isn't ours", swapped(text, "other reading: ", "")
     found = re.match(r"the rule as it reads from (\S+) ", text[18:])
     if found:
         other = SUMMONS if found[1] == COUNTING else COUNTING
@@ -271,7 +333,14 @@ def line_spoiled(text):
     yield "the clocks set forward for back", swapped(text, "clocks back", "clocks forward")
     yield "an open day passed over", swapped(text, "the time runs to this day", "Saturday, passed over")
     yield "a closed day taken", swapped(text, "Saturday, passed over", "the time runs to this day")
-    yield "a holiday taken", swapped(text, "legal holiday, passed over", "the time runs to this day")
+    holiday = re.match(r"(.*), passed over .*, 6\(a\)\(6\)$", text[18:])
+    if holiday:
+        yield "a holiday taken", swapped(text, holiday[0][:COLUMN].rstrip(), "the time runs to this day")
+        yield "another holiday", swapped(text, holiday[1], "Flag Day")
+        yield "a holiday without its name", swapped(text, holiday[1], "legal holiday")
+        yield "a holiday that isn't observed", swapped(text, ", observed", "")
+        yield "a holiday observed on its day", swapped(text, holiday[1], holiday[1] + ", observed")
+    yield "a holiday of the state taken", swapped(text, "legal holiday of the state, passed over", "the time runs to this day")
     yield "hours not continued", swapped(text, "the hours end, and are continued", "the hours end on this day")
     yield "an extension left out", swapped(text, "extended by", "not extended by")
     yield "a column moved", text[:18 + COLUMN] + " " + text[18 + COLUMN:]
@@ -286,7 +355,7 @@ def main(words):
     program = words[0]
     seed, count = (int(word) for word in (words[1:] + ["1", "10000"][len(words) - 1:]))
     chance = random.Random(seed)
-    shown, wrong, shapes = 0, 0, {}
+    shown, said, wrong, shapes = 0, 0, 0, {}
     # (deadline_memo serves one clerk, so it can't read the examples of several, whose words stand beside them)
     inputs = [path.read_bytes() for path in sorted((TOP / "examples").glob("*.txt")) if not path.with_suffix(".words").exists()]
     inputs.append((TOP / "crates" / "deadline_memo" / "stdin").read_bytes())
@@ -297,14 +366,20 @@ def main(words):
             sys.exit("status {}: {}".format(ran.returncode, ran.stderr.decode()))
         for derivation in derivations(data, ran.stdout):
             why = wrong_with(*derivation)
-            shown += 1
+            if derivation[0] is None:
+                said += bool(derivation[2])
+            else:
+                shown += 1
             shapes.setdefault(shape(derivation[2]), derivation)
             if why:
                 wrong += 1
                 if wrong <= 5:
                     print("refused, since {}: {}".format(why, derivation[3]))
+                    if derivation[0] is None:
+                        print("wanted:", *derivation[1], sep="\n")
                     print("\n".join(derivation[2]))
-    print("{} deadlines, of whose reasons {} were refused; {} shapes of reasons".format(shown, wrong, len(shapes)))
+    print("{} deadlines, and {} acts and refusals, of whose lines {} were refused; {} shapes of lines".format(
+        shown, said, wrong, len(shapes)))
     taken, refused = Counter(), Counter()
     for calendar, deadline, texts, answer in shapes.values():
         for name, spoiled in lines_spoiled(texts):

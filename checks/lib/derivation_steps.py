@@ -7,13 +7,15 @@ and the court's file.
 import re
 from collections import namedtuple
 
+from lib.legal_names import legal_name
 from reference.civil import civil, day_of_text, day_text, instant_at, minute_text, offset_at, weekday
 
 # The calendar as it is when the deadline is shown: its span, its lists of holidays, its outages (day, from, to).
 Calendar = namedtuple("Calendar", "clock first last federal state outages names")
 # What a row says of a deadline: `second` and `kind` may be None, `length` is ("d" or "h", number), `grants` are texts
-# as `+7d`, `+24h` or a date. `right_from` is the day from which the rule of its period is right, or None.
-Deadline = namedtuple("Deadline", "length direction act served kind event minute second summons right_from grants")
+# as `+7d`, `+24h` or a date. `right_from` is the day from which the rule of its period is right, or None; `text` is the
+# period as the row has it.
+Deadline = namedtuple("Deadline", "length direction act served kind event minute second summons right_from grants text")
 # A line: the day that it shows, or None; what happened; the section that it cites.
 Line = namedtuple("Line", "day what section")
 
@@ -52,13 +54,14 @@ def line_of(text):
 
 
 def checked(calendar, deadline, lines, answer):
-    """That the lines lead from the event to what is answered, as `last DATE`, `until DATE TIME` or `beyond`."""
-    place = begins
-    for line in lines:
-        expect(not isinstance(place, str), "nothing may follow the end of the time")
-        place = place(calendar, deadline, line)
+    """That the lines lead from the event to what is answered, as `last DATE`, `until DATE TIME` or `beyond`; the lines that
+    follow the end."""
+    place, left = begins, list(lines)
+    while left and not isinstance(place, str):
+        place = place(calendar, deadline, left.pop(0))
     expect(isinstance(place, str), "the reasons end before the time does")
     expect(place == answer, "the reasons lead to {}, and the answer is {}".format(place, answer))
+    return left
 
 
 
@@ -76,7 +79,7 @@ def causes(calendar, day, holidays, accessible):
     if weekday(day) == 6:
         found.append(("Sunday", ""))
     if day in calendar.federal:
-        found.append((name or "legal holiday", ", 6(a)(6)"))
+        found.append((name or legal_name(day), ", 6(a)(6)"))
     if holidays == AFTER and day in calendar.state:
         found.append((name or "legal holiday of the state", ", 6(a)(6)(C)"))
     if accessible and any(outage[0] == day for outage in calendar.outages):

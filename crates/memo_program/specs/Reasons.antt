@@ -1,18 +1,26 @@
 -- The lines of a deadline's reasons.
-use Rattle.std.specs.Prelude.{◌≡◌, ℕ, List, [], Option, Some, None}
+use Rattle.std.specs.Prelude.{◌≡◌, ℕ, List, [], ◌++◌, Option, Some, None}
 use Rattle.court_days.specs.Words.{CourtView, DaysView}
 use Rattle.rule_periods.specs.Words.{DeadlineRowView, shown_of}
 use Rattle.docket_rows.specs.Words.{Rows, deadline_in, parts_of}
 use Rattle.deadline_reasons.specs.declared.reason.Reason.{Reason}
 use Rattle.deadline_reasons.specs.Words.{IsDerivation}
 use Rattle.reason_texts.specs.Words.{NamedDay, course_of, reason_lines}
+use Rattle.period_texts.specs.Words.{heading_lines}
+use Rattle.other_readings.specs.Words.{reading_lines}
 use Rattle.memo_program.specs.Texts.{Is}
 
--- a line for each reason of a derivation of what is shown of the deadline, where the days are these
+-- the period of a deadline in words, a line for each of these reasons, and a line for each other reading that gives another
+-- end
+abbrev pub deadline_lines : CourtView → List NamedDay → DaysView → DeadlineRowView → List Reason → List ℕ
+deadline_lines court names days row reasons =
+    heading_lines row ++ reason_lines court.clock names (course_of row.period) reasons ++ reading_lines days court.clock row
+
+-- these lines, with the reasons of a derivation of what is shown of the deadline, where the days are these
 pub record AreReasons (court : CourtView) (names : List NamedDay) (days : DaysView) (row : DeadlineRowView) (text : List ℕ) : Type 0 where
   pub reasons : List Reason
   pub derived : IsDerivation days court.clock row reasons (shown_of days court.clock row)
-  pub lines : text ≡ reason_lines court.clock names (course_of row.period) reasons
+  pub lines : text ≡ deadline_lines court names days row reasons
 
 -- where there is a deadline
 abbrev pub AreReasonsIfAny : CourtView → List NamedDay → DaysView → Option DeadlineRowView → List ℕ → Type 0

@@ -5,6 +5,7 @@
 mod command;
 mod memo;
 mod names;
+mod notes;
 mod program;
 mod reasons;
 mod replies;

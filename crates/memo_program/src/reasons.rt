@@ -1,22 +1,25 @@
 //! The reasons of deadlines.
 
-ghost use Rattle.std.specs.Prelude.{◌≡◌, None};
+ghost use Rattle.std.specs.Prelude.{◌≡◌, ◌++◌, None, OnOk, string_bytes};
 ghost use Rattle.rule_periods.specs.Words.{start_refusal};
 ghost use Rattle.docket_rows.specs.Words.{Rows, setup_of, started};
 ghost use Rattle.office_run.specs.Words.{Holds};
-ghost use Rattle.memo_program.specs.Reasons.{AreReasons, AreReasonsDocketed};
+ghost use Rattle.memo_program.specs.Reasons.{AreReasons, AreReasonsDocketed, deadline_lines};
 ghost use Rattle.memo_program.specs.Texts.{Pushes};
 
 use court_clock::Day;
 use court_days::{Court, Days};
-use deadline_reasons::reasons_of;
+use deadline_reasons::{Reason, reasons_of};
 use docket_core::Docket;
+use other_readings::push_readings;
+use period_texts::push_heading;
 use reason_texts::{Course, HolidayName, push_reasons};
 use rule_periods::{DeadlineRow, DocketRow, Event, Period, check_start};
 use rule6::ServiceKind;
 use std::alloc::{AllocError, Global};
 
-/// Adds the reasons of the deadline, a line each, where the days are these. `Err` says that memory ran out.
+/// Adds the period of the deadline in words, its reasons, a line each, where the days are these, and the other readings that
+/// give another end. `Err` says that memory ran out.
 pub(crate) fn push_deadline_reasons(
     alloc: Global,
     text: &mut String,
@@ -28,8 +31,25 @@ pub(crate) fn push_deadline_reasons(
     ensures { Pushes (AreReasons court.now names.now days.now row.now) result text.old text.new }
 {
     let reasons = reasons_of(alloc, days, court.clock(), row)?;
+    push_lines(alloc, text, court, names, days, row, reasons.as_slice())
+}
+
+/// Adds the period of the deadline in words, a line for each reason, and the other readings that give another end.
+fn push_lines(
+    alloc: Global,
+    text: &mut String,
+    court: &Court,
+    names: &[HolidayName],
+    days: &Days,
+    row: &DeadlineRow,
+    reasons: &[Reason],
+) -> Result<(), AllocError>
+    ensures { OnOk result (string_bytes text.new ≡ string_bytes text.old ++ deadline_lines court.now names.now days.now row.now reasons.now) }
+{
+    push_heading(alloc, text, row)?;
     let course = Course::of(&row.period());
-    push_reasons(text, court.clock(), names, course, reasons.as_slice())
+    push_reasons(text, court.clock(), names, course, reasons)?;
+    push_readings(alloc, text, days, court.clock(), row)
 }
 
 /// Adds the reasons of the docketed deadline of that number, if there is one.

@@ -10,6 +10,7 @@ ghost use Rattle.memo_program.specs.Reasons.{AreReasonsIfAny};
 ghost use Rattle.memo_program.specs.Replies.{AreReasonsWith, AreReplies, HasAnswered, IsReply, IsRow, deadline_asked, deadline_extended, deadline_queried, deadline_started, deadline_told, is_computed, sheet_replied};
 ghost use Rattle.memo_program.specs.Texts.{Pushes};
 
+use crate::notes::push_notes;
 use crate::reasons::{push_docketed_reasons, push_started_reasons};
 use crate::sheets::push_sheet;
 use court_days::Court;
@@ -79,7 +80,8 @@ fn push_explained(
         }
         None => {
             push_reply(text, court, reply)?;
-            push_reasons_told(alloc, text, court, names, docket, work, reply)
+            push_reasons_told(alloc, text, court, names, docket, work, reply)?;
+            push_notes(alloc, text, court, docket, work, reply)
         }
     }
 }

@@ -3,6 +3,7 @@ pub mod Names
 pub mod Times
 pub mod Day
 pub mod Spaces
+pub mod Note
 pub mod OlderEvent
 pub mod What
 pub mod Section

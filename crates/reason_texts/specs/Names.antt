@@ -1,6 +1,9 @@
 -- Names of holidays.
-use Rattle.std.specs.Prelude.{ℕ, ℤ, List, [], ◌∷◌, Option, Some, None, if◌then◌else◌}
+use Rattle.std.specs.Prelude.{ℕ, ℤ, true, List, [], ◌∷◌, ◌++◌, Option, Some, None, codes, if◌then◌else◌}
 use Rattle.std.specs.Ordering.{int_eq}
+use Rattle.federal_holidays.specs.declared.statute.FederalHoliday.{FederalHoliday}
+use Rattle.federal_holidays.specs.declared.statute.FederalHoliday.TheVariants.{Juneteenth}
+use Rattle.federal_holidays.specs.Words.{holiday_on, observed_on, statute_name}
 
 -- a day and its name
 pub record NamedDay : Type 0 where
@@ -11,3 +14,22 @@ pub record NamedDay : Type 0 where
 abbrev pub name_on : List NamedDay → ℤ → Option (List ℕ)
 name_on [] day = None
 name_on (n ∷ names) day = if int_eq n.day day then Some n.name else name_on names day
+
+-- the name of a holiday as it is called where another word follows
+abbrev pub short_name : FederalHoliday → List ℕ
+short_name Juneteenth = codes "Juneteenth"
+short_name holiday = statute_name holiday
+
+-- the holiday that is observed on a day in place of the day set by law, or else what any holiday is called
+abbrev pub observed_text : Option FederalHoliday → List ℕ
+observed_text (Some holiday) = short_name holiday ++ codes ", observed"
+observed_text None = codes "legal holiday"
+
+-- the holiday that the law sets on a day, or else another text
+abbrev pub set_text : Option FederalHoliday → List ℕ → List ℕ
+set_text (Some holiday) other = statute_name holiday
+set_text None other = other
+
+-- what a day of the federal list is called by law; a court that has Inauguration Day in its list keeps it
+abbrev pub legal_text : ℤ → List ℕ
+legal_text day = set_text (holiday_on day true) (observed_text (observed_on day))

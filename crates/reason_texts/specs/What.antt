@@ -14,7 +14,7 @@ use Rattle.deadline_reasons.specs.declared.reason.Cause.{Cause}
 use Rattle.deadline_reasons.specs.declared.reason.Cause.TheVariants as cause
 use Rattle.deadline_reasons.specs.declared.reason.Reason.{Reason}
 use Rattle.deadline_reasons.specs.declared.reason.Reason.TheVariants as reason
-use Rattle.reason_texts.specs.Names.{NamedDay, name_on}
+use Rattle.reason_texts.specs.Names.{NamedDay, legal_text, name_on}
 use Rattle.reason_texts.specs.Times.{minute_time, time_of_civil}
 
 abbrev pub cause_text : Cause → List ℕ
@@ -24,15 +24,20 @@ cause_text cause.FederalHoliday = codes "legal holiday"
 cause_text cause.StateHoliday = codes "legal holiday of the state"
 cause_text cause.Inaccessible = codes "inaccessible"
 
--- the name of a holiday, where it has one; other causes have none
+-- the name that a court's file gives a holiday, where it gives one; other causes have none
 abbrev pub name_of_cause : List NamedDay → ℤ → Cause → Option (List ℕ)
 name_of_cause names day cause.FederalHoliday = name_on names day
 name_of_cause names day cause.StateHoliday = name_on names day
 name_of_cause names day cause = None
 
--- a cause by its name, or by its kind
+-- a cause without such a name: a day of the federal list is called as the law calls it, any other cause by its kind
+abbrev pub cause_unnamed : ℤ → Cause → List ℕ
+cause_unnamed day cause.FederalHoliday = legal_text day
+cause_unnamed day cause = cause_text cause
+
+-- a cause by the name that the court's file gives it, or else as it is called without one
 abbrev pub cause_shown : List NamedDay → ℤ → Cause → List ℕ
-cause_shown names day cause = unwrap_or (name_of_cause names day cause) (cause_text cause)
+cause_shown names day cause = unwrap_or (name_of_cause names day cause) (cause_unnamed day cause)
 
 -- how a paper was served, by the paragraphs of Rule 5(b)(2)
 abbrev pub kind_text : ServiceKind → List ℕ

@@ -5,6 +5,7 @@ mod course;
 mod day;
 mod line;
 mod names;
+mod note;
 mod older_event;
 mod section;
 mod spaces;
@@ -13,4 +14,6 @@ mod what;
 
 pub use course::{Course, Search};
 pub use line::{push_reason, push_reasons};
-pub use names::HolidayName;
+pub use names::{HolidayName, push_legal};
+pub use note::push_note;
+pub use times::{push_minute, push_time_at};

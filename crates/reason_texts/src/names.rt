@@ -1,9 +1,12 @@
 //! Names of holidays.
 
-ghost use Rattle.std.specs.Prelude.{◌≡◌, option_copied, string_bytes};
-ghost use Rattle.reason_texts.specs.Names.{name_on};
+ghost use Rattle.std.specs.Prelude.{◌≡◌, ◌++◌, OnOk, option_copied, string_bytes};
+ghost use Rattle.reason_texts.specs.Names.{legal_text, name_on, observed_text, short_name};
+ghost use Rattle.federal_holidays.specs.Words.{observed_on};
 
 use court_clock::Day;
+use federal_holidays::{FederalHoliday, holiday_on, observed_on};
+use std::alloc::AllocError;
 use std::marker::Model;
 
 /// A day, and the name of the holiday on it.
@@ -57,5 +60,39 @@ pub(crate) fn name_on(names: &[HolidayName], day: Day) -> Option<&str>
             }
             name_on(rest, day)
         }
+    }
+}
+
+/// Adds what a day of the federal list is called by law: the holiday that is set on it, or the one that is observed on it in
+/// place of a Saturday or a Sunday, or else that it is a legal holiday. `Err` says that memory ran out.
+pub fn push_legal(text: &mut String, day: Day) -> Result<(), AllocError>
+    ensures { OnOk result (string_bytes text.new ≡ string_bytes text.old ++ legal_text day) }
+{
+    match holiday_on(day, true) {
+        Some(holiday) => text.push_str(holiday.name()),
+        None => push_observed(text, day),
+    }
+}
+
+/// Adds the holiday that is observed on the day in place of another day, or that it is a legal holiday.
+fn push_observed(text: &mut String, day: Day) -> Result<(), AllocError>
+    ensures { OnOk result (string_bytes text.new ≡ string_bytes text.old ++ observed_text (observed_on day)) }
+{
+    match observed_on(day) {
+        Some(holiday) => {
+            text.push_str(short_name(holiday))?;
+            text.push_str(", observed")
+        }
+        None => text.push_str("legal holiday"),
+    }
+}
+
+/// The name of a holiday as it is called where another word follows.
+fn short_name(holiday: FederalHoliday) -> &'static str
+    ensures { result.now ≡ short_name holiday }
+{
+    match holiday {
+        FederalHoliday::Juneteenth => "Juneteenth",
+        _ => holiday.name(),
     }
 }

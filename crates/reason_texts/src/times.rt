@@ -8,8 +8,8 @@ use court_clock::{Clock, Instant};
 use std::alloc::AllocError;
 use std::fmt::Write;
 
-/// Adds the time that the court's clock shows at an instant.
-pub(crate) fn push_time_at(
+/// Adds the time that the court's clock shows at an instant. `Err` says that memory ran out.
+pub fn push_time_at(
     text: &mut String,
     clock: &Clock,
     instant: Instant,
@@ -34,9 +34,9 @@ fn push_second(text: &mut String, second: u32) -> Result<(), AllocError>
     push_two_digits(text, second % 60)
 }
 
-/// Adds the minute of a day, counted from midnight, as hours and minutes.
+/// Adds the minute of a day, counted from midnight, as hours and minutes. `Err` says that memory ran out.
 #[tactic(auto, unfolding(crate::specs::Times::minute_time))]
-pub(crate) fn push_minute(text: &mut String, minute: u16) -> Result<(), AllocError>
+pub fn push_minute(text: &mut String, minute: u16) -> Result<(), AllocError>
     ensures { OnOk result (string_bytes text.new ≡ string_bytes text.old ++ minute_time minute) }
 {
     push_two_digits(text, u32::from(minute / 60))?;

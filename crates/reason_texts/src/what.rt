@@ -1,9 +1,9 @@
 //! What happened, in words.
 
 ghost use Rattle.std.specs.Prelude.{◌≡◌, ◌++◌, OnOk, option_copied, string_bytes};
-ghost use Rattle.reason_texts.specs.What.{cause_shown, cause_text, change_text, change_words, detail_text, first_words, grant_text, hours_text, kind_text, last_words, name_of_cause, outage_text, what_text};
+ghost use Rattle.reason_texts.specs.What.{cause_shown, cause_text, cause_unnamed, change_text, change_words, detail_text, first_words, grant_text, hours_text, kind_text, last_words, name_of_cause, outage_text, what_text};
 
-use crate::names::{HolidayName, name_on};
+use crate::names::{HolidayName, name_on, push_legal};
 use crate::times::{push_minute, push_time_at};
 use court_clock::{Clock, Day, Direction, Instant};
 use court_days::Outage;
@@ -67,7 +67,7 @@ fn push_detail(
 {
     match *reason {
         Reason::Counted(n, _) => write!(text, "{n}"),
-        Reason::PassedOver(day, cause) => text.push_str(cause_shown(names, day, cause)),
+        Reason::PassedOver(day, cause) => push_cause(text, names, day, cause),
         Reason::ThreeAdded(kind) => text.push_str(kind_words(kind)),
         Reason::Extended(grant) | Reason::NotExtended(grant) => push_grant(text, grant),
         Reason::HoursFrom(instant) | Reason::SameTime(_, instant) | Reason::UntilInstant(instant) =>
@@ -154,17 +154,32 @@ fn push_grant(text: &mut String, grant: Grant) -> Result<(), AllocError>
     }
 }
 
-/// A cause by its name, where it is a holiday that has one, or by its kind.
-fn cause_shown(names: &[HolidayName], day: Day, cause: Cause) -> &str
-    ensures { result.now ≡ cause_shown names.now day cause }
+/// Adds a cause by the name that the court's file gives it, or else as it is called without one.
+fn push_cause(
+    text: &mut String,
+    names: &[HolidayName],
+    day: Day,
+    cause: Cause,
+) -> Result<(), AllocError>
+    ensures { OnOk result (string_bytes text.new ≡ string_bytes text.old ++ cause_shown names.now day cause) }
 {
     match name_of_cause(names, day, cause) {
-        Some(name) => name,
-        None => cause_word(cause),
+        Some(name) => text.push_str(name),
+        None => push_unnamed(text, day, cause),
     }
 }
 
-/// The name of a holiday, where it has one; other causes have none.
+/// Adds a cause to which the court's file gives no name.
+fn push_unnamed(text: &mut String, day: Day, cause: Cause) -> Result<(), AllocError>
+    ensures { OnOk result (string_bytes text.new ≡ string_bytes text.old ++ cause_unnamed day cause) }
+{
+    match cause {
+        Cause::FederalHoliday => push_legal(text, day),
+        _ => text.push_str(cause_word(cause)),
+    }
+}
+
+/// The name that the court's file gives a holiday, where it gives one; other causes have none.
 fn name_of_cause(names: &[HolidayName], day: Day, cause: Cause) -> Option<&str>
     ensures { option_copied result ≡ name_of_cause names.now day cause }
 {

@@ -1,9 +1,10 @@
 use Rattle.std.proofs.Common.{◌≡◌, ◌∙◌, Some, None, codes, string_bytes, sym}
 use Rattle.docket_rows.specs.Words.{setup_of}
 use Rattle.office_run.specs.Words.{reply_text}
+use Rattle.memo_program.specs.Notes.{notes_text}
 use Rattle.memo_program.specs.Replies.{AreReasonsWith, sheet_replied}
 use Rattle.memo_program.specs.Sheets.{IsSheet}
-use Rattle.memo_program.specs.Texts.{Is}
+use Rattle.memo_program.specs.Texts.{Is, Then}
 use Rattle.memo_program.proofs.DocketLemmas.{days_held}
 use Rattle.memo_program.proofs.TextLemmas.{adds_text, adds_then, on_ok}
 use Rattle.memo_program.proofs.replies.push_explained.Goals as goal
@@ -15,9 +16,13 @@ returns-in_ok-push_str-in-Some c docketed answered =
     let days : c.days.result.now ≡ docketed.days = c.days.ensures ∙ days_held setup c.args.docket.now docketed answered.holds in
     rw found (on_ok c.push_sheet.result (λ added. adds_then (Is (codes "sheet\n")) (IsSheet c.args.court.now c.args.names.now docketed.days c.in-Some.sheet.now) (string_bytes c.args.text.now) _ (string_bytes c.push_sheet.new.text) (adds_text (codes "sheet\n") _ _ c.in_ok-push_str-in-Some.ensures.bytes) added) (rw days at c.push_sheet.ensures))
 
-pub returns-in_ok-push_reply-in-None : goal.returns-in_ok-push_reply-in-None
-returns-in_ok-push_reply-in-None c docketed answered =
+pub returns-in_ok-push_reasons_told-in-None : goal.returns-in_ok-push_reasons_told-in-None
+returns-in_ok-push_reasons_told-in-None c docketed answered =
     let court = c.args.court.now in
     let reply = c.args.reply.now in
+    let work = c.args.work.now in
+    let told = AreReasonsWith court c.args.names.now docketed work reply in
+    let notes = notes_text court docketed work reply in
     let none : sheet_replied reply ≡ None = sym c.in-None.ensures in
-    rw none (on_ok c.push_reasons_told.result (λ added. adds_then (Is (reply_text court reply)) (AreReasonsWith court c.args.names.now docketed c.args.work.now reply) (string_bytes c.args.text.now) _ (string_bytes c.push_reasons_told.new.text) (adds_text (reply_text court reply) _ _ c.in_ok-push_reply-in-None.ensures) added) (c.push_reasons_told.ensures docketed answered))
+    let with_notes = on_ok c.push_notes.result (λ appended. adds_then told (Is notes) _ _ (string_bytes c.push_notes.new.text) (c.in_ok-push_reasons_told.ensures docketed answered) (adds_text notes _ _ appended)) (c.push_notes.ensures docketed answered.holds) in
+    rw none (on_ok c.push_notes.result (λ added. adds_then (Is (reply_text court reply)) (Then told (Is notes)) (string_bytes c.args.text.now) _ (string_bytes c.push_notes.new.text) (adds_text (reply_text court reply) _ _ c.in_ok-push_reply-in-None.ensures) added) with_notes)

@@ -1,0 +1,49 @@
+"""The lines that come before the reasons of a deadline: its period in words, the section that sets it, and its event."""
+import re
+
+# Of the periods of the Rules: the number of days, what is to be done, the section, and the event.
+ANSWER, WAIVED = "12(a)(1)(A)(ii)", "from when the request for a waiver was sent"
+RULES = {
+    "4m": (90, "to serve the summons and complaint", "4(m)", "from the filing of the complaint"),
+    "12a1Ai": (21, "an answer to the complaint", "12(a)(1)(A)(i)", "from service of the summons and complaint"),
+    "12a1Aii-us": (60, "an answer, service waived", ANSWER, WAIVED),
+    "12a1Aii-abroad": (90, "an answer, service waived abroad", ANSWER, WAIVED),
+    "12a1B": (21, "an answer to a counterclaim or crossclaim", "12(a)(1)(B)", "from service of the pleading that states it"),
+    "12a1C": (21, "a reply to an answer", "12(a)(1)(C)", "from service of the order to reply"),
+    "12a2": (60, "an answer of the United States", "12(a)(2)", "from service on the United States attorney"),
+    "12a3": (60, "an answer of an officer sued individually", "12(a)(3)",
+             "from service on officer and US attorney, the later"),
+    "59b": (28, "a motion for a new trial", "59(b)", "from the entry of judgment"),
+    "59e": (28, "a motion to alter or amend a judgment", "59(e)", "from the entry of judgment"),
+}
+
+# Of the marks of entered periods: the section, and what is to be done.
+MARKS = {
+    "50b": ("50(b)", "a renewed motion for judgment as a matter of law"),
+    "50d": ("50(d)", "a motion for a new trial by the losing party"),
+    "52b": ("52(b)", "a motion to amend or add findings"),
+    "59b": ("59(b)", "a motion for a new trial"),
+    "59d": ("59(d)", "a new trial on the court's own initiative"),
+    "59e": ("59(e)", "a motion to alter or amend a judgment"),
+    "60b": ("60(b)", "a motion for relief from a judgment"),
+}
+
+
+def counted(number, unit):
+    return "{} {}{}".format(number, unit, "" if number == 1 else "s")
+
+
+def heading(text, event):
+    """The lines of a period, as (day or None, what, section). `event` is the day from which it runs."""
+    if text in RULES:
+        days, what, section, start = RULES[text]
+        return [(None, counted(days, "day") + ", " + what, section), (event, start, section)]
+    number, unit, side, act, start, mark = re.fullmatch(r"(\d+)([dh])/(\w+)/(\w+)/(\w+)/(\w+)", text).groups()
+    length = counted(int(number), {"d": "day", "h": "hour"}[unit])
+    origin = "service" if start == "served" else "the event"
+    do = ", to file" if act == "filing" else ", to serve"
+    lines = [(None, "{} {} {}{}".format(length, side, origin, do), "entered")]
+    if mark in MARKS:
+        section, what = MARKS[mark]
+        lines.append((None, what, section))
+    return lines

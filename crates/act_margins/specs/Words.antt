@@ -1,0 +1,6 @@
+-- The words of clauses and definitions, for the crates above, from one place.
+pub use Rattle.act_margins.specs.Ends.{end_day, end_time}
+pub use Rattle.act_margins.specs.Margin.{is_timely_by, MarginsDecide}
+unfoldable pub use Rattle.act_margins.specs.Margin.{margin_of}
+pub use Rattle.act_margins.specs.Lines.{recorded_lines}
+unfoldable pub use Rattle.act_margins.specs.Lines.{margin_lines, act_lines}

@@ -1,0 +1,8 @@
+//! What margins come to.
+
+ghost use Rattle.act_margins.specs.Margin.{MarginsDecide};
+
+/// An act was timely exactly where its margin says so.
+pub fn margins_decide()
+    ensures { MarginsDecide }
+{}

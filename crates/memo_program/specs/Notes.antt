@@ -1,0 +1,46 @@
+-- The lines that say of an act by how much it was in time or late, and of a refusal why it is one.
+use Rattle.std.specs.Prelude.{ℕ, ◌==◌, find, List, [], Option, Some, None}
+use Rattle.court_days.specs.Words.{CourtView}
+use Rattle.rule_periods.specs.Words.{DeadlineRowView}
+use Rattle.docket_rows.specs.declared.answer.Answer.{Answer}
+use Rattle.docket_rows.specs.declared.answer.Answer.TheVariants as answer
+use Rattle.docket_rows.specs.declared.command.Command.{Command as CommandOf}
+use Rattle.docket_rows.specs.declared.query.Query.TheVariants as query
+use Rattle.docket_rows.specs.declared.sheet.SheetMotion.{SheetMotion}
+use Rattle.docket_rows.specs.declared.view.View.{View}
+use Rattle.docket_rows.specs.declared.view.View.TheVariants as view
+use Rattle.docket_rows.specs.Words.{Rows, deadline_in, parts_of, setup_of, view_of}
+use Rattle.office_rows.specs.declared.row.Work.{Work}
+use Rattle.office_rows.specs.declared.row.Work.TheVariants.{Command, Query}
+use Rattle.office_run.specs.declared.reply.Reply.{Reply}
+use Rattle.office_run.specs.declared.reply.Reply.TheVariants.{Made, Viewed}
+use Rattle.act_margins.specs.Words.{recorded_lines}
+use Rattle.refusal_texts.specs.Words.{deadline_asked, motion_of_refusal, refusal_lines}
+
+-- the docketed deadline of a case and a number, if they are given and there is one
+abbrev pub deadline_at : (docketed : Rows) → Option (ℕ × ℕ) → Option DeadlineRowView
+deadline_at docketed (Some at) = deadline_in (parts_of docketed) at.0 at.1
+deadline_at docketed None = None
+
+-- the motion of that number on a sheet
+abbrev pub motion_viewed : (number : ℕ) → View → Option SheetMotion
+motion_viewed number (view.Sheet sheet) = find (λ (m : SheetMotion). m.number == number) sheet.motions
+motion_viewed number v = None
+
+-- the motion of a case and a number, as the sheet of the case shows it
+abbrev pub motion_at : CourtView → (docketed : Rows) → Option (ℕ × ℕ) → Option SheetMotion
+motion_at court docketed (Some at) = motion_viewed at.1 (view_of (setup_of court) docketed (query.Sheet at.0))
+motion_at court docketed None = None
+
+-- what is said of the answer to a command
+abbrev pub notes_of : CourtView → (docketed : Rows) → CommandOf → Answer → List ℕ
+notes_of court docketed command (answer.Filed timely) =
+    recorded_lines docketed.days court.clock (deadline_at docketed (deadline_asked command))
+notes_of court docketed command (answer.Refused refusal) =
+    refusal_lines docketed.days court.clock command (deadline_at docketed (deadline_asked command)) (motion_at court docketed (motion_of_refusal command refusal)) refusal
+notes_of court docketed command answer = []
+
+-- what is said of a reply
+abbrev pub notes_text : CourtView → (docketed : Rows) → Work → Reply → List ℕ
+notes_text court docketed (Command command) (Made answer) = notes_of court docketed command answer
+notes_text court docketed work reply = []

@@ -1,0 +1,134 @@
+//! What is said of an act, and why a command is refused.
+
+ghost use Rattle.std.specs.Prelude.{◌≡◌, ◌==◌, ◌++◌, IfOk, OnOk, find, option_copied, string_bytes};
+ghost use Rattle.docket_rows.specs.declared.sheet.SheetMotion.{SheetMotion as SheetMotionOf};
+ghost use Rattle.court_days.specs.Words.{CourtView};
+ghost use Rattle.docket_rows.specs.Words.{Rows, setup_of};
+ghost use Rattle.office_run.specs.Words.{Holds};
+ghost use Rattle.memo_program.specs.Notes.{deadline_at, motion_at, motion_viewed, notes_of, notes_text};
+
+use act_margins::push_recorded;
+use court_days::Court;
+use docket_core::Docket;
+use docket_rows::{Answer, Command, Query, SheetMotion, View};
+use office_rows::Work;
+use office_run::Reply;
+use refusal_texts::{deadline_asked, motion_of_refusal, push_refusal};
+use rule_periods::{DeadlineRow, DocketRow};
+use std::alloc::{AllocError, Global};
+
+/// Adds what is said of a reply: of an act by how much it was in time or late, and of a refusal why it is one, where the
+/// docket is as it was left. `Err` says that memory ran out.
+pub(crate) fn push_notes(
+    alloc: Global,
+    text: &mut String,
+    court: &Court,
+    docket: &Docket,
+    work: &Work,
+    reply: &Reply,
+) -> Result<(), AllocError>
+    ensures { (docketed : Rows) → Holds (setup_of court.now) docket.now docketed → OnOk result (string_bytes text.new ≡ string_bytes text.old ++ notes_text court.now docketed work.now reply.now) }
+{
+    match (work, reply) {
+        (Work::Command(command), Reply::Made(answer)) => push_notes_of(
+            alloc, text, court, docket, command, answer,
+        ),
+        _ => Ok(()),
+    }
+}
+
+/// Adds what is said of the answer to a command.
+fn push_notes_of(
+    alloc: Global,
+    text: &mut String,
+    court: &Court,
+    docket: &Docket,
+    command: &Command,
+    answer: &Answer,
+) -> Result<(), AllocError>
+    ensures { (docketed : Rows) → Holds (setup_of court.now) docket.now docketed → OnOk result (string_bytes text.new ≡ string_bytes text.old ++ notes_of court.now docketed command.now answer.now) }
+{
+    match answer {
+        Answer::Filed(_) => {
+            let row = deadline_at(docket, deadline_asked(command));
+            push_recorded(alloc, text, docket.days(), court.clock(), row)
+        }
+        Answer::Refused(refusal) => {
+            let row = deadline_at(docket, deadline_asked(command));
+            let motion = motion_at(alloc, docket, motion_of_refusal(command, refusal))?;
+            push_refusal(
+                alloc,
+                text,
+                docket.days(),
+                court.clock(),
+                command,
+                row,
+                motion,
+                refusal,
+            )
+        }
+        _ => Ok(()),
+    }
+}
+
+/// The docketed deadline of a case and a number, if they are given and there is one.
+fn deadline_at(docket: &Docket, at: Option<(u32, u32)>) -> Option<&DeadlineRow>
+    ensures { (court : CourtView) (docketed : Rows) → Holds (setup_of court) docket.now docketed → option_copied result ≡ deadline_at docketed at }
+{
+    match at {
+        Some((case, number)) => row_of(docket.deadline(case, number)),
+        None => None,
+    }
+}
+
+/// The deadline of a row of the docket.
+fn row_of(found: Option<&DocketRow>) -> Option<&DeadlineRow>
+    ensures { option_copied result ≡ option_copied found.entry }
+{
+    match found {
+        Some(row) => Some(row.row()),
+        None => None,
+    }
+}
+
+/// The motion of a case and a number, as the sheet of the case shows it. `Err` says that memory ran out.
+fn motion_at(
+    alloc: Global,
+    docket: &Docket,
+    at: Option<(u32, u32)>,
+) -> Result<Option<SheetMotion>, AllocError>
+    ensures { (court : CourtView) (docketed : Rows) → Holds (setup_of court) docket.now docketed → IfOk result (λ motion. motion ≡ motion_at court docketed at) }
+{
+    match at {
+        Some((case, number)) => {
+            let view = docket.show(alloc, &Query::Sheet(case))?;
+            Ok(motion_viewed(&view, number))
+        }
+        None => Ok(None),
+    }
+}
+
+/// The motion of that number on a sheet.
+fn motion_viewed(view: &View, number: u32) -> Option<SheetMotion>
+    ensures { result ≡ motion_viewed number view.now }
+{
+    match view {
+        View::Sheet(sheet) => motion_of(sheet.motions.as_slice(), number),
+        _ => None,
+    }
+}
+
+/// The first motion of that number in a list.
+fn motion_of(motions: &[SheetMotion], number: u32) -> Option<SheetMotion>
+    ensures { result ≡ find (λ (m : SheetMotionOf). m.number == number) motions.now }
+{
+    match motions {
+        [] => None,
+        [motion, rest @ ..] => {
+            if motion.number == number {
+                return Some(*motion);
+            }
+            motion_of(rest, number)
+        }
+    }
+}

@@ -1,0 +1,33 @@
+-- The lines of a refusal: why it is refused, with the day and the entry on which that rests.
+use Rattle.std.specs.Prelude.{ℕ, List, [], ◌++◌, Option, None, codes}
+use Rattle.court_clock.specs.Words.{ClockView}
+use Rattle.court_days.specs.Words.{DaysView}
+use Rattle.rule_periods.specs.Words.{DeadlineRowView}
+use Rattle.docket_rows.specs.declared.command.Command.{Command}
+use Rattle.docket_rows.specs.declared.refusal.Refusal.{Refusal}
+use Rattle.docket_rows.specs.declared.refusal.Refusal.TheVariants.{AlreadyMet, NotExtendable, NoGoodCause, LateWithoutMotion, LateWithoutNeglect, NotLonger, WrongGrant, NotACourtDay, OutsideHours, ShortNotice, JudgeBusy, RoomBusy, HearingThatDay, NoticeLost}
+use Rattle.docket_rows.specs.declared.sheet.SheetMotion.{SheetMotion}
+use Rattle.reason_texts.specs.Words.{note_line}
+use Rattle.act_margins.specs.Words.{recorded_lines}
+use Rattle.refusal_texts.specs.Asked.{request_asked, setting_asked}
+use Rattle.refusal_texts.specs.Deadlines.{late_lines, not_longer_lines}
+use Rattle.refusal_texts.specs.Hearings.{closed_lines, hours_text, lost_line, short_lines, taken_line}
+
+-- `row` is the deadline that the command is about, and `motion` the motion that the refusal names, or whose hearing the
+-- command asks for. A refusal of another kind has no lines.
+unfoldable pub refusal_lines : DaysView → ClockView → Command → Option DeadlineRowView → Option SheetMotion → Refusal → List ℕ
+refusal_lines c clock command row motion AlreadyMet = recorded_lines c clock row
+refusal_lines c clock command row motion NotExtendable = note_line None (codes "this time must not be extended") (codes "6(b)(2)")
+refusal_lines c clock command row motion NoGoodCause = note_line None (codes "an extension takes good cause, which wasn't found") (codes "6(b)(1)")
+refusal_lines c clock command row motion LateWithoutMotion = late_lines c clock (codes "a motion is needed") row (request_asked command)
+refusal_lines c clock command row motion LateWithoutNeglect = late_lines c clock (codes "neglect must be excused") row (request_asked command)
+refusal_lines c clock command row motion NotLonger = not_longer_lines c clock row (request_asked command)
+refusal_lines c clock command row motion WrongGrant = note_line None (codes "hours are extended by hours, days by days") (codes "ours")
+refusal_lines c clock command row motion NotACourtDay = closed_lines c (setting_asked command)
+refusal_lines c clock command row motion OutsideHours = note_line None (hours_text clock) (codes "ours")
+refusal_lines c clock command row motion (ShortNotice latest) = short_lines (setting_asked command) latest motion
+refusal_lines c clock command row motion (JudgeBusy case number) = taken_line case number (codes " has the judge, ") motion
+refusal_lines c clock command row motion (RoomBusy case number) = taken_line case number (codes " has the room, ") motion
+refusal_lines c clock command row motion (HearingThatDay case number) = taken_line case number (codes " is heard, ") motion
+refusal_lines c clock command row motion (NoticeLost case number) = taken_line case number (codes " is heard, ") motion ++ lost_line motion
+refusal_lines c clock command row motion refusal = []

@@ -1,0 +1,3 @@
+-- The words of clauses and definitions, for the crates above, from one place.
+pub use Rattle.refusal_texts.specs.Asked.{deadline_asked, motion_of_refusal}
+unfoldable pub use Rattle.refusal_texts.specs.Lines.{refusal_lines}
