@@ -64,7 +64,8 @@ def reason(day, what, section):
 
 def reasons(cause):
     """Why 28 days after 2025-08-04 end on 2025-09-02, where the holiday between them is passed over for this cause."""
-    return (reason(b"Mon 2025-08-04", b"day of the event, excluded", b"6(a)(1)(A)")
+    return (reason(b" " * 14, b"28 days after the event, to file", b"entered")
+            + reason(b"Mon 2025-08-04", b"day of the event, excluded", b"6(a)(1)(A)")
             + reason(b"Mon 2025-09-01", b"day 28, every day counted", b"6(a)(1)(B)")
             + reason(b"Mon 2025-09-01", cause + b", passed over", b"6(a)(1)(C), 6(a)(6)")
             + reason(b"Tue 2025-09-02", b"the time runs to this day", b"6(a)(1)(C)")

@@ -98,7 +98,12 @@ fn push_margin_lines(
     let margin = margin_of(clock, shown, filing);
     let mut what = String::new(alloc);
     push_margin(&mut what, clock, ends_at_closing(shown, means), &margin)?;
-    push_note(text, end_day(clock, shown), what.as_str(), margin_section(shown))
+    push_note(
+        text,
+        end_day(clock, shown),
+        what.as_str(),
+        margin_section(shown),
+    )
 }
 
 /// Adds when and how the act was done.
@@ -205,7 +210,8 @@ fn ends_at_closing(shown: &Shown, means: Means) -> bool
 {
     match *shown {
         Shown::Last {
-            act: Act::Filing, ..
+            act: Act::Filing,
+            ..
         } => means == Means::Paper,
         _ => false,
     }
@@ -236,7 +242,8 @@ fn margin_section(shown: &Shown) -> &'static str
 {
     match *shown {
         Shown::Last {
-            act: Act::Filing, ..
+            act: Act::Filing,
+            ..
         } => "6(a)(4)",
         Shown::Until(_) => "6(a)(2)",
         _ => "ours",

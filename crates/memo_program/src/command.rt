@@ -15,7 +15,8 @@ use std::alloc::{AllocError, Global};
 const ABOUT: &str =
     "Why a deadline is the day that it is. It answers as clerk_office does, and gives
 the reasons of each deadline that it shows: a line each, with the day, what
-happened, and the section of the Federal Rules of Civil Procedure.";
+happened, and the section of the Federal Rules of Civil Procedure. It says by
+how much an act was timely or late, and why a command was refused.";
 
 // What it reads and writes, and where that is described.
 const FORMATS: &str =
@@ -25,8 +26,10 @@ a command or a question. It writes to standard output: an answer to each row
 and under it the reasons of the deadline that it shows, then the docket sheets
 of the cases that are open, with the reasons under each deadline, and each
 judge's calendar. 'ours' stands in place of a section where the Rules leave a
-choice. A holiday is called by the name that it has in a table [holiday_names]
-of the court's file, as 2025-09-01 = \"Labor Day\".
+choice; where another reading gives another end, a line says which. A holiday
+of the federal list is named by law. Another name, and those of the state's
+holidays, are read from a table [holiday_names] of the court's file, as
+2025-11-04 = \"Election Day\".
 
     deadline_memo < day.txt
 

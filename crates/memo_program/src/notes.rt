@@ -5,12 +5,16 @@ ghost use Rattle.docket_rows.specs.declared.sheet.SheetMotion.{SheetMotion as Sh
 ghost use Rattle.court_days.specs.Words.{CourtView};
 ghost use Rattle.docket_rows.specs.Words.{Rows, setup_of};
 ghost use Rattle.office_run.specs.Words.{Holds};
+ghost use Rattle.act_margins.specs.Words.{recorded_lines};
+ghost use Rattle.refusal_texts.specs.Words.{deadline_asked};
 ghost use Rattle.memo_program.specs.Notes.{deadline_at, motion_at, motion_viewed, notes_of, notes_text};
 
 use act_margins::push_recorded;
+use court_clock::Day;
 use court_days::Court;
 use docket_core::Docket;
-use docket_rows::{Answer, Command, Query, SheetMotion, View};
+use docket_rows::{Answer, Command, Hearing, Query, Refusal, SheetHearing, SheetMotion, View};
+use hearing_slots::{Need, Panel};
 use office_rows::Work;
 use office_run::Reply;
 use refusal_texts::{deadline_asked, motion_of_refusal, push_refusal};
@@ -49,26 +53,53 @@ fn push_notes_of(
     ensures { (docketed : Rows) → Holds (setup_of court.now) docket.now docketed → OnOk result (string_bytes text.new ≡ string_bytes text.old ++ notes_of court.now docketed command.now answer.now) }
 {
     match answer {
-        Answer::Filed(_) => {
-            let row = deadline_at(docket, deadline_asked(command));
-            push_recorded(alloc, text, docket.days(), court.clock(), row)
-        }
-        Answer::Refused(refusal) => {
-            let row = deadline_at(docket, deadline_asked(command));
-            let motion = motion_at(alloc, docket, motion_of_refusal(command, refusal))?;
-            push_refusal(
-                alloc,
-                text,
-                docket.days(),
-                court.clock(),
-                command,
-                row,
-                motion,
-                refusal,
-            )
-        }
+        Answer::Filed(_) => push_filed(alloc, text, court, docket, command),
+        Answer::Refused(refusal) => push_refused(alloc, text, court, docket, command, refusal),
         _ => Ok(()),
     }
+}
+
+/// Adds the act that a command recorded, and by how much it was in time or late.
+fn push_filed(
+    alloc: Global,
+    text: &mut String,
+    court: &Court,
+    docket: &Docket,
+    command: &Command,
+) -> Result<(), AllocError>
+    ensures { (docketed : Rows) → Holds (setup_of court.now) docket.now docketed → OnOk result (string_bytes text.new ≡ string_bytes text.old ++ recorded_lines docketed.days court.now.clock (deadline_at docketed (deadline_asked command.now))) }
+{
+    let row = deadline_at(docket, deadline_asked(command));
+    push_recorded(alloc, text, docket.days(), court.clock(), row)
+}
+
+/// The types that a motion is made of, which a function that hands one on has to name.
+type MotionTypes = Option<(Day, Need, Hearing, SheetHearing, Panel)>;
+
+/// Adds why a command is refused.
+fn push_refused(
+    alloc: Global,
+    text: &mut String,
+    court: &Court,
+    docket: &Docket,
+    command: &Command,
+    refusal: &Refusal,
+) -> Result<(), AllocError>
+    ensures { (docketed : Rows) → Holds (setup_of court.now) docket.now docketed → OnOk result (string_bytes text.new ≡ string_bytes text.old ++ notes_of court.now docketed command.now (Answer.Refused refusal.now)) }
+{
+    let _types: MotionTypes = None;
+    let row = deadline_at(docket, deadline_asked(command));
+    let motion = motion_at(alloc, docket, motion_of_refusal(command, refusal))?;
+    push_refusal(
+        alloc,
+        text,
+        docket.days(),
+        court.clock(),
+        command,
+        row,
+        motion,
+        refusal,
+    )
 }
 
 /// The docketed deadline of a case and a number, if they are given and there is one.

@@ -39,7 +39,11 @@ pub(crate) fn adds_days(row: &DeadlineRow) -> bool
 }
 
 /// The same deadline with another act.
-pub(crate) fn with_act(alloc: Global, row: &DeadlineRow, act: Act) -> Result<DeadlineRow, AllocError>
+pub(crate) fn with_act(
+    alloc: Global,
+    row: &DeadlineRow,
+    act: Act,
+) -> Result<DeadlineRow, AllocError>
     ensures { IfOk result (λ other. other ≡ with_terms act (as_entered row.now row.now.period).served row.now) }
 {
     let entered = as_entered(row);
@@ -79,14 +83,7 @@ fn remade(
 {
     let event = Event::new(runs_from(row), row.event().minute());
     let grants = Vec::from_slice(alloc, row.grants())?;
-    Ok(DeadlineRow::new(
-        Period::Entered(entered),
-        event,
-        None,
-        kind,
-        grants,
-        None,
-    ))
+    Ok(DeadlineRow::new(Period::Entered(entered), event, None, kind, grants, None))
 }
 
 /// This number of days after a day, to file.

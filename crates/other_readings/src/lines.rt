@@ -27,7 +27,14 @@ pub fn push_readings(
     push_reading(alloc, text, days, clock, row, Reading::OutageMovesNothing)?;
     push_reading(alloc, text, days, clock, row, Reading::OutageMovesService)?;
     push_reading(alloc, text, days, clock, row, Reading::ExtendedFromMovedDay)?;
-    push_reading(alloc, text, days, clock, row, Reading::OutageBeforeAddedDays)?;
+    push_reading(
+        alloc,
+        text,
+        days,
+        clock,
+        row,
+        Reading::OutageBeforeAddedDays,
+    )?;
     push_reading(alloc, text, days, clock, row, Reading::HoursFromEndOfDay)
 }
 

@@ -143,13 +143,7 @@ fn hours_from_end(
 }
 
 /// What is shown where this number of days, if it is a length of a period, is counted from a day that is shown, to file.
-fn shown_again(
-    alloc: Global,
-    days: &Days,
-    clock: &Clock,
-    number: u32,
-    from: Shown,
-) -> Option<Shown>
+fn shown_again(alloc: Global, days: &Days, clock: &Clock, number: u32, from: Shown) -> Option<Shown>
     ensures { result ≡ shown_again days.now clock.now number from }
 {
     match from {

@@ -67,11 +67,7 @@ fn push_mark(text: &mut String, mark: Mark) -> Result<(), AllocError>
 
 /// Adds how long a period of the Rules is, and what is to be done within it.
 #[tactic(auto, unfolding(crate::specs::Heading::rule_text))]
-fn push_rule_text(
-    text: &mut String,
-    row: &DeadlineRow,
-    rule: RulePeriod,
-) -> Result<(), AllocError>
+fn push_rule_text(text: &mut String, row: &DeadlineRow, rule: RulePeriod) -> Result<(), AllocError>
     ensures { OnOk result (string_bytes text.new ≡ string_bytes text.old ++ rule_text row.now rule) }
 {
     push_length(text, Length::Days(rule.days(runs_from(row))))?;

@@ -9,11 +9,7 @@ use std::alloc::AllocError;
 use std::fmt::Write;
 
 /// Adds the time that the court's clock shows at an instant. `Err` says that memory ran out.
-pub fn push_time_at(
-    text: &mut String,
-    clock: &Clock,
-    instant: Instant,
-) -> Result<(), AllocError>
+pub fn push_time_at(text: &mut String, clock: &Clock, instant: Instant) -> Result<(), AllocError>
     ensures { OnOk result (string_bytes text.new ≡ string_bytes text.old ++ time_of_civil (civil_of clock.now.zone instant)) }
 {
     match clock.civil_of(instant) {

@@ -28,7 +28,14 @@ pub(crate) fn push_late(
     match (row, request) {
         (Some(row), Some(request)) => {
             let end = shown(days, clock, row);
-            push_end(alloc, text, clock, "the time ended", end_section(&end), &end)?;
+            push_end(
+                alloc,
+                text,
+                clock,
+                "the time ended",
+                end_section(&end),
+                &end,
+            )?;
             push_asked(alloc, text, &request, needed)
         }
         _ => Ok(()),
@@ -80,12 +87,7 @@ pub(crate) fn push_not_longer(
 }
 
 /// Adds the line of the end as it is.
-fn push_now(
-    alloc: Global,
-    text: &mut String,
-    clock: &Clock,
-    end: &Shown,
-) -> Result<(), AllocError>
+fn push_now(alloc: Global, text: &mut String, clock: &Clock, end: &Shown) -> Result<(), AllocError>
     ensures { OnOk result (string_bytes text.new ≡ string_bytes text.old ++ now_line clock.now end.now) }
 {
     push_end(

@@ -230,10 +230,7 @@ fn push_slot(text: &mut String, slot: u16) -> Result<(), AllocError>
 }
 
 /// Adds when the notice of the hearing of a motion was served.
-pub(crate) fn push_lost(
-    text: &mut String,
-    motion: Option<SheetMotion>,
-) -> Result<(), AllocError>
+pub(crate) fn push_lost(text: &mut String, motion: Option<SheetMotion>) -> Result<(), AllocError>
     ensures { OnOk result (string_bytes text.new ≡ string_bytes text.old ++ lost_line motion) }
 {
     match motion {

@@ -34,7 +34,12 @@ pub fn push_refusal(
 {
     match *refusal {
         Refusal::AlreadyMet => push_recorded(alloc, text, days, clock, row),
-        Refusal::NotExtendable => push_note(text, None, "this time must not be extended", "6(b)(2)"),
+        Refusal::NotExtendable => push_note(
+            text,
+            None,
+            "this time must not be extended",
+            "6(b)(2)",
+        ),
         Refusal::NoGoodCause => push_note(
             text,
             None,

@@ -24,5 +24,5 @@ returns-in_ok-push_reasons_told-in-None c docketed answered =
     let told = AreReasonsWith court c.args.names.now docketed work reply in
     let notes = notes_text court docketed work reply in
     let none : sheet_replied reply ≡ None = sym c.in-None.ensures in
-    let with_notes = on_ok c.push_notes.result (λ appended. adds_then told (Is notes) _ _ (string_bytes c.push_notes.new.text) (c.in_ok-push_reasons_told.ensures docketed answered) (adds_text notes _ _ appended)) (c.push_notes.ensures docketed answered.holds) in
+    let with_notes = on_ok c.push_notes.result (λ appended. adds_then told (Is notes) _ _ (string_bytes c.push_notes.new.text) (c.in_ok-push_reasons_told-in-None.ensures docketed answered) (adds_text notes _ _ appended)) (c.push_notes.ensures docketed answered.holds) in
     rw none (on_ok c.push_notes.result (λ added. adds_then (Is (reply_text court reply)) (Then told (Is notes)) (string_bytes c.args.text.now) _ (string_bytes c.push_notes.new.text) (adds_text (reply_text court reply) _ _ c.in_ok-push_reply-in-None.ensures) added) with_notes)

@@ -1,0 +1,15 @@
+use Rattle.std.proofs.Common.{◌≡◌, ◌∙◌, option_copied}
+use Rattle.docket_rows.specs.Words.{setup_of}
+use Rattle.refusal_texts.specs.Words.{deadline_asked}
+use Rattle.memo_program.specs.Notes.{deadline_at}
+use Rattle.memo_program.proofs.DocketLemmas.{days_held}
+use Rattle.memo_program.proofs.notes.push_filed.Goals as goal
+
+pub returns : goal.returns
+returns c docketed holds =
+    let court = c.args.court.now in
+    let days : c.days.result.now ≡ docketed.days = c.days.ensures ∙ days_held (setup_of court) c.args.docket.now docketed holds in
+    let clock : c.clock.result.now ≡ court.clock = c.clock.ensures in
+    let asked : c.deadline_asked.result ≡ deadline_asked c.args.command.now = c.deadline_asked.ensures in
+    let row : option_copied c.deadline_at-row.result ≡ deadline_at docketed (deadline_asked c.args.command.now) = rw asked at c.deadline_at-row.ensures court docketed holds in
+    rw row at (rw clock at (rw days at c.push_recorded.ensures))
