@@ -279,6 +279,9 @@ def hours_end(end, direction, grants):
 
 
 def meets_last_hour(calendar, end, outage):
+    # an hour lies on two days at the most
+    if abs(outage[0] - civil(calendar.clock.zone, end)[0]) > 1:
+        return False
     seconds = (civil(calendar.clock.zone, at) for at in range(end - 3600, end))
     return any(day == outage[0] and 60 * outage[1] <= second < 60 * outage[2] for day, second in seconds)
 

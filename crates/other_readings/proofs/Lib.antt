@@ -1,1 +1,2 @@
 pub mod GrantLemmas
+pub mod SameLemmas

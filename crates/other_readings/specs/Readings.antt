@@ -1,6 +1,6 @@
 -- Other readings of what the Rules leave open. What is shown by one is `shown_of` with one clause changed: of the deadline as
 -- it is docketed, and of the same deadline with another act, another event, or its days counted in two steps.
-use Rattle.std.specs.Prelude.{ℕ, ◌-◌, ◌==◌, ℤ, pos, ◌+ℤ◌, Bool, true, false, ◌&&◌, List, [], ◌∷◌, length, take, slice_get, option_map, Option, Some, None, if◌then◌else◌}
+use Rattle.std.specs.Prelude.{◌≡◌, ℕ, ◌-◌, ◌==◌, ℤ, pos, ◌+ℤ◌, Bool, true, false, ◌&&◌, List, [], ◌∷◌, length, take, slice_get, option_map, Option, Some, None, if◌then◌else◌}
 use Rattle.court_clock.specs.declared.direction.Direction.TheVariants.{After}
 use Rattle.court_clock.specs.Words.{ClockView, is_day_number}
 use Rattle.court_days.specs.Words.{DaysView}
@@ -16,7 +16,7 @@ use Rattle.rule_periods.specs.declared.period.Entered.{Entered}
 use Rattle.rule_periods.specs.declared.period.Length.TheVariants.{Days, Hours}
 use Rattle.rule_periods.specs.declared.period.Period.{Period}
 use Rattle.rule_periods.specs.declared.period.Period.TheVariants as period
-use Rattle.rule_periods.specs.Words.{DeadlineRowView, act_due, is_days, is_in_hours, kind_adds, runs_from, runs_from_service, service_rule_of, shown_of, terms_of}
+use Rattle.rule_periods.specs.Words.{DeadlineRowView, act_due, is_days, is_in_hours, kind_adds, runs_from, runs_from_service, service_rule_of, shown_of, suits, terms_of}
 use Rattle.other_readings.specs.declared.reading.Reading.{Reading}
 use Rattle.other_readings.specs.declared.reading.Reading.TheVariants.{OutageMovesNothing, OutageMovesService, ExtendedFromMovedDay, OutageBeforeAddedDays, HoursFromEndOfDay}
 
@@ -50,6 +50,11 @@ with_terms act served row = record {
 -- the same deadline with another act
 abbrev pub with_act : Act → DeadlineRowView → DeadlineRowView
 with_act act row = with_terms act (as_entered row row.period).served row
+
+-- With the act that it has, the deadline shows what it shows as it is docketed. So a reading by which the act is another
+-- changes nothing else.
+abbrev pub SameActShowsTheSame : Type 0
+SameActShowsTheSame = (c : DaysView) (clock : ClockView) (row : DeadlineRowView) → suits row.period row.second row.service ≡ true → shown_of c clock (with_act (act_due row) row) ≡ shown_of c clock row
 
 -- the same deadline, to file, without the days of 6(d)
 abbrev pub without_added : DeadlineRowView → DeadlineRowView

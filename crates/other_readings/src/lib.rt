@@ -2,8 +2,10 @@
 #![tactic(auto)]
 
 mod changed;
+mod laws;
 mod lines;
 mod reading;
 
+pub use laws::same_act_shows_the_same;
 pub use lines::push_readings;
 pub use reading::{Reading, shown_by};
