@@ -7,14 +7,15 @@ use court_file_check::Asked;
 use office_options::{OptionsFault, argument_texts, fault_from};
 use std::alloc::{AllocError, Global};
 
-const ABOUT: &str = "A court's file that can be trusted: its faults, and what may be wrong with it.";
+const ABOUT: &str =
+    "A court's file that can be trusted: its faults, and what may be wrong with it.";
 
-const CHECK: &str =
-    "Says every fault of a court's file, each with its line and column, and what to
+const CHECK: &str = "Says every fault of a court's file, each with its line and column, and what to
 write in its place. If there is none it says what may be wrong: federal holidays
 that the list lacks, dates that are none, a span that ends too early, and more.";
 
-const STATUSES: &str = "It ends with 0 where it found nothing, 2 where the file has faults, and 3 where
+const STATUSES: &str =
+    "It ends with 0 where it found nothing, 2 where the file has faults, and 3 where
 it has none but something may be wrong. docs/FORMATS.md has what it says.";
 
 /// What is asked for.
@@ -99,7 +100,9 @@ fn today_of(alloc: Global, text: Option<&str>) -> Result<Option<Day>, FileFault>
     match Day::from_text(text) {
         Some(day) => Ok(Some(day)),
         None => {
-            let said = format!(in alloc; "error: --today '{text}' is no date; a date is written as 2025-09-01\n")?;
+            let said = format!(in alloc;
+                "error: --today '{text}' is no date; a date is written as 2025-09-01\n"
+            )?;
             Err(FileFault::Words(OptionsFault::BadWords(said)))
         }
     }

@@ -23,10 +23,7 @@ impl fmt::Display for FileFault {
     fn fmt<W: fmt::Write>(&self, f: &mut fmt::Formatter<W>) -> fmt::Result {
         match self {
             FileFault::Words(_) => f.write_str("the words can't be taken"),
-            FileFault::Unread(name, error) => write!(
-                f,
-                "{name} can't be read: {error}"
-            ),
+            FileFault::Unread(name, error) => write!(f, "{name} can't be read: {error}"),
             FileFault::Write => f.write_str("write fault"),
             FileFault::OutOfMemory => f.write_str("out of memory"),
         }
