@@ -42,7 +42,7 @@ pair_begins : {A B C : Type 0} (k l : Key) (a : Result A CourtFault) (b : Result
     → BeginsWith (a >>= λ x. b >>= λ y. next x y) (faulty k None a ++ (faulty l None b ++ more))
 pair_begins k l a b next more goes_on =
     then_begins a (λ x. b >>= λ y. next x y) (faulty k None a) (faulty l None b ++ more) (one_begins k None a) (λ x is_x.
-      then_begins b (λ y. next x y) (faulty l None b) more (one_begins l None b) (λ y is_y. goes_on x y is_x is_y))
+    then_begins b (λ y. next x y) (faulty l None b) more (one_begins l None b) (λ y is_y. goes_on x y is_x is_y))
 
 hours_begin : (file : Members) → BeginsWith (hours_at file) (hours_faults file)
 unfolding hours_at hours_faults
@@ -50,7 +50,7 @@ hours_begin file =
     let opens = minute_at key.Opens file in
     let closes = minute_at key.Closes file in
     pair_begins key.Opens key.Closes opens closes (λ x y. must (nat_lt x y) BadHours >>= λ _. Ok (x, y)) (order_faults (result_ok opens) (result_ok closes))
-      (λ x y is_x is_y. rw (is_x, is_y) (done_begins (must (nat_lt x y) BadHours) (λ _. (x, y)) (order_faults (Some x) (Some y)) (one_begins key.Closes None (must (nat_lt x y) BadHours))))
+    (λ x y is_x is_y. rw (is_x, is_y) (done_begins (must (nat_lt x y) BadHours) (λ _. (x, y)) (order_faults (Some x) (Some y)) (one_begins key.Closes None (must (nat_lt x y) BadHours))))
 
 -- the items of a list of dates
 items_begin : (k : Key) (from to : ℤ) (i : ℕ) (dates : List ℤ) (items : Items) → BeginsWith (each_item (and_date k from to) dates items) (each_date k i items)
@@ -58,8 +58,8 @@ unfolding each_item each_date and_date
 items_begin k from to i dates no_items = refl
 items_begin k from to i dates (item value rest) =
     then_begins (and_date k from to dates value) (λ more. each_item (and_date k from to) more rest) (faulty k (Some i) (date_of_item k value)) (each_date k (suc i) rest)
-      (done_begins (date_of_item k value) (λ d. keep_date from to d dates) (faulty k (Some i) (date_of_item k value)) (one_begins k (Some i) (date_of_item k value)))
-      (λ more is. items_begin k from to (suc i) more rest)
+    (done_begins (date_of_item k value) (λ d. keep_date from to d dates) (faulty k (Some i) (date_of_item k value)) (one_begins k (Some i) (date_of_item k value)))
+    (λ more is. items_begin k from to (suc i) more rest)
 
 dates_begin : (k : Key) (from to : ℤ) (file : Members) → BeginsWith (dates_at k from to file) (dates_faults k file)
 unfolding dates_at dates_faults
@@ -93,19 +93,20 @@ days_begin file =
     let extent : List FaultView = extent_faults (result_ok from) (result_ok to) in
     let shape : (faulty key.From None from ++ (faulty key.To None to ++ extent)) ++ lists ≡ faulty key.From None from ++ (faulty key.To None to ++ (extent ++ lists)) = simp append_assoc in
     rw shape (pair_begins key.From key.To from to (λ x y. must (is_span x y) BadSpan >>= λ _. holidays x y) (extent ++ lists)
-      (λ x y is_x is_y. rw (is_x, is_y) (then_begins (must (is_span x y) BadSpan) (λ _. holidays x y) (extent_faults (Some x) (Some y)) lists (one_begins key.To None (must (is_span x y) BadSpan)) (λ u is. lists_begin x y)))) where
-  holidays : ℤ → ℤ → Result DaysView CourtFault
-  holidays x y = dates_at key.Federal x y file >>= λ federal. dates_at key.State x y file >>= λ state. Ok (record { from = x; to = y; federal = federal; state = state; outages = [] })
-  lists_begin : (x y : ℤ) → BeginsWith (holidays x y) (dates_faults key.Federal file ++ dates_faults key.State file)
-  lists_begin x y =
-    then_begins (dates_at key.Federal x y file) (λ federal. dates_at key.State x y file >>= λ state. Ok (record { from = x; to = y; federal = federal; state = state; outages = [] })) (dates_faults key.Federal file) (dates_faults key.State file) (dates_begin key.Federal x y file) (λ federal is.
-      done_begins (dates_at key.State x y file) (λ state. record { from = x; to = y; federal = federal; state = state; outages = [] }) (dates_faults key.State file) (dates_begin key.State x y file))
+    (λ x y is_x is_y. rw (is_x, is_y) (then_begins (must (is_span x y) BadSpan) (λ _. holidays x y) (extent_faults (Some x) (Some y)) lists (one_begins key.To None (must (is_span x y) BadSpan)) (λ u is. lists_begin x y)))) where
+      holidays : ℤ → ℤ → Result DaysView CourtFault
+      holidays x y = dates_at key.Federal x y file >>= λ federal. dates_at key.State x y file >>= λ state. Ok (record { from = x; to = y; federal = federal; state = state; outages = [] })
+
+      lists_begin : (x y : ℤ) → BeginsWith (holidays x y) (dates_faults key.Federal file ++ dates_faults key.State file)
+      lists_begin x y =
+          then_begins (dates_at key.Federal x y file) (λ federal. dates_at key.State x y file >>= λ state. Ok (record { from = x; to = y; federal = federal; state = state; outages = [] })) (dates_faults key.Federal file) (dates_faults key.State file) (dates_begin key.Federal x y file) (λ federal is.
+          done_begins (dates_at key.State x y file) (λ state. record { from = x; to = y; federal = federal; state = state; outages = [] }) (dates_faults key.State file) (dates_begin key.State x y file))
 
 pub faults_begin : FaultsBeginWithTheCourts
 unfolding court_of faults_in
 faults_begin file =
     then_begins (zone_at file) _ (zone_faults file) _ (zone_begins file) (λ zone is.
-      then_begins (hours_at file) _ (hours_faults file) _ (hours_begin file) (λ hours is.
-        then_begins (days_at file) _ (span_faults file ++ (dates_faults key.Federal file ++ dates_faults key.State file)) _ (days_begin file) (λ days is.
-          then_begins (names_at key.Judges file) _ (names_faults key.Judges file) _ (names_begin key.Judges file) (λ judges is.
-            done_begins (names_at key.Rooms file) (λ rooms. record { zone = zone; opens = hours.0; closes = hours.1; days = days; judges = judges; rooms = rooms }) (names_faults key.Rooms file) (names_begin key.Rooms file)))))
+    then_begins (hours_at file) _ (hours_faults file) _ (hours_begin file) (λ hours is.
+    then_begins (days_at file) _ (span_faults file ++ (dates_faults key.Federal file ++ dates_faults key.State file)) _ (days_begin file) (λ days is.
+    then_begins (names_at key.Judges file) _ (names_faults key.Judges file) _ (names_begin key.Judges file) (λ judges is.
+    done_begins (names_at key.Rooms file) (λ rooms. record { zone = zone; opens = hours.0; closes = hours.1; days = days; judges = judges; rooms = rooms }) (names_faults key.Rooms file) (names_begin key.Rooms file)))))

@@ -20,7 +20,7 @@ pub date_goes_on : (k : Key) (so_far more whole : List FaultView) (values : List
 unfolding each_date
 date_goes_on k so_far more whole values i value below is added same =
     let step : so_far ++ each_date k i (items_view (drop i values)) ≡ so_far ++ (faulty k (Some i) (date_of_item k (view value)) ++ each_date k (i + 1) (items_view (drop (i + 1) values))) =
-      rw (items_view-drop values i value below, ← is, add-one) refl in
+    rw (items_view-drop values i value below, ← is, add-one) refl in
     rw (added, append_assoc) (sym step ∙ same)
 
 pub dates_done : (k : Key) (so_far whole : List FaultView) (values : List Value) (i : ℕ)
@@ -35,7 +35,7 @@ pub name_goes_on : (k : Key) (so_far more whole : List FaultView) (names known :
 unfolding each_name
 name_goes_on k so_far more whole names known values i value below is added knows same =
     let step : so_far ++ each_name k i names (items_view (drop i values)) ≡ so_far ++ (faulty k (Some i) (and_name k names (view value)) ++ each_name k (i + 1) known (items_view (drop (i + 1) values))) =
-      rw (items_view-drop values i value below, ← is, add-one, knows) refl in
+    rw (items_view-drop values i value below, ← is, add-one, knows) refl in
     rw (added, append_assoc) (sym step ∙ same)
 
 pub names_done : (k : Key) (so_far whole : List FaultView) (names : List (List ℕ)) (values : List Value) (i : ℕ)
@@ -58,7 +58,7 @@ pub slip_goes_on : (c : DaysView) (so_far more whole : List (ℕ × Slip)) (befo
 unfolding slips_from
 slip_goes_on c so_far more whole before next values i value day told below is is_day is_told added is_next same =
     let step : so_far ++ slips_from c i before (items_view (drop i values)) ≡ so_far ++ (option_to_list (option_map (λ slip. (i, slip)) (slip_of c before day)) ++ slips_from c (i + 1) next (items_view (drop (i + 1) values))) =
-      rw (items_view-drop values i value below, ← is, add-one, is_next, is_day) refl in
+    rw (items_view-drop values i value below, ← is, add-one, is_next, is_day) refl in
     rw (added, is_told, append_assoc) (sym step ∙ same)
 
 pub slips_done : (c : DaysView) (so_far whole : List (ℕ × Slip)) (before : Option ℤ) (values : List Value) (i : ℕ)

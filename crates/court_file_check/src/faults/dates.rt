@@ -5,7 +5,6 @@ ghost use Rattle.toml.specs.View.{table_view, view, items_view};
 ghost use Rattle.court_file_text.specs.Words.{date_of_item};
 ghost use Rattle.court_file_check.specs.Faults.{dates_faults, each_date, faulty};
 
-
 use crate::faults::Faults;
 use court_file_text::{Key, date_of_item, list_at};
 use std::alloc::{AllocError, Global};

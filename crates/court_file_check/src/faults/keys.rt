@@ -88,11 +88,7 @@ fn check_order(
 
 /// Adds the faults of the span.
 #[tactic(auto, unfolding(crate::specs::Faults::span_faults))]
-pub(crate) fn check_span(
-    alloc: Global,
-    file: &Table,
-    faults: &mut Faults,
-) -> Result<(), AllocError>
+pub(crate) fn check_span(alloc: Global, file: &Table, faults: &mut Faults) -> Result<(), AllocError>
     ensures { OnOk result (faults.new ≡ faults.old ++ span_faults (table_view file.now)) }
 {
     let from = day_of(alloc, file, Key::From, faults)?;

@@ -22,11 +22,7 @@ pub(crate) enum DayTest {
 
 /// The days of the span that pass the test, in their order. An `Err` says that memory ran out.
 #[tactic(auto, unfolding(crate::specs::Warnings::days_that))]
-pub(crate) fn days_that(
-    alloc: Global,
-    days: &Days,
-    test: DayTest,
-) -> Result<Vec<Day>, AllocError>
+pub(crate) fn days_that(alloc: Global, days: &Days, test: DayTest) -> Result<Vec<Day>, AllocError>
     ensures { IfOk result (λ found. found.items ≡ days_that days.now test) }
 {
     let count = count_of(days);
@@ -54,9 +50,7 @@ fn passes(days: &Days, test: DayTest, day: Day) -> bool
     ensures { result ≡ passes days.now test day }
 {
     match test {
-        DayTest::FederalAtWeekend => {
-            is_weekend(day) && days.in_list(HolidayList::Federal, day)
-        }
+        DayTest::FederalAtWeekend => { is_weekend(day) && days.in_list(HolidayList::Federal, day) }
         DayTest::StateAtWeekend => is_weekend(day) && days.in_list(HolidayList::State, day),
         DayTest::InBoth => {
             days.in_list(HolidayList::Federal, day) && days.in_list(HolidayList::State, day)

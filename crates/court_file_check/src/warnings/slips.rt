@@ -46,11 +46,7 @@ pub(crate) fn slips_at(
 }
 
 /// Those of the items of a list.
-fn slips_of(
-    alloc: Global,
-    values: &[Value],
-    days: &Days,
-) -> Result<Vec<(usize, Slip)>, AllocError>
+fn slips_of(alloc: Global, values: &[Value], days: &Days) -> Result<Vec<(usize, Slip)>, AllocError>
     ensures { IfOk result (λ slips. slips.items ≡ slips_from days.now 0 None (items_view values.now)) }
 {
     let mut slips = Vec::new(alloc);
