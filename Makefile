@@ -34,7 +34,7 @@ memo:
 desk:
 	@python3 tools/prove.py docket_desk
 
-# The program that checks a court's file, proved and built at crates/court_file/out/court_file.
+# The program that checks and writes courts' files, proved and built at crates/court_file/out/court_file.
 court_file:
 	@python3 tools/prove.py court_file
 
@@ -64,7 +64,7 @@ help:
 	@echo "make try         runs $(EXAMPLE) from the sources in a minute or two, and proves nothing"
 	@echo "make memo        the same for the one that gives reasons, $(MEMO)"
 	@echo "make desk        the same for the one that keeps rows in a folder, crates/docket_desk/out/docket_desk"
-	@echo "make court_file  the same for the one that checks a court's file, crates/court_file/out/court_file"
+	@echo "make court_file  the same for the one for courts' files, crates/court_file/out/court_file"
 	@echo "make run         proves and builds the program, and runs it on $(EXAMPLE)"
 	@echo "make test        the gate (rt ci): proves and tests all that no earlier run on this machine has passed"
 	@echo "make times       the gate from nothing, with a table of the seconds of each crate; it needs Linux"

@@ -1,5 +1,6 @@
 //! What can go wrong beside the court's file, its line and its status.
 
+use court_writing::WriteFault;
 use office_options::OptionsFault;
 use office_streams::{Watched, helped, refused};
 use std::alloc::{AllocError, AllocFailed};
@@ -13,6 +14,8 @@ pub enum FileFault {
     Words(OptionsFault),
     /// The file with this name can't be read.
     Unread(String, io::Error),
+    /// No court's file is written.
+    NotWritten(WriteFault),
     /// The output can't be written.
     Write,
     /// Memory ran out.
@@ -24,6 +27,7 @@ impl fmt::Display for FileFault {
         match self {
             FileFault::Words(_) => f.write_str("the words can't be taken"),
             FileFault::Unread(name, error) => write!(f, "{name} can't be read: {error}"),
+            FileFault::NotWritten(fault) => write!(f, "error: {fault}"),
             FileFault::Write => f.write_str("write fault"),
             FileFault::OutOfMemory => f.write_str("out of memory"),
         }
@@ -45,7 +49,9 @@ impl<T: Drop> From<AllocFailed<T>> for FileFault {
 /// The status of a fault: 4 for reading and writing, 5 for want of memory.
 fn status_of(fault: &FileFault) -> u8 {
     match fault {
-        FileFault::Words(_) => 1,
+        FileFault::Words(_) | FileFault::NotWritten(WriteFault::BadYears) => 1,
+        FileFault::NotWritten(WriteFault::OutOfMemory) => 5,
+        FileFault::NotWritten(WriteFault::NotReadBack) => 4,
         FileFault::Unread(_, error) if error.kind() == io::ErrorKind::OutOfMemory => 5,
         FileFault::Unread(_, _) | FileFault::Write => 4,
         FileFault::OutOfMemory => 5,

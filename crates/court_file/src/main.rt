@@ -1,7 +1,8 @@
-//! A court's file, checked: every fault, and what may be wrong.
+//! A court's file: checked, with every fault and what may be wrong, or written for the years that are asked.
 #![tactic(auto)]
 
 mod asked;
+mod courts;
 mod fault;
 mod tasks;
 
@@ -13,7 +14,7 @@ use std::io;
 use std::process::ExitCode;
 use tasks::done;
 
-/// Does what the words ask for. The status is 0 where nothing was found, 2 where the file has faults and 3 where it has
+/// Does what the words ask for. The status is 0 where nothing was found or the file was written, 2 where the file has faults and 3 where it has
 /// warnings alone; 1 where the words can't be taken, and else that of what went wrong, of which one line goes to standard
 /// error.
 fn main(rt: HostRuntime) -> ExitCode {

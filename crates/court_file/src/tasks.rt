@@ -4,6 +4,7 @@ use crate::asked::Task;
 use crate::fault::FileFault;
 use court_file_check::{Asked, check_file};
 use court_file_report::{Report, report_of};
+use court_writing::{CourtName, court_text};
 use office_streams::{Watched, write_all};
 use std::fs;
 use std::io::Write;
@@ -28,6 +29,23 @@ fn check<W: Write>(
     let report = report_of(rt.alloc(), name, bytes.as_slice(), asked, &checked)?;
     put(writer, report.text.as_bytes())?;
     Ok(status_of(&report))
+}
+
+/// Writes the file of a court for the years from the first to the last.
+fn write<W: Write>(
+    rt: &HostRuntime,
+    writer: &mut Watched<W>,
+    court: CourtName,
+    from: u16,
+    to: u16,
+) -> Result<u8, FileFault> {
+    match court_text(rt.alloc(), court, from, to) {
+        Ok(text) => {
+            put(writer, text.as_bytes())?;
+            Ok(0)
+        }
+        Err(fault) => Err(FileFault::NotWritten(fault)),
+    }
 }
 
 /// The status of a check: 2 where there are faults, 3 where there are warnings alone.
@@ -60,5 +78,6 @@ pub fn done<W: Write>(
 ) -> Result<u8, FileFault> {
     match task {
         Task::Check(name, asked) => check(rt, writer, name.as_str(), asked),
+        Task::Write(court, from, to) => write(rt, writer, *court, *from, *to),
     }
 }
