@@ -1,5 +1,5 @@
 -- The period of a deadline, in words.
-use Rattle.std.specs.Prelude.{ℕ, ◌==◌, List, [], ◌++◌, codes, if◌then◌else◌}
+use Rattle.std.specs.Prelude.{ℕ, ◌==◌, Bool, true, false, List, [], ◌++◌, codes, if◌then◌else◌}
 use Rattle.std.specs.Fmt.{decimal}
 use Rattle.court_clock.specs.declared.direction.Direction.{Direction}
 use Rattle.court_clock.specs.declared.direction.Direction.TheVariants.{After, Before}
@@ -21,9 +21,12 @@ abbrev pub length_words : Length → List ℕ
 length_words (Days n) = decimal n ++ unit_words n (codes " day") (codes " days")
 length_words (Hours n) = decimal n ++ unit_words n (codes " hour") (codes " hours")
 
-abbrev pub side_word : Direction → List ℕ
-side_word After = codes " after the event"
-side_word Before = codes " before the event"
+-- on which side of what it runs from it lies: its event, or service under Rule 5(b)(2)
+abbrev pub start_words : Direction → (served : Bool) → List ℕ
+start_words After false = codes " after the event"
+start_words After true = codes " after service"
+start_words Before false = codes " before the event"
+start_words Before true = codes " before service"
 
 abbrev pub act_words : Act → List ℕ
 act_words Filing = codes ", to file"
@@ -36,7 +39,7 @@ mark_words mark = codes " (" ++ mark_code mark ++ codes ")"
 
 -- `28 days after the event, to file (60b)`
 abbrev pub entered_words : Entered → List ℕ
-entered_words e = length_words e.length ++ side_word e.direction ++ act_words e.act ++ mark_words e.mark
+entered_words e = length_words e.length ++ start_words e.direction e.served ++ act_words e.act ++ mark_words e.mark
 
 -- the code of a period that the Rules set, or what a court entered
 unfoldable pub period_words : Period → List ℕ

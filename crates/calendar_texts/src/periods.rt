@@ -2,7 +2,7 @@
 
 ghost use Rattle.std.specs.Prelude.{◌≡◌, OnOk};
 ghost use Rattle.office_texts.specs.Words.{AddsText};
-ghost use Rattle.calendar_texts.specs.Periods.{act_words, entered_words, length_words, mark_words, period_words, side_word, unit_words};
+ghost use Rattle.calendar_texts.specs.Periods.{act_words, entered_words, length_words, mark_words, period_words, start_words, unit_words};
 
 use court_clock::Direction;
 use office_texts::push_number;
@@ -26,7 +26,7 @@ fn push_entered(text: &mut String, entered: &Entered) -> Result<(), AllocError>
     ensures { OnOk result (AddsText text.old text.new (entered_words entered.now)) }
 {
     push_length(text, entered.length)?;
-    text.push_str(side_word(entered.direction))?;
+    text.push_str(start_words(entered.direction, entered.served))?;
     text.push_str(act_words(entered.act))?;
     push_mark(text, entered.mark)
 }
@@ -53,12 +53,15 @@ fn unit_words<'a>(count: u32, one: &'a str, more: &'a str) -> &'a str
     if count == 1 { one } else { more }
 }
 
-fn side_word(direction: Direction) -> &'static str
-    ensures { result.now ≡ side_word direction }
+/// On which side of what it runs from a period lies.
+fn start_words(direction: Direction, served: bool) -> &'static str
+    ensures { result.now ≡ start_words direction served }
 {
-    match direction {
-        Direction::After => " after the event",
-        Direction::Before => " before the event",
+    match (direction, served) {
+        (Direction::After, false) => " after the event",
+        (Direction::After, true) => " after service",
+        (Direction::Before, false) => " before the event",
+        (Direction::Before, true) => " before service",
     }
 }
 
