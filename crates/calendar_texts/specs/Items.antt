@@ -4,10 +4,10 @@ use Rattle.std.specs.Fmt.{decimal}
 use Rattle.court_days.specs.Words.{CourtView}
 use Rattle.rule6.specs.declared.timeliness.Shown.{Shown}
 use Rattle.rule6.specs.declared.timeliness.Shown.TheVariants as shown
-use Rattle.rule_periods.specs.declared.period.Period.{Period}
 use Rattle.docket_rows.specs.declared.hearing.Hearing.{Hearing as HearingSet}
 use Rattle.docket_rows.specs.declared.sheet.State.{State}
 use Rattle.docket_rows.specs.declared.sheet.State.TheVariants.{Late}
+use Rattle.docket_selection.specs.declared.item.DueDeadline.{DueDeadline}
 use Rattle.docket_selection.specs.declared.item.DueItem.{DueItem}
 use Rattle.docket_selection.specs.declared.item.Matter.{Matter}
 use Rattle.docket_selection.specs.declared.item.Matter.TheVariants.{Deadline, Hearing}
@@ -27,7 +27,7 @@ unfoldable pub span_words : (first count : ℕ) → List ℕ
 span_words first count = minute_time (15 * first) ++ codes "-" ++ minute_time (15 * (first + count))
 
 abbrev pub time_words : (second : ℕ) → Matter → List ℕ
-time_words second (Deadline period end state) = end_words second end
+time_words second (Deadline d) = end_words second d.shown
 time_words second (Hearing h) = span_words h.hearing.first h.hearing.count
 
 abbrev pub late_words : State → List ℕ
@@ -35,8 +35,8 @@ late_words Late = codes ", filed late"
 late_words state = []
 
 -- ` deadline 3: 59e, filed late`
-unfoldable pub deadline_words : (number : ℕ) → Period → State → List ℕ
-deadline_words number period state = codes " deadline " ++ decimal number ++ codes ": " ++ period_words period ++ late_words state
+unfoldable pub deadline_words : (number : ℕ) → DueDeadline → List ℕ
+deadline_words number d = codes " deadline " ++ decimal number ++ codes ": " ++ period_words d.period ++ late_words d.state
 
 -- ` motion 1: hearing before Ames+Brandt, room R1`
 unfoldable pub hearing_words : CourtView → (number : ℕ) → HearingSet → List ℕ
@@ -44,7 +44,7 @@ hearing_words court number h =
     codes " motion " ++ decimal number ++ codes ": hearing before " ++ panel_names court h.judges ++ codes ", room " ++ name_of court.rooms h.room
 
 abbrev pub matter_words : CourtView → (number : ℕ) → Matter → List ℕ
-matter_words court number (Deadline period end state) = deadline_words number period state
+matter_words court number (Deadline d) = deadline_words number d
 matter_words court number (Hearing h) = hearing_words court number h.hearing
 
 -- `  to midnight  case 1 deadline 3: 59e`

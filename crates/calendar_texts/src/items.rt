@@ -9,9 +9,8 @@ use crate::numbers::{push_minute, push_second};
 use crate::periods::push_period;
 use court_days::Court;
 use docket_rows::{Hearing, State};
-use docket_selection::{DueItem, Matter};
+use docket_selection::{DueDeadline, DueItem, Matter};
 use office_texts::push_number;
-use rule_periods::Period;
 use rule6::Shown;
 use std::alloc::AllocError;
 
@@ -33,7 +32,7 @@ fn push_time(text: &mut String, second: u32, matter: &Matter) -> Result<(), Allo
     ensures { OnOk result (AddsText text.old text.new (time_words second matter.now)) }
 {
     match matter {
-        Matter::Deadline { shown, .. } => push_end(text, second, shown),
+        Matter::Deadline(due) => push_end(text, second, &due.shown),
         Matter::Hearing(set) => push_span(text, set.hearing.first, set.hearing.count),
     }
 }
@@ -71,26 +70,21 @@ fn push_matter(
     ensures { OnOk result (AddsText text.old text.new (matter_words court.now number matter.now)) }
 {
     match matter {
-        Matter::Deadline { period, state, .. } => push_deadline(text, number, period, *state),
+        Matter::Deadline(due) => push_deadline(text, number, due),
         Matter::Hearing(set) => push_hearing(text, court, number, &set.hearing),
     }
 }
 
 /// Adds a deadline: its number, its period, and whether it was filed late.
 #[tactic(auto, unfolding(crate::specs::Items::deadline_words))]
-fn push_deadline(
-    text: &mut String,
-    number: u32,
-    period: &Period,
-    state: State,
-) -> Result<(), AllocError>
-    ensures { OnOk result (AddsText text.old text.new (deadline_words number period.now state)) }
+fn push_deadline(text: &mut String, number: u32, due: &DueDeadline) -> Result<(), AllocError>
+    ensures { OnOk result (AddsText text.old text.new (deadline_words number due.now)) }
 {
     text.push_str(" deadline ")?;
     push_number(text, u64::from(number))?;
     text.push_str(": ")?;
-    push_period(text, period)?;
-    text.push_str(late_words(state))
+    push_period(text, &due.period)?;
+    text.push_str(late_words(due.state))
 }
 
 /// Whether an act was late.

@@ -1,6 +1,6 @@
 -- The bookings of a judge, day by day.
-use Rattle.std.specs.Prelude.{ℕ, ℤ, pos, ◌+ℤ◌, ◌-ℤ◌, List, [], filter, map}
-use Rattle.std.specs.List.{range_with_len}
+use Rattle.std.specs.Prelude.{ℕ, ℤ, pos, ◌+ℤ◌, ◌-ℤ◌, List, [], Option, Some, None, option_to_list, if◌then◌else◌}
+use Rattle.std.specs.List.{flat_map, range_with_len}
 use Rattle.court_clock.specs.Words.{is_day_number, weekday_of}
 use Rattle.hearing_slots.specs.declared.booking.Booking.{Booking}
 use Rattle.docket_rows.specs.declared.query.Query.TheVariants as query
@@ -22,6 +22,18 @@ day_bookings setup docketed judge day = record { day = day; bookings = bookings_
 abbrev pub monday_of : (day : ℤ) → ℤ
 monday_of day = day -ℤ pos (weekday_of day)
 
--- the seven days of its week, from Monday on, as far as they are days that can be written
-unfoldable pub week_days : (day : ℤ) → List ℤ
-week_days day = filter is_day_number (map (λ n. monday_of day +ℤ pos n) (range_with_len 0 7))
+-- the day of that number, if it is one
+abbrev pub day_numbered : (number : ℤ) → Option ℤ
+day_numbered number = if is_day_number number then Some number else None
+
+-- the day of its week by its place after Monday, if it is a day
+abbrev pub day_of_week : (day : ℤ) → (place : ℕ) → Option ℤ
+day_of_week day place = day_numbered (monday_of day +ℤ pos place)
+
+-- a number of days of its week, from a place after Monday on
+unfoldable pub days_of_week : (day : ℤ) → (first count : ℕ) → List ℤ
+days_of_week day first count = flat_map (λ place. option_to_list (day_of_week day place)) (range_with_len first count)
+
+-- the seven days of its week, from Monday on
+abbrev pub week_days : (day : ℤ) → List ℤ
+week_days day = days_of_week day 0 7

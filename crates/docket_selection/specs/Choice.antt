@@ -23,6 +23,10 @@ is_panel_chosen choice panel = option_map_or (λ judge. sits judge panel) choice
 abbrev pub sits_in : (judge : ℕ) → Option SheetHearing → Bool
 sits_in judge hearing = has_one (λ (h : SheetHearing). sits judge h.hearing.judges) hearing
 
+-- some hearing of these motions is before the judge
+abbrev pub sits_in_any : (judge : ℕ) → List SheetMotion → Bool
+sits_in_any judge motions = list_any (λ (m : SheetMotion). sits_in judge m.hearing) motions
+
 -- the cases that have a hearing before that judge, or any case
 abbrev pub is_before : Choice → List SheetMotion → Bool
-is_before choice motions = option_map_or (λ judge. list_any (λ (m : SheetMotion). sits_in judge m.hearing) motions) choice.judge true
+is_before choice motions = option_map_or (λ judge. sits_in_any judge motions) choice.judge true

@@ -19,7 +19,7 @@ use Rattle.docket_selection.specs.Sheets.{open_sheets}
 
 -- a hearing is chosen by its panel, and a deadline by whether its case has a hearing before the chosen judge
 abbrev pub is_matter_chosen : Choice → (before : Bool) → Matter → Bool
-is_matter_chosen choice before (Deadline period end state) = before
+is_matter_chosen choice before (Deadline d) = before
 is_matter_chosen choice before (Hearing h) = is_panel_chosen choice h.hearing.judges
 
 -- the item is chosen, and no timely act is recorded

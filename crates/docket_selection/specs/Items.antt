@@ -6,6 +6,7 @@ use Rattle.rule6.specs.declared.timeliness.Shown.TheVariants as shown
 use Rattle.docket_rows.specs.declared.sheet.SheetDeadline.{SheetDeadline}
 use Rattle.docket_rows.specs.declared.sheet.SheetHearing.{SheetHearing}
 use Rattle.docket_rows.specs.declared.sheet.SheetMotion.{SheetMotion}
+use Rattle.docket_rows.specs.declared.sheet.State.{State}
 use Rattle.docket_rows.specs.declared.sheet.State.TheVariants.{Pending, Timely, Late, Undecided}
 use Rattle.docket_selection.specs.declared.item.DueItem.{DueItem}
 use Rattle.docket_selection.specs.declared.item.Matter.{Matter}
@@ -25,25 +26,32 @@ deadline_item clock case d = option_map (λ (at : CivilTime). record {
   second = at.second;
   case = case;
   number = d.number;
-  matter = Deadline d.row.period d.shown d.state;
+  matter = Deadline (record { period = d.row.period; shown = d.shown; state = d.state });
 }) (end_of clock d.shown)
 
--- the item of the hearing of a motion of a sheet; slot s begins at second 900·s of the day
-abbrev pub hearing_item : (case : ℕ) → SheetMotion → Option DueItem
-hearing_item case m = option_map (λ (h : SheetHearing). record {
+-- the item of the hearing of a motion of that number; slot s begins at second 900·s of the day
+abbrev pub set_item : (case number : ℕ) → SheetHearing → DueItem
+set_item case number h = record {
   day = h.hearing.day;
   second = 900 * h.hearing.first;
   case = case;
-  number = m.number;
+  number = number;
   matter = Hearing h;
-}) m.hearing
+}
+
+-- the item of the hearing of a motion of a sheet, if one is set
+abbrev pub hearing_item : (case : ℕ) → SheetMotion → Option DueItem
+hearing_item case m = option_map (set_item case m.number) m.hearing
 
 -- an act is recorded that was in time; what was filed late is still due
+abbrev pub is_timely : State → Bool
+is_timely Timely = true
+is_timely Pending = false
+is_timely Late = false
+is_timely Undecided = false
+
 abbrev pub is_met : Matter → Bool
-is_met (Deadline period end Timely) = true
-is_met (Deadline period end Pending) = false
-is_met (Deadline period end Late) = false
-is_met (Deadline period end Undecided) = false
+is_met (Deadline d) = is_timely d.state
 is_met (Hearing h) = false
 
 -- the time of an item, in seconds on the court's clock

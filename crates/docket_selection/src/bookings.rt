@@ -1,10 +1,11 @@
 //! The bookings of a judge, day by day.
 
-ghost use Rattle.std.specs.Prelude.{◌≡◌, ◌++◌, map, option_to_list, IfOk, OnOk};
+ghost use Rattle.std.specs.Prelude.{◌≡◌, ◌++◌, ◌+ℤ◌, pos, map, IfOk, OnOk};
 ghost use Rattle.docket_rows.specs.Words.{Rows};
 ghost use Rattle.docket_core.specs.Words.{StandsFor};
-ghost use Rattle.docket_selection.specs.Bookings.{bookings_seen, day_bookings, week_days};
+ghost use Rattle.docket_selection.specs.Bookings.{bookings_seen, day_bookings, day_numbered, day_of_week, days_of_week, monday_of, week_days};
 
+use crate::lists::push_if;
 use court_clock::Day;
 use docket_core::Docket;
 use docket_rows::{Query, View};
@@ -55,24 +56,39 @@ fn bookings_seen(alloc: Global, view: View) -> Bookings
 pub fn week_days(alloc: Global, day: Day) -> Result<Vec<Day>, AllocError>
     ensures { IfOk result (λ days. days.items ≡ week_days day) }
 {
-    let monday = day.number() - i32::from(day.weekday());
     let mut days = Vec::new(alloc);
-    for place in 0..7u8 {
-        push_if(&mut days, Day::new(monday + i32::from(place)))?;
-    }
+    push_days(&mut days, day, 7)?;
     Ok(days)
 }
 
-/// Adds the day, if there is one.
-#[tactic(auto, using(crate::proofs::DueLemmas::nothing_more))]
-fn push_if(days: &mut Vec<Day>, day: Option<Day>) -> Result<(), AllocError>
-    ensures { OnOk result (days.new.items ≡ days.old.items ++ option_to_list day) }
+/// Adds a number of days of the week that the day is in, from Monday on.
+fn push_days(days: &mut Vec<Day>, day: Day, count: u8) -> Result<(), AllocError>
+    ensures { OnOk result (days.new.items ≡ days.old.items ++ days_of_week day 0 count) }
 {
-    match day {
-        Some(day) => {
-            days.push(day)?;
-            Ok(())
-        }
-        None => Ok(()),
+    for place in 0..count {
+        push_if(days, day_of_week(day, place))?;
     }
+    Ok(())
+}
+
+/// The day of the week that the day is in, by its place after Monday, if it is a day.
+fn day_of_week(day: Day, place: u8) -> Option<Day>
+    ensures { result ≡ day_of_week day place }
+{
+    day_numbered(number_in_week(day, place))
+}
+
+/// The number of the day by its place after the Monday of the week that the day is in.
+fn number_in_week(day: Day, place: u8) -> i32
+    ensures { result ≡ monday_of day +ℤ pos place }
+{
+    day.number() - i32::from(day.weekday()) + i32::from(place)
+}
+
+/// The day of that number, if it is one.
+fn day_numbered(number: i32) -> Option<Day>
+    ensures { result ≡ day_numbered number }
+{
+    let day = Day::new(number)?;
+    Some(day)
 }

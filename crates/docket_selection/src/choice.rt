@@ -2,7 +2,7 @@
 
 ghost use Rattle.std.specs.Prelude.{◌≡◌};
 ghost use Rattle.docket_rows.specs.Words.{sits};
-ghost use Rattle.docket_selection.specs.Choice.{is_before, is_case_chosen, is_day_chosen, is_panel_chosen, sits_in};
+ghost use Rattle.docket_selection.specs.Choice.{is_before, is_case_chosen, is_day_chosen, is_panel_chosen, sits_in, sits_in_any};
 
 use court_clock::Day;
 use docket_rows::{SheetHearing, SheetMotion};
@@ -54,9 +54,16 @@ pub(crate) fn is_before(choice: &Choice, motions: &[SheetMotion]) -> bool
     ensures { result ≡ is_before choice.now motions.now }
 {
     match choice.judge {
-        Some(judge) => motions.iter().any(|motion| sits_in(judge, &motion.hearing)),
+        Some(judge) => sits_in_any(judge, motions),
         None => true,
     }
+}
+
+/// Whether the judge is in the panel of a hearing of these motions.
+fn sits_in_any(judge: u8, motions: &[SheetMotion]) -> bool
+    ensures { result ≡ sits_in_any judge motions.now }
+{
+    motions.iter().any(|motion| sits_in(judge, &motion.hearing))
 }
 
 /// Whether there is a hearing, and the judge is in its panel.

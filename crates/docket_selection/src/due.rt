@@ -1,6 +1,6 @@
 //! What is due within the chosen days.
 
-ghost use Rattle.std.specs.Prelude.{◌≡◌, ◌++◌, option_to_list, IfOk, OnOk};
+ghost use Rattle.std.specs.Prelude.{◌≡◌, ◌++◌, IfOk, OnOk};
 ghost use Rattle.std.specs.List.{filter_map, flat_map};
 ghost use Rattle.docket_rows.specs.Words.{Rows, setup_of};
 ghost use Rattle.docket_core.specs.Words.{StandsFor};
@@ -8,7 +8,8 @@ ghost use Rattle.docket_selection.specs.Choice.{is_before};
 ghost use Rattle.docket_selection.specs.Due.{AreInOrder, IsDue, due_deadline, due_hearing, due_in, due_only, is_due, is_matter_chosen};
 
 use crate::choice::{Choice, is_before, is_case_chosen, is_day_chosen, is_panel_chosen};
-use crate::item::{DueItem, Matter, deadline_item, hearing_item, is_met, time_of};
+use crate::item::{DueItem, DueTypes, Matter, deadline_item, hearing_item, is_met, time_of};
+use crate::lists::push_if;
 use crate::sheets::sheets_of;
 use court_clock::Clock;
 use court_days::Court;
@@ -27,6 +28,7 @@ pub fn due_of(
     requires court { docket.now.setup ≡ setup_of court.now }
     ensures { (docketed : Rows) → StandsFor docket.now docketed → IfOk result (λ list. IsDue (setup_of court.now) docketed choice.now list.items) }
 {
+    let _types: DueTypes = None;
     let sheets = sheets_of(alloc, docket)?;
     let items = due_among(alloc, court.clock(), &sheets, choice)?;
     in_order(items)
@@ -50,6 +52,7 @@ fn due_among(
 ) -> Result<Vec<DueItem>, AllocError>
     ensures { IfOk result (λ list. list.items ≡ flat_map (due_in clock.now choice.now) sheets.now) }
 {
+    let _types: DueTypes = None;
     let mut list = Vec::new(alloc);
     for sheet in sheets {
         push_due_in(&mut list, clock, sheet, choice)?;
@@ -58,6 +61,7 @@ fn due_among(
 }
 
 /// Adds what is due of the case of a sheet.
+#[tactic(auto, unfolding(crate::specs::Due::due_in))]
 fn push_due_in(
     list: &mut Vec<DueItem>,
     clock: &Clock,
@@ -66,6 +70,7 @@ fn push_due_in(
 ) -> Result<(), AllocError>
     ensures { OnOk result (list.new.items ≡ list.old.items ++ due_in clock.now choice.now sheet.now) }
 {
+    let _types: DueTypes = None;
     let before = is_before(choice, sheet.motions.as_slice());
     push_deadlines(
         list,
@@ -89,6 +94,7 @@ fn push_deadlines(
 ) -> Result<(), AllocError>
     ensures { OnOk result (list.new.items ≡ list.old.items ++ filter_map (due_deadline clock.now case choice.now before) deadlines.now) }
 {
+    let _types: DueTypes = None;
     for deadline in deadlines {
         let due = due_only(choice, before, deadline_item(clock, case, deadline));
         push_if(list, due)?;
@@ -106,25 +112,12 @@ fn push_hearings(
 ) -> Result<(), AllocError>
     ensures { OnOk result (list.new.items ≡ list.old.items ++ filter_map (due_hearing case choice.now before) motions.now) }
 {
+    let _types: DueTypes = None;
     for motion in motions {
         let due = due_only(choice, before, hearing_item(case, motion));
         push_if(list, due)?;
     }
     Ok(())
-}
-
-/// Adds the item, if there is one.
-#[tactic(auto, using(crate::proofs::DueLemmas::nothing_more))]
-fn push_if(list: &mut Vec<DueItem>, item: Option<DueItem>) -> Result<(), AllocError>
-    ensures { OnOk result (list.new.items ≡ list.old.items ++ option_to_list item) }
-{
-    match item {
-        Some(item) => {
-            list.push(item)?;
-            Ok(())
-        }
-        None => Ok(()),
-    }
 }
 
 /// The item, if there is one and it is due.
@@ -154,7 +147,7 @@ fn is_matter_chosen(choice: &Choice, before: bool, matter: &Matter) -> bool
     ensures { result ≡ is_matter_chosen choice.now before matter.now }
 {
     match matter {
-        Matter::Deadline { .. } => before,
+        Matter::Deadline(_) => before,
         Matter::Hearing(set) => is_panel_chosen(choice, &set.hearing.judges),
     }
 }

@@ -1,26 +1,30 @@
 //! What is due: the end of a deadline's time, or a hearing.
 
 ghost use Rattle.std.specs.Prelude.{◌≡◌, option_map};
-ghost use Rattle.court_clock.specs.Words.{CivilTime};
-ghost use Rattle.docket_selection.specs.Items.{deadline_item, end_of, hearing_item, is_met, time_of};
+ghost use Rattle.court_clock.specs.Words.{CivilTime, second_of};
+ghost use Rattle.docket_selection.specs.Items.{deadline_item, end_of, hearing_item, is_met, set_item, time_of};
 
 use court_clock::{Clock, Day};
 use docket_rows::{SheetDeadline, SheetHearing, SheetMotion, State};
 use rule_periods::Period;
 use rule6::Shown;
 
+/// A deadline whose time ends on a day that is covered.
+#[derive(Clone, Copy, Debug, PartialEq, Eq)]
+pub struct DueDeadline {
+    /// Its period.
+    pub period: Period,
+    /// When its time ends, by the docket as it is now: with a last day or at an instant, never beyond.
+    pub shown: Shown,
+    /// Whether it was met.
+    pub state: State,
+}
+
 /// What there is at a time.
 #[derive(Clone, Copy, Debug, PartialEq, Eq)]
 pub enum Matter {
     /// The time of a deadline ends.
-    Deadline {
-        /// Its period.
-        period: Period,
-        /// When its time ends, by the docket as it is now: on a last day or at an instant, never beyond.
-        shown: Shown,
-        /// Whether it was met.
-        state: State,
-    },
+    Deadline(DueDeadline),
     /// A hearing begins.
     Hearing(SheetHearing),
 }
@@ -41,6 +45,10 @@ pub struct DueItem {
     pub matter: Matter,
 }
 
+/// The types inside an item. The checker finds them only where they have names, so a function that has a `Vec` of items has
+/// a variable of this type.
+pub type DueTypes = Option<(Matter, DueDeadline, Period, Shown, State, SheetHearing)>;
+
 /// The item of a deadline. None where its time ends beyond the days covered.
 pub(crate) fn deadline_item(clock: &Clock, case: u32, deadline: &SheetDeadline) -> Option<DueItem>
     ensures { result ≡ deadline_item clock.now case deadline.now }
@@ -51,11 +59,11 @@ pub(crate) fn deadline_item(clock: &Clock, case: u32, deadline: &SheetDeadline) 
         second,
         case,
         number: deadline.number,
-        matter: Matter::Deadline {
+        matter: Matter::Deadline(DueDeadline {
             period: deadline.row.period(),
             shown: deadline.shown,
             state: deadline.state,
-        },
+        }),
     })
 }
 
@@ -74,14 +82,23 @@ fn end_of(clock: &Clock, shown: &Shown) -> Option<(Day, u32)>
 pub(crate) fn hearing_item(case: u32, motion: &SheetMotion) -> Option<DueItem>
     ensures { result ≡ hearing_item case motion.now }
 {
-    let set = motion.hearing?;
-    Some(DueItem {
+    match &motion.hearing {
+        Some(set) => Some(set_item(case, motion.number, set)),
+        None => None,
+    }
+}
+
+/// The item of the hearing of the motion of that number.
+fn set_item(case: u32, number: u32, set: &SheetHearing) -> DueItem
+    ensures { result ≡ set_item case number set.now }
+{
+    DueItem {
         day: set.hearing.day,
         second: 900 * u32::from(set.hearing.first),
         case,
-        number: motion.number,
-        matter: Matter::Hearing(set),
-    })
+        number,
+        matter: Matter::Hearing(*set),
+    }
 }
 
 /// Whether a timely act is recorded, so that nothing is due.
@@ -89,7 +106,7 @@ pub(crate) fn is_met(matter: &Matter) -> bool
     ensures { result ≡ is_met matter.now }
 {
     match matter {
-        Matter::Deadline { state, .. } => *state == State::Timely,
+        Matter::Deadline(deadline) => deadline.state == State::Timely,
         Matter::Hearing(_) => false,
     }
 }
@@ -98,5 +115,12 @@ pub(crate) fn is_met(matter: &Matter) -> bool
 pub(crate) fn time_of(item: &DueItem) -> i64
     ensures { result ≡ time_of item.now }
 {
-    i64::from(item.day.number()) * 86_400 + i64::from(item.second)
+    second_of(item.day, item.second)
+}
+
+/// A second of a day, counted from the same midnight.
+fn second_of(day: Day, second: u32) -> i64
+    ensures { result ≡ second_of day second }
+{
+    i64::from(day.number()) * 86_400 + i64::from(second)
 }

@@ -6,10 +6,11 @@ mod bookings;
 mod choice;
 mod due;
 mod item;
+mod lists;
 mod sheets;
 
 pub use bookings::{DayBookings, bookings_on, week_days};
 pub use choice::Choice;
 pub use due::due_of;
-pub use item::{DueItem, Matter};
+pub use item::{DueDeadline, DueItem, DueTypes, Matter};
 pub use sheets::sheets_of;
