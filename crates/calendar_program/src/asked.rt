@@ -56,15 +56,15 @@ pub(crate) fn asked_by(
 fn task_of(name: &str) -> Task
     ensures { result ≡ task_of name.now }
 {
-    if name == "week" { Task::Week } else { Task::Due }
+    if name == "week" {
+        Task::Week
+    } else {
+        Task::Due
+    }
 }
 
 /// The text of an option, if it is given.
-fn text_given(
-    alloc: Global,
-    given: &ArgMatches<'_>,
-    id: &str,
-) -> Result<Option<String>, AllocError>
+fn text_given(alloc: Global, given: &ArgMatches<'_>, id: &str) -> Result<Option<String>, AllocError>
     ensures { IfOk result (λ text. option_map string_bytes text ≡ first_value (found_of given.now) id.now) }
 {
     match given.get_str(id) {

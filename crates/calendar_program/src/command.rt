@@ -17,8 +17,7 @@ use std::alloc::{AllocError, Global};
 const LAST_CASE: i64 = 4_096;
 
 // What the program is. `clap` breaks no lines, so they are broken here.
-const ABOUT: &str =
-    "The court's calendar, after all rows: what is due, and the week of a judge.";
+const ABOUT: &str = "The court's calendar, after all rows: what is due, and the week of a judge.";
 
 const FORMATS: &str =
     "It reads what clerk_office reads: a court's file, a line of %% alone, and rows.
@@ -29,11 +28,9 @@ It writes the calendar to standard output, and no answers.
 
 docs/CALENDAR.md describes what it writes.";
 
-const ABOUT_DUE: &str =
-    "What is due: deadlines with no timely act, and hearings, by day";
+const ABOUT_DUE: &str = "What is due: deadlines with no timely act, and hearings, by day";
 
-const ABOUT_WEEK: &str =
-    "A judge's week, with the half hours down the side";
+const ABOUT_WEEK: &str = "A judge's week, with the half hours down the side";
 
 fn day_argument<'a>(alloc: Global, name: &'a str, help: &'a str) -> Arg<'a>
     ensures rule { rule_of result ≡ day_rule name.now }
@@ -99,9 +96,7 @@ fn week_command<'a>(alloc: Global) -> Result<Command<'a>, AllocError>
     Command::new(alloc, "week")
         .about(ABOUT_WEEK)
         .arg(judge_argument(alloc, "The judge, as the court's file names one").required(true))?
-        .arg(
-            day_argument(alloc, "of", "A day of the week, as 2025-09-16").required(true),
-        )
+        .arg(day_argument(alloc, "of", "A day of the week, as 2025-09-16").required(true))
 }
 
 /// The command line's definition, for one reading of words.

@@ -12,11 +12,7 @@ use std::alloc::{AllocError, Global};
 
 /// The docket of the court after all rows, each of which is carried out as `clerk_office` does. `Err` says that memory
 /// ran out.
-pub(crate) fn docket_after(
-    alloc: Global,
-    court: &Court,
-    rows: &[Row],
-) -> Result<Docket, AllocError>
+pub(crate) fn docket_after(alloc: Global, court: &Court, rows: &[Row]) -> Result<Docket, AllocError>
     ensures { IfOk result (λ d. Holds (setup_of court.now) d (docketed_after (setup_of court.now) (opening_rows (setup_of court.now)) rows.now)) }
 {
     let mut docket = Docket::new(alloc, court)?;

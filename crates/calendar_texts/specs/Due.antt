@@ -24,9 +24,15 @@ unfoldable pub heading : CourtView → Choice → List ℕ
 heading court choice =
     codes "Due from " ++ whole_day choice.from ++ codes " to " ++ whole_day choice.to ++ judge_words court choice.judge ++ case_words choice.case ++ 10 ∷ []
 
+unfoldable pub closing_front : List ℕ
+closing_front = codes "Filing on paper ends at "
+
+unfoldable pub closing_back : List ℕ
+closing_back = codes ", when the clerk's office closes.\n"
+
 -- a last day ends for filing on paper when the clerk's office closes (Fed. R. Civ. P. 6(a)(4)(B))
 unfoldable pub closing_line : CourtView → List ℕ
-closing_line court = codes "Filing on paper ends at " ++ minute_time court.clock.closes ++ codes ", when the clerk's office closes.\n"
+closing_line court = closing_front ++ minute_time court.clock.closes ++ closing_back
 
 -- the two are one day
 abbrev pub is_day_of : (before : Option ℤ) → (day : ℤ) → Bool

@@ -46,19 +46,16 @@ first_row clock = clock.opens / 30 * 2
 abbrev pub end_row : ClockView → ℕ
 end_row clock = (clock.closes + 29) / 30 * 2
 
--- the line of the days, and the one below it
+-- the line of the days, and the one below seven of them
 abbrev pub day_name_cell : DayBookings → List ℕ
 day_name_cell day = codes "|" ++ short_day day.day
 
 unfoldable pub header : List DayBookings → List ℕ
 header week = codes "     " ++ flat_map day_name_cell week ++ codes "|\n"
 
-abbrev pub line_cell : DayBookings → List ℕ
-line_cell day = codes "+---------"
-
-unfoldable pub rule : List DayBookings → List ℕ
-rule week = codes "-----" ++ flat_map line_cell week ++ codes "+\n"
+unfoldable pub rule : List ℕ
+rule = codes "-----+---------+---------+---------+---------+---------+---------+---------+\n"
 
 -- the whole grid
 unfoldable pub grid : ClockView → List DayBookings → List ℕ
-grid clock week = header week ++ rule week ++ flat_map (slot_row week) (range_with_len (first_row clock) (end_row clock - first_row clock))
+grid clock week = header week ++ rule ++ flat_map (slot_row week) (range_with_len (first_row clock) (end_row clock - first_row clock))

@@ -38,10 +38,16 @@ late_words state = []
 unfoldable pub deadline_words : (number : ℕ) → DueDeadline → List ℕ
 deadline_words number d = codes " deadline " ++ decimal number ++ codes ": " ++ period_words d.period ++ late_words d.state
 
+abbrev pub room_words : CourtView → (room : ℕ) → List ℕ
+room_words court room = codes ", room " ++ name_of court.rooms room
+
+unfoldable pub hearing_front : List ℕ
+hearing_front = codes ": hearing before "
+
 -- ` motion 1: hearing before Ames+Brandt, room R1`
 unfoldable pub hearing_words : CourtView → (number : ℕ) → HearingSet → List ℕ
 hearing_words court number h =
-    codes " motion " ++ decimal number ++ codes ": hearing before " ++ panel_names court h.judges ++ codes ", room " ++ name_of court.rooms h.room
+    codes " motion " ++ decimal number ++ hearing_front ++ panel_names court h.judges ++ room_words court h.room
 
 abbrev pub matter_words : CourtView → (number : ℕ) → Matter → List ℕ
 matter_words court number (Deadline d) = deadline_words number d

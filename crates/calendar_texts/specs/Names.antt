@@ -9,6 +9,6 @@ abbrev pub joined_name : CourtView → (judge : ℕ) → List ℕ
 joined_name court judge = codes "+" ++ name_of court.judges judge
 
 -- the names of a panel's judges, in its order, joined by `+`
-abbrev pub panel_names : CourtView → (panel : List ℕ) → List ℕ
+unfoldable pub panel_names : CourtView → (panel : List ℕ) → List ℕ
 panel_names court [] = []
 panel_names court (judge ∷ others) = name_of court.judges judge ++ flat_map (joined_name court) others

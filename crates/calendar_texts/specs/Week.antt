@@ -8,7 +8,7 @@ use Rattle.docket_selection.specs.declared.bookings.DayBookings.{DayBookings}
 use Rattle.office_texts.specs.Words.{name_of}
 use Rattle.calendar_texts.specs.Days.{whole_day}
 use Rattle.calendar_texts.specs.Grid.{grid}
-use Rattle.calendar_texts.specs.Items.{span_words}
+use Rattle.calendar_texts.specs.Items.{room_words, span_words}
 
 abbrev pub week_of_words : List DayBookings → List ℕ
 week_of_words [] = []
@@ -18,10 +18,14 @@ week_of_words (first ∷ days) = codes ", week of " ++ whole_day first.day
 unfoldable pub title : CourtView → (judge : ℕ) → List DayBookings → List ℕ
 title court judge week = codes "Judge " ++ name_of court.judges judge ++ week_of_words week ++ codes "\n\n"
 
+-- `  case 1 motion 1, room 11A`
+unfoldable pub booked_words : CourtView → Booking → List ℕ
+booked_words court b = codes "  case " ++ decimal b.case ++ codes " motion " ++ decimal b.motion ++ room_words court b.other ++ 10 ∷ []
+
 -- `Tue 2025-09-16  10:00-11:00  case 1 motion 1, room 11A`
 unfoldable pub booked_line : CourtView → Booking → List ℕ
 booked_line court b =
-    whole_day b.day ++ codes "  " ++ span_words b.first b.count ++ codes "  case " ++ decimal b.case ++ codes " motion " ++ decimal b.motion ++ codes ", room " ++ name_of court.rooms b.other ++ 10 ∷ []
+    whole_day b.day ++ codes "  " ++ span_words b.first b.count ++ booked_words court b
 
 -- a line for each hearing of a day
 abbrev pub day_lines : CourtView → DayBookings → List ℕ

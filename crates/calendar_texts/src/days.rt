@@ -20,11 +20,7 @@ pub(crate) fn push_whole_day(text: &mut String, day: Day) -> Result<(), AllocErr
 
 /// Adds the day of the week, the month and the day.
 #[tactic(auto, unfolding(crate::specs::Days::short_day))]
-pub(crate) fn push_short_day(
-    alloc: Global,
-    text: &mut String,
-    day: Day,
-) -> Result<(), AllocError>
+pub(crate) fn push_short_day(alloc: Global, text: &mut String, day: Day) -> Result<(), AllocError>
     ensures { OnOk result (AddsText text.old text.new (short_day day)) }
 {
     text.push_str(weekday_name(day.weekday()))?;

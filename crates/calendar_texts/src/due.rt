@@ -2,13 +2,14 @@
 
 ghost use Rattle.std.specs.Prelude.{◌≡◌, None, OnOk};
 ghost use Rattle.office_texts.specs.Words.{AddsText};
-ghost use Rattle.calendar_texts.specs.Due.{case_words, closing_line, day_line_if_new, due_text, heading, is_day_of, judge_words, lines_after, lines_or_none};
+ghost use Rattle.calendar_texts.specs.Times.{minute_time};
+ghost use Rattle.calendar_texts.specs.Due.{case_words, closing_back, closing_front, closing_line, day_line_if_new, due_text, heading, is_day_of, judge_words, lines_after, lines_or_none};
 
 use crate::days::push_whole_day;
 use crate::items::push_item;
 use crate::judges::judge_name;
 use crate::numbers::push_minute;
-use court_clock::Day;
+use court_clock::{Clock, Day};
 use court_days::Court;
 use docket_selection::{Choice, DueItem};
 use office_texts::push_number;
@@ -72,9 +73,29 @@ fn push_case(text: &mut String, case: Option<u32>) -> Result<(), AllocError>
 fn push_closing(text: &mut String, court: &Court) -> Result<(), AllocError>
     ensures { OnOk result (AddsText text.old text.new (closing_line court.now)) }
 {
-    text.push_str("Filing on paper ends at ")?;
-    push_minute(text, u32::from(court.clock().closes()))?;
+    push_closing_front(text)?;
+    push_closing_time(text, court.clock())?;
+    push_closing_back(text)
+}
+
+#[tactic(auto, unfolding(crate::specs::Due::closing_front))]
+fn push_closing_front(text: &mut String) -> Result<(), AllocError>
+    ensures { OnOk result (AddsText text.old text.new closing_front) }
+{
+    text.push_str("Filing on paper ends at ")
+}
+
+#[tactic(auto, unfolding(crate::specs::Due::closing_back))]
+fn push_closing_back(text: &mut String) -> Result<(), AllocError>
+    ensures { OnOk result (AddsText text.old text.new closing_back) }
+{
     text.push_str(", when the clerk's office closes.\n")
+}
+
+fn push_closing_time(text: &mut String, clock: &Clock) -> Result<(), AllocError>
+    ensures { OnOk result (AddsText text.old text.new (minute_time clock.now.closes)) }
+{
+    push_minute(text, u32::from(clock.closes()))
 }
 
 /// Adds the items by day, or that there are none.

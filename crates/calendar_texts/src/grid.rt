@@ -4,7 +4,7 @@
 ghost use Rattle.std.specs.Prelude.{◌≡◌, ◌+◌, ◌-◌, ◌≤◌, ◌<◌, OnOk};
 ghost use Rattle.std.specs.List.{flat_map, range_with_len};
 ghost use Rattle.office_texts.specs.Words.{AddsText};
-ghost use Rattle.calendar_texts.specs.Grid.{cell, cell_words, day_cell, day_name_cell, end_row, first_row, grid, header, is_taken_at, label, line_cell, rule, slot_row, taken_at};
+ghost use Rattle.calendar_texts.specs.Grid.{cell, cell_words, day_cell, day_name_cell, end_row, first_row, grid, header, is_taken_at, label, rule, slot_row, taken_at};
 
 use crate::days::push_short_day;
 use crate::numbers::{push_minute, push_spaces};
@@ -28,14 +28,13 @@ pub(crate) fn push_grid(
     ensures { OnOk result (AddsText text.old text.new (grid clock.now week.now)) }
 {
     push_header(alloc, text, week)?;
-    push_rule(text, week)?;
+    push_rule(text)?;
     push_rows(text, first_row(clock), end_row(clock), week)
 }
 
 /// The slot with which the half hour begins in which the clerk's office opens.
 fn first_row(clock: &Clock) -> u32
-    ensures value { result ≡ first_row clock.now }
-    ensures few { result ≤ 96 }
+    ensures { result ≡ first_row clock.now }
 {
     u32::from(clock.opens()) / 30 * 2
 }
@@ -50,11 +49,7 @@ fn end_row(clock: &Clock) -> u32
 
 /// Adds the line of the days.
 #[tactic(auto, unfolding(crate::specs::Grid::header))]
-fn push_header(
-    alloc: Global,
-    text: &mut String,
-    week: &[DayBookings],
-) -> Result<(), AllocError>
+fn push_header(alloc: Global, text: &mut String, week: &[DayBookings]) -> Result<(), AllocError>
     ensures { OnOk result (AddsText text.old text.new (header week.now)) }
 {
     text.push_str("     ")?;
@@ -63,11 +58,7 @@ fn push_header(
 }
 
 /// Adds the name of each day.
-fn push_day_names(
-    alloc: Global,
-    text: &mut String,
-    week: &[DayBookings],
-) -> Result<(), AllocError>
+fn push_day_names(alloc: Global, text: &mut String, week: &[DayBookings]) -> Result<(), AllocError>
     ensures { OnOk result (AddsText text.old text.new (flat_map day_name_cell week.now)) }
 {
     for day in week {
@@ -84,23 +75,12 @@ fn push_day_name(alloc: Global, text: &mut String, day: &DayBookings) -> Result<
     push_short_day(alloc, text, day.day)
 }
 
-/// Adds the line below the days.
+/// Adds the line below seven days.
 #[tactic(auto, unfolding(crate::specs::Grid::rule))]
-fn push_rule(text: &mut String, week: &[DayBookings]) -> Result<(), AllocError>
-    ensures { OnOk result (AddsText text.old text.new (rule week.now)) }
+fn push_rule(text: &mut String) -> Result<(), AllocError>
+    ensures { OnOk result (AddsText text.old text.new rule) }
 {
-    text.push_str("-----")?;
-    push_rule_cells(text, week)?;
-    text.push_str("+\n")
-}
-
-fn push_rule_cells(text: &mut String, week: &[DayBookings]) -> Result<(), AllocError>
-    ensures { OnOk result (AddsText text.old text.new (flat_map line_cell week.now)) }
-{
-    for _day in week {
-        text.push_str("+---------")?;
-    }
-    Ok(())
+    text.push_str("-----+---------+---------+---------+---------+---------+---------+---------+\n")
 }
 
 /// Adds a row for each slot from the first up to the end.
@@ -170,8 +150,8 @@ fn taken_at(slot: u32, bookings: &[Booking]) -> Option<Booking>
 {
     bookings
         .iter()
-        .find(|booking| is_taken_at(slot, booking))
         .copied()
+        .find(|booking| is_taken_at(slot, booking))
 }
 
 /// Whether the booking takes the slot.
@@ -183,11 +163,7 @@ fn is_taken_at(slot: u32, booking: &Booking) -> bool
 }
 
 /// Adds the case and the motion in the first slot that a booking takes, and a mark in the others.
-fn push_cell_words(
-    text: &mut String,
-    slot: u32,
-    booking: Option<Booking>,
-) -> Result<(), AllocError>
+fn push_cell_words(text: &mut String, slot: u32, booking: Option<Booking>) -> Result<(), AllocError>
     ensures { OnOk result (AddsText text.old text.new (cell_words slot booking)) }
 {
     match booking {

@@ -2,7 +2,7 @@
 
 ghost use Rattle.std.specs.Prelude.{◌≡◌, OnOk};
 ghost use Rattle.office_texts.specs.Words.{AddsText};
-ghost use Rattle.calendar_texts.specs.Items.{deadline_words, end_words, hearing_words, item_line, late_words, matter_words, span_words, time_words};
+ghost use Rattle.calendar_texts.specs.Items.{deadline_words, end_words, hearing_front, hearing_words, item_line, late_words, matter_words, room_words, span_words, time_words};
 
 use crate::judges::{push_panel, room_name};
 use crate::numbers::{push_minute, push_second};
@@ -109,8 +109,22 @@ fn push_hearing(
 {
     text.push_str(" motion ")?;
     push_number(text, u64::from(number))?;
-    text.push_str(": hearing before ")?;
+    push_hearing_front(text)?;
     push_panel(text, court, &hearing.judges)?;
+    push_room(text, court, hearing.room)
+}
+
+#[tactic(auto, unfolding(crate::specs::Items::hearing_front))]
+fn push_hearing_front(text: &mut String) -> Result<(), AllocError>
+    ensures { OnOk result (AddsText text.old text.new hearing_front) }
+{
+    text.push_str(": hearing before ")
+}
+
+/// Adds the name of a room.
+pub(crate) fn push_room(text: &mut String, court: &Court, room: u8) -> Result<(), AllocError>
+    ensures { OnOk result (AddsText text.old text.new (room_words court.now room)) }
+{
     text.push_str(", room ")?;
-    text.push_str(room_name(court, hearing.room))
+    text.push_str(room_name(court, room))
 }

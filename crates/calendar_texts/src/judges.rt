@@ -10,6 +10,7 @@ use hearing_slots::Panel;
 use std::alloc::AllocError;
 
 /// Adds the names of a panel's judges, in its order.
+#[tactic(auto, unfolding(crate::specs::Names::panel_names))]
 pub(crate) fn push_panel(text: &mut String, court: &Court, panel: &Panel) -> Result<(), AllocError>
     ensures { OnOk result (AddsText text.old text.new (panel_names court.now panel.now)) }
 {

@@ -3,12 +3,12 @@
 ghost use Rattle.std.specs.Prelude.{◌≡◌, OnOk};
 ghost use Rattle.std.specs.List.{flat_map};
 ghost use Rattle.office_texts.specs.Words.{AddsText};
-ghost use Rattle.calendar_texts.specs.Week.{booked_line, day_lines, title, week_of_words, week_text};
+ghost use Rattle.calendar_texts.specs.Week.{booked_line, booked_words, day_lines, title, week_of_words, week_text};
 
 use crate::days::push_whole_day;
 use crate::grid::push_grid;
-use crate::items::push_span;
-use crate::judges::{judge_name, room_name};
+use crate::items::{push_room, push_span};
+use crate::judges::judge_name;
 use court_days::Court;
 use docket_selection::DayBookings;
 use hearing_slots::Booking;
@@ -62,11 +62,7 @@ fn push_week_of(text: &mut String, week: &[DayBookings]) -> Result<(), AllocErro
 }
 
 /// Adds a line for each hearing, day by day.
-fn push_listing(
-    text: &mut String,
-    court: &Court,
-    week: &[DayBookings],
-) -> Result<(), AllocError>
+fn push_listing(text: &mut String, court: &Court, week: &[DayBookings]) -> Result<(), AllocError>
     ensures { OnOk result (AddsText text.old text.new (flat_map (day_lines court.now) week.now)) }
 {
     for day in week {
@@ -76,11 +72,7 @@ fn push_listing(
 }
 
 /// Adds a line for each booking.
-fn push_bookings(
-    text: &mut String,
-    court: &Court,
-    bookings: &[Booking],
-) -> Result<(), AllocError>
+fn push_bookings(text: &mut String, court: &Court, bookings: &[Booking]) -> Result<(), AllocError>
     ensures { OnOk result (AddsText text.old text.new (flat_map (booked_line court.now) bookings.now)) }
 {
     for booking in bookings {
@@ -97,11 +89,18 @@ fn push_booking(text: &mut String, court: &Court, booking: &Booking) -> Result<(
     push_whole_day(text, booking.day)?;
     text.push_str("  ")?;
     push_span(text, booking.first, booking.count)?;
+    push_booked(text, court, booking)
+}
+
+/// Adds what is booked.
+#[tactic(auto, unfolding(crate::specs::Week::booked_words))]
+fn push_booked(text: &mut String, court: &Court, booking: &Booking) -> Result<(), AllocError>
+    ensures { OnOk result (AddsText text.old text.new (booked_words court.now booking.now)) }
+{
     text.push_str("  case ")?;
     push_number(text, u64::from(booking.case))?;
     text.push_str(" motion ")?;
     push_number(text, u64::from(booking.motion))?;
-    text.push_str(", room ")?;
-    text.push_str(room_name(court, booking.other))?;
+    push_room(text, court, booking.other)?;
     text.push_str("\n")
 }
