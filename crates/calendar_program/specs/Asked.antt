@@ -1,5 +1,5 @@
 -- What the words of the command line ask for.
-use Rattle.std.specs.Prelude.{◌≡◌, ℕ, List, Option, Some, None, Bool, codes, option_map, string_bytes, IfSome, if◌then◌else◌}
+use Rattle.std.specs.Prelude.{◌≡◌, ℕ, List, Option, Some, codes, option_map, string_bytes, IfSome, if◌then◌else◌}
 use Rattle.std.specs.Str.{bytes_eq}
 use Rattle.std.specs.Str.Parse.{digits_value, without_leading_plus}
 use Rattle.clap.specs.Words.{Row, Text, first_of, one_of, subcommand_of}
@@ -16,15 +16,12 @@ task_of name = if bytes_eq name (codes "week") then Week else Due
 abbrev pub number_written : Text → ℕ
 number_written text = digits_value 10 (without_leading_plus text)
 
--- where a case is asked for, its number is the one that is written
-abbrev pub IsCaseOf : Option Text → Option ℕ → Type 0
-IsCaseOf text None = Unit {0}
-IsCaseOf text (Some case) = option_map number_written text ≡ Some case
-
--- a subcommand with what it was given asks for that: each text is that of its option
+-- a subcommand with what it was given asks for that: each text is that of its option, and a case is the
+-- number that its option writes
 pub record IsAskedBy (name : Text) (given : List Row) (asked : Asked) : Type 0 where
   pub task : asked.task ≡ task_of name
   pub judge : option_map string_bytes asked.judge ≡ first_of (codes "judge") given
+  pub case : IfSome asked.case (λ case. option_map number_written (one_of (codes "case") given) ≡ Some case)
   pub from : option_map string_bytes asked.from ≡ first_of (codes "from") given
   pub to : option_map string_bytes asked.to ≡ first_of (codes "to") given
   pub of : option_map string_bytes asked.of ≡ first_of (codes "of") given

@@ -53,5 +53,5 @@ chosen_by task.Due court asked = due_chosen court asked
 chosen_by task.Week court asked = week_chosen court asked
 
 -- what is chosen, or which text says nothing of the court
-abbrev pub chosen_of : CourtView → Asked → Result Chosen Unknown
+unfoldable pub chosen_of : CourtView → Asked → Result Chosen Unknown
 chosen_of court asked = chosen_by asked.task court asked

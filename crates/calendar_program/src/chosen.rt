@@ -31,6 +31,7 @@ pub enum Unknown {
 }
 
 /// What is chosen of the court, or which text says nothing of it, the first in the order judge, first day, last day.
+#[tactic(auto, unfolding(crate::specs::Chosen::chosen_of))]
 pub(crate) fn chosen_of(court: &Court, asked: &Asked) -> Result<Chosen, Unknown>
     ensures { result ≡ chosen_of court.now asked.now }
 {

@@ -1,15 +1,15 @@
 //! The command line, as `clap` is told of it.
 
-ghost use Rattle.std.specs.Prelude.{◌≡◌, false, true, IfErr, IfOk};
+ghost use Rattle.std.specs.Prelude.{◌≡◌, false, true, IfErr, IfOk, IfSome};
 ghost use Rattle.clap.specs.Faults.{fault_of};
 ghost use Rattle.clap.specs.Walk.{texts};
-ghost use Rattle.clap.specs.Words.{app_of, fields_of, rule_of, shape_of, takes};
+ghost use Rattle.clap.specs.Words.{app_of, rule_of, subcommand_rows_of, takes};
 ghost use Rattle.office_options.specs.Words.{IsAnswerFor};
-ghost use Rattle.calendar_program.specs.Asked.{IsAsked};
-ghost use Rattle.calendar_program.specs.CommandLine.{case_rule, command_line, day_rule, due_shape, judge_rule, needed, week_shape};
+ghost use Rattle.calendar_program.specs.Asked.{IsAsked, IsAskedBy};
+ghost use Rattle.calendar_program.specs.CommandLine.{case_rule, command_line, day_rule, judge_rule};
 
 use crate::asked::{Asked, asked_by};
-use clap::{Arg, ArgAction, Command};
+use clap::{Arg, ArgAction, ArgMatches, Command};
 use office_options::{OptionsFault, fault_from};
 use std::alloc::{AllocError, Global};
 
@@ -32,25 +32,37 @@ const ABOUT_DUE: &str = "What is due: deadlines with no timely act, and hearings
 
 const ABOUT_WEEK: &str = "A judge's week, with the half hours down the side";
 
-fn day_argument<'a>(alloc: Global, name: &'a str, help: &'a str) -> Arg<'a>
-    ensures rule { rule_of result ≡ day_rule name.now }
+const FROM: &str = "The first day, as 2025-09-15; else the first of the court's file";
+
+const TO: &str = "The last day; else the last of the court's file";
+
+const OF: &str = "A day of the week, as 2025-09-16";
+
+const ANY_JUDGE: &str = "Hearings before this judge, and deadlines of the cases that have one";
+
+const ONE_JUDGE: &str = "The judge, as the court's file names one";
+
+fn day_argument<'a>(alloc: Global, name: &'a str, needed: bool, help: &'a str) -> Arg<'a>
+    ensures rule { rule_of result ≡ day_rule name.now needed }
     ensures local { result.global ≡ false }
 {
     Arg::new(alloc, name)
         .long(name)
         .action(ArgAction::Set)
         .value_name("DAY")
+        .required(needed)
         .help(help)
 }
 
-fn judge_argument<'a>(alloc: Global, help: &'a str) -> Arg<'a>
-    ensures rule { rule_of result ≡ judge_rule }
+fn judge_argument<'a>(alloc: Global, needed: bool, help: &'a str) -> Arg<'a>
+    ensures rule { rule_of result ≡ judge_rule needed }
     ensures local { result.global ≡ false }
 {
     Arg::new(alloc, "judge")
         .long("judge")
         .action(ArgAction::Set)
         .value_name("NAME")
+        .required(needed)
         .help(help)
 }
 
@@ -66,51 +78,35 @@ fn case_argument<'a>(alloc: Global) -> Arg<'a>
         .help("The case of this number alone")
 }
 
-fn due_command<'a>(alloc: Global) -> Result<Command<'a>, AllocError>
-    ensures shape { IfOk result (λ command. shape_of command ≡ due_shape) }
-    ensures local { IfOk result (λ command. (fields_of command).has_globals ≡ false) }
-{
-    Command::new(alloc, "due")
-        .about(ABOUT_DUE)
-        .arg(day_argument(
-            alloc,
-            "from",
-            "The first day, as 2025-09-15; else the first of the court's file",
-        ))?
-        .arg(day_argument(
-            alloc,
-            "to",
-            "The last day; else the last of the court's file",
-        ))?
-        .arg(judge_argument(
-            alloc,
-            "Hearings before this judge, and deadlines of the cases that have one",
-        ))?
-        .arg(case_argument(alloc))
-}
-
-fn week_command<'a>(alloc: Global) -> Result<Command<'a>, AllocError>
-    ensures shape { IfOk result (λ command. shape_of command ≡ week_shape) }
-    ensures local { IfOk result (λ command. (fields_of command).has_globals ≡ false) }
-{
-    Command::new(alloc, "week")
-        .about(ABOUT_WEEK)
-        .arg(judge_argument(alloc, "The judge, as the court's file names one").required(true))?
-        .arg(day_argument(alloc, "of", "A day of the week, as 2025-09-16").required(true))
-}
-
 /// The command line's definition, for one reading of words.
 fn command<'a>(alloc: Global) -> Result<Command<'a>, AllocError>
     ensures { IfOk result (λ command. app_of command ≡ command_line) }
 {
-    Command::new(alloc, "court_calendar")
+    let from = day_argument(alloc, "from", false, FROM);
+    let to = day_argument(alloc, "to", false, TO);
+    let judge = judge_argument(alloc, false, ANY_JUDGE);
+    let case = case_argument(alloc);
+    let due = Command::new(alloc, "due")
+        .about(ABOUT_DUE)
+        .arg(from)?
+        .arg(to)?
+        .arg(judge)?
+        .arg(case)?;
+    let one = judge_argument(alloc, true, ONE_JUDGE);
+    let of = day_argument(alloc, "of", true, OF);
+    let week = Command::new(alloc, "week")
+        .about(ABOUT_WEEK)
+        .arg(one)?
+        .arg(of)?;
+    let whole = Command::new(alloc, "court_calendar")
         .no_binary_name(true)
         .version("0.1.0")
         .about(ABOUT)
         .after_help(FORMATS)
         .subcommand_required(true)
-        .subcommand(due_command(alloc)?)?
-        .subcommand(week_command(alloc)?)
+        .subcommand(due)?
+        .subcommand(week)?;
+    Ok(whole)
 }
 
 /// What the words ask for, which are those after the program's name. BadWords where `clap` refuses the words, Help where
@@ -122,11 +118,22 @@ pub(crate) fn asked_of(alloc: Global, words: &[&str]) -> Result<Asked, OptionsFa
 {
     let command = command(alloc)?;
     match command.try_get_matches_from(words) {
-        Ok(matches) => match matches.subcommand() {
-            Some((name, given)) => Ok(asked_by(alloc, name, given)?),
-            // `clap` has refused words without a subcommand.
-            None => Err(OptionsFault::OutOfMemory),
-        },
+        Ok(matches) => asked_in(alloc, &matches),
         Err(error) => Err(fault_from(alloc, &error)),
+    }
+}
+
+/// What the matches of words ask for. The error is that memory ran out.
+fn asked_in(alloc: Global, matches: &ArgMatches<'_>) -> Result<Asked, OptionsFault>
+    ensures asked { IfOk result (λ asked. IfSome (subcommand_rows_of matches.now) (λ met. IsAskedBy met.0 met.1 asked)) }
+    ensures memory { IfErr result (λ fault. fault ≡ OptionsFault.OutOfMemory) }
+{
+    match matches.subcommand() {
+        Some((name, given)) => {
+            let asked = asked_by(alloc, name, given)?;
+            Ok(asked)
+        }
+        // `clap` has refused words without a subcommand.
+        None => Err(OptionsFault::OutOfMemory),
     }
 }

@@ -67,6 +67,7 @@ fn text_of(
     docket: &Docket,
     chosen: &Chosen,
 ) -> Result<String, AllocError>
+    requires court { docket.now.setup ≡ setup_of court.now }
     ensures { (docketed : Rows) → Holds (setup_of court.now) docket.now docketed → IfOk result (λ text. IsTextOf court.now docketed chosen.now (string_bytes text)) }
 {
     match chosen {

@@ -15,7 +15,7 @@ loop-row-preserved c =
     let i = c.loop-row.row-index in
     let row = c.row-item.result in
     let docketed : Rows = docketed_after setup (opening_rows setup) (take i rows) in
-    let replied = c.in_ok-reply_to.ensures setup docketed c.loop-row.invariant in
+    let replied = c.in_ok-_reply.ensures setup docketed c.loop-row.invariant in
     let more : docketed_after setup (opening_rows setup) (take (i + 1) rows) ≡ docketed_then setup docketed row.work =
     docketed_at setup (opening_rows setup) rows i row c.loop-row-test.true ∙ ap (λ r. docketed_then setup docketed r.work) (sym c.row-item.is) in
     subst (Holds setup c.reply_to.new.docket) (sym more) replied.1
