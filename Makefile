@@ -12,7 +12,7 @@ CHECKS   := $(shell python3 checks/run.py --names)
 SEED     :=
 COUNT    :=
 
-.PHONY: build try run memo desk court_file test times bench check check-long help $(CHECKS)
+.PHONY: build try run memo desk court_file calendar test times bench check check-long help $(CHECKS)
 
 # Proves the program and the libraries below it, and builds it at $(PROGRAM), with a line for each crate that is proved.
 # Where nothing has changed it proves nothing anew.
@@ -37,6 +37,10 @@ desk:
 # The program that checks and writes courts' files, proved and built at crates/court_file/out/court_file.
 court_file:
 	@python3 tools/prove.py court_file
+
+# The program that writes what is due and a judge's week, proved and built at crates/court_calendar/out/court_calendar.
+calendar:
+	@python3 tools/prove.py court_calendar
 
 # Proofs, edits that the prover must refuse, tests, and the programs' stored runs: all that no earlier run of the gate on
 # this machine has passed for the same files. `rt ci --anew` takes nothing from earlier runs.
@@ -65,6 +69,7 @@ help:
 	@echo "make memo        the same for the one that gives reasons, $(MEMO)"
 	@echo "make desk        the same for the one that keeps rows in a folder, crates/docket_desk/out/docket_desk"
 	@echo "make court_file  the same for the one for courts' files, crates/court_file/out/court_file"
+	@echo "make calendar    the same for the calendar, crates/court_calendar/out/court_calendar"
 	@echo "make run         proves and builds the program, and runs it on $(EXAMPLE)"
 	@echo "make test        the gate (rt ci): proves and tests all that no earlier run on this machine has passed"
 	@echo "make times       the gate from nothing, with a table of the seconds of each crate; it needs Linux"

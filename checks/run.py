@@ -26,6 +26,7 @@ def built(crate):
 
 
 CLERK, MEMO, DESK, STEPS, OFFICE = "clerk_office", "deadline_memo", "docket_desk", "stored_steps", "stored_office"
+CALENDAR = "court_calendar"
 FILE = "court_file"
 
 
@@ -44,7 +45,8 @@ class Check(NamedTuple):
 
 
 ALL = [
-    Check("docs_check", [CLERK, MEMO, DESK, FILE], [["docs_check.py"]],
+CLERK, MEMO, DESK, FILE = "clerk_office", "deadline_memo", "docket_desk", "court_file"
+CALENDAR, STEPS, OFFICE = "court_calendar", "stored_steps", "stored_office"
           "the examples, and commands that documents show", "5 s", quick=True),
     Check("runs_check", [CLERK], [["runs_join.py", "--check"], ["runs_check.py", built(CLERK)]],
           "all whole runs of runs/, byte by byte", "10 s", quick=True),
@@ -59,6 +61,8 @@ ALL = [
           "the program and a reference in Python agree", "1 min", quick=True, seeded=True, seeds=(2, 3, 4, 5, 6)),
     Check("desk_check", [DESK, CLERK], [["desk_check.py", built(DESK), built(CLERK)]],
           "the desk and clerk_office agree; it is killed", "10 s", quick=True, seeded=True, seeds=(2, 3)),
+    Check("calendar_check", [CALENDAR, CLERK], [["calendar_check.py", built(CALENDAR), built(CLERK)]],
+          "the calendar is what clerk_office says", "20 s", quick=True, seeded=True, seeds=(2, 3)),
     Check("races_check", [CLERK], [["races_check.py", built(CLERK)]],
           "some order explains each run of clerks", "5 min", seeded=True),
     Check("derivations_check", [MEMO], [["derivations_check.py", built(MEMO)]],

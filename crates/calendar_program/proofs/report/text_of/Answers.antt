@@ -1,0 +1,7 @@
+use Rattle.calendar_program.proofs.report.text_of.Goals as goal
+
+pub returns-in-Due : goal.returns-in-Due
+returns-in-Due c = λ docketed holds. rw c.in-Due.is (c.due_text.ensures docketed holds)
+
+pub returns-in-Week : goal.returns-in-Week
+returns-in-Week c = λ docketed holds. rw c.in-Week.is (c.week_text.ensures docketed holds)

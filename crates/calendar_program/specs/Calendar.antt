@@ -1,0 +1,62 @@
+-- What is written of a docket after all its rows.
+use Rattle.std.specs.Prelude.{◌≡◌, ℕ, ℤ, List, [], ◌++◌, Option, Some, None, codes, map, string_bytes, MatchResult}
+use Rattle.std.specs.declared.alloc.Global.{Global}
+use Rattle.std.specs.Prelude.{String}
+use Rattle.court_days.specs.Words.{CourtView, file_of}
+use Rattle.docket_rows.specs.Words.{Rows, opening_rows, setup_of}
+use Rattle.docket_selection.specs.declared.choice.Choice.{Choice}
+use Rattle.docket_selection.specs.declared.item.DueItem.{DueItem}
+use Rattle.docket_selection.specs.Words.{IsDue, day_bookings, week_days}
+use Rattle.calendar_texts.specs.Words.{due_text, week_text}
+use Rattle.office_run.specs.Words.{docketed_after}
+use Rattle.office_streams.specs.Words.{Input}
+use Rattle.calendar_program.specs.declared.asked.Asked.{Asked}
+use Rattle.calendar_program.specs.declared.chosen.Chosen.{Chosen}
+use Rattle.calendar_program.specs.declared.chosen.Chosen.TheVariants.{Due, Week}
+use Rattle.calendar_program.specs.declared.chosen.Unknown.{Unknown}
+use Rattle.calendar_program.specs.declared.chosen.Unknown.TheVariants.{Judge, From, To, Of}
+use Rattle.calendar_program.specs.Chosen.{chosen_of}
+
+-- the text of what is due: a line for each item of the list of what is due
+pub record IsDueText (court : CourtView) (docketed : Rows) (choice : Choice) (text : List ℕ) : Type 0 where
+  pub items : List DueItem
+  pub due : IsDue (setup_of court) docketed choice items
+  pub lines : text ≡ due_text court choice items
+
+-- the text of the week of the judge in which the day is: of the bookings that the docket shows on each of its days
+abbrev pub week_text_of : CourtView → (docketed : Rows) → (judge : ℕ) → (day : ℤ) → List ℕ
+week_text_of court docketed judge day = week_text court judge (map (day_bookings (setup_of court) docketed judge) (week_days day))
+
+-- the text of what is chosen
+abbrev pub IsTextOf : CourtView → (docketed : Rows) → Chosen → List ℕ → Type 0
+IsTextOf court docketed (Due choice) text = IsDueText court docketed choice text
+IsTextOf court docketed (Week judge day) text = text ≡ week_text_of court docketed judge day
+
+-- the text of a word, where it was given
+abbrev pub word_given : Option (String Global) → List ℕ
+word_given (Some word) = string_bytes word
+word_given None = []
+
+-- the line that names a text which says nothing of the court
+abbrev pub no_judge : Option (String Global) → List ℕ
+no_judge word = codes "court_calendar: no judge is named '" ++ word_given word ++ codes "' in the court's file\n"
+
+abbrev pub no_day : Option (String Global) → List ℕ
+no_day word = codes "court_calendar: '" ++ word_given word ++ codes "' is no day: write one as 2025-09-15\n"
+
+abbrev pub unknown_line : Asked → Unknown → List ℕ
+unknown_line asked Judge = no_judge asked.judge
+unknown_line asked From = no_day asked.from
+unknown_line asked To = no_day asked.to
+unknown_line asked Of = no_day asked.of
+
+-- the text of what is chosen, or the line of what says nothing of the court
+abbrev pub IsCalendar : Asked → CourtView → (docketed : Rows) → List ℕ → Type 0
+IsCalendar asked court docketed text =
+    MatchResult (chosen_of court asked) (λ chosen. IsTextOf court docketed chosen text) (λ unknown. text ≡ unknown_line asked unknown)
+
+-- the text of an input, in the court whose file it has: of what is docketed after all its rows
+pub record IsCalendarOf (asked : Asked) (input : Input) (text : List ℕ) : Type 0 where
+  pub court : CourtView
+  pub is_court : file_of court ≡ input.file
+  pub is_calendar : IsCalendar asked court (docketed_after (setup_of court) (opening_rows (setup_of court)) input.rows) text

@@ -1,0 +1,57 @@
+-- What is chosen of a court by what was asked for.
+use Rattle.std.specs.Prelude.{ℕ, ℤ, List, Option, Some, None, Result, Ok, Err, option_map, string_bytes}
+use Rattle.std.specs.Option.{ok_or, option_map_or}
+use Rattle.court_clock.specs.Words.{day_of_text}
+use Rattle.court_days.specs.Words.{CourtView}
+use Rattle.court_file_text.specs.Words.{name_index}
+use Rattle.calendar_program.specs.declared.asked.Asked.{Asked}
+use Rattle.calendar_program.specs.declared.asked.Task.TheVariants as task
+use Rattle.calendar_program.specs.declared.asked.Task.{Task}
+use Rattle.calendar_program.specs.declared.chosen.Chosen.{Chosen}
+use Rattle.calendar_program.specs.declared.chosen.Chosen.TheVariants.{Due, Week}
+use Rattle.calendar_program.specs.declared.chosen.Unknown.{Unknown}
+use Rattle.calendar_program.specs.declared.chosen.Unknown.TheVariants.{Judge, From, To, Of}
+
+infixl 10 ◌>>=◌
+abbrev pub ◌>>=◌ : {A B : Type 0} → Result A Unknown → (A → Result B Unknown) → Result B Unknown
+(Ok x) >>= more = more x
+(Err unknown) >>= more = Err unknown
+
+-- the judge of that name, or any judge where none is asked for
+abbrev pub judge_asked : CourtView → (name : Option (List ℕ)) → Result (Option ℕ) Unknown
+judge_asked court (Some name) = option_map_or (λ judge. Ok (Some judge)) (name_index court.judges name) (Err Judge)
+judge_asked court None = Ok None
+
+-- the judge of that name, who has to be given
+abbrev pub judge_given : CourtView → (name : Option (List ℕ)) → Result ℕ Unknown
+judge_given court name = do
+  judge ← judge_asked court name
+  ok_or judge Judge
+
+-- the day that the text writes, or another where none is asked for
+abbrev pub day_asked : (text : Option (List ℕ)) → (other : ℤ) → Unknown → Result ℤ Unknown
+day_asked (Some text) other unknown = ok_or (day_of_text text) unknown
+day_asked None other unknown = Ok other
+
+-- what is due of any judge, any case and all days of the court's file, as far as nothing else is asked for
+abbrev pub due_chosen : CourtView → Asked → Result Chosen Unknown
+due_chosen court asked = do
+  judge ← judge_asked court (option_map string_bytes asked.judge)
+  first ← day_asked (option_map string_bytes asked.from) court.days.from From
+  last ← day_asked (option_map string_bytes asked.to) court.days.to To
+  Ok (Due (record { judge = judge; case = asked.case; from = first; to = last }))
+
+-- the week of the judge in which the day is
+abbrev pub week_chosen : CourtView → Asked → Result Chosen Unknown
+week_chosen court asked = do
+  judge ← judge_given court (option_map string_bytes asked.judge)
+  day ← day_asked (option_map string_bytes asked.of) court.days.from Of
+  Ok (Week judge day)
+
+abbrev pub chosen_by : Task → CourtView → Asked → Result Chosen Unknown
+chosen_by task.Due court asked = due_chosen court asked
+chosen_by task.Week court asked = week_chosen court asked
+
+-- what is chosen, or which text says nothing of the court
+unfoldable pub chosen_of : CourtView → Asked → Result Chosen Unknown
+chosen_of court asked = chosen_by asked.task court asked

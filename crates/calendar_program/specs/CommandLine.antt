@@ -1,0 +1,40 @@
+-- What the program's command line may have, as `clap` reads it.
+use Rattle.std.specs.Prelude.{pos, Bool, Some, true, false, [], ◌∷◌, codes}
+use Rattle.clap.specs.Words.{App, Rule, Shape, Text, new_rule, with_subcommand}
+use Rattle.clap.specs.Simple.{new_shape}
+use Rattle.clap.specs.declared.builder.action.ArgAction.TheVariants.{Set}
+use Rattle.clap.specs.declared.builder.value_parser.ValueParser.TheVariants.{Signed}
+
+-- `--NAME DAY`, once at most, and once where it has to be given
+abbrev pub day_rule : (name : Text) → (needed : Bool) → Rule
+day_rule name needed = record (new_rule name) { long = Some name; action = Some Set; value_names = 1; required = needed }
+
+-- `--judge NAME`, likewise
+abbrev pub judge_rule : (needed : Bool) → Rule
+judge_rule needed = record (new_rule (codes "judge")) { long = Some (codes "judge"); action = Some Set; value_names = 1; required = needed }
+
+-- `--case N`, once at most: the number of a case, of which the greatest is 4,096
+abbrev pub case_rule : Rule
+case_rule = record (new_rule (codes "case")) {
+  long = Some (codes "case");
+  action = Some Set;
+  value_names = 1;
+  parser = Some (Signed (pos 1) (pos 4096));
+}
+
+abbrev pub due_shape : Shape
+due_shape = record (new_shape (codes "due")) { rules = day_rule (codes "from") false ∷ day_rule (codes "to") false ∷ judge_rule false ∷ case_rule ∷ [] }
+
+abbrev pub week_shape : Shape
+week_shape = record (new_shape (codes "week")) { rules = judge_rule true ∷ day_rule (codes "of") true ∷ [] }
+
+-- the program's name, which the words leave out, with the help and the version that `clap` adds
+abbrev pub bare_command : App
+bare_command = record {
+  top = record (new_shape (codes "court_calendar")) { no_binary_name = true; has_version = true; subcommand_required = true };
+  subs = [];
+}
+
+-- the whole: a subcommand for each format
+abbrev pub command_line : App
+command_line = with_subcommand (with_subcommand bare_command due_shape) week_shape

@@ -1,0 +1,4 @@
+pub mod Asked
+pub mod Calendar
+pub mod Chosen
+pub mod CommandLine

@@ -1,0 +1,14 @@
+//! What the court's calendar reads of its words, and what it writes of a docket after all its rows.
+#![tactic(auto)]
+
+mod asked;
+mod chosen;
+mod command;
+mod docket;
+mod due;
+mod program;
+mod report;
+mod week;
+
+pub use asked::{Asked, Task};
+pub use program::CourtCalendar;

@@ -1,0 +1,113 @@
+//! The calendar, as what is written of a run.
+
+ghost use Rattle.std.specs.Prelude.{◌≡◌, ◌++◌, string_bytes, IfOk};
+ghost use Rattle.docket_rows.specs.Words.{Rows, opening_rows, setup_of};
+ghost use Rattle.office_run.specs.Words.{Holds, docketed_after};
+ghost use Rattle.calendar_program.specs.Calendar.{IsCalendar, IsTextOf, no_day, no_judge, unknown_line, word_given};
+
+use crate::asked::Asked;
+use crate::chosen::{Chosen, Unknown, chosen_of};
+use crate::docket::docket_after;
+use crate::due::due_text;
+use crate::week::week_text;
+use court_days::Court;
+use docket_core::Docket;
+use office_rows::Row;
+use office_streams::{CheckedInput, Report};
+use std::alloc::{AllocError, Global};
+use std::sync::Wait;
+use std::thread::Threads;
+
+impl Report for Asked {
+    ghost use Rattle.calendar_program.specs.Calendar.{IsCalendarOf};
+
+    ghost clerk_count = { λ asked. 1 };
+
+    // The names of holidays are in no text.
+    ghost is_text = { λ asked file. IsCalendarOf asked };
+
+    fn clerks(&self) -> u8 {
+        1
+    }
+
+    fn text<H: Threads + Wait + Sync>(
+        &self,
+        _rt: &H,
+        alloc: Global,
+        _file: &[u8],
+        checked: CheckedInput,
+    ) -> Result<Vec<u8>, AllocError> {
+        Ok(calendar_of(alloc, &checked.court, checked.rows.as_slice(), self)?.into_bytes())
+    }
+}
+
+/// What was asked for of the court's docket after all rows, or a line that says which text says nothing of the court.
+/// `Err` says that memory ran out.
+fn calendar_of(
+    alloc: Global,
+    court: &Court,
+    rows: &[Row],
+    asked: &Asked,
+) -> Result<String, AllocError>
+    ensures { IfOk result (λ text. IsCalendar asked.now court.now (docketed_after (setup_of court.now) (opening_rows (setup_of court.now)) rows.now) (string_bytes text)) }
+{
+    match chosen_of(court, asked) {
+        Ok(chosen) => {
+            let docket = docket_after(alloc, court, rows)?;
+            text_of(alloc, court, &docket, &chosen)
+        }
+        Err(unknown) => unknown_line(alloc, asked, unknown),
+    }
+}
+
+/// The text of what is chosen.
+fn text_of(
+    alloc: Global,
+    court: &Court,
+    docket: &Docket,
+    chosen: &Chosen,
+) -> Result<String, AllocError>
+    requires court { docket.now.setup ≡ setup_of court.now }
+    ensures { (docketed : Rows) → Holds (setup_of court.now) docket.now docketed → IfOk result (λ text. IsTextOf court.now docketed chosen.now (string_bytes text)) }
+{
+    match chosen {
+        Chosen::Due(choice) => due_text(alloc, court, docket, choice),
+        Chosen::Week(judge, day) => week_text(alloc, court, docket, *judge, *day),
+    }
+}
+
+/// The line of a text that says nothing of the court.
+fn unknown_line(alloc: Global, asked: &Asked, unknown: Unknown) -> Result<String, AllocError>
+    ensures { IfOk result (λ line. string_bytes line ≡ unknown_line asked.now unknown) }
+{
+    match unknown {
+        Unknown::Judge => no_judge(alloc, &asked.judge),
+        Unknown::From => no_day(alloc, &asked.from),
+        Unknown::To => no_day(alloc, &asked.to),
+        Unknown::Of => no_day(alloc, &asked.of),
+    }
+}
+
+fn no_judge(alloc: Global, word: &Option<String>) -> Result<String, AllocError>
+    ensures { IfOk result (λ line. string_bytes line ≡ no_judge word.now) }
+{
+    let word = word_given(word);
+    format!(in alloc; "court_calendar: no judge is named '{word}' in the court's file\n")
+}
+
+fn no_day(alloc: Global, word: &Option<String>) -> Result<String, AllocError>
+    ensures { IfOk result (λ line. string_bytes line ≡ no_day word.now) }
+{
+    let word = word_given(word);
+    format!(in alloc; "court_calendar: '{word}' is no day: write one as 2025-09-15\n")
+}
+
+/// The text of a word, where it was given.
+fn word_given(word: &Option<String>) -> &str
+    ensures { result.now ≡ word_given word.now }
+{
+    match word {
+        Some(word) => word.as_str(),
+        None => "",
+    }
+}

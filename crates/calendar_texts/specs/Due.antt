@@ -1,0 +1,56 @@
+-- What is due, by day.
+use Rattle.std.specs.Prelude.{ℕ, ℤ, Bool, false, List, [], ◌∷◌, ◌++◌, Option, Some, None, codes, if◌then◌else◌}
+use Rattle.std.specs.Fmt.{decimal}
+use Rattle.std.specs.Option.{option_map_or}
+use Rattle.std.specs.Ordering.{int_eq}
+use Rattle.court_days.specs.Words.{CourtView}
+use Rattle.docket_selection.specs.declared.choice.Choice.{Choice}
+use Rattle.docket_selection.specs.declared.item.DueItem.{DueItem}
+use Rattle.office_texts.specs.Words.{name_of}
+use Rattle.calendar_texts.specs.Days.{whole_day}
+use Rattle.calendar_texts.specs.Items.{item_line}
+use Rattle.calendar_texts.specs.Times.{minute_time}
+
+abbrev pub judge_words : CourtView → Option ℕ → List ℕ
+judge_words court (Some judge) = codes ", judge " ++ name_of court.judges judge
+judge_words court None = []
+
+abbrev pub case_words : Option ℕ → List ℕ
+case_words (Some case) = codes ", case " ++ decimal case
+case_words None = []
+
+-- `Due from Mon 2025-09-01 to Sun 2025-09-07, judge Ames, case 3`
+unfoldable pub heading : CourtView → Choice → List ℕ
+heading court choice =
+    codes "Due from " ++ whole_day choice.from ++ codes " to " ++ whole_day choice.to ++ judge_words court choice.judge ++ case_words choice.case ++ 10 ∷ []
+
+unfoldable pub closing_front : List ℕ
+closing_front = codes "Filing on paper ends at "
+
+unfoldable pub closing_back : List ℕ
+closing_back = codes ", when the clerk's office closes.\n"
+
+-- a last day ends for filing on paper when the clerk's office closes (Fed. R. Civ. P. 6(a)(4)(B))
+unfoldable pub closing_line : CourtView → List ℕ
+closing_line court = closing_front ++ minute_time court.clock.closes ++ closing_back
+
+-- the two are one day
+abbrev pub is_day_of : (before : Option ℤ) → (day : ℤ) → Bool
+is_day_of before day = option_map_or (λ b. int_eq b day) before false
+
+-- a line for the day, unless it is that of the item before
+abbrev pub day_line_if_new : (before : Option ℤ) → (day : ℤ) → List ℕ
+day_line_if_new before day = if is_day_of before day then [] else codes "\n" ++ whole_day day ++ codes "\n"
+
+-- a line for each item, in the order of the list, and one for each day before the first item of it
+unfoldable pub lines_after : CourtView → (before : Option ℤ) → List DueItem → List ℕ
+lines_after court before [] = []
+lines_after court before (item ∷ items) = day_line_if_new before item.day ++ item_line court item ++ lines_after court (Some item.day) items
+
+abbrev pub lines_or_none : CourtView → List DueItem → List ℕ
+lines_or_none court [] = codes "\nNothing is due.\n"
+lines_or_none court (item ∷ items) = lines_after court None (item ∷ items)
+
+-- what was chosen, and then the items by day
+unfoldable pub due_text : CourtView → Choice → List DueItem → List ℕ
+due_text court choice items = heading court choice ++ closing_line court ++ lines_or_none court items

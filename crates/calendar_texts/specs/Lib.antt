@@ -1,0 +1,9 @@
+pub mod Days
+pub mod Due
+pub mod Grid
+pub mod Items
+pub mod Names
+pub mod Periods
+pub mod Times
+pub mod Week
+pub mod Words

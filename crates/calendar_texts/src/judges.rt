@@ -1,0 +1,62 @@
+//! The names of judges and rooms.
+
+ghost use Rattle.std.specs.Prelude.{◌≡◌, codes, ◌++◌, OnOk};
+ghost use Rattle.std.specs.List.{flat_map};
+ghost use Rattle.office_texts.specs.Words.{AddsText, name_of};
+ghost use Rattle.calendar_texts.specs.Names.{joined_name, panel_names};
+
+use court_days::Court;
+use hearing_slots::Panel;
+use std::alloc::AllocError;
+
+/// Adds the names of a panel's judges, in its order.
+#[tactic(auto, unfolding(crate::specs::Names::panel_names))]
+pub(crate) fn push_panel(text: &mut String, court: &Court, panel: &Panel) -> Result<(), AllocError>
+    ensures { OnOk result (AddsText text.old text.new (panel_names court.now panel.now)) }
+{
+    match panel.judges().split_first() {
+        Some((first, others)) => {
+            text.push_str(judge_name(court, *first))?;
+            push_joined(text, court, others)
+        }
+        None => Ok(()),
+    }
+}
+
+/// Adds the name of each judge after a `+`.
+fn push_joined(text: &mut String, court: &Court, judges: &[u8]) -> Result<(), AllocError>
+    ensures { OnOk result (AddsText text.old text.new (flat_map (joined_name court.now) judges.now)) }
+{
+    for judge in judges {
+        push_joined_name(text, court, *judge)?;
+    }
+    Ok(())
+}
+
+/// Adds the name of a judge after a `+`.
+fn push_joined_name(text: &mut String, court: &Court, judge: u8) -> Result<(), AllocError>
+    ensures { OnOk result (AddsText text.old text.new (joined_name court.now judge)) }
+{
+    text.push_str("+")?;
+    text.push_str(judge_name(court, judge))
+}
+
+/// The name of the judge, if the court has one of that number.
+pub(crate) fn judge_name(court: &Court, number: u8) -> &str
+    ensures { result.now ≡ name_of court.now.judges number }
+{
+    match court.judge_name(number) {
+        Some(name) => name,
+        None => "",
+    }
+}
+
+/// The name of the room, if the court has one of that number.
+pub(crate) fn room_name(court: &Court, number: u8) -> &str
+    ensures { result.now ≡ name_of court.now.rooms number }
+{
+    match court.room_name(number) {
+        Some(name) => name,
+        None => "",
+    }
+}

@@ -1,0 +1,11 @@
+//! The court's calendar: it reads a court's file, a line `%%` and rows from standard input, and writes what is due or a
+//! judge's week to standard output.
+#![tactic(auto)]
+
+use calendar_program::CourtCalendar;
+use office_program::{Ended, run_on_process};
+
+/// Runs the program on the process's own words and streams, and ends with its status.
+fn main(rt: HostRuntime) -> Ended {
+    run_on_process(&rt, &rt, &CourtCalendar)
+}

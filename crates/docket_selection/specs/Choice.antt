@@ -1,0 +1,32 @@
+-- Which judge, which case and which days are chosen.
+use Rattle.std.specs.Prelude.{ℕ, ◌==◌, ℤ, int_le, Bool, true, ◌&&◌, List, Option}
+use Rattle.std.specs.List.{list_any}
+use Rattle.std.specs.Option.{option_map_or}
+use Rattle.docket_rows.specs.declared.sheet.SheetHearing.{SheetHearing}
+use Rattle.docket_rows.specs.declared.sheet.SheetMotion.{SheetMotion}
+use Rattle.docket_rows.specs.Words.{has_one, sits}
+use Rattle.docket_selection.specs.declared.choice.Choice.{Choice}
+
+-- the case of that number, or any case
+abbrev pub is_case_chosen : Choice → (case : ℕ) → Bool
+is_case_chosen choice case = option_map_or (λ chosen. chosen == case) choice.case true
+
+-- the days from the first to the last
+abbrev pub is_day_chosen : Choice → (day : ℤ) → Bool
+is_day_chosen choice day = int_le choice.from day && int_le day choice.to
+
+-- the panels in which that judge sits, or any panel
+abbrev pub is_panel_chosen : Choice → (panel : List ℕ) → Bool
+is_panel_chosen choice panel = option_map_or (λ judge. sits judge panel) choice.judge true
+
+-- there is a hearing, and the judge is in its panel
+abbrev pub sits_in : (judge : ℕ) → Option SheetHearing → Bool
+sits_in judge hearing = has_one (λ (h : SheetHearing). sits judge h.hearing.judges) hearing
+
+-- some hearing of these motions is before the judge
+abbrev pub sits_in_any : (judge : ℕ) → List SheetMotion → Bool
+sits_in_any judge motions = list_any (λ (m : SheetMotion). sits_in judge m.hearing) motions
+
+-- the cases that have a hearing before that judge, or any case
+abbrev pub is_before : Choice → List SheetMotion → Bool
+is_before choice motions = option_map_or (λ judge. sits_in_any judge motions) choice.judge true

@@ -1,0 +1,6 @@
+pub mod Bookings
+pub mod Choice
+pub mod Due
+pub mod Items
+pub mod Sheets
+pub mod Words

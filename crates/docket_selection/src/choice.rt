@@ -1,0 +1,84 @@
+//! Which judge, which case and which days are chosen.
+
+ghost use Rattle.std.specs.Prelude.{◌≡◌};
+ghost use Rattle.docket_rows.specs.Words.{sits};
+ghost use Rattle.docket_selection.specs.Choice.{is_before, is_case_chosen, is_day_chosen, is_panel_chosen, sits_in, sits_in_any};
+
+use court_clock::Day;
+use docket_rows::{SheetHearing, SheetMotion};
+use hearing_slots::Panel;
+
+/// What is chosen of a docket. Each part narrows what the others leave.
+#[derive(Clone, Copy, Debug, PartialEq, Eq)]
+pub struct Choice {
+    /// The number of a judge in the court's file: hearings before that judge, and the deadlines of the cases in which one
+    /// is set. None: any judge.
+    pub judge: Option<u8>,
+    /// The number of a case. None: any case.
+    pub case: Option<u32>,
+    /// The first day.
+    pub from: Day,
+    /// The last day.
+    pub to: Day,
+}
+
+/// Whether the case is chosen.
+pub(crate) fn is_case_chosen(choice: &Choice, case: u32) -> bool
+    ensures { result ≡ is_case_chosen choice.now case }
+{
+    match choice.case {
+        Some(chosen) => chosen == case,
+        None => true,
+    }
+}
+
+/// Whether the day is chosen.
+pub(crate) fn is_day_chosen(choice: &Choice, day: Day) -> bool
+    ensures { result ≡ is_day_chosen choice.now day }
+{
+    choice.from.number() <= day.number() && day.number() <= choice.to.number()
+}
+
+/// Whether a judge of the panel is chosen.
+pub(crate) fn is_panel_chosen(choice: &Choice, panel: &Panel) -> bool
+    ensures { result ≡ is_panel_chosen choice.now panel.now }
+{
+    match choice.judge {
+        Some(judge) => sits(judge, panel),
+        None => true,
+    }
+}
+
+/// Whether a hearing of these motions is before the chosen judge.
+pub(crate) fn is_before(choice: &Choice, motions: &[SheetMotion]) -> bool
+    ensures { result ≡ is_before choice.now motions.now }
+{
+    match choice.judge {
+        Some(judge) => sits_in_any(judge, motions),
+        None => true,
+    }
+}
+
+/// Whether the judge is in the panel of a hearing of these motions.
+fn sits_in_any(judge: u8, motions: &[SheetMotion]) -> bool
+    ensures { result ≡ sits_in_any judge motions.now }
+{
+    motions.iter().any(|motion| sits_in(judge, &motion.hearing))
+}
+
+/// Whether there is a hearing, and the judge is in its panel.
+fn sits_in(judge: u8, hearing: &Option<SheetHearing>) -> bool
+    ensures { result ≡ sits_in judge hearing.now }
+{
+    match hearing {
+        Some(set) => sits(judge, &set.hearing.judges),
+        None => false,
+    }
+}
+
+/// Whether the judge is in the panel.
+fn sits(judge: u8, panel: &Panel) -> bool
+    ensures { result ≡ sits judge panel.now }
+{
+    panel.judges().contains(&judge)
+}

@@ -1,0 +1,153 @@
+//! What is due within the chosen days.
+
+ghost use Rattle.std.specs.Prelude.{◌≡◌, ◌++◌, IfOk, OnOk};
+ghost use Rattle.std.specs.List.{filter_map, flat_map};
+ghost use Rattle.docket_rows.specs.Words.{Rows, setup_of};
+ghost use Rattle.docket_core.specs.Words.{StandsFor};
+ghost use Rattle.docket_selection.specs.Choice.{is_before};
+ghost use Rattle.docket_selection.specs.Due.{AreInOrder, IsDue, due_deadline, due_hearing, due_in, due_only, is_due, is_matter_chosen};
+
+use crate::choice::{Choice, is_before, is_case_chosen, is_day_chosen, is_panel_chosen};
+use crate::item::{DueItem, DueTypes, Matter, deadline_item, hearing_item, is_met, time_of};
+use crate::lists::push_if;
+use crate::sheets::sheets_of;
+use court_clock::Clock;
+use court_days::Court;
+use docket_core::Docket;
+use docket_rows::{Sheet, SheetDeadline, SheetMotion};
+use std::alloc::{AllocError, Global};
+
+/// The deadlines with no timely act that end within the chosen days, and the hearings within them, by time. `Err` says
+/// that memory ran out.
+pub fn due_of(
+    alloc: Global,
+    court: &Court,
+    docket: &Docket,
+    choice: &Choice,
+) -> Result<Vec<DueItem>, AllocError>
+    requires court { docket.now.setup ≡ setup_of court.now }
+    ensures { (docketed : Rows) → StandsFor docket.now docketed → IfOk result (λ list. IsDue (setup_of court.now) docketed choice.now list.items) }
+{
+    let _types: DueTypes = None;
+    let sheets = sheets_of(alloc, docket)?;
+    let items = due_among(alloc, court.clock(), &sheets, choice)?;
+    in_order(items)
+}
+
+/// The items put in order of their times.
+fn in_order(items: Vec<DueItem>) -> Result<Vec<DueItem>, AllocError>
+    ensures { IfOk result (λ list. AreInOrder items.items list.items) }
+{
+    let mut list = items;
+    list.sort_by_key(|item| time_of(item))?;
+    Ok(list)
+}
+
+/// What is due of the cases of these sheets.
+fn due_among(
+    alloc: Global,
+    clock: &Clock,
+    sheets: &[Sheet],
+    choice: &Choice,
+) -> Result<Vec<DueItem>, AllocError>
+    ensures { IfOk result (λ list. list.items ≡ flat_map (due_in clock.now choice.now) sheets.now) }
+{
+    let _types: DueTypes = None;
+    let mut list = Vec::new(alloc);
+    for sheet in sheets {
+        push_due_in(&mut list, clock, sheet, choice)?;
+    }
+    Ok(list)
+}
+
+/// Adds what is due of the case of a sheet.
+#[tactic(auto, unfolding(crate::specs::Due::due_in))]
+fn push_due_in(
+    list: &mut Vec<DueItem>,
+    clock: &Clock,
+    sheet: &Sheet,
+    choice: &Choice,
+) -> Result<(), AllocError>
+    ensures { OnOk result (list.new.items ≡ list.old.items ++ due_in clock.now choice.now sheet.now) }
+{
+    let _types: DueTypes = None;
+    let before = is_before(choice, sheet.motions.as_slice());
+    push_deadlines(
+        list,
+        clock,
+        sheet.case,
+        sheet.deadlines.as_slice(),
+        choice,
+        before,
+    )?;
+    push_hearings(list, sheet.case, sheet.motions.as_slice(), choice, before)
+}
+
+/// Adds the deadlines that are due.
+fn push_deadlines(
+    list: &mut Vec<DueItem>,
+    clock: &Clock,
+    case: u32,
+    deadlines: &[SheetDeadline],
+    choice: &Choice,
+    before: bool,
+) -> Result<(), AllocError>
+    ensures { OnOk result (list.new.items ≡ list.old.items ++ filter_map (due_deadline clock.now case choice.now before) deadlines.now) }
+{
+    let _types: DueTypes = None;
+    for deadline in deadlines {
+        let due = due_only(choice, before, deadline_item(clock, case, deadline));
+        push_if(list, due)?;
+    }
+    Ok(())
+}
+
+/// Adds the hearings that are due.
+fn push_hearings(
+    list: &mut Vec<DueItem>,
+    case: u32,
+    motions: &[SheetMotion],
+    choice: &Choice,
+    before: bool,
+) -> Result<(), AllocError>
+    ensures { OnOk result (list.new.items ≡ list.old.items ++ filter_map (due_hearing case choice.now before) motions.now) }
+{
+    let _types: DueTypes = None;
+    for motion in motions {
+        let due = due_only(choice, before, hearing_item(case, motion));
+        push_if(list, due)?;
+    }
+    Ok(())
+}
+
+/// The item, if there is one and it is due.
+fn due_only(choice: &Choice, before: bool, item: Option<DueItem>) -> Option<DueItem>
+    ensures { result ≡ due_only choice.now before item }
+{
+    let item = item?;
+    if is_due(choice, before, &item) {
+        Some(item)
+    } else {
+        None
+    }
+}
+
+/// Whether an item is chosen and due. `before` says whether its case has a hearing before the chosen judge.
+fn is_due(choice: &Choice, before: bool, item: &DueItem) -> bool
+    ensures { result ≡ is_due choice.now before item.now }
+{
+    is_case_chosen(choice, item.case)
+        && is_day_chosen(choice, item.day)
+        && !is_met(&item.matter)
+        && is_matter_chosen(choice, before, &item.matter)
+}
+
+/// Whether a hearing is before the chosen judge, or a deadline in a case that has one.
+fn is_matter_chosen(choice: &Choice, before: bool, matter: &Matter) -> bool
+    ensures { result ≡ is_matter_chosen choice.now before matter.now }
+{
+    match matter {
+        Matter::Deadline(_) => before,
+        Matter::Hearing(set) => is_panel_chosen(choice, &set.hearing.judges),
+    }
+}

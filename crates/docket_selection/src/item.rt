@@ -1,0 +1,126 @@
+//! What is due: the end of a deadline's time, or a hearing.
+
+ghost use Rattle.std.specs.Prelude.{◌≡◌, option_map};
+ghost use Rattle.court_clock.specs.Words.{CivilTime, second_of};
+ghost use Rattle.docket_selection.specs.Items.{deadline_item, end_of, hearing_item, is_met, set_item, time_of};
+
+use court_clock::{Clock, Day};
+use docket_rows::{SheetDeadline, SheetHearing, SheetMotion, State};
+use rule_periods::Period;
+use rule6::Shown;
+
+/// A deadline whose time ends on a day that is covered.
+#[derive(Clone, Copy, Debug, PartialEq, Eq)]
+pub struct DueDeadline {
+    /// Its period.
+    pub period: Period,
+    /// When its time ends, by the docket as it is now: with a last day or at an instant, never beyond.
+    pub shown: Shown,
+    /// Whether it was met.
+    pub state: State,
+}
+
+/// What there is at a time.
+#[derive(Clone, Copy, Debug, PartialEq, Eq)]
+pub enum Matter {
+    /// The time of a deadline ends.
+    Deadline(DueDeadline),
+    /// A hearing begins.
+    Hearing(SheetHearing),
+}
+
+/// A deadline or a hearing of a case, with its time.
+#[derive(Clone, Copy, Debug, PartialEq, Eq)]
+pub struct DueItem {
+    /// The last day of the deadline, the day on which its hours end, or that of the hearing.
+    pub day: Day,
+    /// The second of the day, counted from midnight: 0 for a deadline that ends with its last day, else when its hours
+    /// end or the hearing begins.
+    pub second: u32,
+    /// The number of the case.
+    pub case: u32,
+    /// The number of the deadline, or of the motion that is heard, in its case.
+    pub number: u32,
+    /// What there is.
+    pub matter: Matter,
+}
+
+/// The types inside an item. The checker finds them only where they have names, so a function that has a `Vec` of items has
+/// a variable of this type.
+pub type DueTypes = Option<(Matter, DueDeadline, Period, Shown, State, SheetHearing)>;
+
+/// The item of a deadline. None where its time ends beyond the days covered.
+pub(crate) fn deadline_item(clock: &Clock, case: u32, deadline: &SheetDeadline) -> Option<DueItem>
+    ensures { result ≡ deadline_item clock.now case deadline.now }
+{
+    let (day, second) = end_of(clock, &deadline.shown)?;
+    Some(DueItem {
+        day,
+        second,
+        case,
+        number: deadline.number,
+        matter: Matter::Deadline(DueDeadline {
+            period: deadline.row.period(),
+            shown: deadline.shown,
+            state: deadline.state,
+        }),
+    })
+}
+
+/// The day and the second at which the end of a deadline is listed.
+fn end_of(clock: &Clock, shown: &Shown) -> Option<(Day, u32)>
+    ensures { option_map (λ c. record { day = c.0; second = c.1 }) result ≡ end_of clock.now shown.now }
+{
+    match *shown {
+        Shown::Last { day, act: _ } => Some((day, 0)),
+        Shown::Until(end) => clock.civil_of(end),
+        Shown::Beyond => None,
+    }
+}
+
+/// The item of a motion's hearing, if one is set.
+pub(crate) fn hearing_item(case: u32, motion: &SheetMotion) -> Option<DueItem>
+    ensures { result ≡ hearing_item case motion.now }
+{
+    match &motion.hearing {
+        Some(set) => Some(set_item(case, motion.number, set)),
+        None => None,
+    }
+}
+
+/// The item of the hearing of the motion of that number.
+fn set_item(case: u32, number: u32, set: &SheetHearing) -> DueItem
+    ensures { result ≡ set_item case number set.now }
+{
+    DueItem {
+        day: set.hearing.day,
+        second: 900 * u32::from(set.hearing.first),
+        case,
+        number,
+        matter: Matter::Hearing(*set),
+    }
+}
+
+/// Whether a timely act is recorded, so that nothing is due.
+pub(crate) fn is_met(matter: &Matter) -> bool
+    ensures { result ≡ is_met matter.now }
+{
+    match matter {
+        Matter::Deadline(deadline) => deadline.state == State::Timely,
+        Matter::Hearing(_) => false,
+    }
+}
+
+/// The time of an item, in seconds from the midnight that begins 1970-01-01 on the court's clock.
+pub(crate) fn time_of(item: &DueItem) -> i64
+    ensures { result ≡ time_of item.now }
+{
+    second_of(item.day, item.second)
+}
+
+/// A second of a day, counted from the same midnight.
+fn second_of(day: Day, second: u32) -> i64
+    ensures { result ≡ second_of day second }
+{
+    i64::from(day.number()) * 86_400 + i64::from(second)
+}

@@ -1,0 +1,51 @@
+//! The sheets of the open cases.
+
+ghost use Rattle.std.specs.Prelude.{◌≡◌, ◌+◌, ◌≤◌, ◌++◌, IfOk, OnOk};
+ghost use Rattle.docket_rows.specs.Words.{Rows};
+ghost use Rattle.docket_core.specs.Words.{StandsFor};
+ghost use Rattle.docket_selection.specs.Sheets.{open_sheets, sheet_seen, sheets_from};
+
+use docket_core::Docket;
+use docket_rows::{LAST_CASE, Query, Sheet, View};
+use std::alloc::{AllocError, Global};
+
+/// The sheets of all open cases, by their numbers. `Err` says that memory ran out.
+pub fn sheets_of(alloc: Global, docket: &Docket) -> Result<Vec<Sheet>, AllocError>
+    ensures { (docketed : Rows) → StandsFor docket.now docketed → IfOk result (λ list. list.items ≡ open_sheets docket.now.setup docketed) }
+{
+    let mut list = Vec::new(alloc);
+    push_sheets(alloc, &mut list, docket, 1, LAST_CASE)?;
+    Ok(list)
+}
+
+/// Adds the sheets of those of `count` cases that are open, from the first number on.
+fn push_sheets(
+    alloc: Global,
+    list: &mut Vec<Sheet>,
+    docket: &Docket,
+    first: u32,
+    count: u32,
+) -> Result<(), AllocError>
+    requires numbers { first + count ≤ 5_000 }
+    ensures { (docketed : Rows) → StandsFor docket.now docketed → OnOk result (list.new.items ≡ list.old.items ++ sheets_from docket.now.setup docketed first count) }
+{
+    for case in first..first + count {
+        let view = docket.show(alloc, &Query::Sheet(case))?;
+        push_sheet(list, view)?;
+    }
+    Ok(())
+}
+
+/// Adds the sheet, where the view is one.
+#[tactic(auto, using(crate::proofs::DueLemmas::nothing_more))]
+fn push_sheet(list: &mut Vec<Sheet>, view: View) -> Result<(), AllocError>
+    ensures { OnOk result (list.new.items ≡ list.old.items ++ sheet_seen view) }
+{
+    match view {
+        View::Sheet(sheet) => {
+            list.push(sheet)?;
+            Ok(())
+        }
+        _ => Ok(()),
+    }
+}
