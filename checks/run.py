@@ -45,8 +45,7 @@ class Check(NamedTuple):
 
 
 ALL = [
-CLERK, MEMO, DESK, FILE = "clerk_office", "deadline_memo", "docket_desk", "court_file"
-CALENDAR, STEPS, OFFICE = "court_calendar", "stored_steps", "stored_office"
+    Check("docs_check", [CLERK, MEMO, DESK, FILE, CALENDAR], [["docs_check.py"]],
           "the examples, and commands that documents show", "5 s", quick=True),
     Check("runs_check", [CLERK], [["runs_join.py", "--check"], ["runs_check.py", built(CLERK)]],
           "all whole runs of runs/, byte by byte", "10 s", quick=True),
