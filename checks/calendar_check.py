@@ -192,7 +192,8 @@ def differs(chance, calendar, clerk, data):
 
 def main():
     calendar, clerk = sys.argv[1:3]
-    seed, count = (int(word) for word in (sys.argv[3:] + ["1", "200"])[:2]) if len(sys.argv) < 5 else map(int, sys.argv[3:5])
+    seed = int(sys.argv[3]) if len(sys.argv) > 3 else 1
+    count = int(sys.argv[4]) if len(sys.argv) > 4 else 200
     compared = 0
     for number in range(count):
         chance = random.Random("calendar {} {}".format(seed, number))
