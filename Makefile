@@ -12,7 +12,7 @@ CHECKS   := $(shell python3 checks/run.py --names)
 SEED     :=
 COUNT    :=
 
-.PHONY: build try run memo desk court_file calendar test times bench check check-long help $(CHECKS)
+.PHONY: build try run memo desk court_file calendar test times bench bench-desk check check-long help $(CHECKS)
 
 # Proves the program and the libraries below it, and builds it at $(PROGRAM), with a line for each crate that is proved.
 # Where nothing has changed it proves nothing anew.
@@ -54,6 +54,10 @@ times:
 bench: build
 	@python3 bench/bench.py $(PROGRAM)
 
+# The desk, on the disk of this folder, beside a bare write and sync and beside SQLite.
+bench-desk: desk
+	@python3 bench/desk_bench.py crates/docket_desk/out/docket_desk
+
 check:
 	@python3 checks/run.py --quick
 
@@ -74,6 +78,7 @@ help:
 	@echo "make test        the gate (rt ci): proves and tests all that no earlier run on this machine has passed"
 	@echo "make times       the gate from nothing, with a table of the seconds of each crate; it needs Linux"
 	@echo "make bench       prints the program's rows per second and peak memory; it needs Linux"
+	@echo "make bench-desk  the desk's rows per second and the time of one row, beside SQLite; it needs Linux"
 	@echo "make check       all quick checks beside the gate"
 	@echo "make check-long  the long ones"
 	@echo "Each check by itself, and about how long it takes:"

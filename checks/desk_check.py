@@ -3,165 +3,106 @@
 
     desk_check.py DESK CLERK_OFFICE [SEED [COUNT]]
 
-For each example of examples/ of one clerk, and for COUNT inputs drawn at random (20 without it): the rows are entered in
-two sessions, and the answers must be those that clerk_office begins with; what `rows` writes must be an input that
-clerk_office answers the same as the whole. Then COUNT times a session is killed at a random moment: every row that was
-answered must be kept, with its answer. Then each of the last 400 bytes of a short journal is changed: the journal must be
-refused, or hold the first of its rows. A second program must be refused the folder of one that runs. It needs Python 3.8 or later.
+The examples of examples/ of one clerk are entered in two sessions, and answered as by clerk_office. What is said of an
+empty folder, of one that has a journal, and of a second program is looked at. A question is asked beside a program that
+enters rows, and a court is given another file. Then COUNT times (300 without it) a session is ended at a random moment,
+most of them killed, as desk_kill.py does it; COUNT / 10 inputs at random are compared, as desk_compare.py does it; and a
+short journal is damaged in its last COUNT / 2 bytes, as desk_damage.py does it. It needs Python 3.8 or later.
 """
-import pathlib
 import random
-import subprocess
 import sys
 import tempfile
-import time
 
-TOP = pathlib.Path(__file__).resolve().parent.parent
+from desk_compare import check_rows, compared
+from desk_damage import damaged
+from desk_kill import killed
+from lib.desk import Desk, REFUSED, SHORT_COURT, TOP, divided, programs_of, run
+from lib.journal import courts_of, read_journal, rows_of
+
 EXAMPLES = ["smallest", "days", "deadlines", "a_day"]
-# The status of a journal that can't be opened.
-REFUSED = 6
+DIFFERS = 7
+# Another judge, and a holiday on the last day of a period that was asked for.
+OTHER_COURT = SHORT_COURT.replace(b'"Brandt"]', b'"Brandt", "Cole"]').replace(b'"2025-03-28"', b'"2025-03-28", "2025-09-02"')
 
 
-def run(words, given=b""):
-    """A program's status, output and errors."""
-    ended = subprocess.run([str(word) for word in words], input=given, stdout=subprocess.PIPE, stderr=subprocess.PIPE, check=False)
-    return ended.returncode, ended.stdout, ended.stderr
+def check_examples(programs, draw):
+    """The examples, in two sessions."""
+    for name in EXAMPLES:
+        court, rows = divided((TOP / "examples" / (name + ".txt")).read_bytes())
+        with tempfile.TemporaryDirectory() as parent:
+            assert not check_rows(Desk(programs, parent, court), rows, draw)
+    return "{} examples, answered as by clerk_office".format(len(EXAMPLES))
 
 
-def divided(text):
-    """The court's file and the rows of an input, each row with the end of its line."""
-    court, _, rows = text.partition(b"\n%%\n")
-    return court + b"\n", [row + b"\n" for row in rows.split(b"\n") if row.strip()]
+def check_folder(programs):
+    """What is said of folders: the second `open`, one with no journal, and a last line that has no end."""
+    with tempfile.TemporaryDirectory() as parent:
+        desk = Desk(programs, parent, SHORT_COURT)
+        whole = desk.journal.read_bytes()
+        ended = desk.call("open", "--court", parent + "/court.toml")
+        assert ended.status == REFUSED and b"journal already" in ended.errors, ended
+        ended = desk.call("enter", given=b"1,open,1,2025-03-03\n1,open,2,2025-03-03")
+        assert ended.status == REFUSED and ended.output == b"1 1 opened\n" and b"no end" in ended.errors, ended
+        assert desk.journal.read_bytes().startswith(whole[:-1])
+        ended = run([programs.desk, "check", parent + "/nowhere"])
+        assert ended.status != 0 and not ended.output and ended.errors.count(b"\n") == 1, ended
+    return "folders that are opened twice, aren't there, or get half a line"
 
 
-def drawn_rows(draw, count):
-    """Rows of one clerk, of which some are refused."""
-    rows = []
-    for _ in range(count):
-        case, day = draw.randint(1, 4), "2025-{:02}-{:02}".format(draw.randint(1, 12), draw.randint(1, 28))
-        rows.append(draw.choice([
-            "1,open,{},{}".format(case, day),
-            "1,start,{},{},{},,,".format(case, draw.choice(["4m", "12a1Ai", "59b", "59e"]), day),
-            "1,motion,{},{},14".format(case, day),
-            "1,sheet,{}".format(case),
-            "1,compute,59e,{},,,".format(day),
-            "1,holiday,{},state".format(day),
-        ]).encode() + b"\n")
-    return rows
+def check_second(programs):
+    """A second program is refused the folder of one that runs, but may ask beside it."""
+    with tempfile.TemporaryDirectory() as parent:
+        desk = Desk(programs, parent, SHORT_COURT)
+        with desk.session() as session:
+            session.stdin.write(b"1,open,1,2025-03-03\n")
+            session.stdin.flush()
+            assert session.stdout.readline() == b"1 1 opened\n"
+            for task in ("enter", "check", "rows"):
+                ended = desk.call(task)
+                assert ended.status == REFUSED and b"another program" in ended.errors and not ended.output, ended
+            whole = desk.journal.read_bytes()
+            ended = desk.call("ask", given=b"1,sheet,1\n1,compute,59e,2025-08-04,,,\n1,open,2,2025-03-03\n")
+            sheet, case, last, told = ended.output.splitlines()
+            assert ended.status == 0 and sheet == b"2 1 sheet" and case.startswith(b"case 1 "), ended
+            assert last == b"2 1 last 2025-09-02", ended
+            assert b"enter" in told and desk.journal.read_bytes() == whole, told
+            session.stdin.write(b"1,open,2,2025-03-03\n")
+            session.stdin.close()
+            assert session.stdout.read() == b"2 1 opened\n"
+    return "a second program is refused the folder, and asks beside it"
 
 
-class Desk:
-    """A folder with a journal, and the two programs."""
-
-    def __init__(self, desk, clerk_office, folder, court):
-        self.desk, self.clerk_office, self.folder = desk, clerk_office, folder / "desk"
-        (folder / "court.toml").write_bytes(court)
-        status, _, errors = run([desk, "open", self.folder, "--court", folder / "court.toml"])
-        assert status == 0, errors
-
-    def enter(self, rows):
-        status, output, errors = run([self.desk, "enter", self.folder], b"".join(rows))
-        assert status == 0, errors
-        return output
-
-    def rows(self):
-        status, output, errors = run([self.desk, "rows", self.folder])
-        assert status == 0, errors
-        return output
-
-    def whole(self, text):
-        status, output, errors = run([self.clerk_office], text)
-        assert status == 0, errors
-        return output
-
-
-def check_answers(programs, court, rows, draw):
-    """The answers of two sessions are those of clerk_office, and so are those to what `rows` writes."""
-    with tempfile.TemporaryDirectory() as folder:
-        desk = Desk(*programs, pathlib.Path(folder), court)
-        at = draw.randint(0, len(rows))
-        answers = desk.enter(rows[:at]) + desk.enter(rows[at:])
-        whole = desk.whole(court + b"%%\n" + b"".join(rows))
-        assert whole.startswith(answers), (answers, whole)
-        assert desk.whole(desk.rows()) == whole, desk.rows()
-
-
-def check_killed(programs, court, rows, draw):
-    """A session that is killed has kept each row that it answered. How many rows it kept, and of them answered."""
-    with tempfile.TemporaryDirectory() as folder:
-        desk = Desk(*programs, pathlib.Path(folder), court)
-        session = subprocess.Popen([str(desk.desk), "enter", str(desk.folder)], stdin=subprocess.PIPE, stdout=subprocess.PIPE)
-        try:
-            for row in rows:
-                session.stdin.write(row)
-                session.stdin.flush()
-                if draw.random() < 0.02:
-                    break
-            time.sleep(draw.random() / 20)
-        finally:
-            session.kill()
-        answers, _ = session.communicate()
-        answers = answers[:answers.rfind(b"\n") + 1]
-        kept = divided(desk.rows())[1]
-        assert kept == rows[:len(kept)]
-        whole = desk.whole(desk.rows())
-        assert whole.startswith(answers), "an answer was lost"
-        return len(kept)
-
-
-def check_damage(programs, court, rows):
-    """A journal with one byte changed is refused, or holds the first of its rows. How many were refused."""
-    refused = 0
-    with tempfile.TemporaryDirectory() as folder:
-        desk = Desk(*programs, pathlib.Path(folder), court)
-        for row in rows:
-            desk.enter([row])
-        journal = desk.folder / "journal"
-        whole = journal.read_bytes()
-        for at in range(len(whole) - 400, len(whole)):
-            journal.write_bytes(whole[:at] + bytes([whole[at] ^ 1]) + whole[at + 1:])
-            status, output, errors = run([desk.desk, "rows", desk.folder])
-            if status == REFUSED:
-                refused += 1
-                continue
-            assert status == 0, errors
-            kept = divided(output)[1]
-            assert kept == rows[:len(kept)], (at, kept)
-    return refused
-
-
-def check_second(programs, court):
-    """A second program is refused the folder of one that runs."""
-    with tempfile.TemporaryDirectory() as folder:
-        desk = Desk(*programs, pathlib.Path(folder), court)
-        session = subprocess.Popen([str(desk.desk), "enter", str(desk.folder)], stdin=subprocess.PIPE, stdout=subprocess.PIPE)
-        session.stdin.write(b"1,sheet,1\n")
-        session.stdin.flush()
-        assert session.stdout.readline()
-        status, _, errors = run([desk.desk, "check", desk.folder])
-        assert status == REFUSED and b"another program" in errors, (status, errors)
-        session.stdin.close()
-        assert session.wait() == 0
+def check_court(programs):
+    """Another court's file: it is listed what would differ, and taken only with leave; answers that were given stay."""
+    with tempfile.TemporaryDirectory() as parent:
+        desk, file = Desk(programs, parent, SHORT_COURT), parent + "/other.toml"
+        with open(file, "wb") as it:
+            it.write(OTHER_COURT)
+        first = desk.enter([b"1,compute,59e,2025-08-05,,,\n", b"1,compute,59b,2025-08-05,,,\n", b"1,compute,59e,2025-03-03,,,\n"])
+        whole = desk.journal.read_bytes()
+        ended = desk.call("court", file)
+        assert ended.status == DIFFERS and b"row 1 is kept as\n" in ended.output and b"row 3" not in ended.output, ended
+        assert desk.journal.read_bytes() == whole
+        assert desk.call("court", file, "--accept").status == 0
+        second = desk.enter([b"1,compute,59e,2025-08-05,,,\n"])
+        assert second.startswith(b"4 1 last ") and second[4:] != first.splitlines(True)[0][4:], (first, second)
+        assert desk.call("check").output.startswith(b"rows kept: 4,")
+        journal = read_journal(desk.journal.read_bytes())
+        assert courts_of(journal) == [SHORT_COURT, OTHER_COURT]
+        assert b"".join(answer for _, answer in rows_of(journal)) == first + second
+    return "another court's file is taken with leave, and the answers before it stay"
 
 
 def main(words):
-    programs = [pathlib.Path(word).resolve() for word in words[:2]]
-    draw = random.Random(int(words[2]) if len(words) > 2 else 1)
-    count = int(words[3]) if len(words) > 3 else 20
-    inputs = [divided((TOP / "examples" / (name + ".txt")).read_bytes()) for name in EXAMPLES]
-    court = inputs[-1][0]
-    for its_court, rows in inputs:
-        check_answers(programs, its_court, rows, draw)
-    for _ in range(count):
-        check_answers(programs, court, drawn_rows(draw, draw.randint(1, 40)), draw)
-    kept = sum(check_killed(programs, court, drawn_rows(draw, 200), draw) for _ in range(count))
-    check_second(programs, court)
-    refused = check_damage(programs, court, drawn_rows(draw, 6))
-    print("{} inputs answered as by clerk_office, {} sessions killed with {} rows kept, {} of 400 damaged journals refused"
-          .format(len(inputs) + count, count, kept, refused))
+    programs, draw = programs_of(words[:2]), random.Random(int(words[2]) if len(words) > 2 else 1)
+    count = int(words[3]) if len(words) > 3 else 300
+    for check in (lambda: check_examples(programs, draw), lambda: check_folder(programs), lambda: check_second(programs),
+                  lambda: check_court(programs), lambda: compared(programs, draw, count // 10),
+                  lambda: damaged(programs, draw, 12, count // 2), lambda: killed(programs, draw, count)):
+        print(check(), flush=True)
 
 
 if __name__ == "__main__":
-    if len(sys.argv) < 3:
+    if not 3 <= len(sys.argv) <= 5:
         sys.exit("usage: desk_check.py DESK CLERK_OFFICE [SEED [COUNT]]")
     main(sys.argv[1:])

@@ -9,17 +9,20 @@ may come to.
 
 In README.md, docs/, examples/ and runs/ a line of an indented block that begins with `$ ` is a command, run in a shell
 at the top of the repository; the lines below it, up to the next command or the end of the block, are what it must
-print. The rows and answers in docs/A_DAY.md must be those of examples/a_day.txt and examples/a_day.out, each once and
-in their order. The programs must be built (`make`, `make memo`). It needs Python 3.8 or later; the status is 0 where all is as is
-written.
+print. There the programs are on the PATH, and FOLDER is a new folder for each document. The rows and answers in
+docs/A_DAY.md must be those of examples/a_day.txt and examples/a_day.out, each once and in their order. The programs must
+be built (`make`, `make memo`, `make desk`). It needs Python 3.8 or later; the status is 0 where all is as is written.
 """
+import os
 import pathlib
 import re
 import subprocess
 import sys
+import tempfile
 
 TOP = pathlib.Path(__file__).resolve().parent.parent
 PROGRAMS = {".out": "crates/clerk_office/out/clerk_office", ".memo": "crates/deadline_memo/out/deadline_memo"}
+ON_PATH = [str(TOP / "crates" / name / "out") for name in ("clerk_office", "deadline_memo", "docket_desk")]
 DIVIDER = "%%\n"
 
 
@@ -43,9 +46,18 @@ def commands_in(text):
             printed.append(line[4:])
 
 
-def prints(command, wanted):
-    ran = subprocess.run(["sh", "-c", command], cwd=TOP, stdout=subprocess.PIPE, stderr=subprocess.STDOUT, check=False)
+def prints(command, wanted, surroundings):
+    ran = subprocess.run(["sh", "-c", command], cwd=TOP, stdout=subprocess.PIPE, stderr=subprocess.STDOUT, env=surroundings,
+                         check=False)
     return ran.stdout.decode() == wanted
+
+
+def commands_that_differ(path):
+    """How many commands a document has, and those that print something else."""
+    shown = list(commands_in(path.read_text()))
+    with tempfile.TemporaryDirectory() as folder:
+        surroundings = dict(os.environ, FOLDER=folder, PATH=os.pathsep.join([*ON_PATH, os.environ["PATH"]]))
+        return len(shown), [command for command, wanted in shown if not prints(command, wanted, surroundings)]
 
 
 def words_of(example):
@@ -75,8 +87,9 @@ def is_told(page, example):
 
 
 def main():
-    shown = [(path, c, w) for path in documents() for c, w in commands_in(path.read_text())]
-    wrong = [(path, c) for path, c, w in shown if not prints(c, w)]
+    of_documents = [(path, *commands_that_differ(path)) for path in documents()]
+    shown = sum(count for _, count, _ in of_documents)
+    wrong = [(path, command) for path, _, commands in of_documents for command in commands]
     for path, command in wrong:
         print("{}: prints something else: {}".format(path.relative_to(TOP), command))
     told = is_told((TOP / "docs" / "A_DAY.md").read_text(), TOP / "examples" / "a_day")
@@ -88,7 +101,7 @@ def main():
     for path, kind in unanswered:
         print("{}: answered otherwise".format(path.with_suffix(kind).relative_to(TOP)))
     failed = len(wrong) + len(unanswered) + (0 if told else 1)
-    print("{} passed, {} failed".format(len(shown) + len(examples) + 1 - failed, failed))
+    print("{} passed, {} failed".format(shown + len(examples) + 1 - failed, failed))
     sys.exit(0 if shown and examples and failed == 0 else 1)
 
 

@@ -25,9 +25,8 @@ def built(crate):
     return "crates/{0}/out/{0}".format(crate)
 
 
-CLERK, MEMO, DESK, STEPS, OFFICE = "clerk_office", "deadline_memo", "docket_desk", "stored_steps", "stored_office"
-CALENDAR = "court_calendar"
-FILE = "court_file"
+CLERK, MEMO, DESK, FILE = "clerk_office", "deadline_memo", "docket_desk", "court_file"
+CALENDAR, STEPS, OFFICE = "court_calendar", "stored_steps", "stored_office"
 
 
 class Check(NamedTuple):
@@ -59,7 +58,17 @@ ALL = [
     Check("office_compare", [CLERK], [["office_compare.py", built(CLERK)]],
           "the program and a reference in Python agree", "1 min", quick=True, seeded=True, seeds=(2, 3, 4, 5, 6)),
     Check("desk_check", [DESK, CLERK], [["desk_check.py", built(DESK), built(CLERK)]],
-          "the desk and clerk_office agree; it is killed", "10 s", quick=True, seeded=True, seeds=(2, 3)),
+          "the desk and clerk_office agree; it is killed", "1 min", quick=True, seeded=True, seeds=(2, 3)),
+    Check("desk_kill", [DESK, CLERK], [["desk_kill.py", built(DESK), built(CLERK)]],
+          "sessions that are killed lose no answer", "5 min", seeded=True),
+    Check("desk_compare", [DESK, CLERK], [["desk_compare.py", built(DESK), built(CLERK)]],
+          "the desk and clerk_office, on 5,000 inputs", "5 min", seeded=True),
+    Check("desk_damage", [DESK, CLERK], [["desk_damage.py", built(DESK), built(CLERK)]],
+          "each byte of a journal cut off and changed", "5 min", seeded=True),
+    Check("desk_limits", [DESK, CLERK], [["desk_limits.py", built(DESK), built(CLERK)]],
+          "a full disk, a long day, 1,000,000 entries", "2 min"),
+    Check("refuse_desk", [DESK], [["refuse_desk.py", built(DESK)]],
+          "each growth refused to the desk (needs cc)", "2 min"),
     Check("calendar_check", [CALENDAR, CLERK], [["calendar_check.py", built(CALENDAR), built(CLERK)]],
           "the calendar is what clerk_office says", "20 s", quick=True, seeded=True, seeds=(2, 3)),
     Check("races_check", [CLERK], [["races_check.py", built(CLERK)]],

@@ -1,67 +1,90 @@
 //! A folder with a journal.
+ghost use Rattle.std.specs.Prelude.{◌<◌, ◌≤◌, length, IfOk};
 
-use crate::fault::DeskFault;
-use court_days::Court;
-use court_file_text::CourtFault;
-use docket_entries::DocketRegister;
-use durable_journal::Journal;
-use durable_session::retake_all;
-use sqlite_std_file::{FileFrom, Wary, open};
+use desk_program::{Desk, DeskFault, open_file};
+use durable_journal::entries_in;
+use sqlite_std_file::{FileFrom, Wary};
+use std::fs;
+use std::io::{self, ErrorKind};
 
-/// A court's docket, with the journal from which it was made.
-#[derive(Drop)]
-pub struct Desk {
-    /// The journal.
-    pub journal: Journal<FileFrom<Wary>>,
-    /// Its entries, of which the first is the court's file.
-    pub entries: Vec<Vec<u8>>,
-    /// The court.
-    pub court: Court,
-    /// The docket after the entries.
-    pub register: DocketRegister,
+/// A docket over the journal of a folder.
+pub type FolderDesk = Desk<FileFrom<Wary>>;
+
+// The fault of a call on the file or the folder of that name.
+fn file_fault(rt: &HostRuntime, name: &str, error: io::Error) -> DeskFault {
+    match String::from_str(rt.alloc(), name) {
+        Ok(name) => DeskFault::File(name, error),
+        Err(_) => DeskFault::OutOfMemory,
+    }
 }
 
-/// The journal of a folder, with its entries. It is made where it is missing, and no other program can open it until it
-/// is dropped.
-pub fn journal_of(
-    rt: &HostRuntime,
-    folder: &str,
-) -> Result<(Journal<FileFrom<Wary>>, Vec<Vec<u8>>), DeskFault> {
-    let path = format!(in rt.alloc(); "{folder}/journal")?;
-    let files = match open(rt, path.as_str(), Wary) {
-        Ok(files) => files,
-        Err(error) => return Err(DeskFault::Open(error)),
-    };
-    match Journal::open(rt.alloc(), files.db) {
+/// All bytes of a file.
+pub fn read_file(rt: &HostRuntime, name: &str) -> Result<Vec<u8>, DeskFault> {
+    match fs::read(rt, name) {
+        Ok(bytes) => Ok(bytes),
+        Err(error) => Err(file_fault(rt, name, error)),
+    }
+}
+
+/// The name of a folder's journal.
+pub fn journal_name(rt: &HostRuntime, folder: &str) -> Result<String, DeskFault> {
+    Ok(format!(in rt.alloc(); "{folder}/journal")?)
+}
+
+/// Makes a folder, unless there is one of that name.
+pub fn make_folder(rt: &HostRuntime, folder: &str) -> Result<(), DeskFault> {
+    match fs::create_dir(rt, folder) {
+        Ok(()) => Ok(()),
+        Err(error) if error.kind() == ErrorKind::AlreadyExists => Ok(()),
+        Err(error) => Err(file_fault(rt, folder, error)),
+    }
+}
+
+// Finds a folder's journal, which an opening would otherwise make.
+fn find_journal(rt: &HostRuntime, name: &str) -> Result<(), DeskFault> {
+    match fs::symlink_metadata(rt, name) {
+        Ok(_) => Ok(()),
+        Err(error) if error.kind() == ErrorKind::NotFound => Err(DeskFault::NoJournal),
+        Err(error) => Err(file_fault(rt, name, error)),
+    }
+}
+
+/// Opens the docket of a folder, and gives the entries of its journal.
+pub fn opened(rt: &HostRuntime, folder: &str) -> Result<(FolderDesk, Vec<Vec<u8>>), DeskFault>
+    ensures some { IfOk result (λ opened. 0 < length opened.1.items) }
+    ensures few { IfOk result (λ opened. length opened.1.items ≤ 1000000) }
+{
+    let name = journal_name(rt, folder)?;
+    find_journal(rt, name.as_str())?;
+    let file = open_file(rt, name.as_str(), Wary)?;
+    match Desk::open(rt.alloc(), file) {
         Ok(opened) => Ok(opened),
-        Err((fault, _)) => Err(DeskFault::Journal(fault)),
+        Err((fault, _)) => Err(fault),
     }
 }
 
-/// The court that a file says.
-pub fn court_of(rt: &HostRuntime, file: &[u8]) -> Result<Court, DeskFault> {
-    match Court::from_bytes(rt.alloc(), file) {
-        Ok(court) => Ok(court),
-        Err(CourtFault::OutOfMemory) => Err(DeskFault::OutOfMemory),
-        Err(fault) => Err(DeskFault::Court(fault)),
-    }
-}
+// How often a journal is read again that changes while it is read.
+const TRIES: u32 = 16;
 
-/// Opens a folder, and decides all its rows again.
-pub fn opened(rt: &HostRuntime, folder: &str) -> Result<Desk, DeskFault> {
-    let (journal, entries) = journal_of(rt, folder)?;
-    let Some((file, rows)) = entries.split_first() else {
-        return Err(DeskFault::NoJournal);
-    };
-    let court = court_of(rt, file)?;
-    let mut register = DocketRegister::new(rt.alloc(), &court)?;
-    if let Some(place) = retake_all(&court, rt.alloc(), &mut register, rows)? {
-        return Err(DeskFault::Other(place));
+/// The entries of a folder's journal, read beside a program that may append to it. Where it seems to be damaged and has
+/// changed meanwhile, it is read again.
+pub fn entries_beside(rt: &HostRuntime, folder: &str) -> Result<Vec<Vec<u8>>, DeskFault>
+    ensures { IfOk result (λ entries. length entries.items ≤ 1000000) }
+{
+    let name = journal_name(rt, folder)?;
+    find_journal(rt, name.as_str())?;
+    let mut bytes = read_file(rt, name.as_str())?;
+    for _ in 0..TRIES {
+        match entries_in(rt.alloc(), &bytes) {
+            Ok(entries) => return Ok(entries),
+            Err(fault) => {
+                let again = read_file(rt, name.as_str())?;
+                if again.as_slice() == bytes.as_slice() {
+                    return Err(DeskFault::from(fault));
+                }
+                bytes = again;
+            }
+        }
     }
-    Ok(Desk {
-        journal,
-        entries,
-        court,
-        register,
-    })
+    Ok(entries_in(rt.alloc(), &bytes)?)
 }

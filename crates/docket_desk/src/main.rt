@@ -1,18 +1,17 @@
 //! A clerk's desk: rows from standard input are kept in a folder's journal, and each is answered once it is kept.
 #![tactic(auto)]
 
-mod asked;
-mod fault;
 mod folder;
 mod tasks;
+mod words;
 
-use asked::asked_of;
-use fault::{told, unread};
-use office_options::arguments_of;
-use office_streams::Watched;
+use desk_program::{DeskFault, ended_by};
+use office_options::{OptionsFault, arguments_of};
+use office_streams::{Watched, helped, refused, unread};
 use std::io;
 use std::process::ExitCode;
 use tasks::done;
+use words::asked_of;
 
 /// Does what the words ask for. The status is 0 where it is done, 1 where the words can't be taken, and else that of the
 /// fault, of which one line goes to standard error.
@@ -23,12 +22,16 @@ fn main(rt: HostRuntime) -> ExitCode {
         Err(error) => return ExitCode::from(unread(&mut errors, &error)),
     };
     let mut writer = Watched::new(io::writer(&rt));
-    let asked = match asked_of(rt.alloc(), &words) {
-        Ok(asked) => asked,
-        Err(fault) => return ExitCode::from(told(&rt, &mut writer, &mut errors, &fault)),
+    let status = match asked_of(rt.alloc(), &words) {
+        Ok((task, folder)) => match done(&rt, &mut writer, &task, folder.as_str()) {
+            Ok(()) => 0,
+            Err(fault) => ended_by(rt.alloc(), &mut errors, &fault),
+        },
+        Err(OptionsFault::Help(text)) => helped(&mut writer, &mut errors, text.as_str()),
+        Err(OptionsFault::BadWords(text)) => refused(&mut errors, text.as_str()),
+        Err(OptionsFault::OutOfMemory) => {
+            ended_by(rt.alloc(), &mut errors, &DeskFault::OutOfMemory)
+        }
     };
-    match done(&rt, &mut writer, &asked) {
-        Ok(()) => ExitCode::SUCCESS,
-        Err(fault) => ExitCode::from(told(&rt, &mut writer, &mut errors, &fault)),
-    }
+    ExitCode::from(status)
 }

@@ -1,123 +1,108 @@
 //! What the program does.
+ghost use Rattle.std.specs.Prelude.{◌≡◌, false};
+ghost use Rattle.office_streams.specs.Words.{has_failed};
 
-use crate::asked::Asked;
-use crate::fault::DeskFault;
-use crate::folder::{Desk, court_of, journal_of, opened};
-use durable_session::serve;
-use office_streams::{Watched, write_all};
-use std::fs;
-use std::io::{ErrorKind, Write};
+use crate::folder::{entries_beside, journal_name, make_folder, opened, read_file};
+use crate::words::Task;
+use desk_program::{Desk, DeskFault, ask, check_court, open_file, write_count, write_rows};
+use office_streams::Watched;
+use sqlite_std_file::Wary;
+use std::io::Write;
 
-// Writes text, in full.
-fn put<W: Write>(writer: &mut Watched<W>, text: &[u8]) -> Result<(), DeskFault> {
-    if writer.failed() {
-        return Err(DeskFault::Write);
-    }
-    match write_all(writer, text) {
-        Ok(()) => Ok(()),
-        Err(_) => Err(DeskFault::Write),
-    }
-}
-
-// Makes a folder with a court's file as the first entry of its journal.
+// Makes a folder with a court's file as the first entry of its journal. A file with a fault makes no folder.
 fn open_folder(rt: &HostRuntime, folder: &str, court: &str) -> Result<(), DeskFault> {
-    let file = fs::read(rt, court)?;
-    let _court = court_of(rt, file.as_slice())?;
-    match fs::create_dir(rt, folder) {
-        Ok(()) => {}
-        Err(error) if error.kind() == ErrorKind::AlreadyExists => {}
-        Err(error) => return Err(DeskFault::Io(error)),
-    }
-    let (mut journal, entries) = journal_of(rt, folder)?;
-    if !entries.is_empty() {
-        return Err(DeskFault::Taken);
-    }
-    let mut batch = Vec::new(rt.alloc());
-    batch.push(file)?;
-    match journal.append(&batch) {
-        Ok(()) => Ok(()),
-        Err(fault) => Err(DeskFault::Journal(fault)),
+    let file = read_file(rt, court)?;
+    check_court(rt.alloc(), &file)?;
+    make_folder(rt, folder)?;
+    let name = journal_name(rt, folder)?;
+    let disk = open_file(rt, name.as_str(), Wary)?;
+    match Desk::begin(rt.alloc(), disk, file) {
+        Ok(_) => Ok(()),
+        Err((fault, _)) => Err(fault),
     }
 }
 
 // Keeps the rows of standard input, and answers each.
-fn enter<W: Write>(
-    rt: &HostRuntime,
-    writer: &mut Watched<W>,
-    folder: &str,
-) -> Result<(), DeskFault> {
-    let Desk {
-        mut journal,
-        court,
-        mut register,
-        ..
-    } = opened(rt, folder)?;
-    if writer.failed() {
-        return Err(DeskFault::Write);
-    }
+fn enter<W: Write>(rt: &HostRuntime, writer: &mut Watched<W>, folder: &str) -> Result<(), DeskFault>
+    requires { has_failed writer.old ≡ false }
+{
+    let (mut desk, entries) = opened(rt, folder)?;
+    drop(entries);
     let mut reader = Watched::new(rt.stdin());
-    match serve(
-        &court,
-        rt.alloc(),
-        &mut journal,
-        &mut register,
-        &mut reader,
-        writer,
-    ) {
+    let ended = desk.enter(rt.alloc(), &mut reader, writer);
+    drop(desk.into_disk());
+    match ended {
         Ok(()) => Ok(()),
         Err(fault) => Err(DeskFault::Session(fault)),
     }
 }
 
-// The row with which an entry begins, with the end of its line.
-fn row_of(entry: &[u8]) -> &[u8] {
-    match entry.iter().position(|byte| *byte == b'\n') {
-        Some(at) if at < entry.len() => entry.split_at(at + 1).0,
-        _ => entry,
-    }
+// Answers questions, beside a program that may enter rows.
+fn ask_folder<W: Write>(
+    rt: &HostRuntime,
+    writer: &mut Watched<W>,
+    folder: &str,
+) -> Result<(), DeskFault>
+    requires { has_failed writer.old ≡ false }
+{
+    let entries = entries_beside(rt, folder)?;
+    let mut reader = Watched::new(rt.stdin());
+    ask(rt.alloc(), &entries, &mut reader, writer)
 }
 
 // Writes the court's file, a line `%%` and all rows.
-fn rows<W: Write>(
-    rt: &HostRuntime,
-    writer: &mut Watched<W>,
-    folder: &str,
-) -> Result<(), DeskFault> {
-    let desk = opened(rt, folder)?;
-    let mut text = Vec::new(rt.alloc());
-    'entries: for (place, entry) in desk.entries.iter().enumerate() {
-        if place == 0 {
-            text.extend_from_slice(entry)?;
-            text.extend_from_slice(b"\n%%\n")?;
-        } else {
-            text.extend_from_slice(row_of(entry))?;
-        }
-    }
-    put(writer, text.as_slice())
+fn rows<W: Write>(rt: &HostRuntime, writer: &mut Watched<W>, folder: &str) -> Result<(), DeskFault>
+    requires { has_failed writer.old ≡ false }
+{
+    let (desk, entries) = opened(rt, folder)?;
+    let ended = write_rows(rt.alloc(), desk.court(), &entries, writer);
+    drop(desk.into_disk());
+    ended
 }
 
 // Says how many rows the journal has.
-fn check<W: Write>(
+fn check<W: Write>(rt: &HostRuntime, writer: &mut Watched<W>, folder: &str) -> Result<(), DeskFault>
+    requires { has_failed writer.old ≡ false }
+{
+    let (desk, entries) = opened(rt, folder)?;
+    drop(entries);
+    let count = desk.rows();
+    drop(desk.into_disk());
+    write_count(rt.alloc(), count, writer)
+}
+
+// Goes by another court's file from here on.
+fn change<W: Write>(
     rt: &HostRuntime,
     writer: &mut Watched<W>,
     folder: &str,
-) -> Result<(), DeskFault> {
-    let desk = opened(rt, folder)?;
-    let count = desk.entries.len().saturating_sub(1);
-    let line = format!(in rt.alloc(); "rows kept: {count}, and each is answered as it was\n")?;
-    put(writer, line.as_bytes())
+    court: &str,
+    accept: bool,
+) -> Result<(), DeskFault>
+    requires { has_failed writer.old ≡ false }
+{
+    let file = read_file(rt, court)?;
+    let (mut desk, entries) = opened(rt, folder)?;
+    let ended = desk.change(rt.alloc(), &entries, &file, accept, writer);
+    drop(desk.into_disk());
+    ended
 }
 
 /// Does what is asked for.
 pub fn done<W: Write>(
     rt: &HostRuntime,
     writer: &mut Watched<W>,
-    asked: &Asked,
-) -> Result<(), DeskFault> {
-    match asked {
-        Asked::Open(folder, court) => open_folder(rt, folder.as_str(), court.as_str()),
-        Asked::Enter(folder) => enter(rt, writer, folder.as_str()),
-        Asked::Rows(folder) => rows(rt, writer, folder.as_str()),
-        Asked::Check(folder) => check(rt, writer, folder.as_str()),
+    task: &Task,
+    folder: &str,
+) -> Result<(), DeskFault>
+    requires { has_failed writer.old ≡ false }
+{
+    match task {
+        Task::Open(court) => open_folder(rt, folder, court.as_str()),
+        Task::Enter => enter(rt, writer, folder),
+        Task::Ask => ask_folder(rt, writer, folder),
+        Task::Rows => rows(rt, writer, folder),
+        Task::Check => check(rt, writer, folder),
+        Task::Court(court, accept) => change(rt, writer, folder, court.as_str(), *accept),
     }
 }

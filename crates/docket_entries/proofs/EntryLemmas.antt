@@ -1,6 +1,7 @@
 -- An entry is read again as the row that it was made of.
 use Rattle.std.proofs.Common.{◌≡◌, ◌∙◌, ◌+◌, ◌≤◌, ◌==◌, ◌&&◌, ℕ, suc, Bool, cond, List, [], ◌∷◌, ◌++◌, Option, Some, None, Result, Ok, Err, true, false, not, leb, ltb, length, refl, sym, ap, subst, append_assoc, arith}
 use Rattle.std.proofs.lemmas.Grind.{common_steps}
+use Rattle.std.specs.Prelude.{nat_eq}
 use Rattle.std.specs.Char.{is_ascii_digit}
 use Rattle.std.specs.List.{list_all, list_any}
 use Rattle.std.specs.Option.{ok_or, option_and_then}
@@ -23,8 +24,10 @@ use Rattle.office_rows.specs.Columns.{◌>>=◌}
 use Rattle.office_rows.specs.Words.{CourtNames, clerk_of, column, is_number, names_of, number_of, row_of, work_of}
 use Rattle.row_line.specs.Words.{fields_read, line_read}
 use Rattle.row_line.proofs.CallerLemmas.{has_fields, says_first, says_row}
-use Rattle.docket_entries.specs.Entries.{answer_to, entry_of, leaves, left_of, most_clerks, most_entries, within}
+use Rattle.docket_entries.specs.Entries.{later_file, most_entries}
+use Rattle.docket_entries.specs.Rows.{answer_to, entry_of, follows, leaves, left_of, most_clerks, within}
 use Rattle.docket_entries.specs.Laws.{WhatIsLeftFollows}
+use Rattle.docket_entries.proofs.ListLemmas.{no_file}
 
 -- a text that doesn't begin with the first byte of a byte order mark has none
 no_mark : (b : ℕ) (bytes : List ℕ) → (b == 239) ≡ false → strip_bom (b ∷ bytes) ≡ b ∷ bytes
@@ -41,6 +44,14 @@ digit_is_other b digit = by (b == 239) refl
     by true e = grind (arith, common_steps)
     by false e = refl
 
+-- nor the first of the line of a court's file
+digit_is_no_mark : (b : ℕ) → is_ascii_digit b ≡ true → nat_eq 37 b ≡ false
+digit_is_no_mark b digit = by (nat_eq 37 b) refl
+  where
+    by : (same : Bool) → nat_eq 37 b ≡ same → same ≡ false
+    by true e = grind (arith, common_steps)
+    by false e = refl
+
 -- the field of a number, and what comes after it, begins with a digit or a quote
 number_first : (x more : List ℕ) → is_number x ≡ true → strip_bom (field_text default_writer x ++ more) ≡ field_text default_writer x ++ more
 number_first [] more number = cc number
@@ -52,6 +63,17 @@ number_first (b ∷ x) more number = by (list_any (needs_byte default_writer) (b
     by : (needs : Bool) → strip_bom (cond needs (34 ∷ (escaped default_writer (b ∷ x) ++ 34 ∷ [])) (b ∷ x) ++ more) ≡ cond needs (34 ∷ (escaped default_writer (b ∷ x) ++ 34 ∷ [])) (b ∷ x) ++ more
     by true = no_mark 34 ((escaped default_writer (b ∷ x) ++ 34 ∷ []) ++ more) refl
     by false = no_mark b (x ++ more) (digit_is_other b digit)
+
+number_no_file : (x more : List ℕ) → is_number x ≡ true → later_file (field_text default_writer x ++ more) ≡ None
+number_no_file [] more number = cc number
+number_no_file (b ∷ x) more number = by (list_any (needs_byte default_writer) (b ∷ x))
+  where
+    digit : is_ascii_digit b ≡ true
+    digit = grind (arith, common_steps)
+
+    by : (needs : Bool) → later_file (cond needs (34 ∷ (escaped default_writer (b ∷ x) ++ 34 ∷ [])) (b ∷ x) ++ more) ≡ None
+    by true = no_file 34 ((escaped default_writer (b ∷ x) ++ 34 ∷ []) ++ more) refl
+    by false = no_file b (x ++ more) (digit_is_no_mark b digit)
 
 -- a clerk's number is a number
 clerk_is_number : (x : List ℕ) (clerk : ℕ) → clerk_of most_clerks x ≡ Some clerk → is_number x ≡ true
@@ -86,6 +108,15 @@ row_has_no_mark (x ∷ rest) tail many number =
     let parts : row_text default_writer (x ∷ rest) ++ tail ≡ field_text default_writer x ++ (fields_text default_writer rest ++ (ending ++ tail)) = simp append_assoc in
     ap strip_bom parts ∙ number_first x (fields_text default_writer rest ++ (ending ++ tail)) number ∙ sym parts
 
+-- nor is it a court's file
+row_is_no_file : (fields : List (List ℕ)) (tail : List ℕ) → 2 ≤ length fields → is_number (column fields 1) ≡ true → later_file (row_text default_writer fields ++ tail) ≡ None
+unfolding field_at
+row_is_no_file [] tail many number = absurd (omega (arith, many))
+row_is_no_file (x ∷ rest) tail many number =
+    let ending = cond (is_blank default_writer (x ∷ rest)) (34 ∷ 34 ∷ []) [] ++ 10 ∷ [] in
+    let parts : row_text default_writer (x ∷ rest) ++ tail ≡ field_text default_writer x ++ (fields_text default_writer rest ++ (ending ++ tail)) = simp append_assoc in
+    ap later_file parts ∙ number_no_file x (fields_text default_writer rest ++ (ending ++ tail)) number
+
 one_more : (n : ℕ) → n + 1 ≡ suc n
 one_more n = omega arith
 
@@ -118,6 +149,9 @@ module _ (names : CourtNames) (fields : List (List ℕ)) (row : Row) (tail : Lis
   pub has_its_fields : fields_read (row_text default_writer fields ++ tail) ≡ fields
   has_its_fields = sym (has_fields most_clerks names (row_text default_writer fields ++ tail) fields there.0 there.1)
 
+  pub is_no_file : later_file (row_text default_writer fields ++ tail) ≡ None
+  is_no_file = let (many, number) = spells_row names fields row spelled in row_is_no_file fields tail many number
+
 -- a line that says a row within the limit says that row, and there is room for it
 pub within_row : (kept : List (List ℕ)) (said : Line) (row : Row) → within kept said ≡ line.Row row → (said ≡ line.Row row) × (ltb (length kept) most_entries ≡ true)
 within_row kept line.Blank row h = cc h
@@ -142,10 +176,13 @@ pub left_follows : WhatIsLeftFollows
 unfolding leaves
 left_follows court kept bytes entry h = by (within kept (line_read most_clerks (names_of court) bytes)) refl h
   where
-    by : (l : Line) → within kept (line_read most_clerks (names_of court) bytes) ≡ l → left_of court kept (fields_read bytes) l ≡ entry ∷ [] → leaves court kept entry ≡ entry ∷ []
+    by : (l : Line) → within kept (line_read most_clerks (names_of court) bytes) ≡ l → left_of court kept (fields_read bytes) l ≡ entry ∷ [] → (later_file entry ≡ None) × follows court kept entry
     by line.Blank same h = cc h
     by (line.Fault cause) same h = cc h
     by (line.Row row) same h =
         let (said, room) = within_row kept (line_read most_clerks (names_of court) bytes) row same in
         let is_entry : entry_of court kept (fields_read bytes) row ≡ entry = cc h in
-        subst (λ (e : List ℕ). leaves court kept e ≡ e ∷ []) is_entry (leaves_itself court kept (fields_read bytes) row (says_row most_clerks (names_of court) bytes row said) room)
+        let spelled = says_row most_clerks (names_of court) bytes row said in (
+          ap later_file (sym is_entry) ∙ is_no_file (names_of court) (fields_read bytes) row (answer_to court kept row) spelled,
+          subst (λ (e : List ℕ). leaves court kept e ≡ e ∷ []) is_entry (leaves_itself court kept (fields_read bytes) row spelled room),
+        )

@@ -14,10 +14,13 @@ use Rattle.row_line.proofs.CallerLemmas.{says_row}
 use Rattle.office_run.specs.Words.{Holds, docketed_after, docketed_then}
 use Rattle.office_run.proofs.CallerLemmas.{docketed_more}
 use Rattle.durable_session.specs.Words.{TakesLine}
-use Rattle.docket_entries.specs.Entries.{answer_to, answers, docketed_by, entry_of, follows, leaves, left_of, most_clerks, most_entries, row_in, rows_in, told_of, within}
+use Rattle.std.specs.Prelude.{IsSome, None}
+use Rattle.docket_entries.specs.Entries.{later_file, most_entries, next_number, row_entries}
+use Rattle.docket_entries.specs.Rows.{answer_to, answers, docketed_by, entry_of, follows, leaves, left_of, most_clerks, row_in, rows_in, shown_as, told_of, within}
 use Rattle.docket_entries.specs.Register.{IsDone, StandsAt}
 use Rattle.docket_entries.specs.declared.register.DocketRegister.{DocketRegister}
-use Rattle.docket_entries.proofs.EntryLemmas.{says_its_row, within_row}
+use Rattle.docket_entries.proofs.EntryLemmas.{is_no_file, says_its_row, within_row}
+use Rattle.docket_entries.proofs.ListLemmas.{next_number-file, next_number-row, row_entries-file, row_entries-row}
 
 rows_in-append : (names : CourtNames) (some more : List (List ℕ)) → rows_in names (some ++ more) ≡ rows_in names some ++ rows_in names more
 unfolding rows_in
@@ -31,41 +34,116 @@ its_row : (names : CourtNames) (entry : List ℕ) (row : Row) → line_read most
 unfolding rows_in
 its_row names entry row said = ap (λ l. row_in l ++ []) said
 
--- what comes after the first
-drop_first : (kept : List (List ℕ)) (entry : List ℕ) → 0 < length kept → drop 1 (kept ++ entry ∷ []) ≡ drop 1 kept ++ entry ∷ []
-drop_first [] entry begun = absurd (omega (arith, begun))
-drop_first (first ∷ kept) entry begun = refl
+-- what says no row has none
+pub no_row_in : (said : Line) → ((row : Row) → said ≡ line.Row row → ⊥) → row_in said ≡ []
+no_row_in line.Blank none = refl
+no_row_in (line.Fault cause) none = refl
+no_row_in (line.Row row) none = absurd (none row refl)
+
+pub none_shown : (said : Line) (fields : List (List ℕ)) → ((row : Row) → said ≡ line.Row row → ⊥) → shown_as said fields ≡ []
+none_shown line.Blank fields none = refl
+none_shown (line.Fault cause) fields none = refl
+none_shown (line.Row row) fields none = absurd (none row refl)
+
+-- what is docketed after one row's entry more
+docketed_by-row : (court : CourtView) (kept : List (List ℕ)) (entry : List ℕ) → 0 < length kept → later_file entry ≡ None
+    → docketed_by court (kept ++ entry ∷ []) ≡ docketed_after (setup_of court) (opening_rows (setup_of court)) (rows_in (names_of court) (row_entries kept) ++ rows_in (names_of court) (entry ∷ []))
+unfolding docketed_by
+docketed_by-row court kept entry begun none =
+    ap (λ (entries : List (List ℕ)). docketed_after (setup_of court) (opening_rows (setup_of court)) (rows_in (names_of court) entries)) (row_entries-row kept entry begun none)
+    ∙ ap (docketed_after (setup_of court) (opening_rows (setup_of court))) (rows_in-append (names_of court) (row_entries kept) (entry ∷ []))
 
 -- what is docketed after an entry that says this row
-pub docketed_by-more : (court : CourtView) (kept : List (List ℕ)) (entry : List ℕ) (row : Row) → 0 < length kept → line_read most_clerks (names_of court) entry ≡ line.Row row
+pub docketed_by-more : (court : CourtView) (kept : List (List ℕ)) (entry : List ℕ) (row : Row) → 0 < length kept → later_file entry ≡ None → line_read most_clerks (names_of court) entry ≡ line.Row row
     → docketed_by court (kept ++ entry ∷ []) ≡ docketed_then (setup_of court) (docketed_by court kept) row.work
 unfolding docketed_by
-docketed_by-more court kept entry row begun said =
-    ap (λ (entries : List (List ℕ)). docketed_after (setup_of court) (opening_rows (setup_of court)) (rows_in (names_of court) entries)) (drop_first kept entry begun)
-    ∙ ap (docketed_after (setup_of court) (opening_rows (setup_of court))) (rows_in-append (names_of court) (drop 1 kept) (entry ∷ []) ∙ ap (λ (rows : List Row). rows_in (names_of court) (drop 1 kept) ++ rows) (its_row (names_of court) entry row said))
-    ∙ docketed_more (setup_of court) (opening_rows (setup_of court)) (rows_in (names_of court) (drop 1 kept)) row
+docketed_by-more court kept entry row begun none said =
+    docketed_by-row court kept entry begun none
+    ∙ ap (λ (rows : List Row). docketed_after (setup_of court) (opening_rows (setup_of court)) (rows_in (names_of court) (row_entries kept) ++ rows)) (its_row (names_of court) entry row said)
+    ∙ docketed_more (setup_of court) (opening_rows (setup_of court)) (rows_in (names_of court) (row_entries kept)) row
 
--- the register after a row that is done
-pub stands_after : (court : CourtView) (register : DocketRegister) (kept : List (List ℕ)) (fields : List (List ℕ)) (row : Row) → 0 < length kept → ltb (length kept) most_entries ≡ true → row_of most_clerks (names_of court) fields ≡ Ok row
-    → Holds (setup_of court) register.docket (docketed_then (setup_of court) (docketed_by court kept) row.work) → register.number ≡ length kept + 1
-    → StandsAt court register (kept ++ entry_of court kept fields row ∷ [])
-stands_after court register kept fields row begun room spelled holds number =
-    let entry = entry_of court kept fields row in
+-- what is docketed after one that says none
+docketed_by-none : (court : CourtView) (kept : List (List ℕ)) (entry : List ℕ) → 0 < length kept → later_file entry ≡ None → row_in (line_read most_clerks (names_of court) entry) ≡ []
+    → docketed_by court (kept ++ entry ∷ []) ≡ docketed_by court kept
+unfolding docketed_by rows_in
+docketed_by-none court kept entry begun none said =
+    docketed_by-row court kept entry begun none
+    ∙ ap (λ (rows : List Row). docketed_after (setup_of court) (opening_rows (setup_of court)) (rows_in (names_of court) (row_entries kept) ++ (rows ++ []))) said
+    ∙ ap (docketed_after (setup_of court) (opening_rows (setup_of court))) (append-nil (rows_in (names_of court) (row_entries kept)))
+
+-- and after a court's file
+docketed_by-file : (court : CourtView) (kept : List (List ℕ)) (entry : List ℕ) → 0 < length kept → IsSome (later_file entry) → docketed_by court (kept ++ entry ∷ []) ≡ docketed_by court kept
+unfolding docketed_by
+docketed_by-file court kept entry begun some =
+    ap (λ (entries : List (List ℕ)). docketed_after (setup_of court) (opening_rows (setup_of court)) (rows_in (names_of court) entries)) (row_entries-file kept entry begun some)
+
+-- the register after the row of an entry
+pub stands_row : (court : CourtView) (register : DocketRegister) (kept : List (List ℕ)) (entry : List ℕ) (row : Row) → 0 < length kept → ltb (length kept) most_entries ≡ true → later_file entry ≡ None → line_read most_clerks (names_of court) entry ≡ line.Row row
+    → Holds (setup_of court) register.docket (docketed_then (setup_of court) (docketed_by court kept) row.work) → register.number ≡ next_number kept + 1 → register.count ≡ length kept + 1
+    → StandsAt court register (kept ++ entry ∷ [])
+stands_row court register kept entry row begun room none said holds number count =
     let long : length (kept ++ entry ∷ []) ≡ length kept + 1 = length-append kept (entry ∷ []) in
     let below : length kept < most_entries = grind (arith, nat_tests) in
     record {
-      docket = subst (Holds (setup_of court) register.docket) (sym (docketed_by-more court kept entry row begun (says_its_row (names_of court) fields row (answer_to court kept row) spelled))) holds;
-      number = number ∙ sym long;
+      docket = subst (Holds (setup_of court) register.docket) (sym (docketed_by-more court kept entry row begun none said)) holds;
+      number = number ∙ sym (next_number-row kept entry begun none);
+      count = count ∙ sym long;
       begun = omega (arith, long);
       few = omega (arith, long, below);
     }
 
+-- the register after a row that is done, and its own entry
+pub stands_after : (court : CourtView) (register : DocketRegister) (kept : List (List ℕ)) (fields : List (List ℕ)) (row : Row) → 0 < length kept → ltb (length kept) most_entries ≡ true → row_of most_clerks (names_of court) fields ≡ Ok row
+    → Holds (setup_of court) register.docket (docketed_then (setup_of court) (docketed_by court kept) row.work) → register.number ≡ next_number kept + 1 → register.count ≡ length kept + 1
+    → StandsAt court register (kept ++ entry_of court kept fields row ∷ [])
+stands_after court register kept fields row begun room spelled holds number count =
+    stands_row court register kept (entry_of court kept fields row) row begun room (is_no_file (names_of court) fields row (answer_to court kept row) spelled)
+    (says_its_row (names_of court) fields row (answer_to court kept row) spelled) holds number count
+
+-- what says no row, where there is room for one
+pub none_within : (kept : List (List ℕ)) (l said : Line) → within kept l ≡ said → length kept < most_entries → row_in said ≡ [] → row_in l ≡ []
+none_within kept line.Blank said is room none = refl
+none_within kept (line.Fault cause) said is room none = refl
+none_within kept (line.Row row) said is room none =
+    let open_yet : ltb (length kept) most_entries ≡ true = grind (arith, nat_tests) in
+    let same : line.Row row ≡ said = sym (rw open_yet refl) ∙ is in
+    ap row_in same ∙ none
+
+-- the register after an entry that says no row
+pub stands_passed : (court : CourtView) (before register : DocketRegister) (kept : List (List ℕ)) (entry : List ℕ) → StandsAt court before kept → before.count < most_entries → later_file entry ≡ None → row_in (line_read most_clerks (names_of court) entry) ≡ []
+    → register.docket ≡ before.docket → register.number ≡ before.number + 1 → register.count ≡ before.count + 1 → StandsAt court register (kept ++ entry ∷ [])
+stands_passed court before register kept entry stands room none said docket number count =
+    let long : length (kept ++ entry ∷ []) ≡ length kept + 1 = length-append kept (entry ∷ []) in
+    let was : before.count ≡ length kept = stands.count in
+    record {
+      docket = subst (Holds (setup_of court) register.docket) (sym (docketed_by-none court kept entry stands.begun none said)) (subst (λ (d : DocketView). Holds (setup_of court) d (docketed_by court kept)) (sym docket) stands.docket);
+      number = number ∙ ap (λ (n : ℕ). n + 1) stands.number ∙ sym (next_number-row kept entry stands.begun none);
+      count = count ∙ ap (λ (n : ℕ). n + 1) was ∙ sym long;
+      begun = omega (arith, long);
+      few = omega (arith, long, room, was);
+    }
+
+-- the register after a court's file
+pub stands_past_file : (court : CourtView) (before register : DocketRegister) (kept : List (List ℕ)) (entry : List ℕ) → StandsAt court before kept → before.count < most_entries → IsSome (later_file entry)
+    → register.docket ≡ before.docket → register.number ≡ before.number → register.count ≡ before.count + 1 → StandsAt court register (kept ++ entry ∷ [])
+stands_past_file court before register kept entry stands room some docket number count =
+    let long : length (kept ++ entry ∷ []) ≡ length kept + 1 = length-append kept (entry ∷ []) in
+    let was : before.count ≡ length kept = stands.count in
+    record {
+      docket = subst (Holds (setup_of court) register.docket) (sym (docketed_by-file court kept entry stands.begun some)) (subst (λ (d : DocketView). Holds (setup_of court) d (docketed_by court kept)) (sym docket) stands.docket);
+      number = number ∙ stands.number ∙ sym (next_number-file kept entry stands.begun some);
+      count = count ∙ ap (λ (n : ℕ). n + 1) was ∙ sym long;
+      begun = omega (arith, long);
+      few = omega (arith, long, room, was);
+    }
+
 -- the register as it was, but for the fields that it read
-pub as_it_was : (court : CourtView) (before register : DocketRegister) (kept : List (List ℕ)) → StandsAt court before kept → register.docket ≡ before.docket → register.number ≡ before.number → StandsAt court register kept
-as_it_was court before register kept stands docket number =
+pub as_it_was : (court : CourtView) (before register : DocketRegister) (kept : List (List ℕ)) → StandsAt court before kept → register.docket ≡ before.docket → register.number ≡ before.number → register.count ≡ before.count → StandsAt court register kept
+as_it_was court before register kept stands docket number count =
     record {
       docket = subst (λ (d : DocketView). Holds (setup_of court) d (docketed_by court kept)) (sym docket) stands.docket;
       number = number ∙ stands.number;
+      count = count ∙ stands.count;
       begun = stands.begun;
       few = stands.few;
     }
@@ -96,7 +174,7 @@ module _ (court : CourtView) (register : DocketRegister) (kept : List (List ℕ)
       let left : left_of court kept (fields_read bytes) (within kept (line_read most_clerks (names_of court) bytes)) ≡ entry ∷ [] = ap (left_of court kept (fields_read bytes)) is in
       let made_is : made.1.items ≡ entry = done.entry ∙ ap (λ (f : List (List ℕ)). entry_of court kept f row) fields_are in
       record {
-        stands = subst (StandsAt court register) (sym (ap (λ (l : List (List ℕ)). kept ++ l) left)) (stands_after court register kept (fields_read bytes) row begun room spelled done.docket done.number);
+        stands = subst (StandsAt court register) (sym (ap (λ (l : List (List ℕ)). kept ++ l) left)) (stands_after court register kept (fields_read bytes) row begun room spelled done.docket done.number done.count);
         left = batch_is ∙ ap (λ (e : List ℕ). batch ++ e ∷ []) made_is ∙ ap (λ (l : List (List ℕ)). batch ++ l) (sym left);
         told = text_is ∙ ap (λ (l : List ℕ). text ++ l) done.answer ∙ ap (λ l. text ++ told_of court kept l) (sym is);
       }
@@ -121,11 +199,15 @@ module _ (court : CourtView) (register : DocketRegister) (kept : List (List ℕ)
       by (line.Fault cause) is e = cc e
       by (line.Row row) is e = (row, refl)
 
-  -- the register after an entry that is the next
-  pub stands_next : (row : Row) → within kept (line_read most_clerks (names_of court) entry) ≡ line.Row row → 0 < length kept → (fields : List (List ℕ)) → fields ≡ fields_read entry → (made : String Global × Vec ℕ Global)
-      → IsDone court kept fields row register made → made.1.items ≡ entry → StandsAt court register (kept ++ entry ∷ [])
-  stands_next row is begun fields fields_are made done same =
-      let (said, room) = within_row kept (line_read most_clerks (names_of court) entry) row is in
-      let spelled = says_row most_clerks (names_of court) entry row said in
-      let made_is : entry_of court kept (fields_read entry) row ≡ entry = sym (done.entry ∙ ap (λ (f : List (List ℕ)). entry_of court kept f row) fields_are) ∙ same in
-      subst (λ (e : List ℕ). StandsAt court register (kept ++ e ∷ [])) made_is (stands_after court register kept (fields_read entry) row begun room spelled done.docket done.number)
+  -- an entry that says no row isn't the next
+  pub not_as : (said : Line) → within kept (line_read most_clerks (names_of court) entry) ≡ said → row_in said ≡ [] → follows court kept entry → ⊥
+  not_as said is none may =
+      let (row, says) = follows_as_row may in
+      let row_is : said ≡ line.Row row = sym is ∙ says in
+      let none_is : row_in (line.Row row) ≡ [] = ap row_in (sym row_is) ∙ none in
+      cc none_is
+
+  -- what it is answered
+  pub answers_as : (said : Line) → within kept (line_read most_clerks (names_of court) entry) ≡ said → answers court kept entry ≡ told_of court kept said
+  unfolding answers
+  answers_as said is = ap (told_of court kept) is

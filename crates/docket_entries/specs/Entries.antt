@@ -1,74 +1,43 @@
--- What rows leave in a journal, whose first entry is the court's file, and the docket that entries come to.
-use Rattle.std.specs.Prelude.{◌≡◌, ℕ, List, [], ◌∷◌, ◌++◌, length, drop, nat_lt, if◌then◌else◌}
-use Rattle.csv.specs.Writing.{default_writer, row_text}
-use Rattle.court_days.specs.Words.{CourtView}
-use Rattle.docket_rows.specs.Words.{Rows, setup_of, opening_rows}
-use Rattle.office_rows.specs.declared.fault.RowCause.TheVariants.{TooManyRows}
-use Rattle.row_line.specs.declared.line.Line.{Line}
-use Rattle.row_line.specs.declared.line.Line.TheVariants as line
-use Rattle.office_rows.specs.declared.row.Row.{Row}
-use Rattle.office_rows.specs.Words.{CourtNames, names_of}
-use Rattle.row_line.specs.Words.{fields_read, line_read}
-use Rattle.office_run.specs.Words.{docketed_after, line_of, reply_to}
-use Rattle.office_streams.specs.declared.fault.OfficeFault.TheVariants.{Row as RowFault}
-use Rattle.office_streams.specs.Words.{told_line}
-
--- how many clerks may enter rows
-abbrev pub most_clerks : ℕ
-most_clerks = 64
+-- What a journal's entries are: a court's file, then rows with their answers, and later court's files among them.
+use Rattle.std.specs.Prelude.{ℕ, ◌+◌, List, [], ◌∷◌, ◌++◌, codes, drop, length, nat_eq, Option, Some, None, unwrap_or, if◌then◌else◌}
+use Rattle.std.specs.List.{starts_with}
 
 -- how many entries a journal has at most
 abbrev pub most_entries : ℕ
 most_entries = 1_000_000
 
--- the row of a line that says one
-abbrev pub row_in : Line → List Row
-row_in line.Blank = []
-row_in (line.Fault cause) = []
-row_in (line.Row row) = row ∷ []
+-- the line with which a later court's file begins; a row never begins so
+abbrev pub court_line : List ℕ
+court_line = codes "%%\n"
 
--- the rows with which entries begin
-unfoldable pub rows_in : CourtNames → List (List ℕ) → List Row
-rows_in names [] = []
-rows_in names (entry ∷ entries) = row_in (line_read most_clerks names entry) ++ rows_in names entries
+-- the court's file that a later entry is, if it is one
+abbrev pub later_file : (entry : List ℕ) → Option (List ℕ)
+later_file entry = if starts_with nat_eq entry court_line then Some (drop (length court_line) entry) else None
 
--- what is docketed after entries, of which the first is the court's file, and each later one begins with a row
-unfoldable pub docketed_by : CourtView → (kept : List (List ℕ)) → Rows
-docketed_by court kept = docketed_after (setup_of court) (opening_rows (setup_of court)) (rows_in (names_of court) (drop 1 kept))
+-- the court's file that stands after later entries, where this one stood before them
+unfoldable pub file_after : (file : List ℕ) → (later : List (List ℕ)) → List ℕ
+file_after file [] = file
+file_after file (entry ∷ later) = file_after (unwrap_or (later_file entry) file) later
 
--- What a line says after entries: where there are as many as a journal has, a row is one too many.
-abbrev pub within : (kept : List (List ℕ)) → Line → Line
-within kept line.Blank = line.Blank
-within kept (line.Fault cause) = line.Fault cause
-within kept (line.Row row) = if nat_lt (length kept) most_entries then line.Row row else line.Fault TooManyRows
+-- the court's file that stands after entries, of which the first is one as it is
+abbrev pub standing_file : (kept : List (List ℕ)) → List ℕ
+standing_file [] = []
+standing_file (file ∷ later) = file_after file later
 
--- what a row is answered, whose number is that of the entries before it
-unfoldable pub answer_to : CourtView → (kept : List (List ℕ)) → Row → List ℕ
-answer_to court kept row = line_of court (length kept) row.clerk (reply_to (setup_of court) (docketed_by court kept) row.work)
+-- an entry that is no court's file
+abbrev pub row_only : Option (List ℕ) → (entry : List ℕ) → List (List ℕ)
+row_only (Some file) entry = []
+row_only None entry = entry ∷ []
 
--- its entry: the row as CSV, from its fields, and then the answer
-abbrev pub entry_of : CourtView → (kept : List (List ℕ)) → (fields : List (List ℕ)) → Row → List ℕ
-entry_of court kept fields row = row_text default_writer fields ++ answer_to court kept row
+-- those of later entries that are no court's files
+unfoldable pub rows_among : (later : List (List ℕ)) → List (List ℕ)
+rows_among [] = []
+rows_among (entry ∷ later) = row_only (later_file entry) entry ++ rows_among later
 
--- what a line leaves that says this
-abbrev pub left_of : CourtView → (kept : List (List ℕ)) → (fields : List (List ℕ)) → Line → List (List ℕ)
-left_of court kept fields line.Blank = []
-left_of court kept fields (line.Fault cause) = []
-left_of court kept fields (line.Row row) = entry_of court kept fields row ∷ []
+-- the entries that are rows with their answers
+abbrev pub row_entries : (kept : List (List ℕ)) → List (List ℕ)
+row_entries kept = rows_among (drop 1 kept)
 
--- what it is answered
-abbrev pub told_of : CourtView → (kept : List (List ℕ)) → Line → List ℕ
-told_of court kept line.Blank = []
-told_of court kept (line.Fault cause) = told_line (RowFault (length kept) cause)
-told_of court kept (line.Row row) = answer_to court kept row
-
--- what a line leaves, and what it is answered
-unfoldable pub leaves : CourtView → (kept : List (List ℕ)) → (line : List ℕ) → List (List ℕ)
-leaves court kept line = left_of court kept (fields_read line) (within kept (line_read most_clerks (names_of court) line))
-
-unfoldable pub answers : CourtView → (kept : List (List ℕ)) → (line : List ℕ) → List ℕ
-answers court kept line = told_of court kept (within kept (line_read most_clerks (names_of court) line))
-
--- an entry may follow others: read as a line, it leaves itself
-abbrev pub follows : CourtView → (kept : List (List ℕ)) → (entry : List ℕ) → Type 0
-follows court kept entry = leaves court kept entry ≡ entry ∷ []
+-- the number of the next row: court's files have none
+abbrev pub next_number : (kept : List (List ℕ)) → ℕ
+next_number kept = length (row_entries kept) + 1

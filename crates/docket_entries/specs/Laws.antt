@@ -1,8 +1,33 @@
 -- What these definitions come to.
-use Rattle.std.specs.Prelude.{◌≡◌, ℕ, List, [], ◌∷◌}
+use Rattle.std.specs.Prelude.{◌≡◌, ◌≢◌, ◌<◌, ◌≤◌, ◌+◌, ℕ, List, [], ◌∷◌, ◌++◌, length, None, All}
 use Rattle.court_days.specs.Words.{CourtView}
-use Rattle.docket_entries.specs.Entries.{follows, leaves}
+use Rattle.docket_rows.specs.Words.{parts_of}
+use Rattle.office_rows.specs.declared.fault.RowCause.{RowCause}
+use Rattle.row_line.specs.declared.line.Line.TheVariants as line
+use Rattle.office_rows.specs.Words.{CourtNames, names_of}
+use Rattle.row_line.specs.Words.{line_read}
+use Rattle.office_run.specs.Words.{closing_text, run_text}
+use Rattle.durable_session.specs.Words.{left_by, told_to}
+use Rattle.docket_entries.specs.Entries.{later_file, most_entries, standing_file}
+use Rattle.docket_entries.specs.Rows.{answers, docketed_by, follows, leaves, most_clerks, rows_in}
+use Rattle.docket_entries.specs.History.{IsHistory, SaysCourt}
 
--- What a line leaves may follow when the journal is opened again.
+-- What a line leaves may follow when the journal is opened again, and is no court's file.
 abbrev pub WhatIsLeftFollows : Type 0
-WhatIsLeftFollows = (court : CourtView) (kept : List (List ℕ)) (line entry : List ℕ) → leaves court kept line ≡ entry ∷ [] → follows court kept entry
+WhatIsLeftFollows = (court : CourtView) (kept : List (List ℕ)) (line entry : List ℕ) → leaves court kept line ≡ entry ∷ [] → (later_file entry ≡ None) × follows court kept entry
+
+-- What lines leave after a history is a history with it, under the court that stands, and the same court stands after them.
+abbrev pub WhatIsLeftIsHistory : Type 0
+WhatIsLeftIsHistory = (court : CourtView) (kept lines : List (List ℕ)) → IsHistory kept → SaysCourt (standing_file kept) court
+    → IsHistory (kept ++ left_by (leaves court) kept lines) × SaysCourt (standing_file (kept ++ left_by (leaves court) kept lines)) court
+
+-- a line has no fault
+abbrev pub HasNoFault : CourtNames → List ℕ → Type 0
+HasNoFault names bytes = (cause : RowCause) → line_read most_clerks names bytes ≢ line.Fault cause
+
+-- The answers to lines one by one, after a court's file, are those that a run of clerk_office writes of their rows
+-- together: its text is these answers and then the sheets and calendars of the docket after them.
+abbrev pub AnswersAreTheRuns : Type 0
+AnswersAreTheRuns = (court : CourtView) (file : List ℕ) (lines : List (List ℕ)) → All (HasNoFault (names_of court)) lines → length lines < most_entries
+    → run_text court (rows_in (names_of court) lines)
+    ≡ told_to (leaves court) (answers court) (file ∷ []) lines ++ closing_text court (parts_of (docketed_by court (file ∷ left_by (leaves court) (file ∷ []) lines)))

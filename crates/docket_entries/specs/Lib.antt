@@ -1,4 +1,9 @@
 pub mod Entries
+pub mod Rows
+pub mod History
 pub mod Register
+pub mod Differences
+pub mod Docketed
 pub mod Laws
+pub mod Questions
 pub mod Words

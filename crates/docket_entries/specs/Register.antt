@@ -6,12 +6,14 @@ use Rattle.docket_rows.specs.Words.{setup_of}
 use Rattle.office_rows.specs.declared.row.Row.{Row}
 use Rattle.office_run.specs.Words.{Holds, docketed_then}
 use Rattle.docket_entries.specs.declared.register.DocketRegister.{DocketRegister}
-use Rattle.docket_entries.specs.Entries.{answer_to, docketed_by, entry_of, most_entries}
+use Rattle.docket_entries.specs.Entries.{most_entries, next_number}
+use Rattle.docket_entries.specs.Rows.{answer_to, docketed_by, entry_of}
 
--- its docket is that of the entries, and its next row has the number of the entries
+-- its docket is that of the entries under the court, and it counts them and their rows
 pub record StandsAt (court : CourtView) (register : DocketRegister) (kept : List (List ℕ)) : Type 0 where
   pub docket : Holds (setup_of court) register.docket (docketed_by court kept)
-  pub number : register.number ≡ length kept
+  pub number : register.number ≡ next_number kept
+  pub count : register.count ≡ length kept
   pub begun : 0 < length kept
   pub few : length kept ≤ most_entries
 
@@ -20,4 +22,5 @@ pub record IsDone (court : CourtView) (kept : List (List ℕ)) (fields : List (L
   pub answer : string_bytes made.0 ≡ answer_to court kept row
   pub entry : made.1.items ≡ entry_of court kept fields row
   pub docket : Holds (setup_of court) register.docket (docketed_then (setup_of court) (docketed_by court kept) row.work)
-  pub number : register.number ≡ length kept + 1
+  pub number : register.number ≡ next_number kept + 1
+  pub count : register.count ≡ length kept + 1

@@ -1,5 +1,11 @@
 -- The words for the crates above, from one place.
-pub use Rattle.docket_entries.specs.Entries.{most_clerks, most_entries, entry_of, follows}
-unfoldable pub use Rattle.docket_entries.specs.Entries.{rows_in, docketed_by, answer_to, leaves, answers}
+pub use Rattle.docket_entries.specs.Entries.{court_line, later_file, most_entries, next_number, row_entries, row_only, standing_file}
+pub use Rattle.docket_entries.specs.Rows.{entry_of, follows, most_clerks}
+unfoldable pub use Rattle.docket_entries.specs.Rows.{answer_to, answers, docketed_by, leaves, row_shown, rows_in}
+pub use Rattle.docket_entries.specs.History.{IsHistory, SaysCourt}
 pub use Rattle.docket_entries.specs.Register.{StandsAt}
-pub use Rattle.docket_entries.specs.Laws.{WhatIsLeftFollows}
+pub use Rattle.docket_entries.specs.Differences.{Change, change_in, changes_by}
+pub use Rattle.docket_entries.specs.Docketed.{HasHistoryFault, IsDocketed}
+pub use Rattle.docket_entries.specs.Laws.{WhatIsLeftFollows, WhatIsLeftIsHistory, AnswersAreTheRuns}
+pub use Rattle.docket_entries.specs.Questions.{AsksOf, command_text}
+unfoldable pub use Rattle.docket_entries.specs.Questions.{shown}

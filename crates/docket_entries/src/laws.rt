@@ -1,8 +1,20 @@
-//! A law of the definitions, the contract of a function that does nothing.
-ghost use Rattle.docket_entries.specs.Laws.{WhatIsLeftFollows};
+//! Laws of the definitions, the contracts of functions that do nothing.
+ghost use Rattle.docket_entries.specs.Laws.{AnswersAreTheRuns, WhatIsLeftFollows, WhatIsLeftIsHistory};
 
-/// What a line leaves may follow when the journal is opened again.
+/// What a line leaves may follow when the journal is opened again, and is no court's file.
 #[tactic(auto, using(crate::proofs::EntryLemmas::left_follows))]
 pub fn what_is_left_follows()
     ensures { WhatIsLeftFollows }
+{}
+
+/// What lines leave after a history is a history with it, under the same court.
+#[tactic(auto, using(crate::proofs::HistoryLemmas::left_history))]
+pub fn what_is_left_is_history()
+    ensures { WhatIsLeftIsHistory }
+{}
+
+/// The answers to lines one by one are those that a run of clerk_office writes of their rows together.
+#[tactic(auto, using(crate::proofs::RunLemmas::answers_are_the_runs_lem))]
+pub fn answers_are_the_runs()
+    ensures { AnswersAreTheRuns }
 {}

@@ -1,13 +1,17 @@
 //! The register of a court's rows.
-ghost use Rattle.std.specs.Prelude.{◌≡◌, ◌<◌, ◌++◌, ◌∷◌, [], ℕ, List, length, IfOk, OnOk};
+ghost use Rattle.std.specs.Prelude.{◌≡◌, ◌<◌, ◌≤◌, ◌+◌, ◌++◌, ◌∷◌, [], ℕ, List, length, None, IfOk, IsSome, MatchOption, OnOk, string_bytes};
 ghost use Rattle.csv.specs.Records.{fields_of};
 ghost use Rattle.office_rows.specs.Words.{names_of};
 ghost use Rattle.office_rows.specs.declared.row.Row.{Row as RowOf};
 ghost use Rattle.row_line.specs.Words.{fields_read, line_read};
 ghost use Rattle.row_line.specs.declared.line.Line.TheVariants as says;
 ghost use Rattle.office_streams.specs.Words.{told_line};
-ghost use Rattle.docket_entries.specs.Entries.{most_clerks, most_entries, within};
-ghost use Rattle.docket_entries.specs.Register.{IsDone, StandsAt};
+ghost use Rattle.court_days.specs.Words.{CourtView};
+ghost use Rattle.docket_entries.specs.Differences.{IsOtherwise};
+ghost use Rattle.docket_entries.specs.Entries.{later_file, most_entries, next_number};
+ghost use Rattle.docket_rows.specs.Words.{setup_of};
+ghost use Rattle.office_run.specs.Words.{Holds, docketed_then};
+ghost use Rattle.docket_entries.specs.Rows.{answer_to, docketed_by, follows, most_clerks, within};
 
 use crate::entry::{answer_of, entry_of};
 use court_clock::Day;
@@ -26,47 +30,60 @@ use std::alloc::{AllocError, Global};
 /// How many clerks may enter rows.
 pub const MOST_CLERKS: u8 = 64;
 
-// How many entries a journal has at most, and the court's file is the first of them.
-const MOST_ENTRIES: u32 = 1_000_000;
+/// How many entries a journal has at most, and the court's file is the first of them.
+pub const MOST_ENTRIES: u32 = 1_000_000;
 
 // The types inside a row. The checker finds them only where they have names, so a function that takes a row out of a line
 // has a variable of this type.
-type RowTypes = Option<(Work, Command, Query, Option<Day>, Grant, Request)>;
+pub(crate) type RowTypes = Option<(Row, Work, Command, Query, Option<Day>, Grant, Request)>;
 
 /// A court's docket as the entries of a journal come to it, of which the first is the court's file.
 #[derive(Drop)]
 pub struct DocketRegister {
     pub(crate) docket: Docket,
+    // How many entries there are.
+    pub(crate) count: u32,
     // The number of the next row, counted from 1.
     pub(crate) number: u32,
     // The fields of the row that was read last.
     fields: StringRecord,
+    ghost numbered: { number ≤ count },
 }
 
 impl DocketRegister {
-    /// The register of a court before its first row. `Err` says that memory ran out.
-    pub fn new(alloc: Global, court: &Court) -> Result<DocketRegister, AllocError>
-        ensures { (file : List ℕ) → IfOk result (λ register. StandsAt court.now register (file ∷ [])) }
+    ghost use Rattle.docket_entries.specs.Register.{IsDone, StandsAt};
+
+    // The register of a court before its first row.
+    pub(crate) fn new(alloc: Global, court: &Court) -> Result<DocketRegister, AllocError>
+        ensures stands { (file : List ℕ) → IfOk result (λ register. StandsAt court.now register (file ∷ [])) }
+        ensures count { IfOk result (λ register. register.count ≡ 1) }
     {
         Ok(DocketRegister {
             docket: Docket::new(alloc, court)?,
+            count: 1,
             number: 1,
             fields: StringRecord::new(alloc),
         })
     }
 
     // What a line says, whose fields are kept where it says a row.
-    fn said(&mut self, alloc: Global, court: &Court, line: &[u8]) -> Result<Line, AllocError>
-        ensures said { (kept : List (List ℕ)) → self.old.number ≡ length kept → IfOk result (λ said. said ≡ within kept (line_read most_clerks (names_of court.now) line.now)) }
+    pub(crate) fn said(
+        &mut self,
+        alloc: Global,
+        court: &Court,
+        line: &[u8],
+    ) -> Result<Line, AllocError>
+        ensures said { (kept : List (List ℕ)) → self.old.count ≡ length kept → IfOk result (λ said. said ≡ within kept (line_read most_clerks (names_of court.now) line.now)) }
         ensures fields { IfOk result (λ said. (row : RowOf) → said ≡ says.Row row → fields_of self.new.fields ≡ fields_read line.now) }
         ensures docket { self.new.docket ≡ self.old.docket }
+        ensures count { self.new.count ≡ self.old.count }
         ensures number { self.new.number ≡ self.old.number }
-        ensures room { IfOk result (λ said. (row : RowOf) → said ≡ says.Row row → self.old.number < most_entries) }
+        ensures room { IfOk result (λ said. (row : RowOf) → said ≡ says.Row row → self.old.count < most_entries) }
     {
         let said = read_line(alloc, line, MOST_CLERKS, court, &mut self.fields)?;
         match said {
             Line::Row(_) => {
-                if self.number < MOST_ENTRIES {
+                if self.count < MOST_ENTRIES {
                     Ok(said)
                 } else {
                     Ok(Line::Fault(RowCause::TooManyRows))
@@ -76,27 +93,106 @@ impl DocketRegister {
         }
     }
 
+    // Decides a row, and gives its answer.
+    #[tactic(auto, unfolding(crate::specs::Rows::answer_to))]
+    pub(crate) fn answered(
+        &mut self,
+        alloc: Global,
+        court: &Court,
+        row: &Row,
+    ) -> Result<String, AllocError>
+        ensures answer { (kept : List (List ℕ)) → StandsAt court.now self.old kept → IfOk result (λ answer. string_bytes answer ≡ answer_to court.now kept row.now) }
+        ensures docket { (kept : List (List ℕ)) → StandsAt court.now self.old kept → OnOk result (Holds (setup_of court.now) self.new.docket (docketed_then (setup_of court.now) (docketed_by court.now kept) row.now.work)) }
+        ensures count { self.new.count ≡ self.old.count }
+        ensures number { self.new.number ≡ self.old.number }
+        ensures fields { self.new.fields ≡ self.old.fields }
+    {
+        let reply = reply_to(alloc, &mut self.docket, &row.work)?;
+        answer_of(alloc, court, self.number, row.clerk, &reply)
+    }
+
     // Does a row, and gives its answer and its entry.
-    #[tactic(auto, unfolding(crate::specs::Entries::answer_to))]
     fn done(
         &mut self,
         alloc: Global,
         court: &Court,
         row: &Row,
     ) -> Result<(String, Vec<u8>), AllocError>
-        requires { self.old.number < most_entries }
-        ensures { (kept : List (List ℕ)) → StandsAt court.now self.old kept → IfOk result (IsDone court.now kept (fields_of self.old.fields) row.now self.new) }
+        requires { self.old.count < most_entries }
+        ensures done { (kept : List (List ℕ)) → StandsAt court.now self.old kept → IfOk result (IsDone court.now kept (fields_of self.old.fields) row.now self.new) }
+        ensures count { OnOk result (self.new.count ≡ self.old.count + 1) }
     {
-        let reply = reply_to(alloc, &mut self.docket, &row.work)?;
-        let answer = answer_of(alloc, court, self.number, row.clerk, &reply)?;
+        let answer = self.answered(alloc, court, row)?;
         let entry = entry_of(alloc, &self.fields, &answer)?;
+        self.count += 1;
         self.number += 1;
         Ok((answer, entry))
+    }
+
+    /// The number of the next row, counted from 1.
+    pub fn next_number(&self) -> u32
+        ensures { (court : CourtView) (kept : List (List ℕ)) → StandsAt court self.now kept → result ≡ next_number kept }
+    {
+        self.number
+    }
+
+    /// Passes over an entry that is a court's file.
+    pub fn pass_file(&mut self)
+        ensures { (court : CourtView) (kept : List (List ℕ)) (entry : List ℕ) → StandsAt court self.old kept → length kept < most_entries → IsSome (later_file entry) → StandsAt court self.new (kept ++ entry ∷ []) }
+    {
+        self.count = self.count.saturating_add(1);
+    }
+
+    // Passes over an entry that says no row of this court.
+    fn pass_row(&mut self)
+        requires { self.old.count < most_entries }
+        ensures docket { self.new.docket ≡ self.old.docket }
+        ensures count { self.new.count ≡ self.old.count + 1 }
+        ensures number { self.new.number ≡ self.old.number + 1 }
+    {
+        self.count += 1;
+        self.number += 1;
+    }
+
+    /// Decides the row of an entry again. `None` says that it has the answer that it gets; else this is the one that it gets.
+    pub(crate) fn review(
+        &mut self,
+        alloc: Global,
+        court: &Court,
+        entry: &[u8],
+    ) -> Result<Option<Vec<u8>>, AllocError>
+        requires room { self.old.count < most_entries }
+        ensures other { (kept : List (List ℕ)) → StandsAt court.now self.old kept → IfOk result (λ other.
+            MatchOption other (follows court.now kept entry.now) (λ answer. IsOtherwise court.now kept entry.now answer.items)) }
+        ensures stands { (kept : List (List ℕ)) → StandsAt court.now self.old kept → later_file entry.now ≡ None → OnOk result (StandsAt court.now self.new (kept ++ entry.now ∷ [])) }
+        ensures count { OnOk result (self.new.count ≡ self.old.count + 1) }
+    {
+        let _types: RowTypes = None;
+        match self.said(alloc, court, entry)? {
+            Line::Row(row) => {
+                let (answer, again) = self.done(alloc, court, &row)?;
+                if again.as_slice() == entry {
+                    Ok(None)
+                } else {
+                    Ok(Some(answer.into_bytes()))
+                }
+            }
+            Line::Fault(cause) => {
+                let mut answer = Vec::new(alloc);
+                push_fault(alloc, &mut answer, self.number, cause)?;
+                self.pass_row();
+                Ok(Some(answer))
+            }
+            Line::Blank => {
+                self.pass_row();
+                Ok(Some(Vec::new(alloc)))
+            }
+        }
     }
 }
 
 // Adds the line that tells of a row's fault.
-fn push_fault(
+pub(crate) fn push_fault(
     alloc: Global,
     text: &mut Vec<u8>,
     number: u32,
@@ -113,15 +209,14 @@ fn push_fault(
 impl Register for DocketRegister {
     type Setup = Court;
 
-    ghost use Rattle.docket_entries.specs.Entries.{answers, follows, leaves};
+    ghost use Rattle.docket_entries.specs.Register.{StandsAt};
+    ghost use Rattle.docket_entries.specs.Rows.{answers, leaves};
 
     ghost stands = { λ court register kept. StandsAt court register kept };
 
     ghost leaves = { λ court kept line. leaves court kept line };
 
     ghost answers = { λ court kept line. answers court kept line };
-
-    ghost follows = { λ court kept entry. follows court kept entry };
 
     fn take(
         &mut self,
@@ -141,17 +236,6 @@ impl Register for DocketRegister {
                 batch.push(entry)?;
                 Ok(())
             }
-        }
-    }
-
-    fn retake(&mut self, court: &Court, alloc: Global, entry: &[u8]) -> Result<bool, AllocError> {
-        let _types: RowTypes = None;
-        match self.said(alloc, court, entry)? {
-            Line::Row(row) => {
-                let (_, again) = self.done(alloc, court, &row)?;
-                Ok(again.as_slice() == entry)
-            }
-            _ => Ok(false),
         }
     }
 }

@@ -68,6 +68,7 @@ impl<D: Disk> Journal<D> {
             → StandsFor c (entries_of fs) ⊎ StandsFor c (entries_of (fs ++ frames_of (length fs) batch.now)) }
         ensures refused { (fs : List Frame) → KeepsFrames D.Disk.seen D.Disk.may_leave D.Disk.is_usable fs self.old
             → IsErrOf result JournalFault.Full → KeepsFrames D.Disk.seen D.Disk.may_leave D.Disk.is_usable fs self.new }
+        ensures clean { D.Disk.is_clean self.new.disk ≡ D.Disk.is_clean self.old.disk }
         ensures cause { (fs : List Frame) → KeepsFrames D.Disk.seen D.Disk.may_leave D.Disk.is_usable fs self.old
             → IfErr result (HasAppendFault (D.Disk.faults self.old.disk) (D.Disk.faults self.new.disk) (entries_of fs) batch.now) }
     {
@@ -96,6 +97,7 @@ impl<D: Disk> Journal<D> {
             → StandsFor c entries ⊎ StandsFor c (entries ++ batch_of batch.now) }
         ensures refused { (entries : List (List ℕ)) → IsKept D.Disk.seen D.Disk.may_leave D.Disk.is_usable entries self.old
             → IsErrOf result JournalFault.Full → IsKept D.Disk.seen D.Disk.may_leave D.Disk.is_usable entries self.new }
+        ensures clean { D.Disk.is_clean (disk_of self.new) ≡ D.Disk.is_clean (disk_of self.old) }
         ensures cause { (entries : List (List ℕ)) → IsKept D.Disk.seen D.Disk.may_leave D.Disk.is_usable entries self.old
             → IfErr result (HasAppendFault (D.Disk.faults (disk_of self.old)) (D.Disk.faults (disk_of self.new)) entries batch.now) }
         // Each frame says how many entries were durable before its batch.
@@ -123,6 +125,7 @@ impl<D: Disk> Journal<D> {
             → IfErr result (λ e. IsTrue (D.Disk.is_clean e.1) → (c : List ℕ) → D.Disk.may_leave e.1 c → StandsFor c entries) }
         ensures cause { (file : List ℕ) → IsDurable D.Disk.seen D.Disk.may_leave D.Disk.is_usable file disk
             → IfErr result (λ e. IsTrue (D.Disk.is_clean e.1) → HasOpenFault (D.Disk.faults disk) (D.Disk.faults e.1) file e.0) }
+        ensures few { IfOk result (λ opened. length opened.1.items ≤ 1000000) }
         // Where an entry is damaged, nothing is written.
         ensures untouched { (file : List ℕ) (number : ℕ) → IsDurable D.Disk.seen D.Disk.may_leave D.Disk.is_usable file disk
             → IfErr result (λ e. e.0 ≡ JournalFault.Damaged number → IsDurable D.Disk.seen D.Disk.may_leave D.Disk.is_usable file e.1) }
@@ -140,5 +143,12 @@ impl<D: Disk> Journal<D> {
                 Ok((journal, found.entries))
             }
         }
+    }
+
+    /// The disk under the journal, as it is.
+    pub fn into_disk(self) -> D
+        ensures { result ≡ disk_of self }
+    {
+        self.disk
     }
 }

@@ -18,4 +18,4 @@ mod walk;
 pub use fault::JournalFault;
 pub use journal::Journal;
 pub use laws::stands_for_one_list;
-pub use recovery::{Recovered, recover};
+pub use recovery::{Recovered, entries_in, recover};

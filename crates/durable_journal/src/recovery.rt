@@ -2,6 +2,7 @@
 ghost use Rattle.std.specs.Prelude.{◌≡◌, ◌<◌, ◌≤◌, ◌+◌, ◌^◌, ℕ, [], ◌∷◌, ◌++◌, List, length, IsTrue, IfOk, IfErr, OnOk, IsErrOf, MatchResult, ◌↔◌};
 ghost use Rattle.sqlite_disk.specs.Disk.{CountsFault, MoreFaults};
 ghost use Rattle.durable_journal.specs.Frames.{StandsFor};
+ghost use Rattle.durable_journal.specs.Batches.{batch_of};
 ghost use Rattle.durable_journal.specs.Disks.{IsDurable, StaysShut};
 ghost use Rattle.durable_journal.specs.Faults.{HasFileFault, HasOpenFault, HasReadFault, HasWriteFault};
 ghost use Rattle.durable_journal.specs.Reading.{IsFound, IsWhole};
@@ -54,7 +55,7 @@ fn was_open(rest: &[u8], last: &[u8; 32], count: u32) -> bool
     says_other(rest.split_at(1).1, last, count)
 }
 
-// The entries of these bytes, where none is damaged.
+// The entries of these bytes, where none is damaged, and what their end needs to be repaired.
 fn read_file(alloc: Global, bytes: &[u8]) -> Result<Recovered, JournalFault>
     ensures found { IfOk result (λ r. IsFound bytes.now r.entries.items r.last r.end) }
     ensures whole { OnOk result (IsWhole bytes.now) }
@@ -70,6 +71,18 @@ fn read_file(alloc: Global, bytes: &[u8]) -> Result<Recovered, JournalFault>
         entries: walked.entries,
         last: walked.last,
     })
+}
+
+/// The entries of a journal's bytes, as they are read beside a program that appends to them: nothing is written. `Damaged`
+/// names an entry that is damaged, and `Full` says that more than 1,000,000 entries follow one another.
+pub fn entries_in(alloc: Global, bytes: &[u8]) -> Result<Vec<Vec<u8>>, JournalFault>
+    ensures entries { IfOk result (λ entries. StandsFor bytes.now (batch_of entries.items)) }
+    ensures whole { OnOk result (IsWhole bytes.now) }
+    ensures few { IfOk result (λ entries. length entries.items ≤ 1000000) }
+    ensures cause { IfErr result (HasFileFault bytes.now) }
+{
+    let found = read_file(alloc, bytes)?;
+    Ok(found.entries)
 }
 
 // Cuts what comes after the latch at this place, and then shuts it: in this order, since a torn write could open it.

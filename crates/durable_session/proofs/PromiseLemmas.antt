@@ -11,17 +11,18 @@ use Rattle.durable_session.specs.Served.{IsPromised, IsServed}
 use Rattle.durable_session.proofs.TakenLemmas.{none_left, told_to-nil, told_to-append, all_left}
 
 module _ (leaves : List (List ℕ) → List ℕ → List (List ℕ)) (answers : List (List ℕ) → List ℕ → List ℕ) where
-  nothing_said : (before : Option (List ℕ)) (kept : List (List ℕ)) → AppendsFront before before (told_to leaves answers kept [])
+  pub nothing_said : (before : Option (List ℕ)) (kept : List (List ℕ)) → AppendsFront before before (told_to leaves answers kept [])
   nothing_said before kept = ([], Appends-nil before, starts_with_of_append (told_to leaves answers kept []) [] (told_to leaves answers kept []) refl)
 
   -- nothing is written yet, and a crash leaves what none of the lines or all of them left
-  pub unanswered : (kept lines : List (List ℕ)) (before : Option (List ℕ)) (MayLeave : List ℕ → Type 0)
+  pub unanswered : (kept lines : List (List ℕ)) (before : Option (List ℕ)) (HasWritten : Type 0) (MayLeave : List ℕ → Type 0)
       → ((file : List ℕ) → MayLeave file → StandsFor file kept ⊎ StandsFor file (kept ++ left_by leaves kept lines))
-      → IsPromised leaves answers kept lines before before MayLeave
-  unanswered kept lines before MayLeave either =
+      → IsPromised leaves answers kept lines before before HasWritten MayLeave
+  unanswered kept lines before HasWritten MayLeave either =
       record {
         told = 0;
         written = nothing_said before kept;
+        whole = λ working. subst (Appends before before) (sym (told_to-nil leaves answers kept)) (Appends-nil before);
         lasts = λ file left. by file (either file left);
       }
     where
@@ -30,13 +31,15 @@ module _ (leaves : List (List ℕ) → List ℕ → List (List ℕ)) (answers : 
       by file (inr all) = (length lines, omega arith, subst (λ (l : List (List ℕ)). StandsFor file (kept ++ left_by leaves kept l)) (sym (take-length lines)) all)
 
   -- the lines are kept, and a beginning of their answers is written
-  pub answered : (kept lines : List (List ℕ)) (before after : Option (List ℕ)) (MayLeave : List ℕ → Type 0)
+  pub answered : (kept lines : List (List ℕ)) (before after : Option (List ℕ)) (HasWritten : Type 0) (MayLeave : List ℕ → Type 0)
       → AppendsFront before after (told_to leaves answers kept lines)
+      → (HasWritten → Appends before after (told_to leaves answers kept lines))
       → ((file : List ℕ) → MayLeave file → StandsFor file (kept ++ left_by leaves kept lines))
-      → IsPromised leaves answers kept lines before after MayLeave
-  answered kept lines before after MayLeave written lasts =
+      → IsPromised leaves answers kept lines before after HasWritten MayLeave
+  answered kept lines before after HasWritten MayLeave written whole lasts =
       record {
         told = length lines;
+        whole = λ working. subst (λ (l : List (List ℕ)). Appends before after (told_to leaves answers kept l)) (sym (take-length lines)) (whole working);
         written = subst (λ (l : List (List ℕ)). AppendsFront before after (told_to leaves answers kept l)) (sym (take-length lines)) written;
         lasts = λ file left. (length lines, omega arith, subst (λ (l : List (List ℕ)). StandsFor file (kept ++ left_by leaves kept l)) (sym (take-length lines)) (lasts file left));
       }
@@ -55,11 +58,11 @@ module _ (leaves : List (List ℕ) → List ℕ → List (List ℕ)) (answers : 
       }
 
   -- what is served is promised, where a crash leaves what is kept
-  pub served_promised : (Keeps Stands : List (List ℕ) → Type 0) (MayLeave : List ℕ → Type 0) (kept lines : List (List ℕ)) (before after : Option (List ℕ))
+  pub served_promised : (Keeps Stands : List (List ℕ) → Type 0) (HasWritten : Type 0) (MayLeave : List ℕ → Type 0) (kept lines : List (List ℕ)) (before after : Option (List ℕ))
       → ((entries : List (List ℕ)) → Keeps entries → (file : List ℕ) → MayLeave file → StandsFor file entries)
-      → IsServed leaves answers Keeps Stands kept lines before after → IsPromised leaves answers kept lines before after MayLeave
-  served_promised Keeps Stands MayLeave kept lines before after rest served =
-      answered kept lines before after MayLeave (whole_front before after (told_to leaves answers kept lines) served.told) (rest (kept ++ left_by leaves kept lines) served.keeps)
+      → IsServed leaves answers Keeps Stands kept lines before after → IsPromised leaves answers kept lines before after HasWritten MayLeave
+  served_promised Keeps Stands HasWritten MayLeave kept lines before after rest served =
+      answered kept lines before after HasWritten MayLeave (whole_front before after (told_to leaves answers kept lines) served.told) (λ working. served.told) (rest (kept ++ left_by leaves kept lines) served.keeps)
 
   -- lines that are served, and then others
   pub served_more : (Keeps Stands KeepsThen StandsThen : List (List ℕ) → Type 0) (kept some more : List (List ℕ)) (before between after : Option (List ℕ))
@@ -74,11 +77,11 @@ module _ (leaves : List (List ℕ) → List ℕ → List (List ℕ)) (answers : 
       }
 
   -- lines that are served, and then others that are promised
-  pub promised_more : (Keeps Stands : List (List ℕ) → Type 0) (MayLeave : List ℕ → Type 0) (kept some more : List (List ℕ)) (before between after : Option (List ℕ))
+  pub promised_more : (Keeps Stands : List (List ℕ) → Type 0) (HasWritten : Type 0) (MayLeave : List ℕ → Type 0) (kept some more : List (List ℕ)) (before between after : Option (List ℕ))
       → IsServed leaves answers Keeps Stands kept some before between
-      → IsPromised leaves answers (kept ++ left_by leaves kept some) more between after MayLeave
-      → IsPromised leaves answers kept (some ++ more) before after MayLeave
-  promised_more Keeps Stands MayLeave kept some more before between after first second =
+      → IsPromised leaves answers (kept ++ left_by leaves kept some) more between after HasWritten MayLeave
+      → IsPromised leaves answers kept (some ++ more) before after HasWritten MayLeave
+  promised_more Keeps Stands HasWritten MayLeave kept some more before between after first second =
       record {
         told = length some + second.told;
         written = (
@@ -86,6 +89,7 @@ module _ (leaves : List (List ℕ) → List ℕ → List (List ℕ)) (answers : 
           Appends-trans before between after _ _ first.told second.written.1,
           starts_with_of_append _ _ _ (said second.told ∙ ap (λ (l : List ℕ). told_to leaves answers kept some ++ l) (starts_with_rest _ _ second.written.2) ∙ sym (append_assoc (told_to leaves answers kept some) second.written.0 _)),
         );
+        whole = λ working. subst (Appends before after) (sym (said second.told)) (Appends-trans before between after _ _ first.told (second.whole working));
         lasts = λ file left. let (n, later, stands) = second.lasts file left in
             (length some + n, omega (arith, later), subst (StandsFor file) (sym (all_of n)) stands);
       }
@@ -105,3 +109,13 @@ none_read a b c bytes buffer n so_far last none =
 pub whole_input : (input : Option (List ℕ)) (IsSo : List ℕ → Type 0) (bytes : List ℕ) → IfSome input (λ all. bytes ≡ all) → IsSo bytes → IfSome input IsSo
 whole_input None IsSo bytes all so = tt
 whole_input (Some xs) IsSo bytes all so = subst IsSo all so
+
+-- what is written of some lines, and then a beginning of what comes of others
+pub front_more : (leaves : List (List ℕ) → List ℕ → List (List ℕ)) (answers : List (List ℕ) → List ℕ → List ℕ) (kept some more : List (List ℕ)) (before between after : Option (List ℕ))
+    → Appends before between (told_to leaves answers kept some) → AppendsFront between after (told_to leaves answers (kept ++ left_by leaves kept some) more)
+    → AppendsFront before after (told_to leaves answers kept (some ++ more))
+front_more leaves answers kept some more before between after first second = (
+  told_to leaves answers kept some ++ second.0,
+  Appends-trans before between after _ _ first second.1,
+  starts_with_of_append _ _ _ (told_to-append leaves answers kept some more ∙ ap (λ (l : List ℕ). told_to leaves answers kept some ++ l) (starts_with_rest _ _ second.2) ∙ sym (append_assoc (told_to leaves answers kept some) second.0 _)),
+)

@@ -12,10 +12,13 @@ pub record IsServed (leaves : List (List ℕ) → List ℕ → List (List ℕ)) 
   pub told : Appends before after (told_to leaves answers kept lines)
 
 -- What is so of a session that has read these lines, however it ends: what it wrote is a beginning of the answers to the
--- first `told` of them, and whatever a crash leaves stands for the entries that the first n of them left, n at least `told`.
-pub record IsPromised (leaves : List (List ℕ) → List ℕ → List (List ℕ)) (answers : List (List ℕ) → List ℕ → List ℕ) (kept lines : List (List ℕ)) (before after : Option (List ℕ)) (MayLeave : List ℕ → Type 0) : Type 0 where
+-- first `told` of them, and where no write has failed it is all of them; and whatever a crash leaves stands for the entries
+-- that the first n of them left, n at least `told`. So what the session still owes are the answers to the lines after the
+-- first `told` that are kept, and where a write has failed also the rest of the text that it broke off.
+pub record IsPromised (leaves : List (List ℕ) → List ℕ → List (List ℕ)) (answers : List (List ℕ) → List ℕ → List ℕ) (kept lines : List (List ℕ)) (before after : Option (List ℕ)) (HasWritten : Type 0) (MayLeave : List ℕ → Type 0) : Type 0 where
   pub told : ℕ
   pub written : AppendsFront before after (told_to leaves answers kept (take told lines))
+  pub whole : HasWritten → Appends before after (told_to leaves answers kept (take told lines))
   pub lasts : (file : List ℕ) → MayLeave file → (n : ℕ) × (told ≤ n) × StandsFor file (kept ++ left_by leaves kept (take n lines))
 
 -- some bytes were read, and this is so of them

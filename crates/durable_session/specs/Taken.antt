@@ -1,7 +1,5 @@
 -- What lines leave in a journal, and what they are answered: a line leaves one entry or none, by the entries before it.
-use Rattle.std.specs.Prelude.{◌≡◌, ℕ, List, [], ◌∷◌, ◌++◌, take, slice_get, Some, Vec}
-use Rattle.std.specs.declared.alloc.Global.{Global}
-use Rattle.durable_journal.specs.Words.{batch_of}
+use Rattle.std.specs.Prelude.{◌≡◌, ℕ, List, [], ◌∷◌, ◌++◌}
 
 -- what lines leave, after the entries `kept`
 unfoldable pub left_by : (leaves : List (List ℕ) → List ℕ → List (List ℕ)) → (kept : List (List ℕ)) → List (List ℕ) → List (List ℕ)
@@ -24,9 +22,3 @@ pub record TakesLines (leaves : List (List ℕ) → List ℕ → List (List ℕ)
   pub stands : Stands (kept ++ left_by leaves kept lines)
   pub left : batch_after ≡ batch ++ left_by leaves kept lines
   pub told : text_after ≡ text ++ told_to leaves answers kept lines
-
--- the entry at this place, counted from 0, can't follow those before it
-pub record CannotFollow (follows : List (List ℕ) → List ℕ → Type 0) (kept : List (List ℕ)) (entries : List (Vec ℕ Global)) (n : ℕ) : Type 0 where
-  pub entry : Vec ℕ Global
-  pub there : slice_get entries n ≡ Some entry
-  pub other : follows (kept ++ batch_of (take n entries)) entry.items → ⊥

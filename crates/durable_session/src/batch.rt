@@ -1,7 +1,8 @@
 //! Lines that came together: all of them are kept, and then answered.
-ghost use Rattle.std.specs.Prelude.{◌≡◌, ℕ, List, false, OnOk};
+ghost use Rattle.std.specs.Prelude.{◌≡◌, ℕ, List, false, IfErr, OnOk};
 ghost use Rattle.durable_journal.specs.Words.{IsKept, disk_of};
 ghost use Rattle.office_streams.specs.Words.{has_failed, watched};
+ghost use Rattle.durable_session.specs.Faults.{IsToldIfFailed};
 ghost use Rattle.durable_session.specs.Lines.{lines_from, unfinished_from};
 ghost use Rattle.durable_session.specs.Served.{IsPromised, IsServed};
 
@@ -26,11 +27,12 @@ pub(crate) fn serve_bytes<D: Disk, O: Register, W: Write>(
 ) -> Result<(), SessionFault>
     requires { has_failed writer.old ≡ false }
     ensures begun { OnOk result (begun.new.items ≡ unfinished_from begun.old.items bytes.now) }
+    ensures fault { IfErr result (IsToldIfFailed (has_failed writer.new)) }
     ensures working { OnOk result (has_failed writer.new ≡ false) }
     ensures served { (kept : List (List ℕ)) → IsKept D.Disk.seen D.Disk.may_leave D.Disk.is_usable kept journal.old → O.stands setup.now register.old kept → OnOk result
         (IsServed (O.leaves setup.now) (O.answers setup.now) (λ entries. IsKept D.Disk.seen D.Disk.may_leave D.Disk.is_usable entries journal.new) (O.stands setup.now register.new) kept (lines_from begun.old.items bytes.now) (W.contents (watched writer.old)) (W.contents (watched writer.new))) }
     ensures promised { (kept : List (List ℕ)) → IsKept D.Disk.seen D.Disk.may_leave D.Disk.is_usable kept journal.old → O.stands setup.now register.old kept →
-        IsPromised (O.leaves setup.now) (O.answers setup.now) kept (lines_from begun.old.items bytes.now) (W.contents (watched writer.old)) (W.contents (watched writer.new)) (D.Disk.may_leave (disk_of journal.new)) }
+        IsPromised (O.leaves setup.now) (O.answers setup.now) kept (lines_from begun.old.items bytes.now) (W.contents (watched writer.old)) (W.contents (watched writer.new)) (has_failed writer.new ≡ false) (D.Disk.may_leave (disk_of journal.new)) }
 {
     let mut batch = Vec::new(alloc);
     let mut text = Vec::new(alloc);

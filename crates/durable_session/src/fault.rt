@@ -1,6 +1,6 @@
 //! Why a session ends before its input does.
 ghost use Rattle.std.specs.Prelude.{◌≡◌};
-ghost use Rattle.durable_session.specs.declared.fault.SessionFault.TheVariants.{Journal, OutOfMemory};
+ghost use Rattle.durable_session.specs.declared.fault.SessionFault.TheVariants.{OutOfMemory};
 
 use durable_journal::JournalFault;
 use std::alloc::{AllocError, AllocFailed};
@@ -13,16 +13,16 @@ pub enum SessionFault {
     #[error("{0}")]
     Journal(JournalFault),
     /// The input can't be read.
-    #[error("the input can't be read")]
+    #[error("the input can't be read; what was answered is kept")]
     Read,
     /// The answers can't be written. The lines that were read last are kept.
-    #[error("the answers can't be written")]
+    #[error("the answers can't be written; 'rows' shows what is kept")]
     Write,
     /// A line has more than 65,536 bytes. It and the lines that were read with it aren't kept.
-    #[error("a line has more than 65536 bytes")]
+    #[error("a line has more than 65536 bytes; enter again what wasn't answered")]
     LongLine,
     /// The last line has no end, so that it may have been cut. It isn't kept; all lines before it are.
-    #[error("the last line has no end, and isn't taken")]
+    #[error("the last line has no end and isn't taken; end it with a line feed and enter it again")]
     Unfinished,
     /// Memory ran out. The lines that were read last aren't kept.
     #[error("out of memory")]
@@ -30,10 +30,15 @@ pub enum SessionFault {
 }
 
 impl From<JournalFault> for SessionFault {
-    ghost from_gives = { λ fault e. e ≡ Journal fault };
+    ghost use Rattle.durable_session.specs.Faults.{fault_from};
+
+    ghost from_gives = { λ fault e. e ≡ fault_from fault };
 
     fn from(fault: JournalFault) -> SessionFault {
-        SessionFault::Journal(fault)
+        match fault {
+            JournalFault::OutOfMemory => SessionFault::OutOfMemory,
+            _ => SessionFault::Journal(fault),
+        }
     }
 }
 

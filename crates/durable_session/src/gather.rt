@@ -1,6 +1,7 @@
 //! Lines, gathered from the bytes that come.
-ghost use Rattle.std.specs.Prelude.{◌≡◌, ◌++◌, ◌∷◌, [], ℕ, List, OnOk};
+ghost use Rattle.std.specs.Prelude.{◌≡◌, ◌++◌, ◌∷◌, [], ℕ, List, false, IfErr, OnOk};
 ghost use Rattle.durable_journal.specs.Words.{batch_of};
+ghost use Rattle.durable_session.specs.Faults.{IsToldIfFailed};
 ghost use Rattle.durable_session.specs.Lines.{ends_line, lines_from, unfinished_from};
 ghost use Rattle.durable_session.specs.Taken.{TakesLines};
 
@@ -20,7 +21,8 @@ fn ends_line(byte: u8) -> bool
 
 // Adds a byte to a line that has begun.
 fn go_on(begun: &mut Vec<u8>, byte: u8) -> Result<(), SessionFault>
-    ensures { OnOk result (begun.new.items ≡ begun.old.items ++ byte ∷ []) }
+    ensures line { OnOk result (begun.new.items ≡ begun.old.items ++ byte ∷ []) }
+    ensures fault { IfErr result (IsToldIfFailed false) }
 {
     if begun.len() >= MAX_LINE {
         return Err(SessionFault::LongLine);
@@ -39,6 +41,7 @@ fn take_byte<O: Register>(
     batch: &mut Vec<Vec<u8>>,
     text: &mut Vec<u8>,
 ) -> Result<(), SessionFault>
+    ensures fault { IfErr result (IsToldIfFailed false) }
     ensures begun { OnOk result (begun.new.items ≡ unfinished_from begun.old.items (byte ∷ [])) }
     ensures taken { (kept : List (List ℕ)) → O.stands setup.now register.old kept → OnOk result
         (TakesLines (O.leaves setup.now) (O.answers setup.now) (O.stands setup.now register.new) kept (lines_from begun.old.items (byte ∷ [])) (batch_of batch.old.items) (batch_of batch.new.items) text.old.items text.new.items) }
@@ -62,6 +65,7 @@ pub(crate) fn gather<O: Register>(
     batch: &mut Vec<Vec<u8>>,
     text: &mut Vec<u8>,
 ) -> Result<(), SessionFault>
+    ensures fault { IfErr result (IsToldIfFailed false) }
     ensures begun { OnOk result (begun.new.items ≡ unfinished_from begun.old.items bytes.now) }
     ensures taken { (kept : List (List ℕ)) → O.stands setup.now register.old kept → OnOk result
         (TakesLines (O.leaves setup.now) (O.answers setup.now) (O.stands setup.now register.new) kept (lines_from begun.old.items bytes.now) (batch_of batch.old.items) (batch_of batch.new.items) text.old.items text.new.items) }

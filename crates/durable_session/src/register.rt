@@ -1,5 +1,5 @@
 //! What takes lines and answers them.
-ghost use Rattle.std.specs.Prelude.{◌≡◌, ◌++◌, ◌∷◌, [], ℕ, List, IsTrue, IfOk, OnOk, ◌↔◌};
+ghost use Rattle.std.specs.Prelude.{ℕ, List, OnOk};
 ghost use Rattle.durable_journal.specs.Words.{batch_of};
 ghost use Rattle.durable_session.specs.Taken.{TakesLine};
 
@@ -19,9 +19,6 @@ pub trait Register {
     // What a line is answered after these entries.
     ghost answers: { Self.Setup → (kept : List (List ℕ)) → (line : List ℕ) → List ℕ };
 
-    // This may be the next entry after these.
-    ghost follows: { Self.Setup → (kept : List (List ℕ)) → (entry : List ℕ) → Type 0 };
-
     /// Takes a line, without its end: adds the entry that it leaves, if any, to the batch, and its answer to the text. `Err`
     /// says that memory ran out.
     fn take(
@@ -34,14 +31,4 @@ pub trait Register {
     ) -> Result<(), AllocError>
         ensures { (kept : List (List ℕ)) → stands setup.now self.old kept → OnOk result
             (TakesLine (leaves setup.now) (answers setup.now) (stands setup.now self.new) kept line.now (batch_of batch.old.items) (batch_of batch.new.items) text.old.items text.new.items) };
-
-    /// Takes an entry that a line left before, if it may be the next. `Err` says that memory ran out.
-    fn retake(
-        &mut self,
-        setup: &Self::Setup,
-        alloc: Global,
-        entry: &[u8],
-    ) -> Result<bool, AllocError>
-        ensures fits { (kept : List (List ℕ)) → stands setup.now self.old kept → IfOk result (λ fits. IsTrue fits ↔ follows setup.now kept entry.now) }
-        ensures taken { (kept : List (List ℕ)) → stands setup.now self.old kept → IfOk result (λ fits. IsTrue fits → stands setup.now self.new (kept ++ entry.now ∷ [])) };
 }

@@ -1,7 +1,8 @@
 //! A session, from the first line of its input to the last.
-ghost use Rattle.std.specs.Prelude.{◌≡◌, [], ℕ, List, true, false, IfSome, OnOk};
+ghost use Rattle.std.specs.Prelude.{◌≡◌, [], ℕ, Bool, List, true, false, IfErr, IfSome, OnOk};
 ghost use Rattle.durable_journal.specs.Words.{IsKept, disk_of};
 ghost use Rattle.office_streams.specs.Words.{has_ended, has_failed, watched};
+ghost use Rattle.durable_session.specs.Faults.{IsToldIfFailed};
 ghost use Rattle.durable_session.specs.Lines.{lines_of, unfinished_of};
 ghost use Rattle.durable_session.specs.Served.{AfterBytes, IsPromised, IsServed};
 
@@ -15,11 +16,12 @@ use std::alloc::Global;
 use std::io::{Read, Write};
 
 // How many bytes are asked for at once.
-const CHUNK: usize = 65_536;
+pub(crate) const CHUNK: usize = 65_536;
 
 // How a session ends whose input has ended.
-fn ended(begun: &Vec<u8>) -> Result<(), SessionFault>
-    ensures { OnOk result (begun.now.items ≡ []) }
+pub(crate) fn ended(begun: &Vec<u8>) -> Result<(), SessionFault>
+    ensures finished { OnOk result (begun.now.items ≡ []) }
+    ensures fault { (failed : Bool) → IfErr result (IsToldIfFailed failed) }
 {
     if begun.is_empty() {
         Ok(())
@@ -41,11 +43,12 @@ pub fn serve<D: Disk, O: Register, R: Read, W: Write>(
     requires writer_works { has_failed writer.old ≡ false }
     ensures promised { (kept : List (List ℕ)) → IsKept D.Disk.seen D.Disk.may_leave D.Disk.is_usable kept journal.old → O.stands setup.now register.old kept →
         AfterBytes (R.remaining (watched reader.old)) (R.remaining (watched reader.new)) (λ bytes.
-        IsPromised (O.leaves setup.now) (O.answers setup.now) kept (lines_of bytes) (W.contents (watched writer.old)) (W.contents (watched writer.new)) (D.Disk.may_leave (disk_of journal.new))) }
+        IsPromised (O.leaves setup.now) (O.answers setup.now) kept (lines_of bytes) (W.contents (watched writer.old)) (W.contents (watched writer.new)) (has_failed writer.new ≡ false) (D.Disk.may_leave (disk_of journal.new))) }
     ensures served { (kept : List (List ℕ)) → IsKept D.Disk.seen D.Disk.may_leave D.Disk.is_usable kept journal.old → O.stands setup.now register.old kept → OnOk result
         (IfSome (R.remaining (watched reader.old)) (λ input.
         IsServed (O.leaves setup.now) (O.answers setup.now) (λ entries. IsKept D.Disk.seen D.Disk.may_leave D.Disk.is_usable entries journal.new) (O.stands setup.now register.new) kept (lines_of input) (W.contents (watched writer.old)) (W.contents (watched writer.new)))) }
     ensures finished { OnOk result (IfSome (R.remaining (watched reader.old)) (λ input. unfinished_of input ≡ [])) }
+    ensures fault { IfErr result (IsToldIfFailed (has_failed writer.new)) }
     ensures working { OnOk result (has_failed writer.new ≡ false) }
 {
     let mut begun = Vec::new(alloc);

@@ -21,7 +21,7 @@ returns-then-ends_line-clause-taken g c = λ kept stands.
 
 pub returns-clause-begun : goal.returns-clause-begun
 returns-clause-begun g c =
-    c.in_ok-go_on.ensures ∙ sym (line_goes_on c.args.begun.now.items c.args.byte (sym c.ends_line.ensures ∙ c.if-ends_line.false))
+    c.in_ok-go_on.ensures.line ∙ sym (line_goes_on c.args.begun.now.items c.args.byte (sym c.ends_line.ensures ∙ c.if-ends_line.false))
 
 pub returns-clause-taken : goal.returns-clause-taken
 returns-clause-taken g c = λ kept stands.

@@ -1,0 +1,164 @@
+#!/usr/bin/env python3
+"""Measures the desk: rows that wait, a row alone, and how long a full journal takes to open; and SQLite beside it.
+
+    desk_bench.py DESK [FOLDER [ENTRIES]]
+
+All files are made in a new folder inside FOLDER (the folder of this repository without it), since what a sync costs is
+the disk's business; say on which kind of disk you measured. Each figure is the median of several turns, with the least and
+the greatest beside it.
+
+- Rows that wait: an input of rows, whole, for each number of rows. What one read gives is made durable together.
+- A row alone: the next row is sent when the answer to the one before has come. A row takes two writes and two syncs.
+- Bare: what the same bytes cost without a desk, written at the end of a file and synced, once and twice.
+- SQLite: a table of numbers, rows and answers, in WAL mode with synchronous=FULL, with one row and with 100 a commit.
+- Opening: `check` on a journal of ENTRIES entries (1,000,000 without it).
+
+Nothing is asserted and no time is limited. It needs Linux and Python 3.8 or later.
+"""
+import os
+import pathlib
+import random
+import sqlite3
+import statistics
+import subprocess
+import sys
+import tempfile
+import time
+
+from rows import EXAMPLE, SEED, Draw, rows_of
+
+TOP = pathlib.Path(__file__).resolve().parent.parent
+TURNS = 5
+WAITING = (1000, 10_000, 100_000)
+ALONE = 2000
+KINDS = ("rule periods", "docket")
+# About what a row and its answer take in the journal, with their frame.
+ENTRY = bytes(110)
+
+
+def told(name, figures, form="{:>11,.0f}"):
+    """A line: the median of figures, the least and the greatest."""
+    shown = [form.format(figure) for figure in (statistics.median(figures), min(figures), max(figures))]
+    print("{:<52}{}".format(name, " ".join(shown)), flush=True)
+
+
+def timed(call):
+    began = time.perf_counter()
+    call()
+    return time.perf_counter() - began
+
+
+class Bench:
+    """The built desk, and a folder for its files."""
+
+    def __init__(self, desk, parent):
+        self.desk, self.parent, self.made = desk, pathlib.Path(parent), 0
+
+    def opened(self):
+        """A new folder with the example's court."""
+        self.made += 1
+        folder = self.parent / "desk{}".format(self.made)
+        subprocess.run([self.desk, "open", folder, "--court", EXAMPLE], check=True)
+        return folder
+
+    def enter(self, folder, path):
+        with open(path, "rb") as rows:
+            subprocess.run([self.desk, "enter", folder], stdin=rows, stdout=subprocess.DEVNULL, check=True)
+
+    def waiting(self, rows):
+        """Rows per second of rows that wait, without the start of the program."""
+        path, empty = self.parent / "rows", self.parent / "empty"
+        path.write_text("".join(row + "\n" for row in rows))
+        empty.write_text("")
+        folder = self.opened()
+        start = timed(lambda: self.enter(folder, empty))
+        return len(rows) / max(timed(lambda: self.enter(folder, path)) - start, 1e-6)
+
+    def alone(self, rows):
+        """The microseconds that each row takes when each waits for the answer to the one before."""
+        with subprocess.Popen([self.desk, "enter", self.opened()], stdin=subprocess.PIPE, stdout=subprocess.PIPE,
+                              bufsize=0) as session:
+            answers, taken = os.fdopen(os.dup(session.stdout.fileno()), "rb"), []
+            for row in rows:
+                began = time.perf_counter()
+                session.stdin.write(row.encode() + b"\n")
+                answers.readline()
+                taken.append((time.perf_counter() - began) * 1e6)
+            session.stdin.close()
+            answers.close()
+        return taken[len(taken) // 10:]
+
+    def bare(self, syncs):
+        """The microseconds that a write at the end of a file and so many syncs take; each sync after a write."""
+        file = os.open(self.parent / "bare", os.O_RDWR | os.O_CREAT | os.O_TRUNC)
+        taken, at = [], 0
+        for _ in range(ALONE):
+            began = time.perf_counter()
+            os.pwrite(file, ENTRY, at)
+            os.fdatasync(file)
+            if syncs == 2:
+                os.pwrite(file, b"+", max(at - 1, 0))
+                os.fdatasync(file)
+            taken.append((time.perf_counter() - began) * 1e6)
+            at += len(ENTRY)
+        os.close(file)
+        return taken[len(taken) // 10:]
+
+    def sqlite(self, rows, each):
+        """Rows per second into a table of SQLite, with so many in a commit."""
+        self.made += 1
+        base = sqlite3.connect(str(self.parent / "base{}".format(self.made)), isolation_level=None)
+        base.execute("PRAGMA journal_mode=WAL")
+        base.execute("PRAGMA synchronous=FULL")
+        base.execute("CREATE TABLE kept (number INTEGER PRIMARY KEY, row TEXT, answer TEXT)")
+        began = time.perf_counter()
+        for first in range(0, len(rows), each):
+            base.execute("BEGIN")
+            base.executemany("INSERT INTO kept (row, answer) VALUES (?, ?)",
+                             [(row, "1 1 last 2025-09-02") for row in rows[first:first + each]])
+            base.execute("COMMIT")
+        seconds = time.perf_counter() - began
+        base.close()
+        return len(rows) / seconds
+
+    def opening(self, rows, count):
+        """The seconds that `check` takes on a journal of so many entries."""
+        path = self.parent / "many"
+        path.write_text("".join(rows[at % len(rows)] + "\n" for at in range(count - 1)))
+        folder = self.opened()
+        self.enter(folder, path)
+        call = [self.desk, "check", folder]
+        return [timed(lambda: subprocess.run(call, stdout=subprocess.DEVNULL, check=True)) for _ in range(TURNS)]
+
+
+def drawn(kind, count):
+    court = EXAMPLE.read_text()
+    return list(rows_of(kind, Draw(random.Random(SEED), court), count))
+
+
+def measure(bench, entries):
+    print("{:<52}{:>11} {:>11} {:>11}".format("", "median", "least", "greatest"))
+    for kind in KINDS:
+        for count in WAITING:
+            rows = drawn(kind, count)
+            told("rows that wait, a second: {:,} of {}".format(count, kind), [bench.waiting(rows) for _ in range(TURNS)])
+    rows = drawn("rule periods", ALONE)
+    told("a row alone, microseconds", bench.alone(rows))
+    for syncs, name in ((1, "once"), (2, "twice")):
+        told("bare: written and synced {}, microseconds".format(name), bench.bare(syncs))
+    for each in (1, 100):
+        told("SQLite, rows a second: {} a commit".format(each), [bench.sqlite(rows, each) for _ in range(TURNS)])
+    many = drawn("rule periods", 1000)
+    told("opening {:,} entries, seconds".format(entries), bench.opening(many, entries), "{:>11.2f}")
+
+
+def main(words):
+    parent = words[1] if len(words) > 1 else str(TOP)
+    with tempfile.TemporaryDirectory(dir=parent) as folder:
+        measure(Bench(pathlib.Path(words[0]).resolve(), folder), int(words[2]) if len(words) > 2 else 1_000_000)
+
+
+if __name__ == "__main__":
+    if not 2 <= len(sys.argv) <= 4:
+        sys.exit("usage: desk_bench.py DESK [FOLDER [ENTRIES]]")
+    main(sys.argv[1:])

@@ -1,0 +1,87 @@
+#!/usr/bin/env python3
+"""Compares the desk, row by row, with clerk_office, which takes all rows at once.
+
+    desk_compare.py DESK CLERK_OFFICE [SEED [COUNT]]
+
+COUNT inputs (5,000 without it) are made from SEED, as office_compare.py makes them; those whose court's file has a fault
+must be refused by both. The rows are entered in one session or two. A row that can't be read is answered with its fault,
+and the others must be answered as clerk_office answers them alone: the answers must be those in the journal, the rows in
+it with the court's file an input for which clerk_office begins with the same answers, and what `rows` writes that input.
+It needs Python 3.8 or later.
+"""
+import random
+import sys
+import tempfile
+from collections import Counter
+
+from lib.desk import Desk, divided, programs_of, run
+from lib.journal import rows_of
+from lib.made_inputs import INPUTS, made_input
+
+FAULT = b"row "
+SAME, FAULTS, REFUSED_COURT = "answered the same", "with rows that can't be read", "with a court's file that both refuse"
+
+
+def is_fault(line):
+    """Whether a line of the desk tells of a row that can't be read."""
+    return line.startswith(FAULT) and b" fault " in line
+
+
+def is_refused(programs, parent, court):
+    """Whether both programs refuse the court's file, with the same status and words."""
+    file = parent + "/bad.toml"
+    with open(file, "wb") as it:
+        it.write(court)
+    desk = run([programs.desk, "open", parent + "/bad", "--court", file])
+    whole = programs.whole(court + b"%%\n")
+    if whole.status == 0:
+        return False
+    assert (desk.status, desk.output, desk.errors) == (whole.status, whole.output, whole.errors), (desk, whole)
+    return True
+
+
+def check_rows(desk, rows, draw):
+    """Enters rows in one session or two; whether one of them couldn't be read."""
+    at = draw.choice([len(rows), draw.randint(0, len(rows))])
+    lines = (desk.enter(rows[:at]) + desk.enter(rows[at:])).splitlines(True)
+    answers = b"".join(line for line in lines if not is_fault(line))
+    kept = rows_of(desk.read())
+    assert answers == b"".join(answer for _, answer in kept), (answers, kept)
+    whole = desk.input_of(row for row, _ in kept)
+    assert desk.rows() == whole
+    together = desk.programs.whole(whole)
+    assert together.status == 0 and together.output.startswith(answers), (answers, together)
+    return any(is_fault(line) for line in lines)
+
+
+def check_input(programs, data, draw):
+    """Compares the two programs on an input, and says what it was."""
+    court, rows = divided(data)
+    rows = [row if row.endswith(b"\n") else row + b"\n" for row in rows]
+    with tempfile.TemporaryDirectory() as parent:
+        if is_refused(programs, parent, court):
+            return REFUSED_COURT
+        desk = Desk(programs, parent, court)
+        if check_rows(desk, rows, draw):
+            return FAULTS
+        alone = programs.whole(court + b"%%\n" + b"".join(rows))
+        answers = b"".join(answer for _, answer in rows_of(desk.read()))
+        assert alone.status == 0 and alone.output.startswith(answers), alone
+        return SAME
+
+
+def compared(programs, draw, count):
+    """Compares so many inputs, and says how many of each kind there were."""
+    counts = Counter(check_input(programs, made_input(draw, INPUTS[number % len(INPUTS)]), draw) for number in range(count))
+    return "{} inputs: {}".format(count, ", ".join("{} {}".format(number, kind) for kind, number in sorted(counts.items())))
+
+
+def main(words):
+    draw = random.Random(int(words[2]) if len(words) > 2 else 1)
+    print(compared(programs_of(words[:2]), draw, int(words[3]) if len(words) > 3 else 5000))
+
+
+if __name__ == "__main__":
+    if not 3 <= len(sys.argv) <= 5:
+        sys.exit("usage: desk_compare.py DESK CLERK_OFFICE [SEED [COUNT]]")
+    main(sys.argv[1:])

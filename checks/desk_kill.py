@@ -1,0 +1,141 @@
+#!/usr/bin/env python3
+"""Ends the desk at random moments while rows come in, and looks for every row that it answered.
+
+    desk_kill.py DESK CLERK_OFFICE [SEED [COUNT]]
+
+COUNT sessions (2,000 without it), drawn from SEED, are given rows in bursts and end in one of four ways: killed (most of
+them), stopped by SIGTERM, by a reader that closes the pipe of the answers, or by the end of the input. After each one
+the journal is read byte by byte, by the reader in lib/journal.py. It must have the rows that were given, in their order,
+up to one of them; and what was written must be a beginning of the answers in it. The next session goes on with the same
+folder; after 50 of them the answers of all rows must be those of clerk_office, and so must those of what `rows` writes.
+The last line says how many rows were kept and how many of them weren't answered any more. It needs Python 3.8 or later.
+"""
+import random
+import signal
+import subprocess
+import sys
+import tempfile
+import threading
+import time
+from collections import Counter
+
+from lib.desk import Desk, SHORT_COURT, drawn_rows, programs_of
+from lib.journal import rows_of
+
+# How many sessions go on with the same folder, and of how many cases their rows are.
+SESSIONS, CASES = 50, 200
+KILLED, STOPPED, CLOSED, ENDED = "killed", "stopped by SIGTERM", "with the answers' pipe closed", "to the end"
+WAYS = [KILLED] * 7 + [STOPPED, CLOSED, ENDED]
+# With which statuses a session may end, for each way in which it is ended.
+STATUSES = {KILLED: (-signal.SIGKILL, 0), STOPPED: (-signal.SIGTERM, 0), CLOSED: (4, -signal.SIGPIPE, 0), ENDED: (0,)}
+LONGEST = 60
+
+
+def give(pipe, bursts, pauses):
+    """Writes bursts of rows, with a pause after each, and closes the pipe, unless nobody reads it any more."""
+    try:
+        for burst, pause in zip(bursts, pauses):
+            pipe.write(burst)
+            pipe.flush()
+            time.sleep(pause)
+        pipe.close()
+    except (BrokenPipeError, ValueError):
+        pass
+
+
+def bursts_of(draw, rows):
+    """Rows in bursts of one row or of many."""
+    bursts, at = [], 0
+    while at < len(rows):
+        count = draw.choice([1, 1, 2, 10, 100])
+        bursts.append(b"".join(rows[at:at + count]))
+        at += count
+    return bursts
+
+
+def end(session, way, draw, moment):
+    """Ends a session in that way: what it wrote until then, and its status."""
+    if way == CLOSED:
+        read = session.stdout.read1(draw.choice([1, 50, 5000]))
+        session.stdout.close()
+        session.wait(LONGEST)
+        return read
+    if way != ENDED:
+        time.sleep(moment)
+        session.send_signal(signal.SIGKILL if way == KILLED else signal.SIGTERM)
+    read = session.stdout.read()
+    session.wait(LONGEST)
+    return read
+
+
+def serve(desk, rows, way, draw, pace):
+    """A session with these rows that is ended in that way: what it wrote."""
+    session = desk.session()
+    bursts = bursts_of(draw, rows)
+    pauses = [0 if draw.random() < 0.5 else draw.random() * pace / 10 for _ in bursts]
+    giver = threading.Thread(target=give, args=(session.stdin, bursts, pauses))
+    giver.start()
+    written = end(session, way, draw, draw.random() * pace)
+    giver.join()
+    errors = session.stderr.read()
+    for pipe in (session.stdin, session.stdout, session.stderr):
+        try:
+            pipe.close()
+        except BrokenPipeError:
+            pass
+    assert session.returncode in STATUSES[way], (way, session.returncode, errors)
+    return written
+
+
+def check_session(desk, rows, way, draw, pace):
+    """A session after which each row that it answered must be kept: how many rows it kept, and of these answered."""
+    before = rows_of(desk.read())
+    written = serve(desk, rows[len(before):len(before) + draw.choice([5, 60, 400])], way, draw, pace)
+    kept = rows_of(desk.read())
+    assert kept[:len(before)] == before, "rows of earlier sessions were changed"
+    assert [row for row, _ in kept] == rows[:len(kept)], "other rows were kept than were given"
+    answers = [answer for _, answer in kept[len(before):]]
+    assert b"".join(answers).startswith(written), "an answer was lost: {}".format(written[-200:])
+    answered = 0
+    while answered < len(answers) and len(b"".join(answers[:answered + 1])) <= len(written):
+        answered += 1
+    return len(answers), answered
+
+
+def check_folder(programs, draw, count):
+    """Sessions that go on with one folder: how many ended in each way, how many rows were kept, and of these answered."""
+    rows, counts = drawn_rows(draw, 400 * count, CASES), Counter()
+    with tempfile.TemporaryDirectory() as parent:
+        desk = Desk(programs, parent, SHORT_COURT)
+        for _ in range(count):
+            began = time.monotonic()
+            desk.call("check")
+            pace = 3 * (time.monotonic() - began) + 0.01
+            way = draw.choice(WAYS)
+            kept, answered = check_session(desk, rows, way, draw, pace)
+            counts.update({way: 1, "kept": kept, "answered": answered})
+        answers = b"".join(answer for _, answer in rows_of(desk.read()))
+        whole = programs.whole(desk.rows())
+        assert whole.status == 0 and whole.output.startswith(answers), "clerk_office answers otherwise"
+    return counts
+
+
+def killed(programs, draw, count):
+    """Ends so many sessions, and says what came of them."""
+    counts = Counter()
+    for first in range(0, count, SESSIONS):
+        counts += check_folder(programs, draw, min(SESSIONS, count - first))
+    ways = ", ".join("{} {}".format(counts[way], way) for way in STATUSES)
+    return "{} sessions ({}): {} rows kept, {} of them not answered any more, none lost that was".format(
+        count, ways, counts["kept"], counts["kept"] - counts["answered"])
+
+
+def main(words):
+    draw = random.Random(int(words[2]) if len(words) > 2 else 1)
+    print(killed(programs_of(words[:2]), draw, int(words[3]) if len(words) > 3 else 2000))
+
+
+if __name__ == "__main__":
+    if not 3 <= len(sys.argv) <= 5:
+        sys.exit("usage: desk_kill.py DESK CLERK_OFFICE [SEED [COUNT]]")
+    main(sys.argv[1:])

@@ -1,0 +1,214 @@
+#!/usr/bin/env python3
+"""Takes the desk to its limits: a full disk, a folder that can't be written to, and very many rows.
+
+    desk_limits.py DESK CLERK_OFFICE [ROWS [ENTRIES]]
+
+A file that may grow no further, and a small disk that is full (a tmpfs, which needs root): the session ends with status 6,
+every row that it answered is kept, and with room again it goes on. A folder that can't be written to, and another program
+that has the journal: the desk is refused, and the journal is as it was. A day of ROWS rows (100,000 without it), which
+are written one after another to a pipe while the answers are read from another: the memory of the desk grows by less than
+4 MB after its first 10,000 rows. A journal of ENTRIES entries (1,000,000 without it) is filled to its end, the row after
+the last is refused, and it is opened again. It needs Linux and Python 3.8 or later.
+"""
+import contextlib
+import os
+import pathlib
+import random
+import resource
+import signal
+import subprocess
+import sys
+import tempfile
+import threading
+import time
+
+from lib.desk import Desk, REFUSED, SHORT_COURT, drawn_rows, programs_of
+from lib.journal import rows_of
+
+NOBODY = 65534
+GROWTH_KB = 4000
+BEGUN = 10_000
+
+
+def check_stopped(desk, rows, **how):
+    """A session whose journal can't grow on: it says so, and has kept what it answered. What is left of the rows."""
+    before = rows_of(desk.read())
+    ended = desk.call("enter", given=b"".join(rows), **how)
+    assert ended.status == REFUSED and b"can't be" in ended.errors, ended
+    kept = rows_of(desk.read())
+    answers = b"".join(answer for _, answer in kept[len(before):])
+    assert answers.startswith(ended.output) and kept[:len(before)] == before, "an answer was lost"
+    return rows[len(kept) - len(before):]
+
+
+def check_goes_on(desk, rows):
+    """Once there is room, the other rows are entered."""
+    desk.enter(rows)
+    answers = b"".join(answer for _, answer in rows_of(desk.read()))
+    whole = desk.programs.whole(desk.rows())
+    assert whole.status == 0 and whole.output.startswith(answers)
+
+
+def may_grow_no_further(size):
+    """What a process does first whose files may not be longer: a write beyond is refused and doesn't end it."""
+    def first():
+        signal.signal(signal.SIGXFSZ, signal.SIG_IGN)
+        resource.setrlimit(resource.RLIMIT_FSIZE, (size, size))
+    return first
+
+
+def check_short_file(programs, draw):
+    """The journal's file may not grow, at many lengths."""
+    with tempfile.TemporaryDirectory() as parent:
+        desk = Desk(programs, parent, SHORT_COURT)
+        for _ in range(20):
+            size = desk.journal.stat().st_size + draw.randint(0, 3000)
+            rows = check_stopped(desk, drawn_rows(draw, 100), preexec_fn=may_grow_no_further(size))
+            check_goes_on(desk, rows)
+    return "a file that may grow no further: what was answered is kept, 20 times"
+
+
+@contextlib.contextmanager
+def small_disk(size):
+    """A disk of so many kilobytes, for as long as it is used; None where it can't be had."""
+    with tempfile.TemporaryDirectory() as place:
+        words = ["mount", "-t", "tmpfs", "-o", "size={}k".format(size), "tmpfs", place]
+        try:
+            mounted = subprocess.run(words, stderr=subprocess.DEVNULL, check=False).returncode == 0
+        except FileNotFoundError:
+            mounted = False
+        try:
+            yield place if mounted else None
+        finally:
+            if mounted:
+                subprocess.run(["umount", place], check=True)
+
+
+def check_full_disk(programs, draw):
+    """The disk is full, and later has room again."""
+    with small_disk(512) as place:
+        if place is None:
+            return "a full disk: NOT CHECKED, since no tmpfs can be mounted here (it needs root)"
+        desk, others = Desk(programs, place, SHORT_COURT), pathlib.Path(place, "others")
+        for _ in range(10):
+            room = os.statvfs(place).f_bavail * os.statvfs(place).f_frsize
+            others.write_bytes(bytes(max(0, room - 4096 * draw.randint(0, 3))))
+            rows = check_stopped(desk, drawn_rows(draw, 400))
+            others.unlink()
+            check_goes_on(desk, rows[:40])
+    return "a full disk: what was answered is kept, 10 times"
+
+
+def as_nobody():
+    """What a process does first that root has started and that may write nothing of root's."""
+    os.setgid(NOBODY)
+    os.setuid(NOBODY)
+
+
+def check_read_only(programs, draw):
+    """A folder that can't be written to."""
+    with tempfile.TemporaryDirectory() as parent:
+        desk = Desk(programs, parent, SHORT_COURT)
+        desk.enter(drawn_rows(draw, 10))
+        data = desk.journal.read_bytes()
+        os.chmod(parent, 0o755)
+        for path in (*desk.folder.iterdir(), desk.folder):
+            os.chmod(path, 0o555 if path.is_dir() else 0o444)
+        how = {"preexec_fn": as_nobody} if os.getuid() == 0 else {}
+        try:
+            ended = desk.call("enter", given=b"1,sheet,1\n", **how)
+        except PermissionError:
+            return "a folder that can't be written to: NOT CHECKED, since nobody else may run the program where it stands"
+        os.chmod(desk.folder, 0o755)
+        assert ended.status in (4, REFUSED) and not ended.output and ended.errors, ended
+        assert desk.journal.read_bytes() == data
+    return "a folder that can't be written to: refused with '{}'".format(ended.errors.decode().strip())
+
+
+def check_second(programs):
+    """A second program on a folder is refused, as long as the first runs."""
+    with tempfile.TemporaryDirectory() as parent:
+        desk = Desk(programs, parent, SHORT_COURT)
+        session = desk.session()
+        session.stdin.write(b"1,sheet,1\n")
+        session.stdin.flush()
+        assert session.stdout.readline()
+        for task in ("enter", "check", "rows"):
+            ended = desk.call(task, given=b"1,sheet,1\n")
+            assert ended.status == REFUSED and b"another program" in ended.errors and not ended.output, ended
+        session.kill()
+        session.communicate()
+        desk.enter([b"1,sheet,1\n"])
+    return "two programs on one folder: the second is refused until the first has ended"
+
+
+def peak_of(session):
+    """The most memory that a process has had so far, in kilobytes."""
+    status = pathlib.Path("/proc/{}/status".format(session.pid)).read_text()
+    return int(status.split("VmHWM:")[1].split()[0])
+
+
+def day_of(draw, count):
+    """The rows of a long day: periods that are asked for, and some cases."""
+    day = "2025-{:02}-{:02}"
+    opened = [b"1,open,%d,2025-03-03\n" % case for case in range(1, 101)]
+    asked = ["1,compute,{},{},,,\n".format(draw.choice(["4m", "59b", "59e", "12a1Ai"]),
+                                           day.format(draw.randint(1, 12), draw.randint(1, 28))).encode()
+             for _ in range(count - len(opened))]
+    return opened + asked
+
+
+def check_day(programs, draw, count):
+    """Many rows over a pipe, one after another."""
+    with tempfile.TemporaryDirectory() as parent:
+        desk, rows = Desk(programs, parent, SHORT_COURT), day_of(draw, count)
+        session = desk.session()
+        giver = threading.Thread(target=lambda: ([session.stdin.write(row) for row in rows], session.stdin.close()))
+        began = time.monotonic()
+        giver.start()
+        answers, peaks = [], {}
+        for number in range(count):
+            answers.append(session.stdout.readline())
+            if number + 1 in (min(BEGUN, count // 2), count):
+                peaks[number + 1] = peak_of(session)
+        seconds = time.monotonic() - began
+        giver.join()
+        assert session.wait() == 0 and not session.stdout.read()
+        first, last = peaks.values()
+        assert last < first + GROWTH_KB, peaks
+        whole = programs.whole(SHORT_COURT + b"%%\n" + b"".join(rows))
+        assert whole.output.startswith(b"".join(answers))
+    return "{:,} rows over a pipe in {:.1f} s: memory {:,} kB after {:,} rows and {:,} kB at the end".format(
+        count, seconds, first, min(BEGUN, count // 2), last)
+
+
+def check_full_journal(programs, count):
+    """A journal is filled to its end and opened again."""
+    row = b"1,compute,59e,2025-08-04,,,\n"
+    with tempfile.TemporaryDirectory() as parent:
+        desk = Desk(programs, parent, SHORT_COURT)
+        ended = desk.call("enter", given=row * count)
+        *_, last, beyond = ended.output.splitlines()
+        assert ended.status == 0 and last.startswith(b"%d 1 " % (count - 1)) and b"TooManyRows" in beyond, (last, beyond)
+        began = time.monotonic()
+        ended = desk.call("check")
+        seconds = time.monotonic() - began
+        assert ended.status == 0, ended
+        size = desk.journal.stat().st_size
+    return "a journal of {:,} entries and {:,} bytes is full, and is opened in {:.1f} s".format(count, size, seconds)
+
+
+def main(words):
+    programs, draw = programs_of(words[:2]), random.Random(1)
+    rows = int(words[2]) if len(words) > 2 else 100_000
+    entries = int(words[3]) if len(words) > 3 else 1_000_000
+    for check in (lambda: check_second(programs), lambda: check_read_only(programs, draw),
+                  lambda: check_short_file(programs, draw), lambda: check_full_disk(programs, draw),
+                  lambda: check_day(programs, draw, rows), lambda: check_full_journal(programs, entries)):
+        print(check(), flush=True)
+
+
+if __name__ == "__main__":
+    if not 3 <= len(sys.argv) <= 5:
+        sys.exit("usage: desk_limits.py DESK CLERK_OFFICE [ROWS [ENTRIES]]")
+    main(sys.argv[1:])

@@ -1,0 +1,124 @@
+"""A desk's folder, and the two programs that its checks call."""
+import pathlib
+import subprocess
+from typing import NamedTuple
+
+from lib.journal import read_journal
+
+TOP = pathlib.Path(__file__).resolve().parent.parent.parent
+# The status with which the desk ends where its journal can't be opened, read or written.
+REFUSED = 6
+# A court's file that is short, so that a journal's bytes are mostly those of its rows.
+SHORT_COURT = b"""zone = "EST5EDT,M3.2.0/2,M11.1.0/2"
+opens = "08:30"
+closes = "17:00"
+from = "2024-01-01"
+to = "2026-12-31"
+federal = ["2025-05-26", "2025-06-19", "2025-07-04", "2025-09-01"]
+state = ["2025-03-28"]
+judges = ["Ames", "Brandt"]
+rooms = ["R1"]
+"""
+
+
+class Ended(NamedTuple):
+    """How a program ended: its status, and what it wrote."""
+    status: int
+    output: bytes
+    errors: bytes
+
+
+def run(words, given=b"", **how):
+    """Runs a program with these words and that input."""
+    ended = subprocess.run([str(word) for word in words], input=given, stdout=subprocess.PIPE, stderr=subprocess.PIPE,
+                           check=False, **how)
+    return Ended(ended.returncode, ended.stdout, ended.stderr)
+
+
+class Programs(NamedTuple):
+    """The built desk and the built clerk's program."""
+    desk: pathlib.Path
+    clerk_office: pathlib.Path
+
+    def whole(self, text):
+        """What the clerk's program writes for an input."""
+        return run([self.clerk_office], text)
+
+
+def programs_of(words):
+    return Programs(*[pathlib.Path(word).resolve() for word in words])
+
+
+def divided(text):
+    """The court's file and the rows of an input, each row with the end of its line."""
+    if text.startswith(b"%%\n"):
+        court, rows = b"", text[3:]
+    else:
+        court, _, rows = text.partition(b"\n%%\n")
+        court += b"\n"
+    return court, [row for row in rows.splitlines(True) if row.strip()]
+
+
+def drawn_rows(draw, count, cases=4):
+    """Rows of one clerk about so many cases, of which some are refused."""
+    rows = []
+    for _ in range(count):
+        case, day = draw.randint(1, cases), "2025-{:02}-{:02}".format(draw.randint(1, 12), draw.randint(1, 28))
+        rows.append(draw.choice([
+            "1,open,{},{}".format(case, day),
+            "1,start,{},{},{},,,".format(case, draw.choice(["4m", "12a1Ai", "59b", "59e"]), day),
+            "1,motion,{},{},14".format(case, day),
+            "1,sheet,{}".format(case),
+            "1,compute,59e,{},,,".format(day),
+            "1,holiday,{},state".format(day),
+        ]).encode() + b"\n")
+    return rows
+
+
+class Desk:
+    """A folder with a journal that was opened with a court's file."""
+
+    def __init__(self, programs, parent, court):
+        self.programs, self.folder, self.court = programs, pathlib.Path(parent) / "desk", court
+        file = pathlib.Path(parent) / "court.toml"
+        file.write_bytes(court)
+        ended = run([programs.desk, "open", self.folder, "--court", file])
+        assert ended.status == 0, ended
+
+    @property
+    def journal(self):
+        return self.folder / "journal"
+
+    def read(self):
+        """The journal, read byte by byte."""
+        return read_journal(self.journal.read_bytes())
+
+    def words(self, *words):
+        """The words of a call."""
+        task, *others = words
+        return [str(self.programs.desk), task, str(self.folder), *map(str, others)]
+
+    def call(self, *words, given=b"", **how):
+        return run(self.words(*words), given, **how)
+
+    def session(self, **how):
+        """A session of its own, which reads rows from a pipe and answers to one."""
+        return subprocess.Popen(self.words("enter"), stdin=subprocess.PIPE, stdout=subprocess.PIPE, stderr=subprocess.PIPE,
+                                **how)
+
+    def input_of(self, rows):
+        """The input of the clerk's program with this court and these rows."""
+        end = b"" if self.court.endswith(b"\n") else b"\n"
+        return self.court + end + b"%%\n" + b"".join(rows)
+
+    def enter(self, rows):
+        """The answers to rows, which all can be taken."""
+        ended = self.call("enter", given=b"".join(rows))
+        assert ended.status == 0, ended
+        return ended.output
+
+    def rows(self):
+        """What `rows` writes."""
+        ended = self.call("rows")
+        assert ended.status == 0, ended
+        return ended.output

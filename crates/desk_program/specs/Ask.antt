@@ -1,0 +1,14 @@
+-- Questions on the docket to which entries come.
+use Rattle.std.specs.Prelude.{ℕ, List, [], Option}
+use Rattle.std.specs.Io.KnownBytes.{Appends}
+use Rattle.court_days.specs.Words.{CourtView}
+use Rattle.durable_session.specs.Words.{told_to}
+use Rattle.docket_entries.specs.Words.{IsHistory, SaysCourt, shown, standing_file}
+
+-- The entries are a history, and each line is answered as a question on the docket after them, under the court that stands
+-- there. No line changes what the next is answered.
+pub record AnswersQuestions (entries lines : List (List ℕ)) (before after : Option (List ℕ)) : Type 0 where
+  pub history : IsHistory entries
+  pub court : CourtView
+  pub stands : SaysCourt (standing_file entries) court
+  pub told : Appends before after (told_to (λ kept line. []) (shown court) entries lines)

@@ -1,0 +1,51 @@
+-- A docket over a disk: what it keeps, and what a session on it promises.
+use Rattle.std.specs.Prelude.{◌≡◌, ◌≢◌, ℕ, List, Bool, Option, Err, ◌++◌}
+use Rattle.court_days.specs.Words.{CourtView, court_in}
+use Rattle.durable_journal.specs.Words.{IsKept, StandsFor, disk_of}
+use Rattle.durable_session.specs.Words.{IsPromised}
+use Rattle.docket_entries.specs.declared.docketed.Docketed.{Docketed}
+use Rattle.docket_entries.specs.Words.{IsDocketed, IsHistory, SaysCourt, answers, leaves, standing_file}
+use Rattle.office_streams.specs.Words.{court_part}
+use Rattle.desk_program.specs.declared.desk.Desk.{Desk}
+use Rattle.desk_program.specs.declared.fault.DeskFault.{DeskFault}
+use Rattle.desk_program.specs.declared.fault.DeskFault.TheVariants.{Busy, Court, Differs, Divided, File, Foreign, Journal, KeptCourt, NoJournal, Other, OutOfMemory, Session, Taken, Write}
+
+-- the disk under a desk
+abbrev pub disk_under : {D : Type 0} → Desk D → D
+disk_under desk = disk_of desk.journal
+
+-- the court by which it goes
+abbrev pub court_at : {D : Type 0} → Desk D → CourtView
+court_at desk = desk.court
+
+-- the court and its docket
+abbrev pub docketed_at : {D : Type 0} → Desk D → Docketed
+docketed_at desk = record { court = desk.court; register = desk.register }
+
+-- The entries are kept on the disk, they are a history, and its docket is the one to which they come.
+pub record KeepsDocket {D : Type 0} (seen : D → List ℕ) (may_leave : D → List ℕ → Type 0) (is_usable : D → Bool) (entries : List (List ℕ)) (desk : Desk D) : Type 0 where
+  pub kept : IsKept seen may_leave is_usable entries desk.journal
+  pub docketed : IsDocketed (docketed_at desk) entries
+
+-- What a session promises of a docket, however it ends: what `IsPromised` says of its lines, each of which leaves its row
+-- with its answer; and whatever a crash leaves is a history under the same court, so that the next opening takes it.
+pub record IsPromisedDocket (court : CourtView) (kept lines : List (List ℕ)) (before after : Option (List ℕ)) (HasWritten : Type 0) (MayLeave : List ℕ → Type 0) : Type 0 where
+  pub promised : IsPromised (leaves court) (answers court) kept lines before after HasWritten MayLeave
+  pub opens : (file : List ℕ) → MayLeave file → (entries : List (List ℕ)) × StandsFor file entries × IsHistory entries × SaysCourt (standing_file entries) court
+
+-- why a file isn't taken as a court's
+abbrev pub HasCourtFault : (file : List ℕ) → DeskFault → Type 0
+HasCourtFault file (Court cause) = court_in file ≡ Err cause
+HasCourtFault file (Divided line) = court_part file ≢ file
+HasCourtFault file OutOfMemory = Unit {0}
+HasCourtFault file Taken = ⊥
+HasCourtFault file NoJournal = ⊥
+HasCourtFault file (KeptCourt number cause) = ⊥
+HasCourtFault file (Other number) = ⊥
+HasCourtFault file (Differs count) = ⊥
+HasCourtFault file (Journal fault) = ⊥
+HasCourtFault file (Session fault) = ⊥
+HasCourtFault file Busy = ⊥
+HasCourtFault file Foreign = ⊥
+HasCourtFault file (File name error) = ⊥
+HasCourtFault file Write = ⊥

@@ -1,0 +1,47 @@
+-- The faults of the crates below, as a desk's, and the statuses with which the program ends.
+use Rattle.std.specs.Prelude.{ℕ}
+use Rattle.court_file_text.specs.declared.fault.CourtFault.TheVariants as court
+use Rattle.durable_journal.specs.declared.fault.JournalFault.{JournalFault}
+use Rattle.durable_journal.specs.declared.fault.JournalFault.TheVariants as journal
+use Rattle.durable_session.specs.declared.fault.SessionFault.TheVariants as session
+use Rattle.docket_entries.specs.declared.fault.HistoryFault.{HistoryFault}
+use Rattle.docket_entries.specs.declared.fault.HistoryFault.TheVariants as history
+use Rattle.desk_program.specs.declared.fault.DeskFault.{DeskFault}
+use Rattle.desk_program.specs.declared.fault.DeskFault.TheVariants.{Busy, Court, Differs, Divided, File, Foreign, Journal, KeptCourt, NoJournal, Other, OutOfMemory, Session, Taken, Write}
+
+abbrev pub journal_fault : JournalFault → DeskFault
+journal_fault (journal.Damaged number) = Journal (journal.Damaged number)
+journal_fault journal.Full = Journal journal.Full
+journal_fault journal.Read = Journal journal.Read
+journal_fault journal.Write = Journal journal.Write
+journal_fault journal.Sync = Journal journal.Sync
+journal_fault journal.OutOfMemory = OutOfMemory
+
+abbrev pub history_fault : HistoryFault → DeskFault
+history_fault history.NoCourt = NoJournal
+history_fault (history.Court number cause) = KeptCourt number cause
+history_fault (history.Other number) = Other number
+history_fault history.OutOfMemory = OutOfMemory
+
+-- the status of a fault: 2 for the court's file, 4 for files and streams, 5 for want of memory, 6 for the journal, 7 for a
+-- court's file that isn't taken since answers would differ
+abbrev pub desk_status : DeskFault → ℕ
+desk_status (Court court.OutOfMemory) = 5
+desk_status (Court _) = 2
+desk_status (Divided line) = 2
+desk_status Taken = 6
+desk_status NoJournal = 6
+desk_status (KeptCourt number cause) = 6
+desk_status (Other number) = 6
+desk_status (Differs count) = 7
+desk_status (Journal journal.OutOfMemory) = 5
+desk_status (Journal _) = 6
+desk_status (Session session.Read) = 4
+desk_status (Session session.Write) = 4
+desk_status (Session session.OutOfMemory) = 5
+desk_status (Session _) = 6
+desk_status Busy = 6
+desk_status Foreign = 6
+desk_status (File name error) = 4
+desk_status Write = 4
+desk_status OutOfMemory = 5

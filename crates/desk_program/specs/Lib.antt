@@ -1,0 +1,7 @@
+pub mod Ask
+pub mod Change
+pub mod Desk
+pub mod Faults
+pub mod File
+pub mod Rows
+pub mod Words

@@ -1,0 +1,29 @@
+-- What is written of a docket's rows and of the answers that would differ.
+use Rattle.std.specs.Prelude.{ℕ, List, [], ◌∷◌, ◌++◌, codes, if◌then◌else◌, nat_eq}
+use Rattle.std.specs.Fmt.{decimal}
+use Rattle.std.specs.List.{ends_with, flat_map}
+use Rattle.office_rows.specs.Words.{CourtNames}
+use Rattle.docket_entries.specs.Words.{Change, row_entries, row_shown, standing_file}
+
+-- a court's file, with an end of its last line
+abbrev pub ended : List ℕ → List ℕ
+ended file = if ends_with nat_eq file (10 ∷ []) then file else file ++ 10 ∷ []
+
+-- the rows of entries as CSV
+abbrev pub rows_shown : CourtNames → List (List ℕ) → List ℕ
+rows_shown names entries = flat_map (row_shown names) entries
+
+-- what clerk_office reads: the court's file that stands, a line `%%` and all rows
+abbrev pub written_rows : CourtNames → (entries : List (List ℕ)) → List ℕ
+written_rows names entries = ended (standing_file entries) ++ codes "%%\n" ++ rows_shown names (row_entries entries)
+
+-- a row that would be answered otherwise: its entry, which ends with the answer that it was given, and then the other one
+abbrev pub change_text : Change → List ℕ
+change_text change = codes "row " ++ decimal change.number ++ codes " is kept as\n" ++ change.entry ++ codes "and would be answered\n" ++ change.answer
+
+abbrev pub changes_text : List Change → List ℕ
+changes_text changes = flat_map change_text changes
+
+-- how many rows are kept
+abbrev pub count_text : ℕ → List ℕ
+count_text count = codes "rows kept: " ++ decimal count ++ codes ", and each is answered as it was\n"

@@ -1,0 +1,149 @@
+//! Another court's file for a docket.
+ghost use Rattle.std.specs.Prelude.{◌≡◌, ◌≢◌, ◌≤◌, ◌<◌, ◌⊎◌, ◌++◌, ◌∷◌, [], ℕ, List, length, map, false, Err, Some, IfOk, OnOk};
+ghost use Rattle.durable_journal.specs.Words.{StandsFor, batch_of};
+ghost use Rattle.docket_entries.specs.Words.{SaysCourt, StandsAt, change_in, later_file, most_entries};
+ghost use Rattle.office_streams.specs.Words.{has_failed, watched};
+ghost use Rattle.std.specs.Io.KnownBytes.{Appends};
+ghost use Rattle.desk_program.specs.Rows.{change_text, changes_text};
+
+use crate::court::court_of;
+use crate::desk::Desk;
+use crate::fault::DeskFault;
+use court_days::Court;
+use docket_entries::{
+    Difference, DocketRegister, MOST_ENTRIES, Review, court_entry, decided_again,
+};
+use durable_journal::JournalFault;
+use office_streams::{Watched, write_all};
+use sqlite_disk::Disk;
+use std::alloc::{AllocError, Global};
+use std::io::Write;
+use std::mem;
+
+// Adds what is written of a row that would be answered otherwise.
+fn push_change(alloc: Global, text: &mut Vec<u8>, difference: &Difference) -> Result<(), AllocError>
+    ensures { OnOk result (text.new.items ≡ text.old.items ++ change_text (change_in difference.now)) }
+{
+    let number = difference.number;
+    let line = format!(in alloc; "row {number} is kept as\n")?;
+    text.extend_from_slice(line.as_bytes())?;
+    text.extend_from_slice(&difference.entry)?;
+    text.extend_from_slice(b"and would be answered\n")?;
+    text.extend_from_slice(&difference.answer)?;
+    Ok(())
+}
+
+// What is written of the rows that would be answered otherwise.
+fn listed(alloc: Global, differences: &[Difference]) -> Result<Vec<u8>, AllocError>
+    ensures { IfOk result (λ text. text.items ≡ changes_text (map change_in differences.now)) }
+{
+    let mut text = Vec::new(alloc);
+    for difference in differences {
+        push_change(alloc, &mut text, difference)?;
+    }
+    Ok(text)
+}
+
+// A batch of one entry, which is a court's file.
+fn batch_with(alloc: Global, file: &[u8]) -> Result<Vec<Vec<u8>>, AllocError>
+    ensures { IfOk result (λ batch. (entry : List ℕ) × (batch_of batch.items ≡ entry ∷ []) × (later_file entry ≡ Some file.now)) }
+{
+    let mut batch = Vec::new(alloc);
+    batch.push(court_entry(alloc, file)?)?;
+    Ok(batch)
+}
+
+// Writes the rows that would be answered otherwise. `Differs` says that there are some, and no leave.
+fn list_changes<W: Write>(
+    alloc: Global,
+    differences: &[Difference],
+    accept: bool,
+    writer: &mut Watched<W>,
+) -> Result<(), DeskFault>
+    requires { has_failed writer.old ≡ false }
+    ensures listed { OnOk result (Appends (W.contents (watched writer.old)) (W.contents (watched writer.new)) (changes_text (map change_in differences.now))) }
+    ensures without_leave { accept ≡ false → OnOk result (differences.now ≡ []) }
+    ensures differs { (count : ℕ) → result ≡ Err (DeskFault.Differs count) → (count ≡ length differences.now) × (differences.now ≢ [])
+        × Appends (W.contents (watched writer.old)) (W.contents (watched writer.new)) (changes_text (map change_in differences.now)) }
+{
+    let text = listed(alloc, differences)?;
+    if write_all(writer, &text).is_err() {
+        return Err(DeskFault::Write);
+    }
+    if !accept && !differences.is_empty() {
+        return Err(DeskFault::Differs(differences.len()));
+    }
+    Ok(())
+}
+
+impl<D: Disk> Desk<D> {
+    ghost use Rattle.desk_program.specs.Desk.{KeepsDocket, disk_under};
+    ghost use Rattle.desk_program.specs.Change.{RefusesFile, TakesFile};
+
+    // Keeps a court's file as the next entry, and goes by it from here on.
+    fn take_file(
+        &mut self,
+        alloc: Global,
+        court: Court,
+        mut register: DocketRegister,
+        file: &[u8],
+    ) -> Result<(), DeskFault>
+        ensures kept { (entries : List (List ℕ)) → KeepsDocket D.Disk.seen D.Disk.may_leave D.Disk.is_usable entries self.old → SaysCourt file.now court → StandsAt court register entries → length entries < most_entries
+            → OnOk result ((entry : List ℕ) × (later_file entry ≡ Some file.now) × KeepsDocket D.Disk.seen D.Disk.may_leave D.Disk.is_usable (entries ++ entry ∷ []) self.new) }
+        ensures crash { (entries : List (List ℕ)) → KeepsDocket D.Disk.seen D.Disk.may_leave D.Disk.is_usable entries self.old → (c : List ℕ) → D.Disk.may_leave (disk_under self.new) c
+            → StandsFor c entries ⊎ ((entry : List ℕ) × (later_file entry ≡ Some file.now) × StandsFor c (entries ++ entry ∷ [])) }
+        ensures fault { (count : ℕ) → result ≢ Err (DeskFault.Differs count) }
+    {
+        let batch = batch_with(alloc, file)?;
+        match self.journal.append(&batch) {
+            Err(fault) => Err(DeskFault::from(fault)),
+            Ok(()) => {
+                register.pass_file();
+                drop(mem::replace(&mut self.court, court));
+                drop(mem::replace(&mut self.register, register));
+                Ok(())
+            }
+        }
+    }
+
+    /// Goes by another court's file from here on, which is kept as the next entry: the answers before stay those of the files
+    /// before. The rows that it answers otherwise are written, each with both answers. If there are some, the file is taken
+    /// only with leave; without it, at `Differs`, the journal is as it was.
+    pub fn change<W: Write>(
+        &mut self,
+        alloc: Global,
+        entries: &[Vec<u8>],
+        file: &[u8],
+        accept: bool,
+        writer: &mut Watched<W>,
+    ) -> Result<(), DeskFault>
+        requires some { 0 < length entries.now }
+        requires few { length entries.now ≤ most_entries }
+        requires writer_works { has_failed writer.old ≡ false }
+        ensures taken { KeepsDocket D.Disk.seen D.Disk.may_leave D.Disk.is_usable (batch_of entries.now) self.old → OnOk result
+            (TakesFile (batch_of entries.now) file.now accept (W.contents (watched writer.old)) (W.contents (watched writer.new)) (λ kept. KeepsDocket D.Disk.seen D.Disk.may_leave D.Disk.is_usable kept self.new)) }
+        ensures refused { (count : ℕ) → result ≡ Err (DeskFault.Differs count)
+            → RefusesFile (batch_of entries.now) file.now count (W.contents (watched writer.old)) (W.contents (watched writer.new)) × (self.new ≡ self.old) }
+        ensures crash { KeepsDocket D.Disk.seen D.Disk.may_leave D.Disk.is_usable (batch_of entries.now) self.old → (c : List ℕ) → D.Disk.may_leave (disk_under self.new) c
+            → StandsFor c (batch_of entries.now) ⊎ ((entry : List ℕ) × (later_file entry ≡ Some file.now) × StandsFor c (batch_of entries.now ++ entry ∷ [])) }
+    {
+        if entries.len() >= MOST_ENTRIES as usize {
+            return Err(DeskFault::Journal(JournalFault::Full));
+        }
+        let court = match court_of(alloc, file) {
+            Ok(court) => court,
+            Err(fault) => return Err(fault),
+        };
+        let Review {
+            register,
+            differences,
+        } = match decided_again(alloc, &court, entries) {
+            Ok(review) => review,
+            Err(_) => return Err(DeskFault::OutOfMemory),
+        };
+        match list_changes(alloc, &differences, accept, writer) {
+            Ok(()) => self.take_file(alloc, court, register, file),
+            Err(fault) => Err(fault),
+        }
+    }
+}

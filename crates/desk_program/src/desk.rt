@@ -1,0 +1,152 @@
+//! A docket over a disk.
+ghost use Rattle.std.specs.Prelude.{◌≡◌, ◌⊎◌, ◌<◌, ◌≤◌, ◌∷◌, [], ℕ, List, length, false, IsTrue, IfErr, IfOk, IfSome, OnOk};
+ghost use Rattle.durable_journal.specs.Words.{IsDurable, IsKept, StandsFor, batch_of, disk_of};
+ghost use Rattle.durable_session.specs.Words.{AfterBytes, IsServed, lines_of, unfinished_of};
+ghost use Rattle.docket_entries.specs.Words.{IsHistory, answers, leaves, row_entries};
+ghost use Rattle.office_streams.specs.Words.{has_failed, watched};
+
+use crate::court::check_court;
+use crate::fault::DeskFault;
+use court_days::Court;
+use docket_entries::{DocketRegister, Docketed};
+use durable_journal::Journal;
+use durable_session::{SessionFault, serve};
+use office_streams::Watched;
+use sqlite_disk::Disk;
+use std::alloc::Global;
+use std::io::{Read, Write};
+
+/// A court's docket, with the journal whose entries come to it.
+#[derive(Drop)]
+pub struct Desk<D: Disk> {
+    pub(crate) journal: Journal<D>,
+    pub(crate) court: Court,
+    pub(crate) register: DocketRegister,
+}
+
+impl<D: Disk> Desk<D> {
+    ghost use Rattle.desk_program.specs.Desk.{IsPromisedDocket, KeepsDocket, court_at, disk_under};
+
+    /// Opens the docket of a disk that a crash may have left, and gives the entries of its journal. Each row must have the
+    /// answer that it gets under the court's file of its time. At an `Err` the disk is given back, and a crash leaves what
+    /// stands for the same entries.
+    pub fn open(alloc: Global, disk: D) -> Result<(Desk<D>, Vec<Vec<u8>>), (DeskFault, D)>
+        ensures opened { (file : List ℕ) → IsDurable D.Disk.seen D.Disk.may_leave D.Disk.is_usable file disk → IfOk result (λ opened. IsTrue (D.Disk.is_clean (disk_under opened.0))
+            → StandsFor file (batch_of opened.1.items) × KeepsDocket D.Disk.seen D.Disk.may_leave D.Disk.is_usable (batch_of opened.1.items) opened.0) }
+        ensures some { IfOk result (λ opened. 0 < length opened.1.items) }
+        ensures few { IfOk result (λ opened. length opened.1.items ≤ 1000000) }
+        ensures crash { (file : List ℕ) (entries : List (List ℕ)) → IsDurable D.Disk.seen D.Disk.may_leave D.Disk.is_usable file disk → StandsFor file entries
+            → IfErr result (λ e. IsTrue (D.Disk.is_clean e.1) → (c : List ℕ) → D.Disk.may_leave e.1 c → StandsFor c entries) }
+    {
+        let (journal, entries) = match Journal::open(alloc, disk) {
+            Ok(opened) => opened,
+            Err((fault, disk)) => return Err((DeskFault::from(fault), disk)),
+        };
+        match Docketed::of(alloc, &entries) {
+            Ok(Docketed { court, register }) => Ok((
+                Desk {
+                    journal,
+                    court,
+                    register,
+                },
+                entries,
+            )),
+            Err(fault) => Err((DeskFault::from(fault), journal.into_disk())),
+        }
+    }
+
+    // The journal of a disk that has no entries.
+    fn empty_journal(alloc: Global, disk: D) -> Result<Journal<D>, (DeskFault, D)>
+        ensures kept { (was : List ℕ) → IsDurable D.Disk.seen D.Disk.may_leave D.Disk.is_usable was disk
+            → IfOk result (λ journal. IsTrue (D.Disk.is_clean (disk_of journal)) → IsKept D.Disk.seen D.Disk.may_leave D.Disk.is_usable [] journal) }
+        ensures empty { (was : List ℕ) (entries : List (List ℕ)) → IsDurable D.Disk.seen D.Disk.may_leave D.Disk.is_usable was disk → StandsFor was entries
+            → IfOk result (λ journal. IsTrue (D.Disk.is_clean (disk_of journal)) → entries ≡ []) }
+        ensures crash { (was : List ℕ) (entries : List (List ℕ)) → IsDurable D.Disk.seen D.Disk.may_leave D.Disk.is_usable was disk → StandsFor was entries
+            → IfErr result (λ e. IsTrue (D.Disk.is_clean e.1) → (c : List ℕ) → D.Disk.may_leave e.1 c → StandsFor c entries) }
+    {
+        let (journal, entries) = match Journal::open(alloc, disk) {
+            Ok(opened) => opened,
+            Err((fault, disk)) => return Err((DeskFault::from(fault), disk)),
+        };
+        if entries.is_empty() {
+            Ok(journal)
+        } else {
+            Err((DeskFault::Taken, journal.into_disk()))
+        }
+    }
+
+    /// Makes the docket of a court on a disk that has no entries: its file is the first. At an `Err` a crash leaves what
+    /// stands for the entries that the disk had or, where it had none, also for the file alone.
+    pub fn begin(alloc: Global, disk: D, file: Vec<u8>) -> Result<D, (DeskFault, D)>
+        ensures begun { (was : List ℕ) → IsDurable D.Disk.seen D.Disk.may_leave D.Disk.is_usable was disk
+            → IfOk result (λ d. IsTrue (D.Disk.is_clean d) → (c : List ℕ) → D.Disk.may_leave d c → StandsFor c (file.items ∷ [])) }
+        ensures history { OnOk result (IsHistory (file.items ∷ [])) }
+        ensures crash { (was : List ℕ) (entries : List (List ℕ)) → IsDurable D.Disk.seen D.Disk.may_leave D.Disk.is_usable was disk → StandsFor was entries
+            → IfErr result (λ e. IsTrue (D.Disk.is_clean e.1) → (c : List ℕ) → D.Disk.may_leave e.1 c → StandsFor c entries ⊎ ((entries ≡ []) × StandsFor c (file.items ∷ []))) }
+    {
+        if let Err(fault) = check_court(alloc, &file) {
+            return Err((fault, disk));
+        }
+        let mut journal = match Desk::empty_journal(alloc, disk) {
+            Ok(journal) => journal,
+            Err(refused) => return Err(refused),
+        };
+        let mut batch = Vec::new(alloc);
+        if batch.push(file).is_err() {
+            return Err((DeskFault::OutOfMemory, journal.into_disk()));
+        }
+        match journal.append(&batch) {
+            Ok(()) => Ok(journal.into_disk()),
+            Err(fault) => Err((DeskFault::from(fault), journal.into_disk())),
+        }
+    }
+
+    /// The disk under the docket, as it is. Once it is dropped, another program can open it.
+    pub fn into_disk(self) -> D
+        ensures { result ≡ disk_under self }
+    {
+        self.journal.into_disk()
+    }
+
+    /// The court by which the docket goes.
+    pub fn court(&self) -> &Court
+        ensures { result.now ≡ court_at self.now }
+    {
+        &self.court
+    }
+
+    /// How many rows are kept.
+    pub fn rows(&self) -> u32
+        ensures { (kept : List (List ℕ)) → KeepsDocket D.Disk.seen D.Disk.may_leave D.Disk.is_usable kept self.now → result ≡ length (row_entries kept) }
+    {
+        self.register.next_number().saturating_sub(1)
+    }
+
+    /// Serves rows, one in a line, until the input ends: each is kept, and then it is answered. However it ends, and
+    /// wherever a crash comes, no answered row is lost. So it is where the program is killed, by a signal or otherwise:
+    /// then a crash leaves what the disk holds at that moment.
+    pub fn enter<R: Read, W: Write>(
+        &mut self,
+        alloc: Global,
+        reader: &mut Watched<R>,
+        writer: &mut Watched<W>,
+    ) -> Result<(), SessionFault>
+        requires writer_works { has_failed writer.old ≡ false }
+        ensures promised { (kept : List (List ℕ)) → KeepsDocket D.Disk.seen D.Disk.may_leave D.Disk.is_usable kept self.old →
+            AfterBytes (R.remaining (watched reader.old)) (R.remaining (watched reader.new)) (λ bytes.
+            IsPromisedDocket (court_at self.old) kept (lines_of bytes) (W.contents (watched writer.old)) (W.contents (watched writer.new)) (has_failed writer.new ≡ false) (D.Disk.may_leave (disk_under self.new))) }
+        ensures served { (kept : List (List ℕ)) → KeepsDocket D.Disk.seen D.Disk.may_leave D.Disk.is_usable kept self.old → OnOk result
+            (IfSome (R.remaining (watched reader.old)) (λ input.
+            IsServed (leaves (court_at self.old)) (answers (court_at self.old)) (λ entries. KeepsDocket D.Disk.seen D.Disk.may_leave D.Disk.is_usable entries self.new) (λ entries. court_at self.new ≡ court_at self.old) kept (lines_of input) (W.contents (watched writer.old)) (W.contents (watched writer.new)))) }
+        ensures finished { OnOk result (IfSome (R.remaining (watched reader.old)) (λ input. unfinished_of input ≡ [])) }
+    {
+        serve(
+            &self.court,
+            alloc,
+            &mut self.journal,
+            &mut self.register,
+            reader,
+            writer,
+        )
+    }
+}

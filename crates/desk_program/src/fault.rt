@@ -1,0 +1,87 @@
+//! Why a docket that lasts can't be opened, or a call on it ends early.
+ghost use Rattle.std.specs.Prelude.{◌≡◌};
+ghost use Rattle.desk_program.specs.declared.fault.DeskFault.TheVariants.{OutOfMemory};
+
+use court_file_text::CourtFault;
+use docket_entries::HistoryFault;
+use durable_journal::JournalFault;
+use durable_session::SessionFault;
+use std::alloc::{AllocError, AllocFailed};
+use std::io;
+
+/// Why a docket that lasts can't be opened, or a call on it ends early. Want of memory has one name, `OutOfMemory`.
+#[derive(Debug, Drop)]
+pub enum DeskFault {
+    /// The court's file has this fault, its first.
+    Court(CourtFault),
+    /// The court's file has a line `%%`, which is this one, counted from 1.
+    Divided(usize),
+    /// The folder has a journal already.
+    Taken,
+    /// The folder has no journal.
+    NoJournal,
+    /// The entry of this number, counted from 1, is a court's file with this fault.
+    KeptCourt(u32, CourtFault),
+    /// The row of this number, counted from 1, has another answer than it gets.
+    Other(u32),
+    /// So many rows would get other answers by the new court's file, which isn't taken.
+    Differs(usize),
+    /// The journal can't be read or written.
+    Journal(JournalFault),
+    /// The session ended early.
+    Session(SessionFault),
+    /// Another program has the folder's journal open.
+    Busy,
+    /// The folder has a file `journal-journal`, which isn't the desk's.
+    Foreign,
+    /// A file or a folder of this name can't be read or made.
+    File(String, io::Error),
+    /// The output can't be written.
+    Write,
+    /// Memory ran out.
+    OutOfMemory,
+}
+
+impl From<AllocError> for DeskFault {
+    ghost from_gives = { λ _ e. e ≡ OutOfMemory };
+
+    fn from(_: AllocError) -> DeskFault {
+        DeskFault::OutOfMemory
+    }
+}
+
+impl<T: Drop> From<AllocFailed<T>> for DeskFault {
+    ghost from_gives = { λ _ e. e ≡ OutOfMemory };
+
+    fn from(_: AllocFailed<T>) -> DeskFault {
+        DeskFault::OutOfMemory
+    }
+}
+
+impl From<JournalFault> for DeskFault {
+    ghost use Rattle.desk_program.specs.Faults.{journal_fault};
+
+    ghost from_gives = { λ fault e. e ≡ journal_fault fault };
+
+    fn from(fault: JournalFault) -> DeskFault {
+        match fault {
+            JournalFault::OutOfMemory => DeskFault::OutOfMemory,
+            _ => DeskFault::Journal(fault),
+        }
+    }
+}
+
+impl From<HistoryFault> for DeskFault {
+    ghost use Rattle.desk_program.specs.Faults.{history_fault};
+
+    ghost from_gives = { λ fault e. e ≡ history_fault fault };
+
+    fn from(fault: HistoryFault) -> DeskFault {
+        match fault {
+            HistoryFault::NoCourt => DeskFault::NoJournal,
+            HistoryFault::Court(number, cause) => DeskFault::KeptCourt(number, cause),
+            HistoryFault::Other(number) => DeskFault::Other(number),
+            HistoryFault::OutOfMemory => DeskFault::OutOfMemory,
+        }
+    }
+}

@@ -1,0 +1,108 @@
+//! The lines and the statuses that tell of a desk's faults.
+ghost use Rattle.std.specs.Prelude.{◌≡◌, ◌⊎◌};
+ghost use Rattle.desk_program.specs.Faults.{desk_status};
+
+use crate::fault::DeskFault;
+use court_file_text::{CourtFault, NumberedFault};
+use durable_journal::JournalFault;
+use durable_session::SessionFault;
+use office_streams::{Watched, refused};
+use std::alloc::Global;
+use std::fmt;
+use std::io::Write;
+
+/// The status with which the program ends after the fault.
+pub fn status_of(fault: &DeskFault) -> u8
+    ensures { result ≡ desk_status fault.now }
+{
+    match fault {
+        DeskFault::Court(CourtFault::OutOfMemory) => 5,
+        DeskFault::Court(_) | DeskFault::Divided(_) => 2,
+        DeskFault::File(_, _) | DeskFault::Write => 4,
+        DeskFault::Session(SessionFault::Read | SessionFault::Write) => 4,
+        DeskFault::Session(SessionFault::OutOfMemory) => 5,
+        DeskFault::Journal(JournalFault::OutOfMemory) | DeskFault::OutOfMemory => 5,
+        DeskFault::Differs(_) => 7,
+        _ => 6,
+    }
+}
+
+/// A fault, to be written as its line.
+#[derive(Clone, Copy)]
+pub struct DeskFaultLine<'a> {
+    /// The fault.
+    pub fault: &'a DeskFault,
+}
+
+// What is wrong with a court's file.
+fn write_court_fault<W: fmt::Write>(fault: &DeskFault, f: &mut fmt::Formatter<W>) -> fmt::Result {
+    match fault {
+        DeskFault::Court(fault) => {
+            let numbered = NumberedFault { fault };
+            write!(f, "court fault {numbered}")
+        }
+        DeskFault::KeptCourt(number, fault) => {
+            let numbered = NumberedFault { fault };
+            write!(
+                f,
+                "entry {number} of the journal is a court's file with fault {numbered}"
+            )
+        }
+        DeskFault::Divided(line) => write!(
+            f,
+            "line {line} of the court's file is %%, which ends a court's file: write it otherwise"
+        ),
+        _ => Ok(()),
+    }
+}
+
+impl<'a> fmt::Display for DeskFaultLine<'a> {
+    fn fmt<W: fmt::Write>(&self, f: &mut fmt::Formatter<W>) -> fmt::Result {
+        match self.fault {
+            DeskFault::Court(_) | DeskFault::KeptCourt(_, _) | DeskFault::Divided(_) => {
+                write_court_fault(self.fault, f)
+            }
+            DeskFault::Taken => f.write_str(
+                "the folder has a journal already: 'enter' goes on with it",
+            ),
+            DeskFault::NoJournal => f.write_str("the folder has no journal: make one with 'open'"),
+            DeskFault::Other(number) => write!(
+                f,
+                "row {number} has another answer than this program gives: open the folder with the program that wrote it"
+            ),
+            DeskFault::Differs(count) => write!(
+                f,
+                "{count} answers would differ: the court's file isn't taken, unless --accept says so"
+            ),
+            DeskFault::Journal(fault) => write!(f, "{fault}"),
+            DeskFault::Session(fault) => write!(f, "{fault}"),
+            DeskFault::Busy => f.write_str(
+                "another program has the journal open: enter rows there, or ask beside it with 'ask'",
+            ),
+            DeskFault::Foreign => f.write_str(
+                "the folder has a file journal-journal, which isn't the desk's: move it away",
+            ),
+            DeskFault::File(name, error) => write!(f, "{name}: {error}"),
+            DeskFault::Write => f.write_str("write fault"),
+            DeskFault::OutOfMemory => f.write_str("out of memory"),
+        }
+    }
+}
+
+/// Tells of a fault, as far as its line can be written, and gives its status. Where there is no memory for the line, it
+/// tells of want of memory instead.
+pub fn ended_by<E: Write>(alloc: Global, errors: &mut Watched<E>, fault: &DeskFault) -> u8
+    ensures { (result ≡ desk_status fault.now) ⊎ (result ≡ 5) }
+{
+    let line = DeskFaultLine { fault };
+    match format!(in alloc; "{line}\n") {
+        Ok(text) => {
+            let _ = refused(errors, text.as_str());
+            status_of(fault)
+        }
+        Err(_) => {
+            let _ = refused(errors, "out of memory\n");
+            5
+        }
+    }
+}

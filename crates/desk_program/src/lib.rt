@@ -1,0 +1,20 @@
+//! A court's docket that lasts, over any disk: it is opened, entered, asked, written out and given another court's file. The
+//! program over these calls only opens files and streams.
+#![tactic(auto)]
+
+mod asking;
+mod change;
+mod court;
+mod desk;
+mod fault;
+mod fault_lines;
+mod file;
+mod rows;
+
+pub use asking::ask;
+pub use court::{check_court, court_of};
+pub use desk::Desk;
+pub use fault::DeskFault;
+pub use fault_lines::{DeskFaultLine, ended_by, status_of};
+pub use file::open_file;
+pub use rows::{write_count, write_rows};

@@ -1,0 +1,175 @@
+//! What the words of the command line ask for.
+
+use clap::{Arg, ArgAction, ArgMatches, Command};
+use office_options::{OptionsFault, argument_texts, fault_from};
+use std::alloc::{AllocError, Global};
+
+const ABOUT: &str =
+    "A docket that lasts. Rows are kept in a folder's journal, through any crash, and
+each is answered once it is kept.";
+
+const TASKS: &str = "Tasks:
+  open FOLDER --court FILE        make the folder, with the court's file
+  enter FOLDER                    keep the rows of standard input, and answer
+                                  each
+  ask FOLDER                      answer questions alone, also while another
+                                  program enters rows
+  rows FOLDER                     write the court's file, %% and all rows, as
+                                  clerk_office reads them
+  check FOLDER                    decide all rows again, and say how many there
+                                  are
+  court FOLDER FILE [--accept]    list the answers that another court's file
+                                  would change, and take it if there are none
+                                  or with --accept";
+
+const OPEN_WORDS: &str = "'open' needs the court's file: open FOLDER --court FILE";
+
+const COURT_WORDS: &str = "'court' needs another court's file: court FOLDER FILE [--accept]";
+
+/// What is asked for, of a folder.
+#[derive(Debug, Drop)]
+pub enum Task {
+    /// A new folder, with the court's file of this name.
+    Open(String),
+    /// Rows, which are kept and answered.
+    Enter,
+    /// Questions, which are answered.
+    Ask,
+    /// The court's file and all rows, as clerk_office reads them.
+    Rows,
+    /// How many rows are kept, or what is damaged.
+    Check,
+    /// Another court's file, of this name, and whether it is taken though answers differ.
+    Court(String, bool),
+}
+
+// What the words say, before it is known whether it fits the task.
+#[derive(Drop)]
+struct Said {
+    file: Option<String>,
+    court: Option<String>,
+    accept: bool,
+}
+
+fn text_argument<'a>(alloc: Global, name: &'a str, value: &'a str, help: &'a str) -> Arg<'a> {
+    Arg::new(alloc, name)
+        .action(ArgAction::Set)
+        .value_name(value)
+        .help(help)
+}
+
+fn command<'a>(alloc: Global) -> Result<Command<'a>, AllocError> {
+    let task = text_argument(alloc, "task", "TASK", "What is to be done").required(true);
+    let folder = text_argument(alloc, "folder", "FOLDER", "The folder with the journal").required(
+        true,
+    );
+    let accept = Arg::new(alloc, "accept")
+        .long("accept")
+        .action(ArgAction::SetTrue)
+        .help("Take another court's file though answers differ");
+    Command::new(alloc, "docket_desk")
+        .no_binary_name(true)
+        .version("0.1.0")
+        .about(ABOUT)
+        .after_help(TASKS)
+        .arg(task)?
+        .arg(folder)?
+        .arg(text_argument(alloc, "file", "FILE", "Another court's file, for 'court'"))?
+        .arg(text_argument(alloc, "court", "FILE", "The court's file, for 'open'").long("court"))?
+        .arg(accept)
+}
+
+// The text of an argument, if it was given.
+fn given(alloc: Global, matches: &ArgMatches<'_>, id: &str) -> Result<Option<String>, AllocError> {
+    match matches.get_str(id) {
+        Some(text) => Ok(Some(String::from_str(alloc, text)?)),
+        None => Ok(None),
+    }
+}
+
+// What is wrong with the words.
+fn wrong(alloc: Global, text: &str) -> OptionsFault {
+    match format!(in alloc; "error: {text}\n\nFor more information, try '--help'.\n") {
+        Ok(text) => OptionsFault::BadWords(text),
+        Err(_) => OptionsFault::OutOfMemory,
+    }
+}
+
+// A new folder, which needs a court's file and nothing else.
+fn open_task(alloc: Global, said: Said) -> Result<Task, OptionsFault> {
+    let Said {
+        file,
+        court,
+        accept,
+    } = said;
+    if file.is_some() || accept {
+        return Err(wrong(alloc, OPEN_WORDS));
+    }
+    match court {
+        Some(court) => Ok(Task::Open(court)),
+        None => Err(wrong(alloc, OPEN_WORDS)),
+    }
+}
+
+// Another court's file, which is named after the folder.
+fn court_task(alloc: Global, said: Said) -> Result<Task, OptionsFault> {
+    let Said {
+        file,
+        court,
+        accept,
+    } = said;
+    if court.is_some() {
+        return Err(wrong(alloc, COURT_WORDS));
+    }
+    match file {
+        Some(file) => Ok(Task::Court(file, accept)),
+        None => Err(wrong(alloc, COURT_WORDS)),
+    }
+}
+
+// A task to which nothing is said but the folder.
+fn plain_task(alloc: Global, name: &str, said: &Said) -> Result<Task, OptionsFault> {
+    if said.file.is_some() || said.court.is_some() || said.accept {
+        return Err(wrong(alloc, "this task takes a folder alone"));
+    }
+    match name {
+        "enter" => Ok(Task::Enter),
+        "ask" => Ok(Task::Ask),
+        "rows" => Ok(Task::Rows),
+        "check" => Ok(Task::Check),
+        _ => Err(wrong(alloc, "there is no such task")),
+    }
+}
+
+// The task of this name, where the rest of the words fits it.
+fn task_of(alloc: Global, name: &str, said: Said) -> Result<Task, OptionsFault> {
+    match name {
+        "open" => open_task(alloc, said),
+        "court" => court_task(alloc, said),
+        _ => plain_task(alloc, name, &said),
+    }
+}
+
+// What was matched, as a task and its folder.
+fn asked(alloc: Global, matches: &ArgMatches<'_>) -> Result<(Task, String), OptionsFault> {
+    let said = Said {
+        file: given(alloc, matches, "file")?,
+        court: given(alloc, matches, "court")?,
+        accept: matches.get_flag("accept"),
+    };
+    let folder = given(alloc, matches, "folder")?;
+    match (matches.get_str("task"), folder) {
+        (Some(name), Some(folder)) => Ok((task_of(alloc, name, said)?, folder)),
+        _ => Err(wrong(alloc, "a task and a folder are needed")),
+    }
+}
+
+/// The task that the words ask for, of which the first is the program's name, and the folder.
+pub fn asked_of(alloc: Global, words: &[String]) -> Result<(Task, String), OptionsFault> {
+    let texts = argument_texts(alloc, words)?;
+    let command = command(alloc)?;
+    match command.try_get_matches_from(texts.as_slice()) {
+        Ok(matches) => asked(alloc, &matches),
+        Err(error) => Err(fault_from(alloc, &error)),
+    }
+}

@@ -1,0 +1,118 @@
+-- The answers to lines one by one, and those of a run of their rows together.
+use Rattle.std.proofs.Common.{◌≡◌, ◌∙◌, ◌+◌, ◌<◌, ◌≤◌, ℕ, true, ltb, List, [], ◌∷◌, ◌++◌, length, length-append, refl, sym, ap, subst, append_assoc, append-nil, arith}
+use Rattle.std.specs.Prelude.{All}
+use Rattle.std.proofs.lemmas.Bool.Decides.{nat_tests}
+use Rattle.std.proofs.lemmas.List.Elements.{All-head, All-tail}
+use Rattle.court_days.specs.Words.{CourtView}
+use Rattle.docket_rows.specs.Words.{Rows, opening_rows, parts_of, setup_of}
+use Rattle.row_line.specs.declared.line.Line.{Line}
+use Rattle.row_line.specs.declared.line.Line.TheVariants as line
+use Rattle.office_rows.specs.declared.row.Row.{Row}
+use Rattle.office_rows.specs.Words.{names_of}
+use Rattle.row_line.specs.Words.{fields_read, line_read}
+use Rattle.row_line.proofs.CallerLemmas.{says_row}
+use Rattle.office_run.specs.Replies.{docketed_after}
+use Rattle.office_run.specs.Text.{lines_from, run_text}
+use Rattle.office_run.specs.Words.{closing_text}
+use Rattle.durable_session.specs.Taken.{left_by, told_to}
+use Rattle.docket_entries.specs.Entries.{later_file, most_entries, next_number, rows_among}
+use Rattle.docket_entries.specs.Laws.{AnswersAreTheRuns, HasNoFault}
+use Rattle.docket_entries.specs.Rows.{answer_to, answers, docketed_by, entry_of, leaves, left_of, most_clerks, row_in, rows_in, told_of, within}
+use Rattle.docket_entries.proofs.EntryLemmas.{is_no_file, says_its_row}
+use Rattle.docket_entries.proofs.ListLemmas.{next_number-row}
+use Rattle.docket_entries.proofs.RegisterLemmas.{docketed_by-more}
+
+-- what lines are answered after entries, and the docket after them, are those of their rows
+pub record IsRun (court : CourtView) (kept lines : List (List ℕ)) : Type 0 where
+  pub told : told_to (leaves court) (answers court) kept lines ≡ lines_from court (docketed_by court kept) (next_number kept) (rows_in (names_of court) lines)
+  pub docket : docketed_by court (kept ++ left_by (leaves court) kept lines) ≡ docketed_after (setup_of court) (docketed_by court kept) (rows_in (names_of court) lines)
+
+none_run : (court : CourtView) (kept : List (List ℕ)) → IsRun court kept []
+unfolding told_to left_by lines_from rows_in docketed_after
+none_run court kept = record { told = refl; docket = ap (docketed_by court) (append-nil kept) }
+
+-- a line that says nothing
+blank_run : (court : CourtView) (kept lines : List (List ℕ)) (bytes : List ℕ) → line_read most_clerks (names_of court) bytes ≡ line.Blank → IsRun court kept lines → IsRun court kept (bytes ∷ lines)
+unfolding told_to left_by rows_in leaves answers
+blank_run court kept lines bytes blank run =
+    let left : leaves court kept bytes ≡ [] = ap (λ (l : Line). left_of court kept (fields_read bytes) (within kept l)) blank in
+    let told : answers court kept bytes ≡ [] = ap (λ (l : Line). told_of court kept (within kept l)) blank in
+    let rows : rows_in (names_of court) (bytes ∷ lines) ≡ rows_in (names_of court) lines = ap (λ (l : Line). row_in l ++ rows_in (names_of court) lines) blank in
+    let same : kept ++ leaves court kept bytes ≡ kept = ap (λ (l : List (List ℕ)). kept ++ l) left ∙ append-nil kept in
+    record {
+      told = ap (λ (t : List ℕ). t ++ told_to (leaves court) (answers court) (kept ++ leaves court kept bytes) lines) told
+          ∙ ap (λ (k : List (List ℕ)). told_to (leaves court) (answers court) k lines) same ∙ run.told
+          ∙ ap (lines_from court (docketed_by court kept) (next_number kept)) (sym rows);
+      docket = ap (λ (l : List (List ℕ)). docketed_by court (kept ++ (l ++ left_by (leaves court) (kept ++ leaves court kept bytes) lines))) left
+          ∙ ap (λ (k : List (List ℕ)). docketed_by court (kept ++ left_by (leaves court) k lines)) same ∙ run.docket
+          ∙ ap (docketed_after (setup_of court) (docketed_by court kept)) (sym rows);
+    }
+
+-- a line that says a row
+row_run : (court : CourtView) (kept lines : List (List ℕ)) (bytes : List ℕ) (row : Row) → 0 < length kept → ltb (length kept) most_entries ≡ true → line_read most_clerks (names_of court) bytes ≡ line.Row row
+    → IsRun court (kept ++ entry_of court kept (fields_read bytes) row ∷ []) lines → IsRun court kept (bytes ∷ lines)
+unfolding told_to left_by rows_in leaves answers lines_from docketed_after answer_to
+row_run court kept lines bytes row begun room said run =
+    let entry = entry_of court kept (fields_read bytes) row in
+    let spelled = says_row most_clerks (names_of court) bytes row said in
+    let none = is_no_file (names_of court) (fields_read bytes) row (answer_to court kept row) spelled in
+    let after = docketed_by-more court kept entry row begun none (says_its_row (names_of court) (fields_read bytes) row (answer_to court kept row) spelled) in
+    let number = next_number-row kept entry begun none in
+    let is : within kept (line_read most_clerks (names_of court) bytes) ≡ line.Row row = ap (within kept) said ∙ rw room refl in
+    let left : leaves court kept bytes ≡ entry ∷ [] = ap (left_of court kept (fields_read bytes)) is in
+    let told : answers court kept bytes ≡ answer_to court kept row = ap (told_of court kept) is in
+    let rows : rows_in (names_of court) (bytes ∷ lines) ≡ row ∷ rows_in (names_of court) lines = ap (λ (l : Line). row_in l ++ rows_in (names_of court) lines) said in
+    let then = docketed_by court (kept ++ entry ∷ []) in
+    let others = rows_in (names_of court) lines in
+    record {
+      told = ap (λ (t : List ℕ). t ++ told_to (leaves court) (answers court) (kept ++ leaves court kept bytes) lines) told
+          ∙ ap (λ (l : List (List ℕ)). answer_to court kept row ++ told_to (leaves court) (answers court) (kept ++ l) lines) left
+          ∙ ap (λ (t : List ℕ). answer_to court kept row ++ t) (run.told ∙ ap (λ (n : ℕ). lines_from court then n others) number ∙ ap (λ (d : Rows). lines_from court d (next_number kept + 1) others) after)
+          ∙ ap (lines_from court (docketed_by court kept) (next_number kept)) (sym rows);
+      docket = ap (λ (l : List (List ℕ)). docketed_by court (kept ++ (l ++ left_by (leaves court) (kept ++ l) lines))) left
+          ∙ ap (docketed_by court) (sym (append_assoc kept (entry ∷ []) (left_by (leaves court) (kept ++ entry ∷ []) lines)))
+          ∙ run.docket ∙ ap (λ (d : Rows). docketed_after (setup_of court) d others) after
+          ∙ ap (docketed_after (setup_of court) (docketed_by court kept)) (sym rows);
+    }
+
+-- one line more
+line_run : (court : CourtView) (kept lines : List (List ℕ)) (bytes : List ℕ) → 0 < length kept → length kept + length (bytes ∷ lines) ≤ most_entries → HasNoFault (names_of court) bytes
+    → ((then : List (List ℕ)) → 0 < length then → length then + length lines ≤ most_entries → IsRun court then lines) → IsRun court kept (bytes ∷ lines)
+line_run court kept lines bytes begun few sound rest = by (line_read most_clerks (names_of court) bytes) refl
+  where
+    room : ltb (length kept) most_entries ≡ true
+    room = grind (arith, nat_tests)
+
+    by : (said : Line) → line_read most_clerks (names_of court) bytes ≡ said → IsRun court kept (bytes ∷ lines)
+    by line.Blank is = blank_run court kept lines bytes is (rest kept begun (omega (arith, few)))
+    by (line.Fault cause) is = absurd (sound cause is)
+    by (line.Row row) is =
+        let entry = entry_of court kept (fields_read bytes) row in
+        let long = length-append kept (entry ∷ []) in
+        row_run court kept lines bytes row begun room is (rest (kept ++ entry ∷ []) (omega (arith, long)) (omega (arith, long, few)))
+
+lines_run : (court : CourtView) (kept lines : List (List ℕ)) → 0 < length kept → length kept + length lines ≤ most_entries → All (HasNoFault (names_of court)) lines → IsRun court kept lines
+lines_run court kept [] begun few sound = none_run court kept
+lines_run court kept (bytes ∷ lines) begun few sound =
+    line_run court kept lines bytes begun few (All-head (HasNoFault (names_of court)) bytes lines sound) (λ then first room. lines_run court then lines first room (All-tail (HasNoFault (names_of court)) bytes lines sound))
+
+-- the docket before the first row
+opening : (court : CourtView) (file : List ℕ) → docketed_by court (file ∷ []) ≡ opening_rows (setup_of court)
+unfolding docketed_by rows_in docketed_after rows_among
+opening court file = refl
+
+first_number : (file : List ℕ) → next_number (file ∷ []) ≡ 1
+unfolding rows_among
+first_number file = refl
+
+-- the law
+pub answers_are_the_runs_lem : AnswersAreTheRuns
+unfolding run_text
+answers_are_the_runs_lem court file lines sound few =
+    let run = lines_run court (file ∷ []) lines (omega arith) (omega (arith, few)) sound in
+    let rows = rows_in (names_of court) lines in
+    let told : told_to (leaves court) (answers court) (file ∷ []) lines ≡ lines_from court (opening_rows (setup_of court)) 1 rows =
+    run.told ∙ ap (λ (d : Rows). lines_from court d (next_number (file ∷ [])) rows) (opening court file) ∙ ap (λ (n : ℕ). lines_from court (opening_rows (setup_of court)) n rows) (first_number file) in
+    let docket = run.docket ∙ ap (λ (d : Rows). docketed_after (setup_of court) d rows) (opening court file) in
+    ap (λ (t : List ℕ). t ++ closing_text court (parts_of (docketed_after (setup_of court) (opening_rows (setup_of court)) rows))) (sym told)
+    ∙ ap (λ (d : Rows). told_to (leaves court) (answers court) (file ∷ []) lines ++ closing_text court (parts_of d)) (sym docket)

@@ -1,0 +1,28 @@
+use Rattle.std.proofs.Common.{◌≡◌, ◌∙◌, ◌+◌, ◌<◌, ◌++◌, ◌∷◌, ℕ, List, [], ap, drop, length, length-append, sym, subst, arith, take}
+use Rattle.durable_journal.specs.Words.{batch_of}
+use Rattle.docket_entries.specs.Docketed.{HasHistoryFault, IsDocketed}
+use Rattle.docket_entries.proofs.HistoryLemmas.{fault_in_more}
+use Rattle.docket_entries.proofs.ListLemmas.{begun_batch, parted, take_batch}
+use Rattle.docket_entries.proofs.docketed.Docketed.take_later.Goals as goal
+
+pub returns-in-Err-clause-cause : goal.returns-in-Err-clause-cause
+returns-in-Err-clause-cause c =
+    let kept : List (List ℕ) = batch_of (take c.loop-place.place c.args.entries.now) in
+    let so_far : List (List ℕ) = batch_of (take (c.loop-place.place + 1) c.args.entries.now) in
+    let more : so_far ≡ kept ++ c.index-entries-place.result.items ∷ [] = take_batch c.args.entries.now c.loop-place.place c.index-entries-place.result c.loop-place-test.true c.index-entries-place.is in
+    let then : so_far ≡ kept ++ c.deref.result.now ∷ [] = more ∙ ap (λ (e : List ℕ). kept ++ e ∷ []) (sym c.deref.ensures.value) in
+    let begun : 0 < length so_far = omega (arith, ap length then, length-append kept (c.deref.result.now ∷ [])) in
+    let has = c.in-Err.ensures.cause kept (ap batch_of c.split_at.ensures.front ∙ then) c.loop-place.invariant.is in
+    subst (λ (l : List (List ℕ)). HasHistoryFault l c.in-Err.fault) (parted c.args.entries.now (c.loop-place.place + 1))
+    (fault_in_more so_far (batch_of (drop (c.loop-place.place + 1) c.args.entries.now)) c.in-Err.fault begun (subst (λ (l : List (List ℕ)). HasHistoryFault l c.in-Err.fault) (sym then) has))
+
+pub loop-place-preserved : goal.loop-place-preserved
+loop-place-preserved c =
+    let kept : List (List ℕ) = batch_of (take c.loop-place.place c.args.entries.now) in
+    let so_far : List (List ℕ) = batch_of (take (c.loop-place.place + 1) c.args.entries.now) in
+    let more : so_far ≡ kept ++ c.index-entries-place.result.items ∷ [] = take_batch c.args.entries.now c.loop-place.place c.index-entries-place.result c.loop-place-test.true c.index-entries-place.is in
+    let then : so_far ≡ kept ++ c.deref.result.now ∷ [] = more ∙ ap (λ (e : List ℕ). kept ++ e ∷ []) (sym c.deref.ensures.value) in
+    record {
+      begun = omega arith;
+      is = subst (IsDocketed c.take_entry.new.self) (sym then) (c.in-Ok.ensures.docketed kept (ap batch_of c.split_at.ensures.front ∙ then) c.loop-place.invariant.is);
+    }

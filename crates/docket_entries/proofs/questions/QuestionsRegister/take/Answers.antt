@@ -1,0 +1,55 @@
+use Rattle.std.proofs.Common.{◌≡◌, ◌∙◌, ◌++◌, ℕ, List, append-nil, ap, refl, sym, subst}
+use Rattle.std.proofs.lemmas.Result.{on_ok_weaker}
+use Rattle.durable_journal.specs.Words.{batch_of}
+use Rattle.docket_rows.specs.Words.{setup_of}
+use Rattle.office_rows.specs.declared.row.Work.{Work}
+use Rattle.office_run.specs.Words.{Holds, docketed_then}
+use Rattle.row_line.specs.declared.line.Line.TheVariants as says
+use Rattle.office_streams.specs.declared.fault.OfficeFault.TheVariants.{Row as RowFault}
+use Rattle.office_streams.specs.Words.{told_line}
+use Rattle.docket_entries.specs.Questions.{command_text, shown_for}
+use Rattle.docket_entries.specs.Register.{StandsAt}
+use Rattle.docket_entries.specs.Rows.{docketed_by}
+use Rattle.docket_entries.proofs.QuestionLemmas.{line_asked}
+use Rattle.docket_entries.proofs.RegisterLemmas.{as_it_was}
+use Rattle.docket_entries.proofs.questions.QuestionsRegister.take.Goals as goal
+
+pub returns-in-Blank : goal.returns-in-Blank
+returns-in-Blank c = λ kept stands.
+    line_asked c.args.court.now (record { register = c.said.new.self }) kept c.args.line.now (batch_of c.args._batch.now.items) c.args.text.now.items says.Blank (sym (c.in_ok-said.ensures.said kept stands.count) ∙ c.in-Blank.is)
+    (as_it_was c.args.court.now c.args.self.now.register c.said.new.self kept stands c.said.ensures.docket c.said.ensures.number c.said.ensures.count) c.args.text.now.items (sym (append-nil c.args.text.now.items))
+
+pub returns-in-Fault : goal.returns-in-Fault
+returns-in-Fault c = λ kept stands.
+    let before = as_it_was c.args.court.now c.args.self.now.register c.said.new.self kept stands c.said.ensures.docket c.said.ensures.number c.said.ensures.count in
+    on_ok_weaker c.push_fault.result
+    (λ told. line_asked c.args.court.now (record { register = c.said.new.self }) kept c.args.line.now (batch_of c.args._batch.now.items) c.args.text.now.items (says.Fault c.in-Fault.cause) (sym (c.in_ok-said.ensures.said kept stands.count) ∙ c.in-Fault.is)
+    before c.push_fault.new.text.items
+    (told ∙ ap (λ (n : ℕ). c.args.text.now.items ++ told_line (RowFault n c.in-Fault.cause)) (c.next_number.ensures c.args.court.now kept before)))
+    c.push_fault.ensures
+
+pub returns-in-Command : goal.returns-in-Command
+returns-in-Command c = λ kept stands.
+    let before = as_it_was c.args.court.now c.args.self.now.register c.said.new.self kept stands c.said.ensures.docket c.said.ensures.number c.said.ensures.count in
+    on_ok_weaker c.push_command.result
+    (λ told. line_asked c.args.court.now (record { register = c.said.new.self }) kept c.args.line.now (batch_of c.args._batch.now.items) c.args.text.now.items (says.Row c.in-Row.row) (sym (c.in_ok-said.ensures.said kept stands.count) ∙ c.in-Row.is)
+    before c.push_command.new.text.items
+    (told ∙ ap (λ (n : ℕ). c.args.text.now.items ++ command_text n) (c.next_number-in-Command.ensures c.args.court.now kept before)
+    ∙ ap (λ (w : Work). c.args.text.now.items ++ shown_for c.args.court.now kept c.in-Row.row w) (sym c.in-Command.is)))
+    c.push_command.ensures
+
+pub returns-in_ok-extend_from_slice-in-Query : goal.returns-in_ok-extend_from_slice-in-Query
+returns-in_ok-extend_from_slice-in-Query c = λ kept stands.
+    let before = as_it_was c.args.court.now c.args.self.now.register c.said.new.self kept stands c.said.ensures.docket c.said.ensures.number c.said.ensures.count in
+    let holds = subst (λ (w : Work). Holds (setup_of c.args.court.now) c.answered.new.self.docket (docketed_then (setup_of c.args.court.now) (docketed_by c.args.court.now kept) w)) c.in-Query.is (c.in_ok-answer-in-Query.ensures.docket kept before) in
+    let after : StandsAt c.args.court.now c.answered.new.self kept = record {
+      docket = holds;
+      number = c.answered.ensures.number ∙ before.number;
+      count = c.answered.ensures.count ∙ before.count;
+      begun = before.begun;
+      few = before.few;
+    } in
+    line_asked c.args.court.now (record { register = c.answered.new.self }) kept c.args.line.now (batch_of c.args._batch.now.items) c.args.text.now.items (says.Row c.in-Row.row) (sym (c.in_ok-said.ensures.said kept stands.count) ∙ c.in-Row.is)
+    after c.extend_from_slice.new.self.items
+    (c.in_ok-extend_from_slice-in-Query.ensures.items ∙ ap (λ (l : List ℕ). c.args.text.now.items ++ l) (c.as_bytes.ensures.value ∙ c.in_ok-answer-in-Query.ensures.answer kept before)
+    ∙ ap (λ (w : Work). c.args.text.now.items ++ shown_for c.args.court.now kept c.in-Row.row w) (sym c.in-Query.is))

@@ -1,0 +1,141 @@
+//! A court and its docket, made of a journal's entries.
+ghost use Rattle.std.specs.Prelude.{◌≡◌, ◌<◌, ◌≤◌, ◌+◌, ◌++◌, ◌∷◌, [], ℕ, List, length, take, None, Some, IfErr, IfOk, OnOk};
+ghost use Rattle.durable_journal.specs.Words.{batch_of};
+ghost use Rattle.docket_entries.specs.Entries.{later_file, most_entries};
+ghost use Rattle.docket_entries.specs.Docketed.{IsBadFile};
+ghost use Rattle.docket_entries.specs.History.{SaysCourt};
+
+use crate::entry::later_file;
+use crate::fault::HistoryFault;
+use crate::register::DocketRegister;
+use crate::review::{Review, decided_again};
+use court_days::Court;
+use court_file_text::CourtFault;
+use std::alloc::Global;
+use std::mem;
+
+/// A court and its docket, as a journal's entries come to them.
+#[derive(Drop)]
+pub struct Docketed {
+    /// The court of the file that stands after the entries.
+    pub court: Court,
+    /// Its docket after the rows.
+    pub register: DocketRegister,
+}
+
+// The court of a file, which is in the entry of that number.
+fn court_of(alloc: Global, file: &[u8], number: u32) -> Result<Court, HistoryFault>
+    ensures court { IfOk result (λ court. SaysCourt file.now court) }
+    ensures cause { IfErr result (IsBadFile file.now number) }
+{
+    match Court::from_bytes(alloc, file) {
+        Ok(court) => Ok(court),
+        Err(CourtFault::OutOfMemory) => Err(HistoryFault::OutOfMemory),
+        Err(cause) => Err(HistoryFault::Court(number, cause)),
+    }
+}
+
+impl Docketed {
+    ghost use Rattle.docket_entries.specs.Docketed.{HasHistoryFault, IsDocketed};
+
+    // A court and its docket before the first row.
+    fn begin(alloc: Global, file: &[u8]) -> Result<Docketed, HistoryFault>
+        ensures docketed { IfOk result (λ docketed. IsDocketed docketed (file.now ∷ [])) }
+        ensures cause { IfErr result (IsBadFile file.now 1) }
+    {
+        let court = court_of(alloc, file, 1)?;
+        let register = DocketRegister::new(alloc, &court)?;
+        Ok(Docketed { court, register })
+    }
+
+    // Goes by a later court's file from here on, which is in the last of these entries: their rows are decided again.
+    fn change(
+        &mut self,
+        alloc: Global,
+        file: &[u8],
+        entries: &[Vec<u8>],
+    ) -> Result<(), HistoryFault>
+        requires some { 0 < length entries.now }
+        requires few { length entries.now ≤ most_entries }
+        ensures docketed { (before : List (List ℕ)) (entry : List ℕ) → batch_of entries.now ≡ before ++ entry ∷ [] → later_file entry ≡ Some file.now → IsDocketed self.old before
+            → OnOk result (IsDocketed self.new (before ++ entry ∷ [])) }
+        ensures cause { IfErr result (IsBadFile file.now (length entries.now)) }
+    {
+        let court = court_of(alloc, file, entries.len() as u32)?;
+        let Review { register, .. } = decided_again(alloc, &court, entries)?;
+        drop(mem::replace(&mut self.court, court));
+        drop(mem::replace(&mut self.register, register));
+        Ok(())
+    }
+
+    // Takes an entry that no court's file begins, if its row has the answer that it gets.
+    fn retake(&mut self, alloc: Global, entry: &[u8]) -> Result<(), HistoryFault>
+        requires row { later_file entry.now ≡ None }
+        requires room { self.old.register.count < most_entries }
+        ensures docketed { (before : List (List ℕ)) → IsDocketed self.old before → OnOk result (IsDocketed self.new (before ++ entry.now ∷ [])) }
+        ensures cause { (before : List (List ℕ)) → IsDocketed self.old before → IfErr result (HasHistoryFault (before ++ entry.now ∷ [])) }
+    {
+        let number = self.register.number;
+        let other = self.register.review(alloc, &self.court, entry)?;
+        if other.is_some() {
+            return Err(HistoryFault::Other(number));
+        }
+        Ok(())
+    }
+
+    // Takes an entry, which is the last of these.
+    fn take_entry(
+        &mut self,
+        alloc: Global,
+        entry: &[u8],
+        entries: &[Vec<u8>],
+    ) -> Result<(), HistoryFault>
+        requires some { 0 < length entries.now }
+        requires few { length entries.now ≤ most_entries }
+        requires room { self.old.register.count < most_entries }
+        ensures docketed { (before : List (List ℕ)) → batch_of entries.now ≡ before ++ entry.now ∷ [] → IsDocketed self.old before → OnOk result (IsDocketed self.new (before ++ entry.now ∷ [])) }
+        ensures cause { (before : List (List ℕ)) → batch_of entries.now ≡ before ++ entry.now ∷ [] → IsDocketed self.old before → IfErr result (HasHistoryFault (before ++ entry.now ∷ [])) }
+    {
+        match later_file(entry) {
+            Some(file) => self.change(alloc, file, entries),
+            None => self.retake(alloc, entry),
+        }
+    }
+
+    // Takes the entries after the first.
+    fn take_later(&mut self, alloc: Global, entries: &[Vec<u8>]) -> Result<(), HistoryFault>
+        requires few { length entries.now ≤ most_entries }
+        requires begun { IsDocketed self.old (batch_of (take 1 entries.now)) }
+        ensures docketed { OnOk result (IsDocketed self.new (batch_of entries.now)) }
+        ensures cause { IfErr result (HasHistoryFault (batch_of entries.now)) }
+    {
+        for place in 1..entries.len() {
+            match self.take_entry(alloc, &entries[place], entries.split_at(place + 1).0) {
+                Ok(()) => {}
+                Err(fault) => return Err(fault),
+            }
+        }
+        Ok(())
+    }
+
+    /// The court and its docket to which a journal's entries come, of which the first is a court's file. Each row must have
+    /// the answer that it gets under the court's file that stands before it; after a later file all rows so far are decided
+    /// again.
+    pub fn of(alloc: Global, entries: &[Vec<u8>]) -> Result<Docketed, HistoryFault>
+        requires few { length entries.now ≤ most_entries }
+        ensures docketed { IfOk result (λ docketed. IsDocketed docketed (batch_of entries.now)) }
+        ensures cause { IfErr result (HasHistoryFault (batch_of entries.now)) }
+    {
+        let Some(file) = entries.first() else {
+            return Err(HistoryFault::NoCourt);
+        };
+        let mut docketed = match Docketed::begin(alloc, file) {
+            Ok(docketed) => docketed,
+            Err(fault) => return Err(fault),
+        };
+        match docketed.take_later(alloc, entries) {
+            Ok(()) => Ok(docketed),
+            Err(fault) => Err(fault),
+        }
+    }
+}

@@ -1,0 +1,62 @@
+//! A docket of which only questions are asked.
+ghost use Rattle.std.specs.Prelude.{◌≡◌, ◌++◌, ℕ, List, OnOk};
+ghost use Rattle.docket_entries.specs.Questions.{command_text};
+
+use crate::register::{DocketRegister, RowTypes, push_fault};
+use court_days::Court;
+use durable_session::Register;
+use office_rows::Work;
+use row_line::Line;
+use std::alloc::{AllocError, Global};
+
+/// A court's docket of which only questions are asked: no line leaves an entry, and a command is answered with a line that
+/// says where to enter it.
+#[derive(Drop)]
+pub struct Questions {
+    /// The docket.
+    pub register: DocketRegister,
+}
+
+// Adds the line that tells that a row is a command.
+fn push_command(alloc: Global, text: &mut Vec<u8>, number: u32) -> Result<(), AllocError>
+    ensures { OnOk result (text.new.items ≡ text.old.items ++ command_text number) }
+{
+    let line = format!(in alloc; "row {number} is a command: enter it with 'docket_desk enter'\n")?;
+    text.extend_from_slice(line.as_bytes())
+}
+
+impl Register for Questions {
+    type Setup = Court;
+
+    ghost use Rattle.std.specs.Prelude.{[]};
+    ghost use Rattle.docket_entries.specs.Questions.{AsksOf, shown};
+
+    ghost stands = { λ court questions kept. AsksOf court questions kept };
+
+    ghost leaves = { λ court kept line. [] };
+
+    ghost answers = { λ court kept line. shown court kept line };
+
+    fn take(
+        &mut self,
+        court: &Court,
+        alloc: Global,
+        line: &[u8],
+        _batch: &mut Vec<Vec<u8>>,
+        text: &mut Vec<u8>,
+    ) -> Result<(), AllocError> {
+        let _types: RowTypes = None;
+        match self.register.said(alloc, court, line)? {
+            Line::Blank => Ok(()),
+            Line::Fault(cause) => push_fault(alloc, text, self.register.next_number(), cause),
+            Line::Row(row) => match &row.work {
+                Work::Command(_) => push_command(alloc, text, self.register.next_number()),
+                Work::Query(_) => {
+                    let answer = self.register.answered(alloc, court, &row)?;
+                    text.extend_from_slice(answer.as_bytes())?;
+                    Ok(())
+                }
+            },
+        }
+    }
+}

@@ -1,0 +1,89 @@
+//! The rows of entries, decided again under a court.
+ghost use Rattle.std.specs.Prelude.{◌≡◌, ◌<◌, ◌≤◌, ◌++◌, ◌∷◌, [], ℕ, List, length, map, IfOk, OnOk};
+ghost use Rattle.durable_journal.specs.Words.{batch_of};
+ghost use Rattle.docket_entries.specs.Differences.{change_as, change_in, changes_by};
+ghost use Rattle.docket_entries.specs.Entries.{later_file, most_entries};
+ghost use Rattle.docket_entries.specs.Register.{StandsAt};
+
+use crate::entry::later_file;
+use crate::register::DocketRegister;
+use court_days::Court;
+use std::alloc::{AllocError, Global};
+
+/// A row that would be answered otherwise.
+#[derive(Debug, Drop)]
+pub struct Difference {
+    /// The row's number, counted from 1.
+    pub number: u32,
+    /// Its entry: the row and the answer that it was given, each with the end of its line.
+    pub entry: Vec<u8>,
+    /// The answer that it would get, with the ends of its lines.
+    pub answer: Vec<u8>,
+}
+
+/// A court's docket after the rows of entries, and which of them it answers otherwise.
+#[derive(Drop)]
+pub struct Review {
+    /// The docket.
+    pub register: DocketRegister,
+    /// The rows that it answers otherwise, in their order.
+    pub differences: Vec<Difference>,
+}
+
+// Decides the row of an entry again, unless it is a court's file.
+fn decide_entry(
+    alloc: Global,
+    court: &Court,
+    register: &mut DocketRegister,
+    entry: &[u8],
+    differences: &mut Vec<Difference>,
+) -> Result<(), AllocError>
+    requires room { register.old.count < most_entries }
+    ensures stands { (kept : List (List ℕ)) → StandsAt court.now register.old kept → OnOk result (StandsAt court.now register.new (kept ++ entry.now ∷ [])) }
+    ensures changes { (kept : List (List ℕ)) → StandsAt court.now register.old kept → OnOk result
+        (map change_in differences.new.items ≡ map change_in differences.old.items ++ change_as (later_file entry.now) court.now kept entry.now) }
+{
+    if later_file(entry).is_some() {
+        register.pass_file();
+        return Ok(());
+    }
+    let number = register.number;
+    if let Some(answer) = register.review(alloc, court, entry)? {
+        let entry = Vec::from_slice(alloc, entry)?;
+        differences.push(Difference {
+            number,
+            entry,
+            answer,
+        })?;
+    }
+    Ok(())
+}
+
+/// Decides all rows of entries again under a court, whichever files stood when they were answered. `Err` says that memory
+/// ran out.
+pub fn decided_again(
+    alloc: Global,
+    court: &Court,
+    entries: &[Vec<u8>],
+) -> Result<Review, AllocError>
+    requires some { 0 < length entries.now }
+    requires few { length entries.now ≤ most_entries }
+    ensures stands { IfOk result (λ review. StandsAt court.now review.register (batch_of entries.now)) }
+    ensures changes { IfOk result (λ review. map change_in review.differences.items ≡ changes_by court.now (batch_of entries.now)) }
+{
+    let mut register = DocketRegister::new(alloc, court)?;
+    let mut differences = Vec::new(alloc);
+    for place in 1..entries.len() {
+        decide_entry(
+            alloc,
+            court,
+            &mut register,
+            &entries[place],
+            &mut differences,
+        )?;
+    }
+    Ok(Review {
+        register,
+        differences,
+    })
+}

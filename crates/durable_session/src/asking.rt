@@ -1,0 +1,78 @@
+//! A session that keeps nothing: lines are answered, and that is all.
+ghost use Rattle.std.specs.Prelude.{◌≡◌, ◌++◌, ℕ, List, false, IfErr, IfSome, OnOk};
+ghost use Rattle.std.specs.Io.KnownBytes.{Appends};
+ghost use Rattle.office_streams.specs.Words.{AppendsFront, has_failed, watched};
+ghost use Rattle.durable_session.specs.Faults.{IsToldIfFailed};
+ghost use Rattle.durable_session.specs.Lines.{lines_from, lines_of, unfinished_from};
+ghost use Rattle.durable_session.specs.Served.{AfterBytes};
+ghost use Rattle.durable_session.specs.Taken.{left_by, told_to};
+
+use crate::fault::SessionFault;
+use crate::gather::gather;
+use crate::register::Register;
+use crate::session::{CHUNK, ended};
+use office_streams::{Watched, write_all};
+use std::alloc::Global;
+use std::io::{Read, Write};
+
+// Answers the lines that these bytes end.
+fn answer_bytes<O: Register, W: Write>(
+    setup: &O::Setup,
+    alloc: Global,
+    register: &mut O,
+    writer: &mut Watched<W>,
+    begun: &mut Vec<u8>,
+    bytes: &[u8],
+) -> Result<(), SessionFault>
+    requires { has_failed writer.old ≡ false }
+    ensures begun { OnOk result (begun.new.items ≡ unfinished_from begun.old.items bytes.now) }
+    ensures fault { IfErr result (IsToldIfFailed (has_failed writer.new)) }
+    ensures working { OnOk result (has_failed writer.new ≡ false) }
+    ensures stands { (kept : List (List ℕ)) → O.stands setup.now register.old kept → OnOk result (O.stands setup.now register.new (kept ++ left_by (O.leaves setup.now) kept (lines_from begun.old.items bytes.now))) }
+    ensures told { (kept : List (List ℕ)) → O.stands setup.now register.old kept → OnOk result
+        (Appends (W.contents (watched writer.old)) (W.contents (watched writer.new)) (told_to (O.leaves setup.now) (O.answers setup.now) kept (lines_from begun.old.items bytes.now))) }
+    ensures front { (kept : List (List ℕ)) → O.stands setup.now register.old kept →
+        AppendsFront (W.contents (watched writer.old)) (W.contents (watched writer.new)) (told_to (O.leaves setup.now) (O.answers setup.now) kept (lines_from begun.old.items bytes.now)) }
+{
+    let mut batch = Vec::new(alloc);
+    let mut text = Vec::new(alloc);
+    gather(setup, alloc, register, begun, bytes, &mut batch, &mut text)?;
+    match write_all(writer, &text) {
+        Ok(()) => Ok(()),
+        Err(_) => Err(SessionFault::Write),
+    }
+}
+
+/// Answers the lines of an input until it ends, and keeps none of them. However it ends, what is written is a beginning of
+/// the answers to the lines that were read.
+pub fn answer<O: Register, R: Read, W: Write>(
+    setup: &O::Setup,
+    alloc: Global,
+    register: &mut O,
+    reader: &mut Watched<R>,
+    writer: &mut Watched<W>,
+) -> Result<(), SessionFault>
+    requires writer_works { has_failed writer.old ≡ false }
+    ensures answered { (kept : List (List ℕ)) → O.stands setup.now register.old kept → OnOk result
+        (IfSome (R.remaining (watched reader.old)) (λ input. Appends (W.contents (watched writer.old)) (W.contents (watched writer.new)) (told_to (O.leaves setup.now) (O.answers setup.now) kept (lines_of input)))) }
+    ensures front { (kept : List (List ℕ)) → O.stands setup.now register.old kept →
+        AfterBytes (R.remaining (watched reader.old)) (R.remaining (watched reader.new)) (λ bytes.
+        AppendsFront (W.contents (watched writer.old)) (W.contents (watched writer.new)) (told_to (O.leaves setup.now) (O.answers setup.now) kept (lines_of bytes))) }
+    ensures fault { IfErr result (IsToldIfFailed (has_failed writer.new)) }
+{
+    let mut begun = Vec::new(alloc);
+    let mut buffer = vec![in alloc; 0u8; CHUNK]?;
+    let chunk = buffer.as_mut_slice();
+    'reads: for _ in 0..u64::MAX {
+        match reader.read(chunk) {
+            Err(_) => return Err(SessionFault::Read),
+            Ok(count) => {
+                if count == 0 {
+                    return ended(&begun);
+                }
+                answer_bytes(setup, alloc, register, writer, &mut begun, &chunk[..count])?;
+            }
+        }
+    }
+    Err(SessionFault::Read)
+}

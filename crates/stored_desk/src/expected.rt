@@ -1,0 +1,87 @@
+//! What a journal must hold, from its rows alone: they are taken one after another, with no journal and no disk.
+use anyhow::{Result, bail};
+use court_days::Court;
+use docket_entries::{DocketRegister, Docketed, HistoryFault};
+use durable_session::Register;
+use std::alloc::Global;
+
+/// How many entries there are, and how many bytes of answers, once some batches are kept and answered.
+#[derive(Clone, Copy)]
+pub struct State {
+    pub entries: usize,
+    pub answered: usize,
+}
+
+/// All entries and answers of a journal, and its states: before the court's file, after it, and after each batch of rows.
+#[derive(Drop)]
+pub struct Expected {
+    pub entries: Vec<Vec<u8>>,
+    pub answers: Vec<u8>,
+    pub states: Vec<State>,
+}
+
+/// What these rows leave and are answered after a court's file, batch by batch.
+pub fn expected_of(alloc: Global, file: &[u8], rows: &str) -> Result<Expected> {
+    let mut entries = Vec::new(alloc);
+    entries.push(Vec::from_slice(alloc, file)?)?;
+    let Docketed {
+        court,
+        mut register,
+    } = docket_of(alloc, &entries)?;
+    let mut answers = Vec::new(alloc);
+    let mut states = Vec::new(alloc);
+    states.push(State {
+        entries: 0,
+        answered: 0,
+    })?;
+    states.push(State {
+        entries: 1,
+        answered: 0,
+    })?;
+    for batch in rows.split("--\n") {
+        take_lines(
+            alloc,
+            &court,
+            &mut register,
+            batch,
+            &mut entries,
+            &mut answers,
+        )?;
+        states.push(State {
+            entries: entries.len(),
+            answered: answers.len(),
+        })?;
+    }
+    Ok(Expected {
+        entries,
+        answers,
+        states,
+    })
+}
+
+// Takes the rows of a batch.
+fn take_lines(
+    alloc: Global,
+    court: &Court,
+    register: &mut DocketRegister,
+    batch: &str,
+    entries: &mut Vec<Vec<u8>>,
+    answers: &mut Vec<u8>,
+) -> Result<()> {
+    for line in batch.lines() {
+        register.take(court, alloc, line.as_bytes(), entries, answers)?;
+    }
+    Ok(())
+}
+
+/// The court and the docket of entries. An error says that they make none, or that memory ran out.
+pub fn docket_of(alloc: Global, entries: &[Vec<u8>]) -> Result<Docketed> {
+    if entries.len() > 1000 {
+        bail!("more than 1000 entries");
+    }
+    match Docketed::of(alloc, entries) {
+        Ok(docketed) => Ok(docketed),
+        Err(HistoryFault::OutOfMemory) => bail!("out of memory"),
+        Err(_) => bail!("the entries make no docket"),
+    }
+}

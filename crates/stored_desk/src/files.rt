@@ -1,0 +1,81 @@
+//! A file that a crash may have left, opened again.
+use crate::crash::{Crashed, FILLS, crash_of};
+use crate::session::Device;
+use anyhow::Result;
+use durable_journal::{Journal, JournalFault};
+use sqlite_disk::{Disk, Fuse, Memory};
+use std::alloc::Global;
+
+/// More calls than the opening of a journal makes.
+const CALLS: u64 = 20;
+
+// A disk whose file has these bytes, all of them durable, and that passes so many calls on.
+fn disk_with(alloc: Global, file: &[u8], calls: u64) -> Result<Device> {
+    let mut memory = Memory::new(alloc);
+    memory.write_at(0, file)?;
+    memory.sync()?;
+    Ok(Fuse::new(memory, calls))
+}
+
+// The entries of a disk's journal, and the disk after its opening: none where the journal is damaged.
+fn reopened(alloc: Global, disk: Device) -> Result<Option<(Device, Vec<Vec<u8>>)>> {
+    match Journal::open(alloc, disk) {
+        Ok((journal, entries)) => Ok(Some((journal.into_disk(), entries))),
+        Err((JournalFault::Damaged(_), _)) | Err((JournalFault::Full, _)) => Ok(None),
+        Err((fault, _)) => Err(fault.into()),
+    }
+}
+
+/// How many entries the file's journal has, where they are the first of those expected, and no others when it is opened once
+/// more: none where it isn't so.
+pub fn count_kept(alloc: Global, expected: &[Vec<u8>], file: &[u8]) -> Result<Option<usize>> {
+    let disk = disk_with(alloc, file, u64::MAX)?;
+    let Some((disk, entries)) = reopened(alloc, disk)? else {
+        return Ok(None);
+    };
+    let Some((_, again)) = reopened(alloc, disk)? else {
+        return Ok(None);
+    };
+    if are_first(expected, &entries)
+        && are_first(&entries, &again)
+        && entries.len() == again.len()
+    {
+        Ok(Some(entries.len()))
+    } else {
+        Ok(None)
+    }
+}
+
+// Whether the entries are the first of those expected.
+fn are_first(expected: &[Vec<u8>], entries: &[Vec<u8>]) -> bool {
+    let mut both = expected.iter().zip(entries.iter());
+    entries.len() <= expected.len() && both.all(|(one, other)| one == other)
+}
+
+/// Opens the file on disks that pass no call on, then one, and so on. Whether each file that a crash leaves meanwhile has so
+/// many entries too.
+pub fn lasts(alloc: Global, expected: &[Vec<u8>], file: &[u8], count: usize) -> Result<bool> {
+    for calls in 0..CALLS {
+        match Journal::open(alloc, disk_with(alloc, file, calls)?) {
+            Ok(_) => return Ok(true),
+            Err((_, mut disk)) => {
+                let crash = crash_of(alloc, &mut disk)?;
+                if !keeps(alloc, expected, &crash, count)? {
+                    return Ok(false);
+                }
+            }
+        }
+    }
+    Ok(false)
+}
+
+// Whether what this crash may leave has so many entries.
+fn keeps(alloc: Global, expected: &[Vec<u8>], crash: &Crashed, count: usize) -> Result<bool> {
+    for fill in FILLS {
+        let file = crash.left(alloc, crash.certain(), fill)?;
+        if count_kept(alloc, expected, &file)? != Some(count) {
+            return Ok(false);
+        }
+    }
+    Ok(true)
+}

@@ -1,0 +1,80 @@
+//! A session of the desk on a disk that fails.
+use crate::expected::docket_of;
+use anyhow::Result;
+use docket_entries::Docketed;
+use durable_journal::Journal;
+use durable_session::serve;
+use office_streams::Watched;
+use sqlite_disk::{Fuse, Memory};
+use std::alloc::Global;
+
+/// A file in memory that passes so many calls on, and fails each one after.
+pub type Device = Fuse<Memory>;
+
+/// A session that has ended, or was stopped by its disk.
+#[derive(Drop)]
+pub struct Stopped {
+    pub disk: Device,
+    pub answers: Vec<u8>,
+    /// How many of its steps were done: the court's file is kept, and then each batch is kept and answered.
+    pub done: usize,
+}
+
+/// Opens a journal on an empty disk, and then keeps a court's file and rows, batch by batch.
+pub fn session(alloc: Global, file: &[u8], rows: &str, calls: u64) -> Result<Stopped> {
+    let mut answers = Vec::new(alloc);
+    let disk = Fuse::new(Memory::new(alloc), calls);
+    match Journal::open(alloc, disk) {
+        Err((_, disk)) => Ok(Stopped {
+            disk,
+            answers,
+            done: 0,
+        }),
+        Ok((mut journal, _)) => {
+            let done = keep_all(alloc, &mut journal, file, rows, &mut answers)?;
+            Ok(Stopped {
+                disk: journal.into_disk(),
+                answers,
+                done,
+            })
+        }
+    }
+}
+
+// Keeps a court's file and rows as far as the disk lets it, and says how many steps were done.
+fn keep_all(
+    alloc: Global,
+    journal: &mut Journal<Device>,
+    file: &[u8],
+    rows: &str,
+    answers: &mut Vec<u8>,
+) -> Result<usize> {
+    let mut first = Vec::new(alloc);
+    first.push(Vec::from_slice(alloc, file)?)?;
+    let Docketed {
+        court,
+        mut register,
+    } = docket_of(alloc, &first)?;
+    if journal.append(&first).is_err() {
+        return Ok(0);
+    }
+    let mut done = 1usize;
+    for batch in rows.split("--\n") {
+        let mut reader = Watched::new(batch.as_bytes());
+        let mut writer = Watched::new(Vec::new(alloc));
+        let ended = serve(
+            &court,
+            alloc,
+            journal,
+            &mut register,
+            &mut reader,
+            &mut writer,
+        );
+        answers.extend_from_slice(writer.inner())?;
+        if ended.is_err() {
+            return Ok(done);
+        }
+        done = done.saturating_add(1);
+    }
+    Ok(done)
+}
