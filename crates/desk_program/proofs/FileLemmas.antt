@@ -12,7 +12,7 @@ use Rattle.durable_journal.specs.Words.{IsDurable}
 use Rattle.desk_program.specs.File.{file_is_usable, file_may_leave, file_seen}
 
 same_replay : (log db : List ℕ) (is_log : Bool) (events : List Event) (key : ℕ) → is_log ≡ false → events ≡ settled key ∷ [] → replay (if is_log then log else db) events ≡ replay db (settled key ∷ [])
-same_replay log db is_log events key no is = ap (λ (b : Bool). replay (if b then log else db) events) no ∙ ap (replay db) is
+same_replay log db is_log events key isnt is = ap (λ (b : Bool). replay (if b then log else db) events) isnt ∙ ap (replay db) is
 
 either_same : (mixes : Bool) (db c : List ℕ) → MayLeave mixes db db [] c → c ≡ db
 either_same mixes db c (inl e) = e
