@@ -1,9 +1,11 @@
 -- What a docket's desk keeps and promises.
-use Rattle.std.proofs.Common.{◌≡◌, ◌∙◌, ℕ, List, [], ◌∷◌, ◌++◌, Bool, IfSome, None, Option, Some, take, refl, sym, ap, subst}
-use Rattle.durable_journal.specs.Words.{IsKept, StandsFor, disk_of}
+use Rattle.std.proofs.Common.{◌≡◌, ◌⊎◌, inl, inr, ℕ, List, [], ◌∷◌, ◌++◌, Bool, IfSome, None, Option, Some, length, take, refl, sym, arith, subst}
+use Rattle.std.specs.Prelude.{Vec}
+use Rattle.std.specs.declared.alloc.Global.{Global}
+use Rattle.durable_journal.specs.Words.{IsKept, StandsFor, batch_of, disk_of}
 use Rattle.durable_journal.proofs.CallerLemmas.{one_list, rest_kept}
 use Rattle.durable_session.specs.Words.{IsPromised, IsServed, left_by}
-use Rattle.docket_entries.specs.Words.{StandsAt, answers, leaves}
+use Rattle.docket_entries.specs.Words.{StandsAt, answers, later_file, leaves}
 use Rattle.docket_entries.proofs.CallerLemmas.{left_docketed, left_history}
 use Rattle.desk_program.specs.declared.desk.Desk.{Desk}
 use Rattle.desk_program.specs.Desk.{IsPromisedDocket, KeepsDocket, court_at, docketed_at}
@@ -39,3 +41,20 @@ same_entries file c found entries is stood stands = subst (StandsFor c) (one_lis
 pub some_weaker : {A : Type 0} (x : Option A) (P Q : A → Type 0) → ((a : A) → P a → Q a) → IfSome x P → IfSome x Q
 some_weaker None P Q more h = tt
 some_weaker (Some a) P Q more h = more a h
+
+-- there are no entries
+pub no_entries : (entries : List (Vec ℕ Global)) → 0 ≡ length entries → batch_of entries ≡ []
+no_entries [] h = refl
+no_entries (entry ∷ entries) h = absurd (omega (arith, h))
+
+-- what is appended is one court's file
+pub one_file : (c : List ℕ) (entries batch : List (List ℕ)) (file entry : List ℕ) → batch ≡ entry ∷ [] → later_file entry ≡ Some file → StandsFor c entries ⊎ StandsFor c (entries ++ batch)
+    → StandsFor c entries ⊎ ((e : List ℕ) × (later_file e ≡ Some file) × StandsFor c (entries ++ e ∷ []))
+one_file c entries batch file entry is says (inl stands) = inl stands
+one_file c entries batch file entry is says (inr stands) = inr (entry, says, subst (λ (b : List (List ℕ)). StandsFor c (entries ++ b)) is stands)
+
+-- what is appended is a docket's first court's file
+pub first_file : (c : List ℕ) (entries batch : List (List ℕ)) (file : List ℕ) → entries ≡ [] → batch ≡ file ∷ [] → StandsFor c [] ⊎ StandsFor c ([] ++ batch)
+    → StandsFor c entries ⊎ ((entries ≡ []) × StandsFor c (file ∷ []))
+first_file c entries batch file none is (inl stands) = inl (subst (StandsFor c) (sym none) stands)
+first_file c entries batch file none is (inr stands) = inr (none, subst (StandsFor c) is stands)

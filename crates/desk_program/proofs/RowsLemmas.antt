@@ -37,3 +37,18 @@ changes_text-more differences i difference lt at =
     ∙ flat_map-append change_text (map change_in (take i differences)) (change_in (get_or differences i difference) ∷ [])
     ∙ ap (λ (d : Difference). changes_text (map change_in (take i differences)) ++ (change_text (change_in d) ++ [])) (sym at)
     ∙ ap (λ (l : List ℕ). changes_text (map change_in (take i differences)) ++ l) (append-nil (change_text (change_in difference)))
+
+-- a text after four parts more
+pub parts_more : (text line entry said answer first second third fourth : List ℕ) → first ≡ text ++ line → second ≡ first ++ entry → third ≡ second ++ said → fourth ≡ third ++ answer
+    → fourth ≡ text ++ (((line ++ entry) ++ said) ++ answer)
+parts_more text line entry said answer first second third fourth one two three four =
+    four
+    ∙ ap (λ (l : List ℕ). l ++ answer) (three ∙ ap (λ (l : List ℕ). l ++ said) (two ∙ ap (λ (l : List ℕ). l ++ entry) one))
+    ∙ ap (λ (l : List ℕ). (l ++ said) ++ answer) (append_assoc text line entry)
+    ∙ ap (λ (l : List ℕ). l ++ answer) (append_assoc text (line ++ entry) said)
+    ∙ append_assoc text ((line ++ entry) ++ said) answer
+
+-- no changes
+pub no_changes : (differences : List Difference) → map change_in differences ≡ [] → differences ≡ []
+no_changes [] none = refl
+no_changes (difference ∷ differences) none = cc none

@@ -7,7 +7,7 @@ ghost use Rattle.std.specs.Io.KnownBytes.{Appends};
 ghost use Rattle.desk_program.specs.Rows.{change_text, changes_text};
 
 use crate::court::court_of;
-use crate::desk::Desk;
+use crate::desk::{Desk, batch_with};
 use crate::fault::DeskFault;
 use court_days::Court;
 use docket_entries::{
@@ -45,12 +45,11 @@ fn listed(alloc: Global, differences: &[Difference]) -> Result<Vec<u8>, AllocErr
 }
 
 // A batch of one entry, which is a court's file.
-fn batch_with(alloc: Global, file: &[u8]) -> Result<Vec<Vec<u8>>, AllocError>
+fn file_batch(alloc: Global, file: &[u8]) -> Result<Vec<Vec<u8>>, AllocError>
     ensures { IfOk result (λ batch. (entry : List ℕ) × (batch_of batch.items ≡ entry ∷ []) × (later_file entry ≡ Some file.now)) }
 {
-    let mut batch = Vec::new(alloc);
-    batch.push(court_entry(alloc, file)?)?;
-    Ok(batch)
+    let entry = court_entry(alloc, file)?;
+    batch_with(alloc, entry)
 }
 
 // Writes the rows that would be answered otherwise. `Differs` says that there are some, and no leave.
@@ -94,7 +93,7 @@ impl<D: Disk> Desk<D> {
             → StandsFor c entries ⊎ ((entry : List ℕ) × (later_file entry ≡ Some file.now) × StandsFor c (entries ++ entry ∷ [])) }
         ensures fault { (count : ℕ) → result ≢ Err (DeskFault.Differs count) }
     {
-        let batch = batch_with(alloc, file)?;
+        let batch = file_batch(alloc, file)?;
         match self.journal.append(&batch) {
             Err(fault) => Err(DeskFault::from(fault)),
             Ok(()) => {

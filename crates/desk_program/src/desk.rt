@@ -13,7 +13,7 @@ use durable_journal::Journal;
 use durable_session::{SessionFault, serve};
 use office_streams::Watched;
 use sqlite_disk::Disk;
-use std::alloc::Global;
+use std::alloc::{AllocError, Global};
 use std::io::{Read, Write};
 
 /// A court's docket, with the journal whose entries come to it.
@@ -22,6 +22,15 @@ pub struct Desk<D: Disk> {
     pub(crate) journal: Journal<D>,
     pub(crate) court: Court,
     pub(crate) register: DocketRegister,
+}
+
+// A batch of one entry.
+pub(crate) fn batch_with(alloc: Global, entry: Vec<u8>) -> Result<Vec<Vec<u8>>, AllocError>
+    ensures { IfOk result (λ batch. batch_of batch.items ≡ entry.items ∷ []) }
+{
+    let mut batch = Vec::new(alloc);
+    batch.push(entry)?;
+    Ok(batch)
 }
 
 impl<D: Disk> Desk<D> {
@@ -84,20 +93,20 @@ impl<D: Disk> Desk<D> {
         ensures crash { (was : List ℕ) (entries : List (List ℕ)) → IsDurable D.Disk.seen D.Disk.may_leave D.Disk.is_usable was disk → StandsFor was entries
             → IfErr result (λ e. IsTrue (D.Disk.is_clean e.1) → (c : List ℕ) → D.Disk.may_leave e.1 c → StandsFor c entries ⊎ ((entries ≡ []) × StandsFor c (file.items ∷ []))) }
     {
-        if let Err(fault) = check_court(alloc, &file) {
-            return Err((fault, disk));
+        match check_court(alloc, &file) {
+            Ok(()) => {}
+            Err(fault) => return Err((fault, disk)),
         }
-        let mut journal = match Desk::empty_journal(alloc, disk) {
-            Ok(journal) => journal,
-            Err(refused) => return Err(refused),
+        let batch = match batch_with(alloc, file) {
+            Ok(batch) => batch,
+            Err(_) => return Err((DeskFault::OutOfMemory, disk)),
         };
-        let mut batch = Vec::new(alloc);
-        if batch.push(file).is_err() {
-            return Err((DeskFault::OutOfMemory, journal.into_disk()));
-        }
-        match journal.append(&batch) {
-            Ok(()) => Ok(journal.into_disk()),
-            Err(fault) => Err((DeskFault::from(fault), journal.into_disk())),
+        match Desk::empty_journal(alloc, disk) {
+            Ok(mut journal) => match journal.append(&batch) {
+                Ok(()) => Ok(journal.into_disk()),
+                Err(fault) => Err((DeskFault::from(fault), journal.into_disk())),
+            },
+            Err(refused) => Err(refused),
         }
     }
 

@@ -1,0 +1,25 @@
+use Rattle.std.proofs.Common.{ℕ, List, subst}
+use Rattle.std.specs.Prelude.{IsTrue, Vec}
+use Rattle.std.specs.declared.alloc.Global.{Global}
+use Rattle.durable_journal.specs.Words.{batch_of}
+use Rattle.durable_journal.proofs.CallerLemmas.{rest_kept}
+use Rattle.docket_entries.specs.Words.{IsDocketed}
+use Rattle.desk_program.proofs.DeskLemmas.{same_entries}
+use Rattle.desk_program.proofs.desk.Desk.open.Goals as goal
+
+pub returns-in-Ok-of-clause-opened : goal.returns-in-Ok-of-clause-opened
+returns-in-Ok-of-clause-opened g c = λ file was clean.
+    let all = c.in-Ok.ensures.kept file was clean in (
+      all.0,
+      record {
+        kept = all.2;
+        docketed = subst (λ (e : List (Vec ℕ Global)). IsDocketed c.in-Ok-of.field-0 (batch_of e)) c.deref.ensures.value c.in-Ok-of.ensures.docketed;
+      },
+    )
+
+pub returns-in-Err-of-clause-crash : goal.returns-in-Err-of-clause-crash
+returns-in-Err-of-clause-crash g c = λ file entries was stands clean x left.
+    let all = c.in-Ok.ensures.kept file was (subst (λ (d : g.row.D.Denot). IsTrue (g.D.Disk.is_clean d)) c.into_disk.ensures clean) in
+    same_entries file x (batch_of c.in-Ok.opened.1.items) entries all.0 stands
+    (rest_kept g.D.Disk.seen g.D.Disk.may_leave g.D.Disk.is_usable c.in-Ok.opened.0 (batch_of c.in-Ok.opened.1.items) all.2 x
+    (subst (λ (d : g.row.D.Denot). g.D.Disk.may_leave d x) c.into_disk.ensures left))
