@@ -2,8 +2,8 @@
 use Rattle.std.proofs.Common.{◌≡◌, ◌⊎◌, inl, inr, ℕ, List, [], ◌∷◌, ◌++◌, Bool, IfSome, None, Option, Some, length, take, refl, sym, arith, subst}
 use Rattle.std.specs.Prelude.{Vec}
 use Rattle.std.specs.declared.alloc.Global.{Global}
-use Rattle.durable_journal.specs.Words.{IsKept, StandsFor, batch_of, disk_of}
-use Rattle.durable_journal.proofs.CallerLemmas.{one_list, rest_kept}
+use Rattle.durable_journal.specs.Words.{IsKept, StandsFor, batch_of}
+use Rattle.durable_journal.proofs.CallerLemmas.{one_list}
 use Rattle.durable_session.specs.Words.{IsPromised, IsServed, left_by}
 use Rattle.docket_entries.specs.Words.{StandsAt, answers, later_file, leaves}
 use Rattle.docket_entries.proofs.CallerLemmas.{left_docketed, left_history}

@@ -1,14 +1,13 @@
 -- The rows of entries and the changes to answers, written one after another.
 use Rattle.std.proofs.Common.{◌≡◌, ◌∙◌, ◌+◌, ◌<◌, ℕ, List, [], ◌∷◌, ◌++◌, length, map, take, refl, sym, ap, append_assoc, append-nil}
 use Rattle.std.specs.Prelude.{Vec, get_or}
-use Rattle.std.specs.List.{flat_map}
 use Rattle.std.specs.declared.alloc.Global.{Global}
 use Rattle.std.proofs.lemmas.Grind.{flat_map-append}
 use Rattle.std.proofs.lemmas.List.{map-append, take_more}
 use Rattle.durable_journal.specs.Words.{batch_of}
 use Rattle.office_rows.specs.Words.{CourtNames}
 use Rattle.docket_entries.specs.declared.review.Difference.{Difference}
-use Rattle.docket_entries.specs.Words.{Change, change_in, later_file, row_entries, row_only, row_shown}
+use Rattle.docket_entries.specs.Words.{change_in, later_file, row_entries, row_only, row_shown}
 use Rattle.docket_entries.proofs.CallerLemmas.{no_rows_first, row_entries-more}
 use Rattle.desk_program.specs.Rows.{change_text, changes_text, rows_shown}
 

@@ -1,5 +1,5 @@
 -- A docket over a disk: what it keeps, and what a session on it promises.
-use Rattle.std.specs.Prelude.{◌≡◌, ◌≢◌, ℕ, List, Bool, Option, Err, ◌++◌}
+use Rattle.std.specs.Prelude.{◌≡◌, ◌≢◌, ℕ, List, Bool, Option, Err}
 use Rattle.court_days.specs.Words.{CourtView, court_in}
 use Rattle.durable_journal.specs.Words.{IsKept, StandsFor, disk_of}
 use Rattle.durable_session.specs.Words.{IsPromised}

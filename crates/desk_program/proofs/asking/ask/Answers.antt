@@ -1,4 +1,4 @@
-use Rattle.std.proofs.Common.{ℕ, List, []}
+use Rattle.std.proofs.Common.{[]}
 use Rattle.std.specs.Io.KnownBytes.{Appends}
 use Rattle.durable_journal.specs.Words.{batch_of}
 use Rattle.durable_session.specs.Words.{lines_of, told_to}

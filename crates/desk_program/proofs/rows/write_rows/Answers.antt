@@ -1,4 +1,4 @@
-use Rattle.std.proofs.Common.{◌≡◌, ◌∙◌, ◌+◌, ◌<◌, ◌++◌, ◌∷◌, [], ℕ, List, ap, length, sym, subst, arith, take, take_all}
+use Rattle.std.proofs.Common.{◌≡◌, ◌∙◌, ◌<◌, ◌++◌, [], ℕ, List, ap, length, sym, subst, arith, take, take_all}
 use Rattle.std.specs.Prelude.{Vec, codes}
 use Rattle.std.specs.declared.alloc.Global.{Global}
 use Rattle.std.specs.Io.KnownBytes.{Appends}
@@ -15,12 +15,16 @@ use Rattle.desk_program.proofs.rows.write_rows.Goals as goal
 
 pub loop-place-init : goal.loop-place-init
 loop-place-init g c =
-    let head : List ℕ = ended (standing_file (batch_of c.args.entries.now)) ++ codes "%%\n" in
-    (omega arith, c.requires.works, [], Appends-nil (g.W.Write.contents (watched c.args.writer.now)),
+    let head : List ℕ = ended (standing_file (batch_of c.args.entries.now)) ++ codes "%%\n" in (
+      omega arith,
+      c.requires.works,
+      [],
+      Appends-nil (g.W.Write.contents (watched c.args.writer.now)),
       rows_first (names_of c.args.court.now) head c.push_file.new.text.items c.args.entries.now
-      (c.in_ok-push_file.ensures
-      ∙ ap (λ (t : List ℕ). t ++ (ended c.standing_file.result.now ++ codes "%%\n")) c.new-text.ensures.items
-      ∙ ap (λ (f : List ℕ). ended f ++ codes "%%\n") c.standing_file.ensures))
+          (c.in_ok-push_file.ensures
+          ∙ ap (λ (t : List ℕ). t ++ (ended c.standing_file.result.now ++ codes "%%\n")) c.new-text.ensures.items
+          ∙ ap (λ (f : List ℕ). ended f ++ codes "%%\n") c.standing_file.ensures),
+    )
 
 pub loop-place-preserved : goal.loop-place-preserved
 loop-place-preserved g c =
@@ -32,11 +36,14 @@ loop-place-preserved g c =
     let (front, more, parts) = c.in_ok-put_if_long.ensures.written in
     let some : 0 < length kept = begun_batch c.args.entries.now c.loop-place.place begun c.loop-place-test.true in
     let added : c.push_entry.new.text.items ≡ c.loop-place.text.items ++ rows_shown names (row_only (later_file entry) entry) =
-        c.in_ok-push_entry.ensures ∙ ap (λ (e : List ℕ). c.loop-place.text.items ++ rows_shown names (row_only (later_file e) e)) c.deref.ensures.value in
-    (omega (arith, begun), c.in_ok-put_if_long.ensures.working, written ++ front,
+    c.in_ok-push_entry.ensures ∙ ap (λ (e : List ℕ). c.loop-place.text.items ++ rows_shown names (row_only (later_file e) e)) c.deref.ensures.value in (
+      omega (arith, begun),
+      c.in_ok-put_if_long.ensures.working,
+      written ++ front,
       Appends-trans (g.W.Write.contents (watched c.args.writer.now)) (g.W.Write.contents (watched c.loop-place.writer)) (g.W.Write.contents (watched c.put_if_long.new.writer)) written front appends more,
       rows_more names written c.loop-place.text.items c.push_entry.new.text.items front c.put_if_long.new.text.items head kept entry some so_far added parts
-      ∙ ap (λ (l : List (List ℕ)). head ++ rows_shown names (row_entries l)) (sym (take_batch c.args.entries.now c.loop-place.place c.index-entries-place.result c.loop-place-test.true c.index-entries-place.is)))
+          ∙ ap (λ (l : List (List ℕ)). head ++ rows_shown names (row_entries l)) (sym (take_batch c.args.entries.now c.loop-place.place c.index-entries-place.result c.loop-place-test.true c.index-entries-place.is)),
+    )
 
 pub returns : goal.returns
 returns g c =
@@ -45,8 +52,8 @@ returns g c =
     let (begun, working, written, appends, so_far) = c.loop-place.invariant in
     let all : take c.loop-place.place c.args.entries.now ≡ c.args.entries.now = take_all c.loop-place.place c.args.entries.now (omega (arith, c.loop-place-test.false)) in
     let whole : written ++ c.loop-place.text.items ≡ written_rows names (batch_of c.args.entries.now) =
-        so_far
-        ∙ ap (λ (l : List (Vec ℕ Global)). (file ++ codes "%%\n") ++ rows_shown names (row_entries (batch_of l))) all in
+    so_far
+    ∙ ap (λ (l : List (Vec ℕ Global)). (file ++ codes "%%\n") ++ rows_shown names (row_entries (batch_of l))) all in
     record {
       written = on_ok_weaker c.put.result
           (λ last. subst (Appends (g.W.Write.contents (watched c.args.writer.now)) (g.W.Write.contents (watched c.put.new.writer))) whole

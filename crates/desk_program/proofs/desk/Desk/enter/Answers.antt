@@ -1,4 +1,4 @@
-use Rattle.std.proofs.Common.{ℕ, List, refl}
+use Rattle.std.proofs.Common.{refl}
 use Rattle.std.proofs.lemmas.Result.{on_ok_weaker}
 use Rattle.durable_journal.specs.Words.{IsKept}
 use Rattle.durable_session.specs.Words.{IsServed, lines_of}

@@ -1,4 +1,4 @@
-use Rattle.std.proofs.Common.{◌≡◌, ◌∙◌, ◌++◌, ◌∷◌, [], ℕ, List, Some, ap, refl, sym, subst}
+use Rattle.std.proofs.Common.{◌∙◌, ◌++◌, ◌∷◌, [], ℕ, List, ap, refl, sym, subst}
 use Rattle.std.specs.Prelude.{IsSome, Option}
 use Rattle.court_days.specs.Words.{CourtView}
 use Rattle.durable_journal.specs.Words.{IsKept, batch_of}
