@@ -42,8 +42,8 @@ court_file:
 calendar:
 	@python3 tools/prove.py court_calendar
 
-# Proofs, edits that the prover must refuse, tests, and the programs' stored runs: all that no earlier run of the gate on
-# this machine has passed for the same files. `rt ci --anew` takes nothing from earlier runs.
+# Proofs, edits that the prover must refuse, tests, and the programs' stored runs. Some kits leave out what an earlier run
+# on this machine has passed for the same files.
 test:
 	@rt ci
 
@@ -75,7 +75,7 @@ help:
 	@echo "make court_file  the same for the one for courts' files, crates/court_file/out/court_file"
 	@echo "make calendar    the same for the calendar, crates/court_calendar/out/court_calendar"
 	@echo "make run         proves and builds the program, and runs it on $(EXAMPLE)"
-	@echo "make test        the gate (rt ci): proves and tests all that no earlier run on this machine has passed"
+	@echo "make test        the gate (rt ci): proves and tests everything"
 	@echo "make times       the gate from nothing, with a table of the seconds of each crate; it needs Linux"
 	@echo "make bench       prints the program's rows per second and peak memory; it needs Linux"
 	@echo "make bench-desk  the desk's rows per second and the time of one row, beside SQLite; it needs Linux"

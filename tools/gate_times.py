@@ -3,7 +3,7 @@
 
     gate_times.py
 
-It runs `rt ci --anew`, which takes nothing from earlier runs. That prints no times, so this looks at its processes
+It runs `rt ci` so that it takes nothing from earlier runs. That prints no times, so this looks at its processes
 twice a second and adds up the processor time of each: what proving a crate took, building it by two compilers, proving
 its tests, its must-fail edits, and the runs of its program and tests. Processes that end within half a second may be
 missed. The table has the crates that took most first. The status is that of the gate. It needs Linux and Python 3.8 or
@@ -94,9 +94,15 @@ def print_table(rows, minutes):
     print("{:.0f} processor minutes, in {:.0f} minutes".format(sum(sums) / 60, minutes))
 
 
+def gate_words():
+    """`rt ci`, which in some kits keeps what it passed, and has a word to take nothing of that."""
+    told = subprocess.run(["rt", "--help"], stdout=subprocess.PIPE, stderr=subprocess.STDOUT, check=False).stdout
+    return ["rt", "ci", "--anew"] if b"--anew" in told else ["rt", "ci"]
+
+
 def main():
     began = time.monotonic()
-    gate = subprocess.Popen(["rt", "ci", "--anew"], cwd=str(TOP))
+    gate = subprocess.Popen(gate_words(), cwd=str(TOP))
     times = Times(gate.pid)
     try:
         while gate.poll() is None:
