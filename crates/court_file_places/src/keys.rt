@@ -16,7 +16,7 @@ const ALL: [Key; 9] = [
 ];
 
 /// The key that the bytes write, with or without quotes and blanks around it.
-pub(crate) fn key_of(written: &[u8]) -> Option<Key> {
+pub fn key_of(written: &[u8]) -> Option<Key> {
     let name = bare(written);
     ALL.iter()
         .copied()

@@ -7,5 +7,6 @@ mod place;
 mod scan;
 mod tokens;
 
+pub use keys::key_of;
 pub use marks::{Mark, Part, Places};
 pub use place::{Place, place_at};

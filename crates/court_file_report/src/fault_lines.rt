@@ -1,6 +1,7 @@
 //! The lines of faults.
 
 use crate::hints::{date_hint, example_of, time_hint, zone_hint};
+use crate::near_key::near_key;
 use crate::sheet::Sheet;
 use court_clock::{Day, minute_from_text};
 use court_file_check::{Fault, What};
@@ -17,7 +18,7 @@ pub(crate) fn push_faults(
     faults: &[Fault],
 ) -> Result<(), AllocError> {
     for fault in faults {
-        push_fault(sheet, file, fault)?;
+        push_fault(alloc, sheet, file, fault)?;
     }
     match faults.first() {
         Some(first) => {
@@ -41,16 +42,22 @@ fn told(alloc: Global, fault: &Fault) -> Result<String, AllocError> {
 }
 
 /// Adds the line of a fault.
-fn push_fault(sheet: &mut Sheet<'_>, file: &Table, fault: &Fault) -> Result<(), AllocError> {
+fn push_fault(
+    alloc: Global,
+    sheet: &mut Sheet<'_>,
+    file: &Table,
+    fault: &Fault,
+) -> Result<(), AllocError> {
     let (key, item) = (fault.key, fault.item);
     match &fault.what {
         What::BadName(_) => push_bad_name(sheet, key, item),
         What::TwiceNamed(text) => push_twice(sheet, file, key, item, text.as_str()),
+        What::Read(CourtFault::Missing(_)) => push_missing(alloc, sheet, file, key),
         What::Read(read) => push_read(sheet, key, item, read),
     }
 }
 
-/// Adds the line of a fault that reading a key or an item answers.
+/// Adds the line of a fault that reading a key or an item answers, other than that the key is missing.
 fn push_read(
     sheet: &mut Sheet<'_>,
     key: Key,
@@ -58,7 +65,6 @@ fn push_read(
     read: &CourtFault,
 ) -> Result<(), AllocError> {
     match read {
-        CourtFault::Missing(_) => push_missing(sheet, key),
         CourtFault::WrongKind(_) => push_wrong_kind(sheet, key, item),
         CourtFault::BadDate(text) => push_bad_date(sheet, key, item, text.as_str()),
         CourtFault::BadZone => push_bad_zone(sheet),
@@ -73,7 +79,12 @@ fn push_read(
     }
 }
 
-fn push_missing(sheet: &mut Sheet<'_>, key: Key) -> Result<(), AllocError> {
+fn push_missing(
+    alloc: Global,
+    sheet: &mut Sheet<'_>,
+    file: &Table,
+    key: Key,
+) -> Result<(), AllocError> {
     if let Some(mark) = sheet.find(key, Part::InTable) {
         sheet.begin_fault(key, Some(mark))?;
         return sheet.end(
@@ -81,6 +92,13 @@ fn push_missing(sheet: &mut Sheet<'_>, key: Key) -> Result<(), AllocError> {
         );
     }
     sheet.begin_fault(key, None)?;
+    if let Some(near) = near_key(alloc, file, key)? {
+        write!(
+            sheet.text,
+            "the file has no key {key}, but a key {near}, which nothing reads"
+        )?;
+        return sheet.end("; if they are the same, mend its letters");
+    }
     let example = example_of(key);
     write!(
         sheet.text,

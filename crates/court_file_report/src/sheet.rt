@@ -122,7 +122,7 @@ impl<'a> Sheet<'a> {
             ": {count} {faults}. clerk_office refuses the file with: court fault {first}\n"
         )?;
         self.text.push_str(
-            "Mend what is named above, and check again: what may be wrong beside is told once there is no fault.\n",
+            "Mend what is named above and check again. Warnings come once there is no fault.\n",
         )
     }
 
