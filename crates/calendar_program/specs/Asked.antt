@@ -5,12 +5,12 @@ use Rattle.std.specs.Str.Parse.{digits_value, without_leading_plus}
 use Rattle.clap.specs.Words.{Row, Text, first_of, one_of, subcommand_of}
 use Rattle.calendar_program.specs.declared.asked.Asked.{Asked}
 use Rattle.calendar_program.specs.declared.asked.Task.{Task}
-use Rattle.calendar_program.specs.declared.asked.Task.TheVariants.{Due, Week}
+use Rattle.calendar_program.specs.declared.asked.Task.TheVariants.{Due, Page, Week}
 use Rattle.calendar_program.specs.CommandLine.{command_line}
 
 -- what a subcommand of that name writes
 abbrev pub task_of : (name : Text) → Task
-task_of name = if bytes_eq name (codes "week") then Week else Due
+task_of name = if bytes_eq name (codes "week") then Week else if bytes_eq name (codes "page") then Page else Due
 
 -- the number that decimal digits write, with or without a `+` before them
 abbrev pub number_written : Text → ℕ

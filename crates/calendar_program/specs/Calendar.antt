@@ -6,13 +6,14 @@ use Rattle.court_days.specs.Words.{CourtView, file_of}
 use Rattle.docket_rows.specs.Words.{Rows, opening_rows, setup_of}
 use Rattle.docket_selection.specs.declared.choice.Choice.{Choice}
 use Rattle.docket_selection.specs.declared.item.DueItem.{DueItem}
-use Rattle.docket_selection.specs.Words.{IsDue, day_bookings, week_days}
+use Rattle.docket_selection.specs.Words.{IsDue, chosen_calendars, chosen_sheets, day_bookings, week_days}
 use Rattle.calendar_texts.specs.Words.{due_text, week_text}
+use Rattle.calendar_page.specs.Words.{page_text}
 use Rattle.office_run.specs.Words.{docketed_after}
 use Rattle.office_streams.specs.Words.{Input}
 use Rattle.calendar_program.specs.declared.asked.Asked.{Asked}
 use Rattle.calendar_program.specs.declared.chosen.Chosen.{Chosen}
-use Rattle.calendar_program.specs.declared.chosen.Chosen.TheVariants.{Due, Week}
+use Rattle.calendar_program.specs.declared.chosen.Chosen.TheVariants.{Due, Page, Week}
 use Rattle.calendar_program.specs.declared.chosen.Unknown.{Unknown}
 use Rattle.calendar_program.specs.declared.chosen.Unknown.TheVariants.{Judge, From, To, Of}
 use Rattle.calendar_program.specs.Chosen.{chosen_of}
@@ -27,10 +28,17 @@ pub record IsDueText (court : CourtView) (docketed : Rows) (choice : Choice) (te
 abbrev pub week_text_of : CourtView → (docketed : Rows) → (judge : ℕ) → (day : ℤ) → List ℕ
 week_text_of court docketed judge day = week_text court judge (map (day_bookings (setup_of court) docketed judge) (week_days day))
 
+-- The page of what is due, of the chosen judges' bookings and of the sheets of the chosen cases.
+pub record IsPage (court : CourtView) (docketed : Rows) (choice : Choice) (text : List ℕ) : Type 0 where
+  pub items : List DueItem
+  pub due : IsDue (setup_of court) docketed choice items
+  pub page : text ≡ page_text court choice items (chosen_calendars (setup_of court) docketed choice) (chosen_sheets (setup_of court) docketed choice)
+
 -- the text of what is chosen
 abbrev pub IsTextOf : CourtView → (docketed : Rows) → Chosen → List ℕ → Type 0
 IsTextOf court docketed (Due choice) text = IsDueText court docketed choice text
 IsTextOf court docketed (Week judge day) text = text ≡ week_text_of court docketed judge day
+IsTextOf court docketed (Page choice) text = IsPage court docketed choice text
 
 -- the text of a word, where it was given
 abbrev pub word_given : Option (String Global) → List ℕ

@@ -4,11 +4,12 @@ use Rattle.std.specs.Option.{ok_or, option_map_or}
 use Rattle.court_clock.specs.Words.{day_of_text}
 use Rattle.court_days.specs.Words.{CourtView}
 use Rattle.court_file_text.specs.Words.{name_index}
+use Rattle.docket_selection.specs.declared.choice.Choice.{Choice}
 use Rattle.calendar_program.specs.declared.asked.Asked.{Asked}
 use Rattle.calendar_program.specs.declared.asked.Task.TheVariants as task
 use Rattle.calendar_program.specs.declared.asked.Task.{Task}
 use Rattle.calendar_program.specs.declared.chosen.Chosen.{Chosen}
-use Rattle.calendar_program.specs.declared.chosen.Chosen.TheVariants.{Due, Week}
+use Rattle.calendar_program.specs.declared.chosen.Chosen.TheVariants.{Due, Page, Week}
 use Rattle.calendar_program.specs.declared.chosen.Unknown.{Unknown}
 use Rattle.calendar_program.specs.declared.chosen.Unknown.TheVariants.{Judge, From, To, Of}
 
@@ -33,13 +34,25 @@ abbrev pub day_asked : (text : Option (List ℕ)) → (other : ℤ) → Unknown 
 day_asked (Some text) other unknown = ok_or (day_of_text text) unknown
 day_asked None other unknown = Ok other
 
--- what is due of any judge, any case and all days of the court's file, as far as nothing else is asked for
-abbrev pub due_chosen : CourtView → Asked → Result Chosen Unknown
-due_chosen court asked = do
+-- any judge, any case and all days of the court's file, as far as nothing else is asked for
+abbrev pub choice_asked : CourtView → Asked → Result Choice Unknown
+choice_asked court asked = do
   judge ← judge_asked court (option_map string_bytes asked.judge)
   first ← day_asked (option_map string_bytes asked.from) court.days.from From
   last ← day_asked (option_map string_bytes asked.to) court.days.to To
-  Ok (Due (record { judge = judge; case = asked.case; from = first; to = last }))
+  Ok (record { judge = judge; case = asked.case; from = first; to = last })
+
+-- what is due of that
+abbrev pub due_chosen : CourtView → Asked → Result Chosen Unknown
+due_chosen court asked = do
+  choice ← choice_asked court asked
+  Ok (Due choice)
+
+-- the page of that
+abbrev pub page_chosen : CourtView → Asked → Result Chosen Unknown
+page_chosen court asked = do
+  choice ← choice_asked court asked
+  Ok (Page choice)
 
 -- the week of the judge in which the day is
 abbrev pub week_chosen : CourtView → Asked → Result Chosen Unknown
@@ -51,6 +64,7 @@ week_chosen court asked = do
 abbrev pub chosen_by : Task → CourtView → Asked → Result Chosen Unknown
 chosen_by task.Due court asked = due_chosen court asked
 chosen_by task.Week court asked = week_chosen court asked
+chosen_by task.Page court asked = page_chosen court asked
 
 -- what is chosen, or which text says nothing of the court
 unfoldable pub chosen_of : CourtView → Asked → Result Chosen Unknown

@@ -22,8 +22,9 @@ case_rule = record (new_rule (codes "case")) {
   parser = Some (Signed (pos 1) (pos 4096));
 }
 
-abbrev pub due_shape : Shape
-due_shape = record (new_shape (codes "due")) { rules = day_rule (codes "from") false ∷ day_rule (codes "to") false ∷ judge_rule false ∷ case_rule ∷ [] }
+-- a subcommand that takes the days, the judge and the case that are chosen
+abbrev pub choosing_shape : (name : Text) → Shape
+choosing_shape name = record (new_shape name) { rules = day_rule (codes "from") false ∷ day_rule (codes "to") false ∷ judge_rule false ∷ case_rule ∷ [] }
 
 abbrev pub week_shape : Shape
 week_shape = record (new_shape (codes "week")) { rules = judge_rule true ∷ day_rule (codes "of") true ∷ [] }
@@ -37,4 +38,5 @@ bare_command = record {
 
 -- the whole: a subcommand for each format
 abbrev pub command_line : App
-command_line = with_subcommand (with_subcommand bare_command due_shape) week_shape
+command_line =
+    with_subcommand (with_subcommand (with_subcommand bare_command (choosing_shape (codes "due"))) week_shape) (choosing_shape (codes "page"))

@@ -15,6 +15,8 @@ pub enum Task {
     Due,
     /// A judge's week.
     Week,
+    /// One page of what is due, of the judges' hearings and of the cases.
+    Page,
 }
 
 /// What the words ask for: what is written, and of what. The texts are as the words have them.
@@ -56,10 +58,10 @@ pub(crate) fn asked_by(
 fn task_of(name: &str) -> Task
     ensures { result ≡ task_of name.now }
 {
-    if name == "week" {
-        Task::Week
-    } else {
-        Task::Due
+    match name {
+        "week" => Task::Week,
+        "page" => Task::Page,
+        _ => Task::Due,
     }
 }
 

@@ -1,7 +1,7 @@
 //! What is chosen of a court by what was asked for.
 
 ghost use Rattle.std.specs.Prelude.{◌≡◌, Some, option_map, string_bytes};
-ghost use Rattle.calendar_program.specs.Chosen.{chosen_of, day_asked, due_chosen, judge_asked, judge_given, week_chosen};
+ghost use Rattle.calendar_program.specs.Chosen.{choice_asked, chosen_of, day_asked, due_chosen, judge_asked, judge_given, page_chosen, week_chosen};
 
 use crate::asked::{Asked, Task};
 use court_clock::Day;
@@ -15,6 +15,8 @@ pub enum Chosen {
     Due(Choice),
     /// The week of that judge in which the day is.
     Week(u8, Day),
+    /// The page.
+    Page(Choice),
 }
 
 /// Which text says nothing of this court.
@@ -38,21 +40,37 @@ pub(crate) fn chosen_of(court: &Court, asked: &Asked) -> Result<Chosen, Unknown>
     match asked.task {
         Task::Due => due_chosen(court, asked),
         Task::Week => week_chosen(court, asked),
+        Task::Page => page_chosen(court, asked),
     }
 }
 
 fn due_chosen(court: &Court, asked: &Asked) -> Result<Chosen, Unknown>
     ensures { result ≡ due_chosen court.now asked.now }
 {
+    let choice = choice_asked(court, asked)?;
+    Ok(Chosen::Due(choice))
+}
+
+fn page_chosen(court: &Court, asked: &Asked) -> Result<Chosen, Unknown>
+    ensures { result ≡ page_chosen court.now asked.now }
+{
+    let choice = choice_asked(court, asked)?;
+    Ok(Chosen::Page(choice))
+}
+
+/// The judge, the case and the days that are asked for.
+fn choice_asked(court: &Court, asked: &Asked) -> Result<Choice, Unknown>
+    ensures { result ≡ choice_asked court.now asked.now }
+{
     let judge = judge_asked(court, &asked.judge)?;
     let from = day_asked(&asked.from, court.days().from(), Unknown::From)?;
     let to = day_asked(&asked.to, court.days().to(), Unknown::To)?;
-    Ok(Chosen::Due(Choice {
+    Ok(Choice {
         judge,
         case: asked.case,
         from,
         to,
-    }))
+    })
 }
 
 fn week_chosen(court: &Court, asked: &Asked) -> Result<Chosen, Unknown>

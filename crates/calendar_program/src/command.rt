@@ -1,12 +1,12 @@
 //! The command line, as `clap` is told of it.
 
-ghost use Rattle.std.specs.Prelude.{◌≡◌, false, true, IfErr, IfOk, IfSome};
+ghost use Rattle.std.specs.Prelude.{◌≡◌, [], false, true, IfErr, IfOk, IfSome};
 ghost use Rattle.clap.specs.Faults.{fault_of};
 ghost use Rattle.clap.specs.Walk.{texts};
-ghost use Rattle.clap.specs.Words.{app_of, rule_of, subcommand_rows_of, takes};
+ghost use Rattle.clap.specs.Words.{app_of, fields_of, rule_of, subcommand_rows_of, takes};
 ghost use Rattle.office_options.specs.Words.{IsAnswerFor};
 ghost use Rattle.calendar_program.specs.Asked.{IsAsked, IsAskedBy};
-ghost use Rattle.calendar_program.specs.CommandLine.{case_rule, command_line, day_rule, judge_rule};
+ghost use Rattle.calendar_program.specs.CommandLine.{case_rule, choosing_shape, command_line, day_rule, judge_rule, week_shape};
 
 use crate::asked::{Asked, asked_by};
 use clap::{Arg, ArgAction, ArgMatches, Command};
@@ -17,7 +17,7 @@ use std::alloc::{AllocError, Global};
 const LAST_CASE: i64 = 4_096;
 
 // What the program is. `clap` breaks no lines, so they are broken here.
-const ABOUT: &str = "The court's calendar, after all rows: what is due, and the week of a judge.";
+const ABOUT: &str = "The court's calendar, after all rows: what is due, the week of a judge, or a page.";
 
 const FORMATS: &str =
     "It reads what clerk_office reads: a court's file, a line of %% alone, and rows.
@@ -25,12 +25,15 @@ It writes the calendar to standard output, and no answers.
 
     court_calendar due --from 2025-09-15 --to 2025-09-19 < day.txt
     court_calendar week --judge Calloway --of 2025-09-16 < day.txt
+    court_calendar page --judge Calloway < day.txt > calendar.html
 
 docs/CALENDAR.md describes what it writes.";
 
 const ABOUT_DUE: &str = "What is due: deadlines with no timely act, and hearings, by day";
 
 const ABOUT_WEEK: &str = "A judge's week, with the half hours down the side";
+
+const ABOUT_PAGE: &str = "One HTML page: what is due, each judge's hearings, and the cases";
 
 const FROM: &str = "The first day, as 2025-09-15; else the first of the court's file";
 
@@ -78,26 +81,49 @@ fn case_argument<'a>(alloc: Global) -> Arg<'a>
         .help("The case of this number alone")
 }
 
-/// The command line's definition, for one reading of words.
-fn command<'a>(alloc: Global) -> Result<Command<'a>, AllocError>
-    ensures { IfOk result (λ command. app_of command ≡ command_line) }
+/// A subcommand that takes the days, the judge and the case that are chosen.
+fn choosing_command<'a>(
+    alloc: Global,
+    name: &'a str,
+    about: &'a str,
+) -> Result<Command<'a>, AllocError>
+    ensures shape { IfOk result (λ command. app_of command ≡ record { top = choosing_shape name.now; subs = [] }) }
+    ensures local { IfOk result (λ command. (fields_of command).has_globals ≡ false) }
 {
     let from = day_argument(alloc, "from", false, FROM);
     let to = day_argument(alloc, "to", false, TO);
     let judge = judge_argument(alloc, false, ANY_JUDGE);
     let case = case_argument(alloc);
-    let due = Command::new(alloc, "due")
-        .about(ABOUT_DUE)
+    let whole = Command::new(alloc, name)
+        .about(about)
         .arg(from)?
         .arg(to)?
         .arg(judge)?
         .arg(case)?;
-    let one = judge_argument(alloc, true, ONE_JUDGE);
+    Ok(whole)
+}
+
+/// The subcommand for a judge's week.
+fn week_command<'a>(alloc: Global) -> Result<Command<'a>, AllocError>
+    ensures shape { IfOk result (λ command. app_of command ≡ record { top = week_shape; subs = [] }) }
+    ensures local { IfOk result (λ command. (fields_of command).has_globals ≡ false) }
+{
+    let judge = judge_argument(alloc, true, ONE_JUDGE);
     let of = day_argument(alloc, "of", true, OF);
-    let week = Command::new(alloc, "week")
+    let whole = Command::new(alloc, "week")
         .about(ABOUT_WEEK)
-        .arg(one)?
+        .arg(judge)?
         .arg(of)?;
+    Ok(whole)
+}
+
+/// The command line's definition, for one reading of words: a subcommand for each format.
+fn command<'a>(alloc: Global) -> Result<Command<'a>, AllocError>
+    ensures { IfOk result (λ command. app_of command ≡ command_line) }
+{
+    let due = choosing_command(alloc, "due", ABOUT_DUE)?;
+    let week = week_command(alloc)?;
+    let page = choosing_command(alloc, "page", ABOUT_PAGE)?;
     let whole = Command::new(alloc, "court_calendar")
         .no_binary_name(true)
         .version("0.1.0")
@@ -105,7 +131,8 @@ fn command<'a>(alloc: Global) -> Result<Command<'a>, AllocError>
         .after_help(FORMATS)
         .subcommand_required(true)
         .subcommand(due)?
-        .subcommand(week)?;
+        .subcommand(week)?
+        .subcommand(page)?;
     Ok(whole)
 }
 

@@ -6,6 +6,7 @@ mod chosen;
 mod command;
 mod docket;
 mod due;
+mod page;
 mod program;
 mod report;
 mod week;

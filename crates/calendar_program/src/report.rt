@@ -9,6 +9,7 @@ use crate::asked::Asked;
 use crate::chosen::{Chosen, Unknown, chosen_of};
 use crate::docket::docket_after;
 use crate::due::due_text;
+use crate::page::page_text;
 use crate::week::week_text;
 use court_days::Court;
 use docket_core::Docket;
@@ -37,7 +38,7 @@ impl Report for Asked {
         _file: &[u8],
         checked: CheckedInput,
     ) -> Result<Vec<u8>, AllocError> {
-        Ok(calendar_of(alloc, &checked.court, checked.rows.as_slice(), self)?.into_bytes())
+        calendar_of(alloc, &checked.court, checked.rows.as_slice(), self)
     }
 }
 
@@ -48,15 +49,15 @@ fn calendar_of(
     court: &Court,
     rows: &[Row],
     asked: &Asked,
-) -> Result<String, AllocError>
-    ensures { IfOk result (λ text. IsCalendar asked.now court.now (docketed_after (setup_of court.now) (opening_rows (setup_of court.now)) rows.now) (string_bytes text)) }
+) -> Result<Vec<u8>, AllocError>
+    ensures { IfOk result (λ text. IsCalendar asked.now court.now (docketed_after (setup_of court.now) (opening_rows (setup_of court.now)) rows.now) text.items) }
 {
     match chosen_of(court, asked) {
         Ok(chosen) => {
             let docket = docket_after(alloc, court, rows)?;
             text_of(alloc, court, &docket, &chosen)
         }
-        Err(unknown) => unknown_line(alloc, asked, unknown),
+        Err(unknown) => Ok(unknown_line(alloc, asked, unknown)?.into_bytes()),
     }
 }
 
@@ -66,13 +67,14 @@ fn text_of(
     court: &Court,
     docket: &Docket,
     chosen: &Chosen,
-) -> Result<String, AllocError>
+) -> Result<Vec<u8>, AllocError>
     requires court { docket.now.setup ≡ setup_of court.now }
-    ensures { (docketed : Rows) → Holds (setup_of court.now) docket.now docketed → IfOk result (λ text. IsTextOf court.now docketed chosen.now (string_bytes text)) }
+    ensures { (docketed : Rows) → Holds (setup_of court.now) docket.now docketed → IfOk result (λ text. IsTextOf court.now docketed chosen.now text.items) }
 {
     match chosen {
         Chosen::Due(choice) => due_text(alloc, court, docket, choice),
         Chosen::Week(judge, day) => week_text(alloc, court, docket, *judge, *day),
+        Chosen::Page(choice) => page_text(alloc, court, docket, choice),
     }
 }
 

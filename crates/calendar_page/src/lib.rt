@@ -1,0 +1,15 @@
+//! One page of the court's calendar: what is due, the judges' hearings, and the sheets of the cases. It is one file with no
+//! script, and loads nothing. Each text in it is escaped.
+#![tactic(auto)]
+
+mod cases;
+mod due;
+mod judges;
+mod laws;
+mod motions;
+mod page;
+mod phrases;
+mod tables;
+
+pub use laws::content_is_markup;
+pub use page::push_page;
