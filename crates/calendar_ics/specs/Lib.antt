@@ -1,0 +1,5 @@
+pub mod Calendar
+pub mod Events
+pub mod Laws
+pub mod Times
+pub mod Words
