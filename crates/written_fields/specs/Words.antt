@@ -1,0 +1,7 @@
+-- The words of clauses and definitions, for the crates above, from one place.
+pub use Rattle.written_fields.specs.Said.{said_map}
+pub use Rattle.written_fields.specs.Letters.{bare, folded}
+unfoldable pub use Rattle.written_fields.specs.Choices.{answer_said, list_said, means_said, rule_said, service_said}
+unfoldable pub use Rattle.written_fields.specs.Dates.{date_said}
+unfoldable pub use Rattle.written_fields.specs.Times.{time_said}
+pub use Rattle.written_fields.specs.Line.{fields_in, separator_of, typed}
