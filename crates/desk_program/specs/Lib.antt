@@ -4,4 +4,5 @@ pub mod Desk
 pub mod Faults
 pub mod File
 pub mod Rows
+pub mod Together
 pub mod Words

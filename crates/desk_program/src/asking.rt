@@ -1,10 +1,10 @@
-//! Questions on a docket that is only read.
+//! Lines that are answered on a docket of which nothing is changed.
 ghost use Rattle.std.specs.Prelude.{◌≡◌, ◌≤◌, List, ℕ, length, false, IfSome, OnOk};
 ghost use Rattle.durable_journal.specs.Words.{batch_of};
 ghost use Rattle.durable_session.specs.Words.{lines_of};
 ghost use Rattle.docket_entries.specs.Words.{most_entries};
 ghost use Rattle.office_streams.specs.Words.{has_failed, watched};
-ghost use Rattle.desk_program.specs.Ask.{AnswersQuestions};
+ghost use Rattle.desk_program.specs.Ask.{AnswersQuestions, AnswersTrial};
 
 use crate::fault::DeskFault;
 use docket_entries::{Docketed, Questions};
@@ -30,6 +30,29 @@ pub fn ask<R: Read, W: Write>(
     let mut questions = Questions { register };
     match answer(&court, alloc, &mut questions, reader, writer) {
         Ok(()) => Ok(()),
-        Err(fault) => Err(DeskFault::Session(fault)),
+        Err(fault) => Err(DeskFault::Unkept(fault)),
+    }
+}
+
+/// Answers rows as they would be answered if they were entered next, one in a line, until the input ends. None of them is
+/// kept.
+pub fn try_rows<R: Read, W: Write>(
+    alloc: Global,
+    entries: &[Vec<u8>],
+    reader: &mut Watched<R>,
+    writer: &mut Watched<W>,
+) -> Result<(), DeskFault>
+    requires few { length entries.now ≤ most_entries }
+    requires writer_works { has_failed writer.old ≡ false }
+    ensures { OnOk result (IfSome (R.remaining (watched reader.old)) (λ input.
+        AnswersTrial (batch_of entries.now) (lines_of input) (W.contents (watched writer.old)) (W.contents (watched writer.new)))) }
+{
+    let Docketed {
+        court,
+        mut register,
+    } = Docketed::of(alloc, entries)?;
+    match answer(&court, alloc, &mut register, reader, writer) {
+        Ok(()) => Ok(()),
+        Err(fault) => Err(DeskFault::Unkept(fault)),
     }
 }

@@ -1,5 +1,5 @@
-//! A court's docket that lasts, over any disk: it is opened, entered, asked, written out and given another court's file. The
-//! program over these calls only opens files and streams.
+//! A court's docket that lasts, over any disk: it is opened, entered, tried, asked, written out and given another court's
+//! file. The program over these calls only opens files and streams.
 #![tactic(auto)]
 
 mod asking;
@@ -10,8 +10,9 @@ mod fault;
 mod fault_lines;
 mod file;
 mod rows;
+mod together;
 
-pub use asking::ask;
+pub use asking::{ask, try_rows};
 pub use court::{check_court, court_of};
 pub use desk::Desk;
 pub use fault::DeskFault;

@@ -1,4 +1,4 @@
-use Rattle.std.proofs.Common.{◌≡◌, ◌∙◌, ◌<◌, ℕ, List, [], ◌++◌, take, length, refl, sym, ap, subst, arith}
+use Rattle.std.proofs.Common.{◌∙◌, ◌<◌, ℕ, List, [], ◌++◌, take, length, refl, sym, ap, subst, arith}
 use Rattle.std.proofs.lemmas.Grind.{common_steps}
 use Rattle.std.proofs.lemmas.Result.{on_ok_weaker}
 use Rattle.std.proofs.KnownBytes.{Appends-nil, Appends-trans, Consumes-all, Consumes-kept, Consumes-nil, Consumes-trans}
