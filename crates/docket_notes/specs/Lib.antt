@@ -1,0 +1,3 @@
+pub mod Year
+pub mod Notes
+pub mod Words
