@@ -74,12 +74,12 @@ def reasons(cause):
 
 # Each run: what it is, the words of the command line, standard input, and then the status, standard output and standard
 # error that are wanted. Behind the answer to a row some programs write why it is that.
-def common_runs(name, why):
-    """The runs that every program has, where it is called so, and gives these reasons of the row."""
+def common_runs(name, why, refused):
+    """The runs that every program has, where it is called so, and gives these reasons of the row, and of one that is refused."""
     line = LINE + why
     return [
         ("a row", [], ROWS, 0, line + JUDGE, b""),
-        ("a refused row", [], ROWS.replace(b"28d", b"0d"), 0, b"1 1 refused 6 BadLength\n" + JUDGE, b""),
+        ("a refused row", [], ROWS.replace(b"28d", b"0d"), 0, b"1 1 refused 6 BadLength\n" + refused + JUDGE, b""),
         ("no row behind the divider", [], COURT + b"%%\n", 0, JUDGE, b""),
         ("no divider", [], COURT, 0, JUDGE, b""),
         ("two rows", [], ROWS + ROW, 0, line + b"2" + line[1:] + JUDGE, b""),
@@ -156,16 +156,36 @@ NAMES = [
     ("a name too many", other_names(4096) + LABOR, b"Labor Day"),
 ]
 
+BAD_LENGTH = reason(b" " * 14, b"a period is 1 to 3650 days, or 1 to 8760 hours", b"ours")
+OPEN_CASE = COURT + OPEN.replace(b"64", b"1")
+CASE = b"case 1 filed 2025-03-03\n"
+TOLD = b"deadline_memo: "
+NO_DAY = TOLD + b"'X' is no day: write one as 2025-09-15\n"
+
 MEMO_RUNS = [(name, [], named(entries), 0, LINE + reasons(cause) + JUDGE, b"") for name, entries, cause in NAMES] + [
     ("names that are no table", [], b"holiday_names = 3\n" + ROWS, 0, LINE + reasons(b"Labor Day") + JUDGE, b""),
     ("a day that is named twice", [], named(LABOR + LABOR), 2, b"", b"court fault 1 NotToml\n"),
     ("an option of the office", ["--clerks", "1"], ROWS, 1, b"", usage(b"unexpected argument '--clerks' found\n")),
     ("help with the names of holidays", ["--help"], b"", 0, Has(b"[holiday_names]"), b""),
+    ("help with an example of one case", ["--help"], b"", 0, Has(b"deadline_memo --case 1 --today 2025-08-21 < day.txt"), b""),
+    ("a case", ["--case", "1"], OPEN_CASE, 0, CASE, b""),
+    ("a case and a day", ["--today=2025-03-03", "--case=1"], OPEN_CASE, 0, CASE, b""),
+    ("a case that isn't open", ["--case", "2"], OPEN_CASE, 0, TOLD + b"case 2 isn't open: no row has opened it\n", b""),
+    ("a day that is none", ["--case", "1", "--today", "2025-02-29"], OPEN_CASE, 0, NO_DAY.replace(b"X", b"2025-02-29"), b""),
+    ("an empty day", ["--case", "1", "--today="], OPEN_CASE, 0, NO_DAY.replace(b"X", b""), b""),
+    ("a day and no case", ["--today", "2025-03-03"], OPEN_CASE, 0, TOLD + b"--today counts for one case: name it by --case\n", b""),
+    ("a fault of the court's file and a case", ["--case", "1"], b"", 2, b"", b"court fault 2 Missing zone\n"),
+    ("the greatest number of a case", ["--case", "4096"], OPEN_CASE, 0, Has(b"case 4096 isn't open"), b""),
+    ("a case too many", ["--case", "4097"], OPEN_CASE, 1, b"", usage(b"invalid value '4097' for '--case <N>'")),
+    ("no case", ["--case", "0"], OPEN_CASE, 1, b"", usage(b"invalid value '0' for '--case <N>'")),
+    ("a case that is no number", ["--case", "one"], OPEN_CASE, 1, b"", usage(b"invalid value 'one' for '--case <N>'")),
+    ("a case twice", ["--case=1", "--case=1"], OPEN_CASE, 1, b"", Has(b"cannot be used multiple times")),
+    ("a day without its text", ["--case=1", "--today"], OPEN_CASE, 1, b"", usage(b"a value is required for '--today <DAY>'")),
 ]
 
 PROGRAMS = {
-    "clerk_office": common_runs(b"clerk_office", b"") + OFFICE_RUNS,
-    "deadline_memo": common_runs(b"deadline_memo", reasons(b"Labor Day")) + MEMO_RUNS,
+    "clerk_office": common_runs(b"clerk_office", b"", b"") + OFFICE_RUNS,
+    "deadline_memo": common_runs(b"deadline_memo", reasons(b"Labor Day"), BAD_LENGTH) + MEMO_RUNS,
 }
 
 

@@ -7,10 +7,12 @@ Rows are made at random from SEED (by default 1) until COUNT deadlines (by defau
 computed, and deadlines that are started and extended, with acts and hearings, and with holidays and outages that are
 entered meanwhile. Every deadline that an answer or a sheet shows must have its period in words, then reasons that lead to
 what is shown, by the steps of lib/derivation_steps.py alone, which computes no deadline, and then the other readings that
-give another end, which the second program in plain Python computes (lib/other_readings.py). The lines of an act and of a
-refusal must be those of lib/note_lines.py. So must those of the examples and of the stored run. Then lines of every shape
-are spoiled in every way below and must be refused. The status is 0 where all of this is so. It
-needs Python 3.8 or later.
+give another end, which the second program in plain Python computes (lib/other_readings.py). The lines of an act, of a
+refusal and of what a reader is warned of must be those of lib/note_lines.py. So must those of the examples and of the stored
+run. Of each input the sheets of some cases are asked for too, from days at random: they must have the lines of the sheet that
+the second program writes, each with its reasons, its act, how far its end lies from that day, and what a reader is warned of.
+Then lines of every shape are spoiled in every way below and must be refused. The status is 0 where all of this is so. It needs
+Python 3.8 or later.
 """
 import pathlib
 import random
@@ -24,10 +26,11 @@ from lib.derivation_steps import AFTER, COLUMN, WEEKDAYS, Calendar, Deadline, Li
 from lib.made_inputs import CODES, HOLIDAYS, ZONES, listed, quoted
 from lib.period_words import heading
 from reference import periods
-from reference.civil import day_of_text, day_text, minute_of_text, weekday
+from reference.civil import day_of_text, day_text, minute_of_text, minute_text, weekday
 from reference.court_file import court_of, split, table_of
-from reference.docket import STEPS, opening, step, view
+from reference.docket import STEPS, case_of, deadlines_of, hearing_of, motions_of, opening, step, view
 from reference.rows_in import grant as grant_of, rows_of
+from reference.text_out import sheet_lines, shown_text
 
 TOP = pathlib.Path(__file__).resolve().parent.parent
 
@@ -80,8 +83,9 @@ def enter(calendar, fields):
 
 
 def derivations(data, output):
-    """Each deadline that is shown: the calendar as it was then, the deadline, its lines, and what is shown. Each other
-    answer: None, the lines that must follow, those that do, and the answer."""
+    """Each deadline that is shown: the calendar as it was then, the deadline, its lines, what is shown, and the lines that
+    must follow those of the deadline. Each other answer: None, the lines that must follow, those that do, the answer, and
+    nothing."""
     file, rows = split(data)
     calendar, started = calendar_of(file), {}
     court = court_of(file)
@@ -118,11 +122,12 @@ def derivations(data, output):
                 else:
                     deadline = started[fields[1], fields[2]]
                     deadline.grants.append(fields[3])
-                yield copy(), deadline._replace(grants=list(deadline.grants)), told(), shown[2]
+                more = note_lines.notes(court, docket, work, made)
+                yield copy(), deadline._replace(grants=list(deadline.grants)), told(), shown[2], more
                 continue
             if text in ("holiday entered", "outage entered"):
                 enter(calendar, fields)
-            yield None, note_lines.notes(court, docket, work, made), told(), text
+            yield None, note_lines.notes(court, docket, work, made), told(), text, []
             continue
         found = re.fullmatch(r"case (\d+) filed .*", line)
         if found:
@@ -131,10 +136,65 @@ def derivations(data, output):
         found = re.fullmatch(r"deadline (\d+) \S+ ((?:last \S+|until \S+ \S+|beyond)) .*", line)
         if found:
             deadline = started[case, found[1]]
-            yield copy(), deadline._replace(grants=list(deadline.grants)), told(), found[2]
+            yield copy(), deadline._replace(grants=list(deadline.grants)), told(), found[2], []
             continue
         if line.startswith("  "):
             raise Wrong("reasons under an answer that shows no deadline: " + line)
+
+
+def docket_after(data):
+    """The court's file, its court, and what is docketed after all rows."""
+    file, rows = split(data)
+    court = court_of(file)
+    docket = opening(court)
+    for row in rows_of(rows, 1, court):
+        if row.work[0] in STEPS:
+            docket, _ = step(court, docket, row.work)
+    return file, court, docket
+
+
+def grant_text(grant):
+    return day_text(grant.value) if grant.unit == "until" else "+{}{}".format(grant.value, grant.unit)
+
+
+def of_row(row):
+    """The deadline of a docketed row."""
+    second = "" if row.second is None else day_text(row.second)
+    deadline = deadline_of(row.period.text, day_text(row.event.day), minute_text(row.event.minute), second, row.kind)
+    return deadline._replace(grants=[grant_text(grant) for grant in row.grants])
+
+
+def whole_case(ended, output, case, today):
+    """The same of the whole sheet of a case, counted from a day or None, where the input ended so."""
+    file, court, docket = ended
+    lines = output.decode().split("\n")[:-1]
+    if case_of(docket, case) is None:
+        expect(lines == ["deadline_memo: case {} isn't open: no row has opened it".format(case)], "a case that isn't open is shown")
+        return
+    filed, days = case_of(docket, case).filed, docket.days
+    calendar = Calendar(court.clock, days.first, days.last, list(days.federal), list(days.state),
+                        [tuple(outage) for outage in days.outages], names_of(file))
+    blocks = [[]]
+    for line in lines:
+        if not line.startswith("  "):
+            blocks.append([line])
+        else:
+            blocks[-1].append(line)
+    expect(blocks[0] == [] and [block[0] for block in blocks[1:]] == sheet_lines(court, docket, case),
+           "the sheet has other lines")
+    blocks = iter(blocks[2:])
+    for deadline in deadlines_of(docket, case):
+        row, block = deadline.row, next(blocks)
+        more = note_lines.act(court, docket, row) + note_lines.ahead(court, docket, row, today)
+        more += note_lines.of_deadline(court, docket, row, filed)
+        shown = shown_text(court, periods.shown(days, court.clock, row))
+        yield calendar, of_row(row), block[1:], shown, more
+    for motion in motions_of(docket, case):
+        block, hearing = next(blocks), hearing_of(docket, case, motion.number)
+        yield None, [], block[1:], block[0], []
+        if hearing is not None:
+            block = next(blocks)
+            yield None, note_lines.of_hearing(docket, hearing.day), block[1:], block[0], []
 
 
 def asked(deadline):
@@ -144,24 +204,25 @@ def asked(deadline):
     return periods.Deadline(periods.period_of_text(deadline.text), event, deadline.second, deadline.kind, grants, None)
 
 
-def follow(calendar, deadline, texts, shown):
-    """That the lines are the deadline's period in words, its reasons, and the other readings."""
+def follow(calendar, deadline, texts, shown, more):
+    """That the lines are the deadline's period in words, its reasons, the other readings, and these."""
     lines = [line_of(text) for text in texts]
     event = deadline.event if deadline.second is None else max(deadline.event, deadline.second)
     wanted = [Line(*line) for line in heading(deadline.text, event)]
     expect(lines[:len(wanted)] == wanted, "the period is another")
     left = checked(calendar, deadline, lines[len(wanted):], shown)
-    expect(left == [Line(*line) for line in other_readings.lines(calendar, asked(deadline))],
-           "other readings give other ends")
+    readings = [Line(*line) for line in other_readings.lines(calendar, asked(deadline))]
+    expect(left[:len(readings)] == readings, "other readings give other ends")
+    expect(left[len(readings):] == [Line(*line) for line in more], "other lines follow the reasons")
 
 
-def wrong_with(calendar, deadline, texts, shown):
+def wrong_with(calendar, deadline, texts, shown, more):
     """Why these lines can't follow what is shown, or None. Without a calendar `deadline` is the lines that must follow."""
     try:
         if calendar is None:
             expect([line_of(text) for text in texts] == [Line(*line) for line in deadline], "other lines follow this answer")
         else:
-            follow(calendar, deadline, texts, shown)
+            follow(calendar, deadline, texts, shown, more)
     except Wrong as wrong:
         return str(wrong)
     return None
@@ -201,9 +262,25 @@ def a_period(chance):
     return ",".join([period, a_date(chance), chance.choice(["", a_time(chance)]), second, kind])
 
 
+# Rows that are refused, for nearly every cause that the others seldom have
+ODD = ["open,1,2025-03-03", "open,4097,2025-03-03", "open,2,1999-01-01", "motion,1,2025-09-01,0", "motion,1,1999-01-01,14",
+       "inaccessible,2025-09-10,17:00,16:00", "calendar,Zed,2025-09-10", "sheet,9", "cancel,1,1", "cancel,1,63", "file,1,63,2025-09-01,09:00,paper",
+       "book,1,1,Zed,R1,2025-09-10,10:00,2,2025-08-01", "book,1,1,Ames,R9,2025-09-10,10:00,2,2025-08-01",
+       "book,1,1,Ames+Ames,R1,2025-09-10,10:00,2,2025-08-01", "book,1,1,Ames,R1,2025-09-10,10:00,0,2025-08-01",
+       "move,1,1,Ames,R1,2025-09-10,10:00,0,2025-08-01", "extend,1,1,+0d,2007-01-02,09:00,yes,yes,yes",
+       "start,1,0d/after/filing/event/plain,2025-09-01,,,", "compute,8761h/after/filing/event/plain,2025-09-01,,,",
+       "compute,12a1B,2025-09-01,,,", "compute,12a1Ai,2025-09-01,,,A", "compute,12a3,2025-09-01,,,",
+       "start,1,12a1B,2025-09-01,,,", "compute,4m,2025-09-01,,2025-09-02,", "compute,7d/after/filing/event/plain,1999-01-01,,,",
+       "start,1,7d/after/filing/event/plain,2025-09-01,,,A", "compute,7d/after/filing/served/plain,2025-09-01,,,",
+       "compute,3h/after/filing/served/plain,2025-09-01,,,A", "compute,7d/before/filing/served/plain,2025-09-01,,,A",
+       "start,1,7d/after/filing/served/plain,2025-09-01,,2025-09-02,A", "start,1,1d/before/filing/event/plain,2025-09-01,,2025-09-02,"]
+
+
 def a_row(chance):
-    word = chance.choices(["compute", "start", "extend", "holiday", "inaccessible", "sheet", "file", "motion", "book"],
-                          [60, 6, 12, 3, 4, 1, 5, 1, 8])[0]
+    word = chance.choices(["compute", "start", "extend", "holiday", "inaccessible", "sheet", "file", "motion", "book", "odd"],
+                          [60, 6, 12, 3, 4, 1, 5, 1, 8, 4])[0]
+    if word == "odd":
+        return "1," + chance.choice(ODD)
     if word == "compute":
         return "1,compute," + a_period(chance)
     if word == "start":
@@ -242,7 +319,10 @@ def an_input(chance):
         names = ["Labor Day", "Independence Day", "Christmas Day", "Columbus Day"]
         court += ["[holiday_names]"] + ["{} = {}".format(date, quoted(chance.choice(names)))
                                         for date in chance.sample(HOLIDAYS, 5)]
-    rows = ["1,open,1,2007-01-02"] + [a_row(chance) for _ in range(400)]
+    rows = ["1,open,1," + chance.choice(["2007-01-02", a_date(chance)])] + [a_row(chance) for _ in range(400)]
+    # Outages on days of hearings, once they are set
+    rows += ["1,inaccessible,{},09:00,12:00".format(row.split(",")[6]) for row in rows
+             if row.startswith("1,book,") and chance.random() < 0.2]
     return ("\n".join(court) + "\n%%\n" + "".join(row + "\n" for row in rows)).encode()
 
 
@@ -278,6 +358,7 @@ def lines_spoiled(texts):
         if text[18:].startswith("day of the event") and "the rule as it reads" not in texts[place - 1]:
             yield "an older event that isn't one", before + [older_line(text), text] + after
     yield "a line more", texts + [older_line("  Mon 2025-09-01" + "  ")]
+    yield "a note more", texts + ["  Mon 2025-09-01  " + "the event lies before the filing of the case".ljust(COLUMN) + "  note"]
     if texts:
         yield "an end left out", texts[:-1]
         yield "nothing at all", []
@@ -306,10 +387,12 @@ def line_spoiled(text):
     found = re.match(r"day (\d+),", text[18:])
     if found:
         yield "a day too many", swapped(text, found[0], "day {},".format(int(found[1]) + 1))
-    found = re.match(r"(?:timely, |late, |asked at |case )?(\d+)", text[18:])
+    found = re.match(r"(?:timely, |late, |asked at |case |in |passed )?(\d+)", text[18:])
     if found:
         number = str(int(found[1]) + 1).zfill(len(found[1]))
         yield "another number", swapped(text, found[0], found[0][:len(found[0]) - len(found[1])] + number)
+    yield "passed for in", re.sub(r"^(.{18})in (\d+ days?)      ", r"\1passed \2 ago ", text)
+    yield "as of another day", re.sub(r"as of 2(\d{3})-(\d\d)-(\d\d)$", r"as of 2\1-\2-01" if not text.endswith("-01") else r"as of 2\1-\2-02", text)
     yield "late for timely", swapped(text, "timely, ", "late, ")
     yield "timely for late", swapped(text, "late, ", "timely, ")
     yield "an act on paper", swapped(text, "electronically", "on paper")
@@ -351,6 +434,35 @@ def shape(texts):
     return tuple(re.sub(r"\d+", "", text[18:]) for text in texts)
 
 
+def run_of(program, data, *words):
+    ran = subprocess.run([program, *words], input=data, stdout=subprocess.PIPE, stderr=subprocess.PIPE)
+    if ran.returncode:
+        sys.exit("status {}: {}".format(ran.returncode, ran.stderr.decode()))
+    return ran.stdout
+
+
+def all_derivations(program, data, chance):
+    """Those of all rows, and of the sheets of each case that is open, of one that isn't, and of one at random from a day."""
+    yield from derivations(data, run_of(program, data))
+    ended = docket_after(data)
+    opened = [case.number for case in ended[2].cases]
+    for case in opened + [max(opened, default=0) % 4096 + 1]:
+        yield from whole_case(ended, run_of(program, data, "--case", str(case)), case, None)
+    for case in opened:
+        for day in [a_date(chance)] + ends_near(ended, case, chance):
+            output = run_of(program, data, "--case", str(case), "--today", day)
+            yield from whole_case(ended, output, case, day_of_text(day))
+
+
+def ends_near(ended, case, chance):
+    """A day at an end of a deadline of the case that is pending, or a day beside it, where there is one."""
+    _, court, docket = ended
+    rows = [deadline.row for deadline in deadlines_of(docket, case) if deadline.row.filed is None]
+    ends = [note_lines.end_of(court, periods.shown(docket.days, court.clock, row))[0] for row in rows]
+    ends = [end for end in ends if end is not None]
+    return [day_text(chance.choice(ends) + chance.randrange(-1, 2))] if ends else []
+
+
 def main(words):
     program = words[0]
     seed, count = (int(word) for word in (words[1:] + ["1", "10000"][len(words) - 1:]))
@@ -361,10 +473,7 @@ def main(words):
     inputs.append((TOP / "crates" / "deadline_memo" / "stdin").read_bytes())
     while shown < count or inputs:
         data = inputs.pop() if inputs else an_input(chance)
-        ran = subprocess.run([program], input=data, stdout=subprocess.PIPE, stderr=subprocess.PIPE)
-        if ran.returncode:
-            sys.exit("status {}: {}".format(ran.returncode, ran.stderr.decode()))
-        for derivation in derivations(data, ran.stdout):
+        for derivation in all_derivations(program, data, chance):
             why = wrong_with(*derivation)
             if derivation[0] is None:
                 said += bool(derivation[2])
@@ -378,12 +487,12 @@ def main(words):
                     if derivation[0] is None:
                         print("wanted:", *derivation[1], sep="\n")
                     print("\n".join(derivation[2]))
-    print("{} deadlines, and {} acts and refusals, of whose lines {} were refused; {} shapes of lines".format(
+    print("{} deadlines, and {} other answers, of whose lines {} were refused; {} shapes of lines".format(
         shown, said, wrong, len(shapes)))
     taken, refused = Counter(), Counter()
-    for calendar, deadline, texts, answer in shapes.values():
+    for calendar, deadline, texts, answer, more in shapes.values():
         for name, spoiled in lines_spoiled(texts):
-            if wrong_with(calendar, deadline, spoiled, answer):
+            if wrong_with(calendar, deadline, spoiled, answer, more):
                 refused[name] += 1
             else:
                 taken[name] += 1

@@ -230,7 +230,8 @@ def extension(deadline, grant):
     """What is said of an extension, and the section."""
     section = "4(m)" if deadline.summons else "6(b)"
     if grant[0] == "+":
-        return None, "by {} {}".format(int(grant[1:-1]), {"d": "days", "h": "hours"}[grant[-1]]), section
+        unit = {"d": "day", "h": "hour"}[grant[-1]]
+        return None, "by {} {}{}".format(int(grant[1:-1]), unit, "" if int(grant[1:-1]) == 1 else "s"), section
     return day_of_text(grant), "to this day", section
 
 

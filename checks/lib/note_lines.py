@@ -1,21 +1,24 @@
-"""The lines that follow an act that was docketed, and a refusal, computed from the docket of the program in plain Python.
+"""The lines that follow an act, an extension and a refusal, and those of the whole sheet of a case beside its reasons, computed
+from the docket of the program in plain Python.
 
 A line is (day or None, what, section). `rows` is the docket after the command.
 """
 from lib.derivation_steps import time_text
 from lib.legal_names import legal_name
-from reference.civil import civil, instant_at, minute_text, weekday
-from reference.docket import deadline_of, hearing_of, motion_of
+from reference.civil import civil, day_text, instant_at, minute_text, weekday
+from reference.docket import DATES, DEADLINES, GRANTS, MOTIONS, OUTAGES, deadline_of, hearing_of, motion_of
 from reference.periods import granted, is_in_range, shown
-from reference.rule6 import AFTER, FILING, PAPER, is_timely
+from reference.rule6 import AFTER, BEFORE, ELECTRONIC, FILING, PAPER, Filing, is_timely
 
 
-def notes(court, rows, command, answer):
-    """What is said of the answer to a command."""
+def notes(court, rows, work, answer):
+    """What is said of the answer to a command or to a question."""
     if answer[0] == "filed":
-        return recorded(court, rows, command)
+        return recorded(court, rows, work)
+    if answer[0] == "extended":
+        return of_extension(court, rows, work, answer[1])
     if answer[0] == "refused":
-        return REFUSED.get(answer[1], nothing)(court, rows, command, answer)
+        return REFUSED.get(answer[1], nothing)(court, rows, work, answer)
     return []
 
 
@@ -44,17 +47,22 @@ def docketed(rows, command):
 def recorded(court, rows, command, answer=None):
     """The act that is recorded for the deadline of a command, and by how much it is in time or late."""
     row = docketed(rows, command)
-    if row is None or row.filed is None:
+    return [] if row is None else act(court, rows, row)
+
+
+def act(court, rows, row):
+    """The same of a deadline."""
+    if row.filed is None:
         return []
-    act, end = row.filed, shown(rows.days, court.clock, row)
-    means = "on paper" if act.means == PAPER else "electronically"
-    lines = [(act.day, "done at {}, {}".format(minute_text(act.minute), means), "docketed")]
-    by = margin(court, row, end, act)
-    assert by.startswith("timely") == is_timely(court.clock, end, row.period.act, act)
+    done, end = row.filed, shown(rows.days, court.clock, row)
+    means = "on paper" if done.means == PAPER else "electronically"
+    lines = [(done.day, "done at {}, {}".format(minute_text(done.minute), means), "docketed")]
+    by = margin(court, row, end, done)
+    assert by.startswith("timely") == is_timely(court.clock, end, row.period.act, done)
     section = "6(a)(2)" if end.kind == "until" else "6(a)(4)" if end.kind == "last" and files(row) else "ours"
     lines.append((end_of(court, end)[0], by, section))
     event = row.event.day if row.second is None else max(row.event.day, row.second)
-    if row.period.direction == AFTER and act.day < event:
+    if row.period.direction == AFTER and done.day < event:
         lines.append((event, "other reading: no act, done before its event", "ours"))
     return lines
 
@@ -63,23 +71,66 @@ def files(row):
     return row.period.act == FILING
 
 
-def margin(court, row, end, act):
+def margin(court, row, end, done):
     if end.kind == "beyond":
         return "late, beyond the days covered"
     if end.kind == "until":
-        apart = end.end - instant_at(court.clock.zone, act.day, 60 * act.minute)
+        apart = end.end - instant_at(court.clock.zone, done.day, 60 * done.minute)
         by = "{} h {} min {} s".format(abs(apart) // 3600, abs(apart) // 60 % 60, abs(apart) % 60)
         return "timely, " + by + " before the end" if apart >= 0 else "late, " + by + " after the end"
-    if act.day != end.end:
-        days = "{} day{}".format(abs(end.end - act.day), "" if abs(end.end - act.day) == 1 else "s")
-        early = act.day < end.end
+    if done.day != end.end:
+        days = "{} day{}".format(abs(end.end - done.day), "" if abs(end.end - done.day) == 1 else "s")
+        early = done.day < end.end
         return "timely, " + days + " before this last day" if early else "late, " + days + " after this last day"
     closes = court.clock.closes
-    if not files(row) or act.means != PAPER:
+    if not files(row) or done.means != PAPER:
         return "timely, on the last day, which ends at midnight"
-    if act.minute <= closes:
+    if done.minute <= closes:
         return "timely, on the last day, which ends at " + minute_text(closes)
-    return "late, {} min after closing at {}".format(act.minute - closes, minute_text(closes))
+    return "late, {} min after closing at {}".format(done.minute - closes, minute_text(closes))
+
+
+# How far an end lies from a day, and what a reader is warned of
+
+
+def ahead(court, rows, row, today):
+    """How far the end of a deadline lies from a day, where one is given and no act is recorded."""
+    last = end_of(court, shown(rows.days, court.clock, row))[0]
+    if today is None or last is None or row.filed is not None:
+        return []
+    days = "{} day{}".format(abs(last - today), "" if abs(last - today) == 1 else "s")
+    what = "today" if last == today else "in " + days if last > today else "passed {} ago".format(days)
+    return [(last, what, "as of " + day_text(today))]
+
+
+def of_extension(court, rows, command, end):
+    """The end that an extension gave was past when it was asked for."""
+    asked = command[3].asked
+    act_due = docketed(rows, command).period.act
+    if is_timely(court.clock, end, act_due, Filing(asked.day, asked.minute, ELECTRONIC)):
+        return []
+    return [(asked.day, "asked for after the end that it gives", "note")]
+
+
+def of_deadline(court, rows, row, filed):
+    """The notes on a deadline of a case that was filed on that day."""
+    lines = []
+    for event in [row.event.day] + ([] if row.second is None else [row.second]):
+        if event < filed:
+            lines.append((event, "the event lies before the filing of the case", "note"))
+    if row.period.unit == "h" and row.event.minute == 0:
+        lines.append((row.event.day, "event at 00:00, or its time of day is missing", "note"))
+    last = end_of(court, shown(rows.days, court.clock, row))[0]
+    if last is not None and rows.days.first <= last <= rows.days.last and not any(
+            last <= day <= rows.days.last for day in rows.days.federal):
+        lines.append((last, "no federal holiday is listed from this day on", "note"))
+    return lines
+
+
+def of_hearing(rows, day):
+    """The notes on a hearing of that day."""
+    outages = [outage for outage in rows.days.outages if outage.day == day]
+    return [(day, "the clerk's office was inaccessible on this day", "note")] if outages else []
 
 
 # Refusals of extensions
@@ -158,19 +209,85 @@ def lost(court, rows, command, answer):
         (served, "its notice was served then, too late with it", "6(c)(1), 6(a)(5)")]
 
 
+# Refusals of what there isn't, and of what is out of its range. The fields of `start` are the case, the period, its event,
+# the second day and the kind of service; those of `compute` the same without the case.
+
+
+def span(words):
+    def lines(court, rows, command, answer):
+        days = "{}{} to {}".format(words, day_text(rows.days.first), day_text(rows.days.last))
+        return [(None, days, "ours")]
+    return lines
+
+
+def by_command(lines_by_word):
+    def lines(court, rows, command, answer):
+        what = lines_by_word.get(command[0])
+        return [] if what is None else [(None, what, "ours")]
+    return lines
+
+
+def unsuited(court, rows, command, answer):
+    """Which of a kind of service and a second day doesn't suit the period."""
+    period, _, second, kind = command[-4:]
+    if period.kind == "required" and kind is None:
+        what = "this period takes a kind of service, A to F"
+    elif period.kind == "none" and kind is not None:
+        what = "this period takes no kind of service"
+    elif period.added and (period.direction == BEFORE or period.unit == "h"):
+        what = "from service only days after it are counted"
+    else:
+        what = "this period takes a second day" if second is None else "this period takes no second day"
+    return [(None, what, "ours")]
+
+
+def already_set(court, rows, command, answer):
+    return taken(" is heard, ")(court, rows, command, answer + (command[1], command[2]))
+
+
+def listed(court, rows, command, answer):
+    return [(command[1], "the day is in that list already", "ours")]
+
+
+PERIOD = "a period is 1 to 3650 days, or 1 to 8760 hours"
+HEARING = "a hearing is 15 minutes or more, on one day"
+LENGTHS = {"start": PERIOD, "compute": PERIOD, "extend": "an extension is 1 to 3650 days or 1 to 8760 hours",
+           "motion": "a notice is 1 to 365 days", "book": HEARING, "move": HEARING,
+           "inaccessible": "an outage ends after it begins, on one day"}
+MOST = {"start": "a case has {} deadlines at most".format(DEADLINES),
+        "extend": "a deadline has {} extensions at most".format(GRANTS),
+        "motion": "a case has {} motions at most".format(MOTIONS),
+        "holiday": "a list of holidays has {} dates at most".format(DATES),
+        "inaccessible": "the docket has {} outages at most".format(OUTAGES)}
+
 REFUSED = {
+    1: alone("the case isn't open; cases are 1 to 4096", "ours"),
+    2: alone("the case is open already", "ours"),
+    3: alone("the case has no deadline of this number", "ours"),
+    4: alone("the case has no motion of this number", "ours"),
+    5: span("the days covered are "),
+    6: by_command(LENGTHS),
+    7: unsuited,
+    8: span("beyond the days covered, "),
     9: recorded,
     10: alone("this time must not be extended", "6(b)(2)"),
     11: alone("an extension takes good cause, which wasn't found", "6(b)(1)"),
     12: late("a motion is needed"),
     13: late("neglect must be excused"),
     14: not_longer,
+    15: already_set,
+    16: alone("the motion has no hearing; `book` sets one", "ours"),
     17: closed,
     18: outside,
     19: short,
     20: taken(" has the judge, "),
     21: taken(" has the room, "),
+    22: listed,
     23: taken(" is heard, "),
     24: lost,
+    25: by_command(MOST),
+    26: alone("the court's file names no such judge", "ours"),
+    27: alone("the court's file names no such room", "ours"),
     28: alone("hours are extended by hours, days by days", "ours"),
+    29: alone("a panel is one to three judges, each once", "ours"),
 }

@@ -1,4 +1,5 @@
 pub mod Margin
 pub mod Ends
 pub mod Lines
+pub mod Ahead
 pub mod Words

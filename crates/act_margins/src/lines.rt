@@ -218,7 +218,7 @@ fn ends_at_closing(shown: &Shown, means: Means) -> bool
 }
 
 /// Adds a number of days.
-fn push_days(text: &mut String, days: u32) -> Result<(), AllocError>
+pub(crate) fn push_days(text: &mut String, days: u32) -> Result<(), AllocError>
     ensures { OnOk result (string_bytes text.new ≡ string_bytes text.old ++ days_text days) }
 {
     if days == 1 {

@@ -1,3 +1,4 @@
+pub mod AskedLemmas
 pub mod DocketLemmas
 pub mod MemoLemmas
 pub mod ReplyLemmas

@@ -5,4 +5,7 @@ pub mod Sheets
 pub mod Notes
 pub mod Replies
 pub mod Memo
+pub mod Case
 pub mod CommandLine
+pub mod Asked
+pub mod Answer

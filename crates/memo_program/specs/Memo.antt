@@ -1,12 +1,11 @@
 -- The whole text: what the office answers, with the reasons of each deadline that is shown.
-use Rattle.std.specs.Prelude.{◌≡◌, ℕ, List, length}
+use Rattle.std.specs.Prelude.{ℕ, List, length}
 use Rattle.std.specs.List.{range_with_len}
-use Rattle.court_days.specs.Words.{CourtView, file_of}
+use Rattle.court_days.specs.Words.{CourtView}
 use Rattle.docket_rows.specs.declared.query.Query.TheVariants as query
 use Rattle.docket_rows.specs.Words.{Rows, setup_of, last_case, opening_rows, parts_of, view_of}
 use Rattle.office_rows.specs.declared.row.Row.{Row}
 use Rattle.office_run.specs.Words.{calendars_from, docketed_after}
-use Rattle.office_streams.specs.Words.{Input}
 use Rattle.reason_texts.specs.Words.{NamedDay}
 use Rattle.memo_program.specs.Replies.{AreReplies}
 use Rattle.memo_program.specs.Sheets.{IsSheetShown}
@@ -30,9 +29,3 @@ abbrev pub IsMemo : CourtView → List NamedDay → List Row → List ℕ → Ty
 IsMemo court names rows =
     let opening = opening_rows (setup_of court) in
     Then (AreReplies court names opening 1 rows) (IsClosing court names (docketed_after (setup_of court) opening rows))
-
--- the text of an input, in the court whose file it has, where holidays have these names
-pub record IsMemoOf (names : List NamedDay) (input : Input) (text : List ℕ) : Type 0 where
-  pub court : CourtView
-  pub is_court : file_of court ≡ input.file
-  pub is_memo : IsMemo court names input.rows text

@@ -1,10 +1,14 @@
--- The lines that say of an act by how much it was in time or late, and of a refusal why it is one.
+-- The lines that say of an act by how much it was in time or late, of a refusal why it is one, and of an extension what a reader
+-- is warned of.
 use Rattle.std.specs.Prelude.{ℕ, ◌==◌, find, List, [], Option, Some, None}
 use Rattle.court_days.specs.Words.{CourtView}
+use Rattle.rule6.specs.declared.timeliness.Shown.{Shown}
+use Rattle.rule_periods.specs.declared.grant.Request.{Request}
 use Rattle.rule_periods.specs.Words.{DeadlineRowView}
 use Rattle.docket_rows.specs.declared.answer.Answer.{Answer}
 use Rattle.docket_rows.specs.declared.answer.Answer.TheVariants as answer
 use Rattle.docket_rows.specs.declared.command.Command.{Command as CommandOf}
+use Rattle.docket_rows.specs.declared.query.Query.{Query as QueryOf}
 use Rattle.docket_rows.specs.declared.query.Query.TheVariants as query
 use Rattle.docket_rows.specs.declared.sheet.SheetMotion.{SheetMotion}
 use Rattle.docket_rows.specs.declared.view.View.{View}
@@ -15,7 +19,8 @@ use Rattle.office_rows.specs.declared.row.Work.TheVariants.{Command, Query}
 use Rattle.office_run.specs.declared.reply.Reply.{Reply}
 use Rattle.office_run.specs.declared.reply.Reply.TheVariants.{Made, Viewed}
 use Rattle.act_margins.specs.Words.{recorded_lines}
-use Rattle.refusal_texts.specs.Words.{deadline_asked, motion_of_refusal, refusal_lines}
+use Rattle.docket_notes.specs.Words.{extension_notes}
+use Rattle.refusal_texts.specs.Words.{deadline_asked, motion_of_refusal, query_lines, refusal_lines, request_asked}
 
 -- the docketed deadline of a case and a number, if they are given and there is one
 abbrev pub deadline_at : (docketed : Rows) → Option (ℕ × ℕ) → Option DeadlineRowView
@@ -32,15 +37,27 @@ abbrev pub motion_at : CourtView → (docketed : Rows) → Option (ℕ × ℕ) �
 motion_at court docketed (Some at) = motion_viewed at.1 (view_of (setup_of court) docketed (query.Sheet at.0))
 motion_at court docketed None = None
 
+-- what a reader is warned of an extension, by the request for it
+abbrev pub notes_of_request : CourtView → Shown → Option Request → List ℕ
+notes_of_request court shown (Some request) = extension_notes court.clock shown request
+notes_of_request court shown None = []
+
 -- what is said of the answer to a command
 abbrev pub notes_of : CourtView → (docketed : Rows) → CommandOf → Answer → List ℕ
 notes_of court docketed command (answer.Filed timely) =
     recorded_lines docketed.days court.clock (deadline_at docketed (deadline_asked command))
+notes_of court docketed command (answer.Extended shown) = notes_of_request court shown (request_asked command)
 notes_of court docketed command (answer.Refused refusal) =
     refusal_lines docketed.days court.clock command (deadline_at docketed (deadline_asked command)) (motion_at court docketed (motion_of_refusal command refusal)) refusal
 notes_of court docketed command answer = []
 
+-- what is said of the view that answers a question
+abbrev pub notes_viewed : (docketed : Rows) → QueryOf → View → List ℕ
+notes_viewed docketed query (view.Refused refusal) = query_lines docketed.days query refusal
+notes_viewed docketed query v = []
+
 -- what is said of a reply
 abbrev pub notes_text : CourtView → (docketed : Rows) → Work → Reply → List ℕ
 notes_text court docketed (Command command) (Made answer) = notes_of court docketed command answer
+notes_text court docketed (Query query) (Viewed v) = notes_viewed docketed query v
 notes_text court docketed work reply = []

@@ -17,6 +17,7 @@ use Rattle.office_run.specs.declared.reply.Reply.{Reply}
 use Rattle.office_run.specs.declared.reply.Reply.TheVariants.{Made, Viewed}
 use Rattle.office_run.specs.Words.{Holds, docketed_then, reply_text, reply_to, row_numbers}
 use Rattle.reason_texts.specs.Words.{NamedDay}
+use Rattle.memo_program.specs.declared.detail.Detail.TheVariants.{Reasons}
 use Rattle.memo_program.specs.Notes.{notes_text}
 use Rattle.memo_program.specs.Reasons.{AreReasonsDocketed, AreReasonsIfAny}
 use Rattle.memo_program.specs.Sheets.{IsSheet}
@@ -79,7 +80,7 @@ sheet_replied reply = None
 -- a sheet with the reasons of its deadlines, or the text of a reply, the reasons of the deadline that it tells, and what is
 -- said of an act or a refusal
 abbrev pub IsReplyWith : CourtView → List NamedDay → (docketed : Rows) → Work → Reply → Option Sheet → List ℕ → Type 0
-IsReplyWith court names docketed work reply (Some sheet) = Then (Is (codes "sheet\n")) (IsSheet court names docketed.days sheet)
+IsReplyWith court names docketed work reply (Some sheet) = Then (Is (codes "sheet\n")) (IsSheet court names docketed.days Reasons sheet)
 IsReplyWith court names docketed work reply None =
     Then (Is (reply_text court reply)) (Then (AreReasonsWith court names docketed work reply) (Is (notes_text court docketed work reply)))
 

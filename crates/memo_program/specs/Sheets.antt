@@ -1,26 +1,65 @@
 -- A sheet with the reasons of its deadlines.
-use Rattle.std.specs.Prelude.{ℕ, List, []}
+use Rattle.std.specs.Prelude.{ℕ, ℤ, List, [], ◌++◌, Option, Some, None}
 use Rattle.std.specs.List.{flat_map}
+use Rattle.court_clock.specs.Words.{ClockView}
 use Rattle.court_days.specs.Words.{CourtView, DaysView}
 use Rattle.docket_rows.specs.declared.sheet.Sheet.{Sheet}
 use Rattle.docket_rows.specs.declared.sheet.SheetDeadline.{SheetDeadline}
+use Rattle.docket_rows.specs.declared.sheet.SheetHearing.{SheetHearing}
+use Rattle.docket_rows.specs.declared.sheet.SheetMotion.{SheetMotion}
+use Rattle.docket_rows.specs.declared.sheet.State.{State}
+use Rattle.docket_rows.specs.declared.sheet.State.TheVariants.{Pending}
 use Rattle.docket_rows.specs.declared.view.View.{View}
 use Rattle.docket_rows.specs.declared.view.View.TheVariants as view
+use Rattle.rule6.specs.declared.timeliness.Shown.{Shown}
 use Rattle.office_texts.specs.Words.{case_line, deadline_line, motion_lines}
 use Rattle.reason_texts.specs.Words.{NamedDay}
+use Rattle.act_margins.specs.Words.{ahead_line, recorded_lines}
+use Rattle.docket_notes.specs.Words.{deadline_notes, hearing_notes}
+use Rattle.memo_program.specs.declared.detail.Detail.{Detail}
+use Rattle.memo_program.specs.declared.detail.Detail.TheVariants.{Reasons, Whole}
 use Rattle.memo_program.specs.Reasons.{AreReasons}
 use Rattle.memo_program.specs.Texts.{Each, Is, Then}
 
--- the line of a deadline, and its reasons
-abbrev pub IsDeadline : CourtView → List NamedDay → DaysView → SheetDeadline → List ℕ → Type 0
-IsDeadline court names days d = Then (Is (deadline_line court.clock d)) (AreReasons court names days d.row)
+-- how far the end of a deadline lies from a day, where one is given and no act is recorded
+abbrev pub ahead_if_pending : ClockView → (today : Option ℤ) → State → Shown → List ℕ
+ahead_if_pending clock (Some today) Pending shown = ahead_line clock today shown
+ahead_if_pending clock today state shown = []
+
+-- what comes after the reasons of a deadline on the whole sheet of a case that was filed on that day: the act that is recorded
+-- and by how much it was in time or late, how far the end lies from a day, and what a reader is warned of
+abbrev pub whole_lines : CourtView → DaysView → (filed : ℤ) → (today : Option ℤ) → SheetDeadline → List ℕ
+whole_lines court days filed today d =
+    recorded_lines days court.clock (Some d.row) ++ ahead_if_pending court.clock today d.state d.shown ++ deadline_notes days court.clock filed d.row d.shown
+
+abbrev pub more_lines : CourtView → DaysView → (filed : ℤ) → Detail → SheetDeadline → List ℕ
+more_lines court days filed Reasons d = []
+more_lines court days filed (Whole today) d = whole_lines court days filed today d
+
+-- the line of a deadline, its reasons, and what comes after them
+abbrev pub IsDeadline : CourtView → List NamedDay → DaysView → (filed : ℤ) → Detail → SheetDeadline → List ℕ → Type 0
+IsDeadline court names days filed detail d =
+    Then (Is (deadline_line court.clock d)) (Then (AreReasons court names days d.row) (Is (more_lines court days filed detail d)))
+
+-- what a reader is warned of a hearing, where one is set
+abbrev pub notes_if_set : DaysView → Option SheetHearing → List ℕ
+notes_if_set days (Some h) = hearing_notes days h.hearing.day
+notes_if_set days None = []
+
+-- a motion on the whole sheet of a case
+abbrev pub whole_motion : CourtView → DaysView → SheetMotion → List ℕ
+whole_motion court days m = motion_lines court m ++ notes_if_set days m.hearing
+
+abbrev pub motions_text : CourtView → DaysView → Detail → List SheetMotion → List ℕ
+motions_text court days Reasons motions = flat_map (motion_lines court) motions
+motions_text court days (Whole today) motions = flat_map (whole_motion court days) motions
 
 -- the line of the case, then its deadlines, each with its reasons, then its motions
-abbrev pub IsSheet : CourtView → List NamedDay → DaysView → Sheet → List ℕ → Type 0
-IsSheet court names days sheet =
-    Then (Is (case_line sheet)) (Then (Each (IsDeadline court names days) sheet.deadlines) (Is (flat_map (motion_lines court) sheet.motions)))
+abbrev pub IsSheet : CourtView → List NamedDay → DaysView → Detail → Sheet → List ℕ → Type 0
+IsSheet court names days detail sheet =
+    Then (Is (case_line sheet)) (Then (Each (IsDeadline court names days sheet.filed detail) sheet.deadlines) (Is (motions_text court days detail sheet.motions)))
 
 -- a case that isn't open shows none
 abbrev pub IsSheetShown : CourtView → List NamedDay → DaysView → View → List ℕ → Type 0
-IsSheetShown court names days (view.Sheet sheet) = IsSheet court names days sheet
+IsSheetShown court names days (view.Sheet sheet) = IsSheet court names days Reasons sheet
 IsSheetShown court names days _ = Is []

@@ -1,15 +1,20 @@
 //! The command line, as `clap` is told of it.
 
-ghost use Rattle.std.specs.Prelude.{◌≡◌, true, IfErr, IfOk};
+ghost use Rattle.std.specs.Prelude.{◌≡◌, false, true, IfErr, IfOk};
 ghost use Rattle.clap.specs.Faults.{fault_of};
 ghost use Rattle.clap.specs.Walk.{texts};
-ghost use Rattle.clap.specs.Words.{app_of, takes};
+ghost use Rattle.clap.specs.Words.{app_of, rule_of, takes};
 ghost use Rattle.office_options.specs.Words.{IsAnswerFor};
-ghost use Rattle.memo_program.specs.CommandLine.{command_line};
+ghost use Rattle.memo_program.specs.Asked.{IsAsked};
+ghost use Rattle.memo_program.specs.CommandLine.{case_rule, command_line, today_rule};
 
-use clap::Command;
+use crate::asked::{Asked, asked_by};
+use clap::{Arg, ArgAction, Command};
 use office_options::{OptionsFault, fault_from};
 use std::alloc::{AllocError, Global};
+
+// The greatest number of a case: `last_case` of docket_rows.
+const LAST_CASE: i64 = 4_096;
 
 // What the program is. `clap` breaks no lines, so they are broken here.
 const ABOUT: &str =
@@ -33,32 +38,67 @@ holidays, are read from a table [holiday_names] of the court's file, as
 
     deadline_memo < day.txt
 
+Of one case it writes the sheet alone, as it is after all rows: each deadline
+with its reasons, its act and by how much that was timely or late, how far a
+pending one lies from a day, and warnings, which are marked 'note'.
+
+    deadline_memo --case 1 --today 2025-08-21 < day.txt
+
 docs/FORMATS.md describes the court's file, the rows, the answers, the reasons
 and what a run ends with; docs/RULES.md has each section.";
+
+fn case_argument<'a>(alloc: Global) -> Arg<'a>
+    ensures rule { rule_of result ≡ case_rule }
+    ensures local { result.global ≡ false }
+{
+    Arg::new(alloc, "case")
+        .long("case")
+        .action(ArgAction::Set)
+        .value_name("N")
+        .value_parser(clap::value_parser!(u32).range(1..=LAST_CASE))
+        .help("The sheet of this case alone, after all rows")
+}
+
+fn today_argument<'a>(alloc: Global) -> Arg<'a>
+    ensures rule { rule_of result ≡ today_rule }
+    ensures local { result.global ≡ false }
+{
+    Arg::new(alloc, "today")
+        .long("today")
+        .action(ArgAction::Set)
+        .value_name("DAY")
+        .help("With --case: how far pending deadlines lie from this day, as 2025-08-21")
+}
 
 /// The command line's definition, for one reading of words.
 fn command<'a>(alloc: Global) -> Result<Command<'a>, AllocError>
     ensures { IfOk result (λ command. app_of command ≡ command_line) }
 {
-    Ok(
-        Command::new(alloc, "deadline_memo")
-            .no_binary_name(true)
-            .version("0.1.0")
-            .about(ABOUT)
-            .after_help(FORMATS),
-    )
+    let case = case_argument(alloc);
+    let today = today_argument(alloc);
+    let whole = Command::new(alloc, "deadline_memo")
+        .no_binary_name(true)
+        .version("0.1.0")
+        .about(ABOUT)
+        .after_help(FORMATS)
+        .arg(case)?
+        .arg(today)?;
+    Ok(whole)
 }
 
-/// Reads the words, which are those after the program's name. No word is taken but those for the help and the version.
-/// BadWords where `clap` refuses the words, Help where they ask for the help or the version first, and OutOfMemory where
-/// memory runs out.
-pub(crate) fn check_texts(alloc: Global, words: &[&str]) -> Result<(), OptionsFault>
+/// What the words ask for, which are those after the program's name. BadWords where `clap` refuses the words, Help where
+/// they ask for the help or the version first, and OutOfMemory where memory runs out.
+pub(crate) fn asked_of(alloc: Global, words: &[&str]) -> Result<Asked, OptionsFault>
+    ensures asked { IfOk result (λ asked. IsAsked (texts words.now) asked) }
     ensures faults { IsAnswerFor (fault_of command_line (texts words.now)) result }
     ensures taken { takes command_line (texts words.now) ≡ true → IfErr result (λ fault. fault ≡ OptionsFault.OutOfMemory) }
 {
     let command = command(alloc)?;
     match command.try_get_matches_from(words) {
-        Ok(_) => Ok(()),
+        Ok(matches) => {
+            let asked = asked_by(alloc, &matches)?;
+            Ok(asked)
+        }
         Err(error) => Err(fault_from(alloc, &error)),
     }
 }

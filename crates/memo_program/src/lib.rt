@@ -2,7 +2,10 @@
 //! each deadline that they show.
 #![tactic(auto)]
 
+mod asked;
+mod case;
 mod command;
+mod detail;
 mod memo;
 mod names;
 mod notes;
@@ -11,6 +14,7 @@ mod reasons;
 mod replies;
 mod report;
 mod sheets;
+mod whole;
 
+pub use asked::Asked;
 pub use program::DeadlineMemo;
-pub use report::Memo;

@@ -1,28 +1,32 @@
-//! What is said of an act, and why a command is refused.
+//! What is said of an act, of an extension, and why a command or a question is refused.
 
 ghost use Rattle.std.specs.Prelude.{◌≡◌, ◌==◌, ◌++◌, IfOk, OnOk, find, option_copied, string_bytes};
 ghost use Rattle.docket_rows.specs.declared.sheet.SheetMotion.{SheetMotion as SheetMotionOf};
 ghost use Rattle.court_days.specs.Words.{CourtView};
-ghost use Rattle.docket_rows.specs.Words.{Rows, setup_of};
+ghost use Rattle.docket_rows.specs.Words.{CourtSetup, Rows, setup_of};
 ghost use Rattle.office_run.specs.Words.{Holds};
 ghost use Rattle.act_margins.specs.Words.{recorded_lines};
 ghost use Rattle.refusal_texts.specs.Words.{deadline_asked};
-ghost use Rattle.memo_program.specs.Notes.{deadline_at, motion_at, motion_viewed, notes_of, notes_text};
+ghost use Rattle.memo_program.specs.Notes.{deadline_at, motion_at, motion_viewed, notes_of, notes_of_request, notes_text, notes_viewed};
 
 use act_margins::push_recorded;
 use court_clock::Day;
 use court_days::Court;
 use docket_core::Docket;
+use docket_notes::push_extension_notes;
 use docket_rows::{Answer, Command, Hearing, Query, Refusal, SheetHearing, SheetMotion, View};
 use hearing_slots::{Need, Panel};
 use office_rows::Work;
 use office_run::Reply;
-use refusal_texts::{deadline_asked, motion_of_refusal, push_refusal};
-use rule_periods::{DeadlineRow, DocketRow};
+use refusal_texts::{
+    deadline_asked, motion_of_refusal, push_query_refusal, push_refusal, request_asked,
+};
+use rule_periods::{DeadlineRow, DocketRow, Request};
+use rule6::Shown;
 use std::alloc::{AllocError, Global};
 
-/// Adds what is said of a reply: of an act by how much it was in time or late, and of a refusal why it is one, where the
-/// docket is as it was left. `Err` says that memory ran out.
+/// Adds what is said of a reply: of an act by how much it was in time or late, of an extension what a reader is warned of, and
+/// of a refusal why it is one, where the docket is as it was left. `Err` says that memory ran out.
 pub(crate) fn push_notes(
     alloc: Global,
     text: &mut String,
@@ -36,6 +40,9 @@ pub(crate) fn push_notes(
     match (work, reply) {
         (Work::Command(command), Reply::Made(answer)) => push_notes_of(
             alloc, text, court, docket, command, answer,
+        ),
+        (Work::Query(query), Reply::Viewed(view)) => push_notes_viewed(
+            alloc, text, docket, query, view,
         ),
         _ => Ok(()),
     }
@@ -54,6 +61,7 @@ fn push_notes_of(
 {
     match answer {
         Answer::Filed(_) => push_filed(alloc, text, court, docket, command),
+        Answer::Extended(shown) => push_extended(text, court, shown, request_asked(command)),
         Answer::Refused(refusal) => push_refused(alloc, text, court, docket, command, refusal),
         _ => Ok(()),
     }
@@ -71,6 +79,37 @@ fn push_filed(
 {
     let row = deadline_at(docket, deadline_asked(command));
     push_recorded(alloc, text, docket.days(), court.clock(), row)
+}
+
+/// Adds what a reader is warned of an extension.
+fn push_extended(
+    text: &mut String,
+    court: &Court,
+    shown: &Shown,
+    request: Option<Request>,
+) -> Result<(), AllocError>
+    ensures { OnOk result (string_bytes text.new ≡ string_bytes text.old ++ notes_of_request court.now shown.now request) }
+{
+    match request {
+        Some(request) => push_extension_notes(text, court.clock(), shown, &request),
+        None => Ok(()),
+    }
+}
+
+/// Adds why a question is refused, where it is.
+fn push_notes_viewed(
+    alloc: Global,
+    text: &mut String,
+    docket: &Docket,
+    query: &Query,
+    view: &View,
+) -> Result<(), AllocError>
+    ensures { (setup : CourtSetup) (docketed : Rows) → Holds setup docket.now docketed → OnOk result (string_bytes text.new ≡ string_bytes text.old ++ notes_viewed docketed query.now view.now) }
+{
+    match view {
+        View::Refused(refusal) => { push_query_refusal(alloc, text, docket.days(), query, refusal) }
+        _ => Ok(()),
+    }
 }
 
 /// The types that a motion is made of, which a function that hands one on has to name.

@@ -1,28 +1,26 @@
 //! The program that says why.
 
-use crate::command::check_texts;
-use crate::report::Memo;
+use crate::asked::Asked;
+use crate::command::asked_of;
 use office_options::OptionsFault;
 use office_program::Program;
 use std::alloc::Global;
 
-/// The program `deadline_memo`: no word is taken but those for the help and the version.
+/// The program `deadline_memo`: its words say whether one case is asked for, and from which day its deadlines are counted.
 #[derive(Clone, Copy, Debug)]
 pub struct DeadlineMemo;
 
 impl Program for DeadlineMemo {
-    ghost use Rattle.std.specs.Prelude.{⊤};
+    ghost use Rattle.memo_program.specs.Asked.{IsAsked};
     ghost use Rattle.memo_program.specs.CommandLine.{command_line};
 
-    type Report = Memo;
+    type Report = Asked;
 
     ghost command_line = { command_line };
 
-    // There is one only.
-    ghost is_chosen = { λ words memo. ⊤ };
+    ghost is_chosen = { IsAsked };
 
-    fn report(&self, alloc: Global, words: &[&str]) -> Result<Memo, OptionsFault> {
-        check_texts(alloc, words)?;
-        Ok(Memo)
+    fn report(&self, alloc: Global, words: &[&str]) -> Result<Asked, OptionsFault> {
+        asked_of(alloc, words)
     }
 }

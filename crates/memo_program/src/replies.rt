@@ -10,6 +10,7 @@ ghost use Rattle.memo_program.specs.Reasons.{AreReasonsIfAny};
 ghost use Rattle.memo_program.specs.Replies.{AreReasonsWith, AreReplies, HasAnswered, IsReply, IsRow, deadline_asked, deadline_extended, deadline_queried, deadline_started, deadline_told, is_computed, sheet_replied};
 ghost use Rattle.memo_program.specs.Texts.{Pushes};
 
+use crate::detail::Detail;
 use crate::notes::push_notes;
 use crate::reasons::{push_docketed_reasons, push_started_reasons};
 use crate::sheets::push_sheet;
@@ -76,7 +77,15 @@ fn push_explained(
     match sheet_replied(reply) {
         Some(sheet) => {
             text.push_str("sheet\n")?;
-            push_sheet(alloc, text, court, names, docket.days(), sheet)
+            push_sheet(
+                alloc,
+                text,
+                court,
+                names,
+                docket.days(),
+                &Detail::Reasons,
+                sheet,
+            )
         }
         None => {
             push_reply(text, court, reply)?;

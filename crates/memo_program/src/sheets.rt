@@ -7,60 +7,79 @@ ghost use Rattle.memo_program.specs.Memo.{AreSheets};
 ghost use Rattle.memo_program.specs.Sheets.{IsDeadline, IsSheet, IsSheetShown};
 ghost use Rattle.memo_program.specs.Texts.{Each, Pushes};
 
+use crate::detail::Detail;
 use crate::reasons::push_deadline_reasons;
+use crate::whole::{push_all_motions, push_more};
+use court_clock::Day;
 use court_days::{Court, Days};
 use docket_core::Docket;
 use docket_rows::{Query, Sheet, SheetDeadline, View};
-use office_texts::{push_case, push_deadline, push_motions};
+use office_texts::{push_case, push_deadline};
 use reason_texts::HolidayName;
 use std::alloc::{AllocError, Global};
 
-/// Adds the lines of a sheet, with the reasons of each deadline behind its line. `Err` says that memory ran out.
+/// Adds the lines of a sheet, with the reasons of each deadline after its line, and more where more is asked for. `Err`
+/// says that memory ran out.
 pub(crate) fn push_sheet(
     alloc: Global,
     text: &mut String,
     court: &Court,
     names: &[HolidayName],
     days: &Days,
+    detail: &Detail,
     sheet: &Sheet,
 ) -> Result<(), AllocError>
-    ensures { Pushes (IsSheet court.now names.now days.now sheet.now) result text.old text.new }
+    ensures { Pushes (IsSheet court.now names.now days.now detail.now sheet.now) result text.old text.new }
 {
     push_case(text, sheet)?;
-    push_deadlines(alloc, text, court, names, days, sheet.deadlines.as_slice())?;
-    push_motions(text, court, sheet.motions.as_slice())
+    push_deadlines(
+        alloc,
+        text,
+        court,
+        names,
+        days,
+        sheet.filed,
+        detail,
+        sheet.deadlines.as_slice(),
+    )?;
+    push_all_motions(text, court, days, detail, sheet.motions.as_slice())
 }
 
-/// Adds the line of each deadline and its reasons.
+/// Adds the line of each deadline, its reasons, and what comes after them.
 fn push_deadlines(
     alloc: Global,
     text: &mut String,
     court: &Court,
     names: &[HolidayName],
     days: &Days,
+    filed: Day,
+    detail: &Detail,
     deadlines: &[SheetDeadline],
 ) -> Result<(), AllocError>
-    ensures { Pushes (Each (IsDeadline court.now names.now days.now) deadlines.now) result text.old text.new }
+    ensures { Pushes (Each (IsDeadline court.now names.now days.now filed detail.now) deadlines.now) result text.old text.new }
 {
     for deadline in deadlines {
-        push_explained(alloc, text, court, names, days, deadline)?;
+        push_explained(alloc, text, court, names, days, filed, detail, deadline)?;
     }
     Ok(())
 }
 
-/// Adds the line of a deadline and its reasons.
+/// Adds the line of a deadline, its reasons, and what comes after them.
 fn push_explained(
     alloc: Global,
     text: &mut String,
     court: &Court,
     names: &[HolidayName],
     days: &Days,
+    filed: Day,
+    detail: &Detail,
     deadline: &SheetDeadline,
 ) -> Result<(), AllocError>
-    ensures { Pushes (IsDeadline court.now names.now days.now deadline.now) result text.old text.new }
+    ensures { Pushes (IsDeadline court.now names.now days.now filed detail.now deadline.now) result text.old text.new }
 {
     push_deadline(text, court.clock(), deadline)?;
-    push_deadline_reasons(alloc, text, court, names, days, &deadline.row)
+    push_deadline_reasons(alloc, text, court, names, days, &deadline.row)?;
+    push_more(alloc, text, court, days, filed, detail, deadline)
 }
 
 /// Adds the sheets of the open ones of that number of cases, from the first number on.
@@ -95,7 +114,7 @@ fn push_sheet_shown(
     ensures { Pushes (IsSheetShown court.now names.now days.now view.now) result text.old text.new }
 {
     match view {
-        View::Sheet(sheet) => push_sheet(alloc, text, court, names, days, sheet),
+        View::Sheet(sheet) => push_sheet(alloc, text, court, names, days, &Detail::Reasons, sheet),
         _ => Ok(()),
     }
 }

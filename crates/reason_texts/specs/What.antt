@@ -1,5 +1,5 @@
 -- What happened, in words.
-use Rattle.std.specs.Prelude.{ℕ, ◌/◌, ℤ, pos, int_lt, unsigned_abs, List, [], ◌++◌, Option, None, unwrap_or, codes, if◌then◌else◌}
+use Rattle.std.specs.Prelude.{ℕ, ◌/◌, ◌==◌, ℤ, pos, int_lt, unsigned_abs, List, [], ◌++◌, Option, None, unwrap_or, codes, if◌then◌else◌}
 use Rattle.std.specs.Fmt.{decimal}
 use Rattle.std.specs.Ordering.{int_eq}
 use Rattle.court_clock.specs.declared.direction.Direction.{Direction}
@@ -48,10 +48,14 @@ kind_text ClerkD = codes "on the clerk"
 kind_text ElectronicE = codes "electronically"
 kind_text OtherF = codes "by other means"
 
+-- `1 day`, `2 days`
+abbrev pub days_or_hours : ℕ → (one many : List ℕ) → List ℕ
+days_or_hours n one many = decimal n ++ (if n == 1 then one else many)
+
 -- the date to which a time is extended is in the column before it
 abbrev pub grant_text : Grant → List ℕ
-grant_text (ByDays n) = codes "by " ++ decimal n ++ codes " days"
-grant_text (ByHours h) = codes "by " ++ decimal h ++ codes " hours"
+grant_text (ByDays n) = codes "by " ++ days_or_hours n (codes " day") (codes " days")
+grant_text (ByHours h) = codes "by " ++ days_or_hours h (codes " hour") (codes " hours")
 grant_text (Until day) = codes "to this day"
 
 -- That the clocks were set forward or back meanwhile. The number is that of the seconds by which the clock is further

@@ -1,7 +1,7 @@
 //! What happened, in words.
 
-ghost use Rattle.std.specs.Prelude.{◌≡◌, ◌++◌, OnOk, option_copied, string_bytes};
-ghost use Rattle.reason_texts.specs.What.{cause_shown, cause_text, cause_unnamed, change_text, change_words, detail_text, first_words, grant_text, hours_text, kind_text, last_words, name_of_cause, outage_text, what_text};
+ghost use Rattle.std.specs.Prelude.{◌≡◌, ◌++◌, OnOk, codes, option_copied, string_bytes};
+ghost use Rattle.reason_texts.specs.What.{cause_shown, cause_text, cause_unnamed, change_text, change_words, days_or_hours, detail_text, first_words, grant_text, hours_text, kind_text, last_words, name_of_cause, outage_text, what_text};
 
 use crate::names::{HolidayName, name_on, push_legal};
 use crate::times::{push_minute, push_time_at};
@@ -148,9 +148,21 @@ fn push_grant(text: &mut String, grant: Grant) -> Result<(), AllocError>
     ensures { OnOk result (string_bytes text.new ≡ string_bytes text.old ++ grant_text grant) }
 {
     match grant {
-        Grant::ByDays(n) => write!(text, "by {n} days"),
-        Grant::ByHours(h) => write!(text, "by {h} hours"),
+        Grant::ByDays(n) => push_by(text, n, " day", " days"),
+        Grant::ByHours(h) => push_by(text, h, " hour", " hours"),
         Grant::Until(_) => text.push_str("to this day"),
+    }
+}
+
+/// Adds by how many days or hours, as one or as many are called.
+fn push_by(text: &mut String, number: u32, one: &str, many: &str) -> Result<(), AllocError>
+    ensures { OnOk result (string_bytes text.new ≡ string_bytes text.old ++ codes "by " ++ days_or_hours number one.now many.now) }
+{
+    write!(text, "by {number}")?;
+    if number == 1 {
+        text.push_str(one)
+    } else {
+        text.push_str(many)
     }
 }
 

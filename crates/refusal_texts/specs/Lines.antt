@@ -1,5 +1,5 @@
 -- The lines of a refusal: why it is refused, with the day and the entry on which that rests.
-use Rattle.std.specs.Prelude.{ℕ, List, [], ◌++◌, Option, None, codes}
+use Rattle.std.specs.Prelude.{ℕ, List, ◌++◌, Option, None, codes}
 use Rattle.court_clock.specs.Words.{ClockView}
 use Rattle.court_days.specs.Words.{DaysView}
 use Rattle.rule_periods.specs.Words.{DeadlineRowView}
@@ -12,9 +12,10 @@ use Rattle.act_margins.specs.Words.{recorded_lines}
 use Rattle.refusal_texts.specs.Asked.{request_asked, setting_asked}
 use Rattle.refusal_texts.specs.Deadlines.{late_lines, not_longer_lines}
 use Rattle.refusal_texts.specs.Hearings.{closed_lines, hours_text, lost_line, short_lines, taken_line}
+use Rattle.refusal_texts.specs.Ranges.{range_lines}
 
 -- `row` is the deadline that the command is about, and `motion` the motion that the refusal names, or whose hearing the
--- command asks for. A refusal of another kind has no lines.
+-- command asks for.
 unfoldable pub refusal_lines : DaysView → ClockView → Command → Option DeadlineRowView → Option SheetMotion → Refusal → List ℕ
 refusal_lines c clock command row motion AlreadyMet = recorded_lines c clock row
 refusal_lines c clock command row motion NotExtendable = note_line None (codes "this time must not be extended") (codes "6(b)(2)")
@@ -30,4 +31,4 @@ refusal_lines c clock command row motion (JudgeBusy case number) = taken_line ca
 refusal_lines c clock command row motion (RoomBusy case number) = taken_line case number (codes " has the room, ") motion
 refusal_lines c clock command row motion (HearingThatDay case number) = taken_line case number (codes " is heard, ") motion
 refusal_lines c clock command row motion (NoticeLost case number) = taken_line case number (codes " is heard, ") motion ++ lost_line motion
-refusal_lines c clock command row motion refusal = []
+refusal_lines c clock command row motion refusal = range_lines c command motion refusal

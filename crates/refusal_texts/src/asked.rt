@@ -29,7 +29,7 @@ pub(crate) fn setting_asked(command: &Command) -> Option<Setting>
 }
 
 /// The extension that a command asks for.
-pub(crate) fn request_asked(command: &Command) -> Option<Request>
+pub fn request_asked(command: &Command) -> Option<Request>
     ensures { result ≡ request_asked command.now }
 {
     match *command {

@@ -8,6 +8,7 @@ ghost use Rattle.refusal_texts.specs.Lines.{refusal_lines};
 use crate::asked::{request_asked, setting_asked};
 use crate::deadlines::{push_late, push_not_longer};
 use crate::hearings::{push_closed, push_hours, push_lost, push_short, push_taken};
+use crate::ranges::push_range;
 use act_margins::push_recorded;
 use court_clock::Clock;
 use court_days::Days;
@@ -17,8 +18,7 @@ use rule_periods::DeadlineRow;
 use std::alloc::{AllocError, Global};
 
 /// Adds why a command is refused, in a line or a few: `row` is the deadline that the command is about, and `motion` the
-/// motion that the refusal names, or whose hearing the command asks for. A refusal that is about neither a deadline nor a
-/// hearing has no lines. `Err` says that memory ran out.
+/// motion that the refusal names, or whose hearing the command asks for. `Err` says that memory ran out.
 #[tactic(auto, unfolding(crate::specs::Lines::refusal_lines))]
 pub fn push_refusal(
     alloc: Global,
@@ -112,7 +112,7 @@ pub fn push_refusal(
             motion,
         ),
         Refusal::NoticeLost(case, number) => push_both(alloc, text, case, number, &motion),
-        _ => Ok(()),
+        _ => push_range(alloc, text, days, command, motion, refusal),
     }
 }
 

@@ -1,6 +1,7 @@
 use Rattle.std.proofs.Common.{◌≡◌, ◌∙◌, Some, None, codes, string_bytes, sym}
 use Rattle.docket_rows.specs.Words.{setup_of}
 use Rattle.office_run.specs.Words.{reply_text}
+use Rattle.memo_program.specs.declared.detail.Detail.TheVariants.{Reasons}
 use Rattle.memo_program.specs.Notes.{notes_text}
 use Rattle.memo_program.specs.Replies.{AreReasonsWith, sheet_replied}
 use Rattle.memo_program.specs.Sheets.{IsSheet}
@@ -14,7 +15,7 @@ returns-in_ok-push_str-in-Some c docketed answered =
     let setup = setup_of c.args.court.now in
     let found : sheet_replied c.args.reply.now ≡ Some c.in-Some.sheet.now = sym c.in-Some.ensures in
     let days : c.days.result.now ≡ docketed.days = c.days.ensures ∙ days_held setup c.args.docket.now docketed answered.holds in
-    rw found (on_ok c.push_sheet.result (λ added. adds_then (Is (codes "sheet\n")) (IsSheet c.args.court.now c.args.names.now docketed.days c.in-Some.sheet.now) (string_bytes c.args.text.now) _ (string_bytes c.push_sheet.new.text) (adds_text (codes "sheet\n") _ _ c.in_ok-push_str-in-Some.ensures.bytes) added) (rw days at c.push_sheet.ensures))
+    rw found (on_ok c.push_sheet.result (λ added. adds_then (Is (codes "sheet\n")) (IsSheet c.args.court.now c.args.names.now docketed.days Reasons c.in-Some.sheet.now) (string_bytes c.args.text.now) _ (string_bytes c.push_sheet.new.text) (adds_text (codes "sheet\n") _ _ c.in_ok-push_str-in-Some.ensures.bytes) added) (rw days at c.push_sheet.ensures))
 
 pub returns-in_ok-push_reasons_told-in-None : goal.returns-in_ok-push_reasons_told-in-None
 returns-in_ok-push_reasons_told-in-None c docketed answered =

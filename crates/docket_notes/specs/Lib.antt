@@ -1,0 +1,3 @@
+pub mod Holidays
+pub mod Notes
+pub mod Words

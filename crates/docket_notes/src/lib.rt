@@ -1,0 +1,11 @@
+//! What a reader is warned of: what is docketed is lawful, and may be a mistake.
+#![tactic(auto)]
+
+mod deadline;
+mod extension;
+mod hearing;
+mod holidays;
+
+pub use deadline::push_deadline_notes;
+pub use extension::push_extension_notes;
+pub use hearing::push_hearing_notes;

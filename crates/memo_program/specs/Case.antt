@@ -1,0 +1,33 @@
+-- The memo of one case: its whole sheet, as it is after all rows.
+use Rattle.std.specs.Prelude.{ℕ, ℤ, List, ◌++◌, Option, codes}
+use Rattle.std.specs.Fmt.{decimal}
+use Rattle.court_days.specs.Words.{CourtView, DaysView}
+use Rattle.docket_rows.specs.declared.query.Query.TheVariants as query
+use Rattle.docket_rows.specs.declared.view.View.{View}
+use Rattle.docket_rows.specs.declared.view.View.TheVariants as view
+use Rattle.docket_rows.specs.Words.{Rows, opening_rows, setup_of, view_of}
+use Rattle.office_rows.specs.declared.row.Row.{Row}
+use Rattle.office_run.specs.Words.{docketed_after}
+use Rattle.reason_texts.specs.Words.{NamedDay}
+use Rattle.memo_program.specs.declared.detail.Detail.TheVariants.{Whole}
+use Rattle.memo_program.specs.Sheets.{IsSheet}
+use Rattle.memo_program.specs.Texts.{Is}
+
+-- the line of a case that isn't open
+abbrev pub closed_line : (case : ℕ) → List ℕ
+closed_line case = codes "deadline_memo: case " ++ decimal case ++ codes " isn't open: no row has opened it\n"
+
+-- the whole sheet of the case, where the view is one
+abbrev pub IsCaseShown : CourtView → List NamedDay → DaysView → (today : Option ℤ) → (case : ℕ) → View → List ℕ → Type 0
+IsCaseShown court names days today case (view.Sheet sheet) = IsSheet court names days (Whole today) sheet
+IsCaseShown court names days today case _ = Is (closed_line case)
+
+-- by what is docketed
+abbrev pub IsCaseOf : CourtView → List NamedDay → (docketed : Rows) → (case : ℕ) → (today : Option ℤ) → List ℕ → Type 0
+IsCaseOf court names docketed case today =
+    IsCaseShown court names docketed.days today case (view_of (setup_of court) docketed (query.Sheet case))
+
+-- after all rows
+abbrev pub IsCaseMemo : CourtView → List NamedDay → List Row → (case : ℕ) → (today : Option ℤ) → List ℕ → Type 0
+IsCaseMemo court names rows case today =
+    IsCaseOf court names (docketed_after (setup_of court) (opening_rows (setup_of court)) rows) case today
