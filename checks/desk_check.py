@@ -4,10 +4,11 @@
     desk_check.py DESK CLERK_OFFICE [SEED [COUNT]]
 
 The examples of examples/ of one clerk are entered in two sessions, and answered as by clerk_office. What is said of an
-empty folder, of one that has a journal, and of a second program is looked at. A question is asked beside a program that
-enters rows, and a court is given another file. Then COUNT times (300 without it) a session is ended at a random moment,
-most of them killed, as desk_kill.py does it; COUNT / 10 inputs at random are compared, as desk_compare.py does it; and a
-short journal is damaged in its last COUNT / 2 bytes, as desk_damage.py does it. It needs Python 3.8 or later.
+empty folder, of one that has a journal, and of a second program is looked at. A question is asked and rows are tried beside
+a program that enters rows, rows are kept together or not at all, and a court is given another file. Then COUNT times (300
+without it) a session is ended at a random moment, most of them killed, and COUNT / 3 times one that keeps its rows together,
+as desk_kill.py does it; COUNT / 10 inputs at random are compared, as desk_compare.py does it; and a short journal is damaged
+in its last COUNT / 2 bytes, as desk_damage.py does it. It needs Python 3.8 or later.
 """
 import random
 import sys
@@ -15,12 +16,16 @@ import tempfile
 
 from desk_compare import check_rows, compared
 from desk_damage import damaged
-from desk_kill import killed
-from lib.desk import Desk, REFUSED, SHORT_COURT, TOP, divided, programs_of, run
+from desk_kill import killed, killed_together
+from lib.desk import Desk, FAULTS, REFUSED, SHORT_COURT, TOGETHER, TOP, divided, drawn_rows, programs_of, run
 from lib.journal import courts_of, read_journal, rows_of
 
 EXAMPLES = ["smallest", "days", "deadlines", "a_day"]
 DIFFERS = 7
+# The status with which a call ends whose input can't be read, and how many bytes are kept together at most.
+UNREAD, LONGEST_INPUT = 4, 16_777_216
+# What is expected where a row's command isn't known.
+COMMANDS = b"open, start, file, extend, motion, book, move, cancel, holiday, inaccessible, sheet, calendar or compute\n"
 # Another judge, and a holiday on the last day of a period that was asked for.
 OTHER_COURT = SHORT_COURT.replace(b'"Brandt"]', b'"Brandt", "Cole"]').replace(b'"2025-03-28"', b'"2025-03-28", "2025-09-02"')
 
@@ -72,6 +77,64 @@ def check_second(programs):
     return "a second program is refused the folder, and asks beside it"
 
 
+def check_trial(programs, draw):
+    """Rows that are tried beside a program that enters rows are answered as that program answers them then, and none is kept."""
+    with tempfile.TemporaryDirectory() as parent:
+        desk, rows = Desk(programs, parent, SHORT_COURT), drawn_rows(draw, 200) + [b"1,no,row\n", b"1,sheet,1\n"]
+        with desk.session() as session:
+            session.stdin.write(b"1,open,1,2025-03-03\n")
+            session.stdin.flush()
+            assert session.stdout.readline() == b"1 1 opened\n"
+            whole = desk.journal.read_bytes()
+            tried = desk.call("try", given=b"".join(rows))
+            assert tried.status == 0 and not tried.errors, tried
+            again = desk.call("try", given=b"".join(rows) + b"1,sheet,2")
+            assert again.status == REFUSED and again.output == tried.output and b"nothing is kept" in again.errors, again
+            assert desk.journal.read_bytes() == whole
+            session.stdin.write(b"".join(rows))
+            session.stdin.close()
+            answers = session.stdout.read()
+        assert answers == tried.output, (answers, tried.output)
+    return "rows that are tried are answered as they are when they are entered, and none is kept"
+
+
+def check_together(programs, draw):
+    """Rows that are kept together: all faults are told, each with its line, and nothing is kept; or all rows, as `enter` does."""
+    with tempfile.TemporaryDirectory() as parent:
+        desk = Desk(programs, parent, SHORT_COURT)
+        desk.enter([b"1,open,3,2025-03-03\n"])
+        whole = desk.journal.read_bytes()
+        for given, output, error, status in (
+                (b"1,open,1,2025-03-03\r\n\r\n1,open,2,2025-02-30\r\n1,no,row\r\n",
+                 b'line 3 fault 4 BadField 4: found "2025-02-30", expected a date, as 2025-09-02\n'
+                 b'line 4 fault 2 UnknownCommand: found "no", expected ' + COMMANDS, b"2 lines have faults", FAULTS),
+                (b"\n# rows\n1,open,1,2025-03-03\n1,sheet,1",
+                 b"line 2 fault 3 WrongCount: expected CLERK,COMMAND and what the command takes\n", b"a line has a fault", FAULTS),
+                (b'1,open,1\n65,sheet,1\n1,"calendar","Ames, or Brandt",3/3/2025\n1,start,1,59e,2025-03-03,,,G\n1,sheet,\n1,\xff,1\n',
+                 b'line 1 fault 3 WrongCount: expected CLERK,open,CASE,DATE\n'
+                 b'line 2 fault 1 BadClerk: found "65", expected a clerk\'s number, 1 to 64\n'
+                 b'line 3 fault 4 BadField 4: expected what FORMATS.md has under Rows\n'
+                 b'line 4 fault 4 BadField 8: found "G", expected a kind of service, A to F, or nothing\n'
+                 b'line 5 fault 4 BadField 3: found nothing, expected a number, as 7\n'
+                 b'line 6 fault 5 NotText: expected text in UTF-8\n', b"6 lines have faults", FAULTS),
+                (b"1,open,1,2025-03-03\n1,sheet,1", b"", b"no end", REFUSED),
+                (b"\n" * (LONGEST_INPUT + 1), b"", b"more than 16777216 bytes", UNREAD)):
+            ended = desk.call("enter", TOGETHER, given=given)
+            assert (ended.status, ended.output) == (status, output) and error in ended.errors, (given[:100], ended)
+            assert b"nothing is kept" in ended.errors and ended.errors.count(b"\n") == 1, ended
+            assert desk.journal.read_bytes() == whole
+        # The second row is refused, which is an answer and no fault.
+        rows = [b"1,open,1,2025-03-03\n", b"1,open,1,2025-03-03\n"] + drawn_rows(draw, 200)
+        tried = desk.call("try", given=b"".join(rows))
+        ended = desk.call("enter", TOGETHER, given=b"".join(rows))
+        assert ended == tried and ended.status == 0 and b"\n3 1 refused " in ended.output, (ended, tried)
+        journal = desk.read()
+        assert [row for row, _ in rows_of(journal)][1:] == rows and journal.batches[-1] == len(rows), journal.batches
+        ended = desk.call("enter", TOGETHER)
+        assert ended.status == 0 and not ended.output and desk.read() == journal, ended
+    return "rows that are kept together, or not at all where a line has a fault"
+
+
 def check_court(programs):
     """Another court's file: it is listed what would differ, and taken only with leave; answers that were given stay."""
     with tempfile.TemporaryDirectory() as parent:
@@ -97,8 +160,9 @@ def main(words):
     programs, draw = programs_of(words[:2]), random.Random(int(words[2]) if len(words) > 2 else 1)
     count = int(words[3]) if len(words) > 3 else 300
     for check in (lambda: check_examples(programs, draw), lambda: check_folder(programs), lambda: check_second(programs),
-                  lambda: check_court(programs), lambda: compared(programs, draw, count // 10),
-                  lambda: damaged(programs, draw, 12, count // 2), lambda: killed(programs, draw, count)):
+                  lambda: check_trial(programs, draw), lambda: check_together(programs, draw), lambda: check_court(programs),
+                  lambda: compared(programs, draw, count // 10), lambda: damaged(programs, draw, 12, count // 2),
+                  lambda: killed(programs, draw, count), lambda: killed_together(programs, draw, count // 3)):
         print(check(), flush=True)
 
 

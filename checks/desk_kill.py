@@ -8,7 +8,9 @@ them), stopped by SIGTERM, by a reader that closes the pipe of the answers, or b
 the journal is read byte by byte, by the reader in lib/journal.py. It must have the rows that were given, in their order,
 up to one of them; and what was written must be a beginning of the answers in it. The next session goes on with the same
 folder; after 50 of them the answers of all rows must be those of clerk_office, and so must those of what `rows` writes.
-The last line says how many rows were kept and how many of them weren't answered any more. It needs Python 3.8 or later.
+The last line says how many rows were kept and how many of them weren't answered any more. Then COUNT / 4 sessions that keep
+their rows together are killed: each must have kept all of them or none, and all where it has answered one. It needs Python
+3.8 or later.
 """
 import random
 import signal
@@ -19,7 +21,7 @@ import threading
 import time
 from collections import Counter
 
-from lib.desk import Desk, SHORT_COURT, drawn_rows, programs_of
+from lib.desk import Desk, SHORT_COURT, TOGETHER, drawn_rows, programs_of
 from lib.journal import rows_of
 
 # How many sessions go on with the same folder, and of how many cases their rows are.
@@ -68,6 +70,15 @@ def end(session, way, draw, moment):
     return read
 
 
+def close(session):
+    """Closes the pipes of a session that has ended."""
+    for pipe in (session.stdin, session.stdout, session.stderr):
+        try:
+            pipe.close()
+        except BrokenPipeError:
+            pass
+
+
 def serve(desk, rows, way, draw, pace):
     """A session with these rows that is ended in that way: what it wrote."""
     session = desk.session()
@@ -78,11 +89,7 @@ def serve(desk, rows, way, draw, pace):
     written = end(session, way, draw, draw.random() * pace)
     giver.join()
     errors = session.stderr.read()
-    for pipe in (session.stdin, session.stdout, session.stderr):
-        try:
-            pipe.close()
-        except BrokenPipeError:
-            pass
+    close(session)
     assert session.returncode in STATUSES[way], (way, session.returncode, errors)
     return written
 
@@ -130,9 +137,47 @@ def killed(programs, draw, count):
         count, ways, counts["kept"], counts["kept"] - counts["answered"])
 
 
+def kill_together(desk, rows, pace, draw):
+    """Kills a session that keeps these rows together: whether it has kept them, and whether it has answered one."""
+    before = rows_of(desk.read())
+    session = desk.session(TOGETHER)
+    giver = threading.Thread(target=give, args=(session.stdin, [b"".join(rows)], [0]))
+    giver.start()
+    written = end(session, KILLED, draw, draw.random() * pace)
+    giver.join()
+    close(session)
+    kept = rows_of(desk.read())
+    assert kept[:len(before)] == before, "rows of earlier sessions were changed"
+    assert [row for row, _ in kept[len(before):]] in ([], rows), "some of the rows were kept, and not all"
+    answers = b"".join(answer for _, answer in kept[len(before):])
+    assert answers.startswith(written), "an answer was lost: {}".format(written[-200:])
+    return len(kept) > len(before), bool(written)
+
+
+def killed_together(programs, draw, count):
+    """Kills so many sessions that keep their rows together, and says how many of them kept all rows."""
+    counts = Counter()
+    with tempfile.TemporaryDirectory() as parent:
+        desk, pace = Desk(programs, parent, SHORT_COURT), 0
+        for _ in range(count):
+            rows = drawn_rows(draw, draw.choice([2, 60, 1500]), CASES)
+            if counts["ended"] % 10 == 0:
+                began = time.monotonic()
+                desk.call("try", given=b"".join(drawn_rows(draw, 1500, CASES)))
+                pace = 2 * (time.monotonic() - began)
+            kept, answered = kill_together(desk, rows, pace, draw)
+            counts.update({"ended": 1, "kept": kept, "answered": answered})
+        whole = desk.call("check")
+        assert whole.status == 0, whole
+    return "{} sessions that keep their rows together, killed: {} kept all of them, {} answered one, {} kept none".format(
+        count, counts["kept"], counts["answered"], count - counts["kept"])
+
+
 def main(words):
-    draw = random.Random(int(words[2]) if len(words) > 2 else 1)
-    print(killed(programs_of(words[:2]), draw, int(words[3]) if len(words) > 3 else 2000))
+    programs, draw = programs_of(words[:2]), random.Random(int(words[2]) if len(words) > 2 else 1)
+    count = int(words[3]) if len(words) > 3 else 2000
+    print(killed(programs, draw, count), flush=True)
+    print(killed_together(programs, draw, count // 4))
 
 
 if __name__ == "__main__":

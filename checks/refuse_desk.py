@@ -3,8 +3,8 @@
 
     refuse_desk.py DESK [STORED_DESK INPUT]
 
-DESK opens a folder, enters rows, asks, writes the rows out, and takes another court's file, each again and again until a
-run ends without a refusal. A run in which a growth is refused must end with status 5 and `out of memory` on standard
+DESK opens a folder, enters rows, one after another and together, tries some, asks, writes the rows out, and takes another
+court's file, each again and again until a run ends without a refusal. A run in which a growth is refused must end with status 5 and `out of memory` on standard
 error, or could do without that growth; what it wrote before is a beginning of what it writes with ample memory, what it
 answered is kept, and nothing else was. Where it is named, STORED_DESK fills the journals of INPUT with a growth refused,
 for growths at random: all is as it must be, or it ends with status 1 and says that there was no memory. The status is 0
@@ -17,7 +17,7 @@ import subprocess
 import sys
 import tempfile
 
-from lib.desk import Desk, Programs, SHORT_COURT
+from lib.desk import Desk, Programs, SHORT_COURT, TOGETHER
 from lib.journal import read_journal
 from lib.refusals import PROGRAM_ENDED, lacking, library_that_refuses, run, swept
 
@@ -82,7 +82,9 @@ def refuse_tasks(programs, library):
         desk = Desk(programs, parent, SHORT_COURT)
         ended = [Task(desk, ["enter"], ROWS).sweep(library)]
         desk.enter(ROWS.splitlines(True))
-        for words, given in ((["enter"], ROWS), (["ask"], ROWS), (["rows"], b""), (["check"], b""),
+        sound = ROWS.replace(b"1,nothing\n", b"")
+        for words, given in ((["enter"], ROWS), (["enter", TOGETHER], ROWS), (["enter", TOGETHER], sound), (["try"], ROWS),
+                             (["ask"], ROWS), (["rows"], b""), (["check"], b""),
                              (["court", other], b""), (["court", other, "--accept"], b"")):
             ended.append(Task(desk, words, given).sweep(library))
         shutil.rmtree(desk.folder)

@@ -8,6 +8,8 @@ from lib.journal import read_journal
 TOP = pathlib.Path(__file__).resolve().parent.parent.parent
 # The status with which the desk ends where its journal can't be opened, read or written.
 REFUSED = 6
+# The option with which all rows are kept or none, and the status with which a call ends whose rows have faults.
+TOGETHER, FAULTS = "--all-or-nothing", 3
 # A court's file that is short, so that a journal's bytes are mostly those of its rows.
 SHORT_COURT = b"""zone = "EST5EDT,M3.2.0/2,M11.1.0/2"
 opens = "08:30"
@@ -101,10 +103,10 @@ class Desk:
     def call(self, *words, given=b"", **how):
         return run(self.words(*words), given, **how)
 
-    def session(self, **how):
+    def session(self, *words, **how):
         """A session of its own, which reads rows from a pipe and answers to one."""
-        return subprocess.Popen(self.words("enter"), stdin=subprocess.PIPE, stdout=subprocess.PIPE, stderr=subprocess.PIPE,
-                                **how)
+        return subprocess.Popen(self.words("enter", *words), stdin=subprocess.PIPE, stdout=subprocess.PIPE,
+                                stderr=subprocess.PIPE, **how)
 
     def input_of(self, rows):
         """The input of the clerk's program with this court and these rows."""

@@ -3,12 +3,13 @@ use Rattle.std.proofs.Common.{◌≡◌, ◌⊎◌, inl, inr, ℕ, List, [], ◌
 use Rattle.std.specs.Prelude.{Vec}
 use Rattle.std.specs.declared.alloc.Global.{Global}
 use Rattle.durable_journal.specs.Words.{IsKept, StandsFor, batch_of}
-use Rattle.durable_journal.proofs.CallerLemmas.{one_list}
-use Rattle.durable_session.specs.Words.{IsPromised, IsServed, left_by}
-use Rattle.docket_entries.specs.Words.{StandsAt, answers, later_file, leaves}
+use Rattle.durable_journal.proofs.CallerLemmas.{one_list, rest_kept}
+use Rattle.durable_session.specs.Words.{IsAllOrNone, IsPromised, IsServed, left_by, lines_of, numbered_lines, unfinished_of}
+use Rattle.docket_entries.specs.Words.{IsHistory, SaysCourt, StandsAt, answers, faults_of, later_file, leaves, standing_file}
 use Rattle.docket_entries.proofs.CallerLemmas.{left_docketed, left_history}
 use Rattle.desk_program.specs.declared.desk.Desk.{Desk}
-use Rattle.desk_program.specs.Desk.{IsPromisedDocket, KeepsDocket, court_at, docketed_at}
+use Rattle.desk_program.specs.Desk.{IsPromisedDocket, KeepsDocket, court_at, disk_under, docketed_at}
+use Rattle.desk_program.specs.Together.{IsDocketAllOrNone, KeepsTogether}
 
 module _ {D : Type 0} (seen : D → List ℕ) (may_leave : D → List ℕ → Type 0) (is_usable : D → Bool) (before after : Desk D) (kept : List (List ℕ)) where
   -- lines that are served, of a docket
@@ -21,6 +22,15 @@ module _ {D : Type 0} (seen : D → List ℕ) (may_leave : D → List ℕ → Ty
     told = served.told;
   }
 
+  -- the same of an input that is kept together
+  pub kept_together : KeepsDocket seen may_leave is_usable kept before → court_at after ≡ court_at before → (input : List ℕ) (old new : Option (List ℕ))
+      → faults_of (court_at before) kept (numbered_lines input) ≡ [] → unfinished_of input ≡ []
+      → IsServed (leaves (court_at before)) (answers (court_at before)) (λ entries. IsKept seen may_leave is_usable entries after.journal) (StandsAt (court_at before) after.register) kept (lines_of input) old new
+      → KeepsTogether (court_at before) kept input old new (λ entries. KeepsDocket seen may_leave is_usable entries after)
+  kept_together keeps same input old new faultless finished served =
+      let all = served_docket keeps same (lines_of input) old new served in
+      record { faultless = faultless; finished = finished; keeps = all.keeps; told = all.told }
+
   -- lines that are promised, of a docket
   pub promised_docket : KeepsDocket seen may_leave is_usable kept before → (lines : List (List ℕ)) (old new : Option (List ℕ)) (HasWritten : Type 0) (MayLeave : List ℕ → Type 0)
       → IsPromised (leaves (court_at before)) (answers (court_at before)) kept lines old new HasWritten MayLeave
@@ -32,6 +42,22 @@ module _ {D : Type 0} (seen : D → List ℕ) (may_leave : D → List ℕ → Ty
         let both = left_history (court_at before) kept (take n lines) keeps.docketed.history keeps.docketed.court in
         (kept ++ left_by (leaves (court_at before)) kept (take n lines), stands, both.0, both.1);
   }
+
+  -- lines that are kept together, of a docket
+  pub all_or_none_docket : KeepsDocket seen may_leave is_usable kept before → (lines : List (List ℕ)) (MayLeave : List ℕ → Type 0)
+      → IsAllOrNone (leaves (court_at before)) kept lines MayLeave → IsDocketAllOrNone (court_at before) kept lines MayLeave
+  all_or_none_docket keeps lines MayLeave either = record { all_or_none = either; opens = λ file may. by file (either file may) }
+    where
+      by : (file : List ℕ) → StandsFor file kept ⊎ StandsFor file (kept ++ left_by (leaves (court_at before)) kept lines) → (entries : List (List ℕ)) × StandsFor file entries × IsHistory entries × SaysCourt (standing_file entries) (court_at before)
+      by file (inl stands) = (kept, stands, keeps.docketed.history, keeps.docketed.court)
+      by file (inr stands) =
+          let both = left_history (court_at before) kept lines keeps.docketed.history keeps.docketed.court in
+          (kept ++ left_by (leaves (court_at before)) kept lines, stands, both.0, both.1)
+
+  -- and where nothing was done
+  pub none_docket : KeepsDocket seen may_leave is_usable kept before → (lines : List (List ℕ)) → IsDocketAllOrNone (court_at before) kept lines (may_leave (disk_under before))
+  none_docket keeps lines =
+      all_or_none_docket keeps lines (may_leave (disk_under before)) (λ file may. inl (rest_kept seen may_leave is_usable before.journal kept keeps.kept file may))
 
 -- the entries that were found are those for which the file stood
 pub same_entries : (file c : List ℕ) (found entries : List (List ℕ)) → StandsFor file found → StandsFor file entries → StandsFor c found → StandsFor c entries

@@ -1,3 +1,6 @@
 pub mod DeskLemmas
+pub mod FaultWordLemmas
 pub mod FileLemmas
 pub mod RowsLemmas
+pub mod TogetherLemmas
+pub mod TrialLemmas

@@ -8,7 +8,7 @@ use Rattle.docket_entries.specs.Words.{IsDocketed, IsHistory, SaysCourt, answers
 use Rattle.office_streams.specs.Words.{court_part}
 use Rattle.desk_program.specs.declared.desk.Desk.{Desk}
 use Rattle.desk_program.specs.declared.fault.DeskFault.{DeskFault}
-use Rattle.desk_program.specs.declared.fault.DeskFault.TheVariants.{Busy, Court, Differs, Divided, File, Foreign, Journal, KeptCourt, NoJournal, Other, OutOfMemory, Session, Taken, Write}
+use Rattle.desk_program.specs.declared.fault.DeskFault.TheVariants.{Busy, Court, Differs, Divided, Faults, File, Foreign, Journal, KeptCourt, LongInput, NoJournal, Other, OutOfMemory, Session, Taken, Unkept, Write}
 
 -- the disk under a desk
 abbrev pub disk_under : {D : Type 0} → Desk D → D
@@ -45,6 +45,9 @@ HasCourtFault file (Other number) = ⊥
 HasCourtFault file (Differs count) = ⊥
 HasCourtFault file (Journal fault) = ⊥
 HasCourtFault file (Session fault) = ⊥
+HasCourtFault file (Unkept fault) = ⊥
+HasCourtFault file (Faults count) = ⊥
+HasCourtFault file LongInput = ⊥
 HasCourtFault file Busy = ⊥
 HasCourtFault file Foreign = ⊥
 HasCourtFault file (File name error) = ⊥

@@ -7,7 +7,7 @@ use Rattle.durable_session.specs.declared.fault.SessionFault.TheVariants as sess
 use Rattle.docket_entries.specs.declared.fault.HistoryFault.{HistoryFault}
 use Rattle.docket_entries.specs.declared.fault.HistoryFault.TheVariants as history
 use Rattle.desk_program.specs.declared.fault.DeskFault.{DeskFault}
-use Rattle.desk_program.specs.declared.fault.DeskFault.TheVariants.{Busy, Court, Differs, Divided, File, Foreign, Journal, KeptCourt, NoJournal, Other, OutOfMemory, Session, Taken, Write}
+use Rattle.desk_program.specs.declared.fault.DeskFault.TheVariants.{Busy, Court, Differs, Divided, Faults, File, Foreign, Journal, KeptCourt, LongInput, NoJournal, Other, OutOfMemory, Session, Taken, Unkept, Write}
 
 abbrev pub journal_fault : JournalFault → DeskFault
 journal_fault (journal.Damaged number) = Journal (journal.Damaged number)
@@ -23,8 +23,8 @@ history_fault (history.Court number cause) = KeptCourt number cause
 history_fault (history.Other number) = Other number
 history_fault history.OutOfMemory = OutOfMemory
 
--- the status of a fault: 2 for the court's file, 4 for files and streams, 5 for want of memory, 6 for the journal, 7 for a
--- court's file that isn't taken since answers would differ
+-- the status of a fault: 2 for the court's file, 3 for rows, 4 for files and streams, 5 for want of memory, 6 for the journal,
+-- 7 for a court's file that isn't taken since answers would differ
 abbrev pub desk_status : DeskFault → ℕ
 desk_status (Court court.OutOfMemory) = 5
 desk_status (Court _) = 2
@@ -40,6 +40,12 @@ desk_status (Session session.Read) = 4
 desk_status (Session session.Write) = 4
 desk_status (Session session.OutOfMemory) = 5
 desk_status (Session _) = 6
+desk_status (Unkept session.Read) = 4
+desk_status (Unkept session.Write) = 4
+desk_status (Unkept session.OutOfMemory) = 5
+desk_status (Unkept _) = 6
+desk_status (Faults count) = 3
+desk_status LongInput = 4
 desk_status Busy = 6
 desk_status Foreign = 6
 desk_status (File name error) = 4

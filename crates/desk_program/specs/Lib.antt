@@ -1,7 +1,10 @@
 pub mod Ask
 pub mod Change
 pub mod Desk
+pub mod FaultWords
 pub mod Faults
 pub mod File
 pub mod Rows
+pub mod Together
+pub mod Trial
 pub mod Words

@@ -30,6 +30,12 @@ pub enum DeskFault {
     Journal(JournalFault),
     /// The session ended early.
     Session(SessionFault),
+    /// A session of which nothing is kept ended early.
+    Unkept(SessionFault),
+    /// So many lines have a fault, and none of the rows that were to be kept together is kept.
+    Faults(usize),
+    /// There is more than can be kept together.
+    LongInput,
     /// Another program has the folder's journal open.
     Busy,
     /// The folder has a file `journal-journal`, which isn't the desk's.

@@ -20,7 +20,10 @@ pub fn status_of(fault: &DeskFault) -> u8
         DeskFault::Court(_) | DeskFault::Divided(_) => 2,
         DeskFault::File(_, _) | DeskFault::Write => 4,
         DeskFault::Session(SessionFault::Read | SessionFault::Write) => 4,
+        DeskFault::Unkept(SessionFault::Read | SessionFault::Write) | DeskFault::LongInput => 4,
         DeskFault::Session(SessionFault::OutOfMemory) => 5,
+        DeskFault::Unkept(SessionFault::OutOfMemory) => 5,
+        DeskFault::Faults(_) => 3,
         DeskFault::Journal(JournalFault::OutOfMemory) | DeskFault::OutOfMemory => 5,
         DeskFault::Differs(_) => 7,
         _ => 6,
@@ -56,6 +59,39 @@ fn write_court_fault<W: fmt::Write>(fault: &DeskFault, f: &mut fmt::Formatter<W>
     }
 }
 
+// Why a session of which nothing is kept ended early.
+fn write_unkept<W: fmt::Write>(fault: &SessionFault, f: &mut fmt::Formatter<W>) -> fmt::Result {
+    match fault {
+        SessionFault::Journal(fault) => write!(f, "{fault}"),
+        SessionFault::Read => f.write_str("the input can't be read, and nothing of it is kept"),
+        SessionFault::Write => f.write_str("the answers can't be written, and nothing is kept"),
+        SessionFault::LongLine => f.write_str(
+            "a line has more than 65536 bytes, and nothing is kept",
+        ),
+        SessionFault::Unfinished => f.write_str(
+            "the last line has no end, so it may have been cut, and nothing is kept: end it with a line feed",
+        ),
+        SessionFault::OutOfMemory => f.write_str("out of memory"),
+    }
+}
+
+// What is wrong with the rows of an input.
+fn write_row_fault<W: fmt::Write>(fault: &DeskFault, f: &mut fmt::Formatter<W>) -> fmt::Result {
+    match fault {
+        DeskFault::Faults(1) => f.write_str(
+            "a line has a fault, so nothing is kept: mend it and enter all lines again",
+        ),
+        DeskFault::Faults(count) => write!(
+            f,
+            "{count} lines have faults, so nothing is kept: mend them and enter all lines again"
+        ),
+        DeskFault::LongInput => f.write_str(
+            "the input has more than 16777216 bytes, and nothing is kept: enter it in parts",
+        ),
+        _ => Ok(()),
+    }
+}
+
 impl<'a> fmt::Display for DeskFaultLine<'a> {
     fn fmt<W: fmt::Write>(&self, f: &mut fmt::Formatter<W>) -> fmt::Result {
         match self.fault {
@@ -76,6 +112,8 @@ impl<'a> fmt::Display for DeskFaultLine<'a> {
             ),
             DeskFault::Journal(fault) => write!(f, "{fault}"),
             DeskFault::Session(fault) => write!(f, "{fault}"),
+            DeskFault::Unkept(fault) => write_unkept(fault, f),
+            DeskFault::Faults(_) | DeskFault::LongInput => write_row_fault(self.fault, f),
             DeskFault::Busy => f.write_str(
                 "another program has the journal open: enter rows there, or ask beside it with 'ask'",
             ),

@@ -1,15 +1,19 @@
-//! A court's docket that lasts, over any disk: it is opened, entered, asked, written out and given another court's file. The
-//! program over these calls only opens files and streams.
+//! A court's docket that lasts, over any disk: it is opened, entered, tried, asked, written out and given another court's
+//! file. The program over these calls only opens files and streams.
 #![tactic(auto)]
 
 mod asking;
 mod change;
+mod copy;
 mod court;
 mod desk;
 mod fault;
 mod fault_lines;
+mod fault_words;
 mod file;
 mod rows;
+mod together;
+mod trial;
 
 pub use asking::ask;
 pub use court::{check_court, court_of};

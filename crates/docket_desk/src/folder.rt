@@ -3,6 +3,7 @@ ghost use Rattle.std.specs.Prelude.{◌<◌, ◌≤◌, length, IfOk};
 
 use desk_program::{Desk, DeskFault, open_file};
 use durable_journal::entries_in;
+use sqlite_disk::Memory;
 use sqlite_std_file::{FileFrom, Wary};
 use std::fs;
 use std::io::{self, ErrorKind};
@@ -66,6 +67,22 @@ pub fn opened(rt: &HostRuntime, folder: &str) -> Result<(FolderDesk, Vec<Vec<u8>
 // How often a journal is read again that changes while it is read.
 const TRIES: u32 = 16;
 
+// Reads a journal's file again that seems to have this fault, since another program may have written to it meanwhile. Where
+// it hasn't changed, the fault is its own.
+fn read_again(
+    rt: &HostRuntime,
+    name: &str,
+    bytes: &mut Vec<u8>,
+    fault: DeskFault,
+) -> Result<(), DeskFault> {
+    let again = read_file(rt, name)?;
+    if again.as_slice() == bytes.as_slice() {
+        return Err(fault);
+    }
+    *bytes = again;
+    Ok(())
+}
+
 /// The entries of a folder's journal, read beside a program that may append to it. Where it seems to be damaged and has
 /// changed meanwhile, it is read again.
 pub fn entries_beside(rt: &HostRuntime, folder: &str) -> Result<Vec<Vec<u8>>, DeskFault>
@@ -77,14 +94,25 @@ pub fn entries_beside(rt: &HostRuntime, folder: &str) -> Result<Vec<Vec<u8>>, De
     for _ in 0..TRIES {
         match entries_in(rt.alloc(), &bytes) {
             Ok(entries) => return Ok(entries),
-            Err(fault) => {
-                let again = read_file(rt, name.as_str())?;
-                if again.as_slice() == bytes.as_slice() {
-                    return Err(DeskFault::from(fault));
-                }
-                bytes = again;
-            }
+            Err(fault) => read_again(rt, name.as_str(), &mut bytes, DeskFault::from(fault))?,
         }
     }
     Ok(entries_in(rt.alloc(), &bytes)?)
+}
+
+/// Opens the docket of a folder on a copy of its journal in memory, beside a program that may append to it, as above.
+pub fn copied_beside(rt: &HostRuntime, folder: &str) -> Result<Desk<Memory>, DeskFault> {
+    let name = journal_name(rt, folder)?;
+    find_journal(rt, name.as_str())?;
+    let mut bytes = read_file(rt, name.as_str())?;
+    for _ in 0..TRIES {
+        match Desk::copied(rt.alloc(), Memory::new(rt.alloc()), &bytes) {
+            Ok(desk) => return Ok(desk),
+            Err((fault, _)) => read_again(rt, name.as_str(), &mut bytes, fault)?,
+        }
+    }
+    match Desk::copied(rt.alloc(), Memory::new(rt.alloc()), &bytes) {
+        Ok(desk) => Ok(desk),
+        Err((fault, _)) => Err(fault),
+    }
 }

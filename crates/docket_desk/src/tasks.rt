@@ -2,10 +2,11 @@
 ghost use Rattle.std.specs.Prelude.{◌≡◌, false};
 ghost use Rattle.office_streams.specs.Words.{has_failed};
 
-use crate::folder::{entries_beside, journal_name, make_folder, opened, read_file};
+use crate::folder::{copied_beside, entries_beside, journal_name, make_folder, opened, read_file};
 use crate::words::Task;
 use desk_program::{Desk, DeskFault, ask, check_court, open_file, write_count, write_rows};
-use office_streams::Watched;
+use durable_session::SessionFault;
+use office_streams::{OfficeFault, Watched, read_all};
 use sqlite_std_file::Wary;
 use std::io::Write;
 
@@ -34,6 +35,54 @@ fn enter<W: Write>(rt: &HostRuntime, writer: &mut Watched<W>, folder: &str) -> R
     match ended {
         Ok(()) => Ok(()),
         Err(fault) => Err(DeskFault::Session(fault)),
+    }
+}
+
+// All of standard input.
+fn whole_input(rt: &HostRuntime) -> Result<Vec<u8>, DeskFault> {
+    let mut reader = Watched::new(rt.stdin());
+    match read_all(rt.alloc(), &mut reader) {
+        Ok(input) => Ok(input),
+        Err(OfficeFault::OutOfMemory) => Err(DeskFault::OutOfMemory),
+        Err(_) => {
+            if reader.failed() {
+                Err(DeskFault::Unkept(SessionFault::Read))
+            } else {
+                Err(DeskFault::LongInput)
+            }
+        }
+    }
+}
+
+// Keeps the rows of standard input together, and then answers them.
+fn enter_together<W: Write>(
+    rt: &HostRuntime,
+    writer: &mut Watched<W>,
+    folder: &str,
+) -> Result<(), DeskFault>
+    requires { has_failed writer.old ≡ false }
+{
+    let (mut desk, entries) = opened(rt, folder)?;
+    drop(entries);
+    let input = whole_input(rt)?;
+    let ended = desk.enter_together(rt.alloc(), &input, writer);
+    drop(desk.into_disk());
+    ended
+}
+
+// Answers rows as they would be answered if they were entered, on a copy of the journal, beside a program that may enter rows.
+fn try_folder<W: Write>(
+    rt: &HostRuntime,
+    writer: &mut Watched<W>,
+    folder: &str,
+) -> Result<(), DeskFault>
+    requires { has_failed writer.old ≡ false }
+{
+    let desk = copied_beside(rt, folder)?;
+    let mut reader = Watched::new(rt.stdin());
+    match desk.try_rows(rt.alloc(), &mut reader, writer) {
+        (Ok(()), _) => Ok(()),
+        (Err(fault), _) => Err(DeskFault::Unkept(fault)),
     }
 }
 
@@ -100,6 +149,8 @@ pub fn done<W: Write>(
     match task {
         Task::Open(court) => open_folder(rt, folder, court.as_str()),
         Task::Enter => enter(rt, writer, folder),
+        Task::EnterTogether => enter_together(rt, writer, folder),
+        Task::Try => try_folder(rt, writer, folder),
         Task::Ask => ask_folder(rt, writer, folder),
         Task::Rows => rows(rt, writer, folder),
         Task::Check => check(rt, writer, folder),

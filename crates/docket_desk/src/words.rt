@@ -12,6 +12,10 @@ const TASKS: &str = "Tasks:
   open FOLDER --court FILE        make the folder, with the court's file
   enter FOLDER                    keep the rows of standard input, and answer
                                   each
+  enter FOLDER --all-or-nothing   read all of standard input first, and keep its
+                                  rows only if no line has a fault
+  try FOLDER                      answer rows as 'enter' would, and keep none;
+                                  also while another program enters rows
   ask FOLDER                      answer questions alone, also while another
                                   program enters rows
   rows FOLDER                     write the court's file, %% and all rows, as
@@ -24,6 +28,9 @@ const TASKS: &str = "Tasks:
 
 const OPEN_WORDS: &str = "'open' needs the court's file: open FOLDER --court FILE";
 
+const ENTER_WORDS: &str =
+    "'enter' takes a folder, and --all-or-nothing: rows come from standard input";
+
 const COURT_WORDS: &str = "'court' needs another court's file: court FOLDER FILE [--accept]";
 
 /// What is asked for, of a folder.
@@ -33,6 +40,10 @@ pub enum Task {
     Open(String),
     /// Rows, which are kept and answered.
     Enter,
+    /// Rows, which are kept together if no line has a fault, and then answered.
+    EnterTogether,
+    /// Rows, which are answered and not kept.
+    Try,
     /// Questions, which are answered.
     Ask,
     /// The court's file and all rows, as clerk_office reads them.
@@ -49,6 +60,7 @@ struct Said {
     file: Option<String>,
     court: Option<String>,
     accept: bool,
+    together: bool,
 }
 
 fn text_argument<'a>(alloc: Global, name: &'a str, value: &'a str, help: &'a str) -> Arg<'a> {
@@ -67,6 +79,10 @@ fn command<'a>(alloc: Global) -> Result<Command<'a>, AllocError> {
         .long("accept")
         .action(ArgAction::SetTrue)
         .help("Take another court's file though answers differ");
+    let together = Arg::new(alloc, "together")
+        .long("all-or-nothing")
+        .action(ArgAction::SetTrue)
+        .help("Keep all rows of 'enter', or none if a line has a fault");
     Command::new(alloc, "docket_desk")
         .no_binary_name(true)
         .version("0.1.0")
@@ -76,7 +92,8 @@ fn command<'a>(alloc: Global) -> Result<Command<'a>, AllocError> {
         .arg(folder)?
         .arg(text_argument(alloc, "file", "FILE", "Another court's file, for 'court'"))?
         .arg(text_argument(alloc, "court", "FILE", "The court's file, for 'open'").long("court"))?
-        .arg(accept)
+        .arg(accept)?
+        .arg(together)
 }
 
 // The text of an argument, if it was given.
@@ -101,8 +118,9 @@ fn open_task(alloc: Global, said: Said) -> Result<Task, OptionsFault> {
         file,
         court,
         accept,
+        together,
     } = said;
-    if file.is_some() || accept {
+    if file.is_some() || accept || together {
         return Err(wrong(alloc, OPEN_WORDS));
     }
     match court {
@@ -117,8 +135,9 @@ fn court_task(alloc: Global, said: Said) -> Result<Task, OptionsFault> {
         file,
         court,
         accept,
+        together,
     } = said;
-    if court.is_some() {
+    if court.is_some() || together {
         return Err(wrong(alloc, COURT_WORDS));
     }
     match file {
@@ -127,13 +146,25 @@ fn court_task(alloc: Global, said: Said) -> Result<Task, OptionsFault> {
     }
 }
 
+// Rows that are kept, one after another or together.
+fn enter_task(alloc: Global, said: &Said) -> Result<Task, OptionsFault> {
+    if said.file.is_some() || said.court.is_some() || said.accept {
+        return Err(wrong(alloc, ENTER_WORDS));
+    }
+    if said.together {
+        Ok(Task::EnterTogether)
+    } else {
+        Ok(Task::Enter)
+    }
+}
+
 // A task to which nothing is said but the folder.
 fn plain_task(alloc: Global, name: &str, said: &Said) -> Result<Task, OptionsFault> {
-    if said.file.is_some() || said.court.is_some() || said.accept {
+    if said.file.is_some() || said.court.is_some() || said.accept || said.together {
         return Err(wrong(alloc, "this task takes a folder alone"));
     }
     match name {
-        "enter" => Ok(Task::Enter),
+        "try" => Ok(Task::Try),
         "ask" => Ok(Task::Ask),
         "rows" => Ok(Task::Rows),
         "check" => Ok(Task::Check),
@@ -146,6 +177,7 @@ fn task_of(alloc: Global, name: &str, said: Said) -> Result<Task, OptionsFault> 
     match name {
         "open" => open_task(alloc, said),
         "court" => court_task(alloc, said),
+        "enter" => enter_task(alloc, &said),
         _ => plain_task(alloc, name, &said),
     }
 }
@@ -156,6 +188,7 @@ fn asked(alloc: Global, matches: &ArgMatches<'_>) -> Result<(Task, String), Opti
         file: given(alloc, matches, "file")?,
         court: given(alloc, matches, "court")?,
         accept: matches.get_flag("accept"),
+        together: matches.get_flag("together"),
     };
     let folder = given(alloc, matches, "folder")?;
     match (matches.get_str("task"), folder) {

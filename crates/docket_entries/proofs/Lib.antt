@@ -2,6 +2,7 @@ pub mod CallerLemmas
 pub mod ChangeLemmas
 pub mod EntryLemmas
 pub mod HistoryLemmas
+pub mod LineFaultLemmas
 pub mod ListLemmas
 pub mod QuestionLemmas
 pub mod RegisterLemmas

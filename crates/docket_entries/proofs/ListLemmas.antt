@@ -1,10 +1,10 @@
 -- Entries, after one more.
-use Rattle.std.proofs.Common.{◌≡◌, ◌∙◌, ◌+◌, ◌<◌, ◌≤◌, ℕ, suc, zero, Bool, true, false, List, [], ◌∷◌, ◌++◌, Option, Some, None, drop, length, length-append, refl, sym, ap, append_assoc, append-nil, arith}
-use Rattle.std.specs.Prelude.{IsSome, MatchOption, Vec, get_or, is_some, map, nat_eq, option_map, slice_get, take, unwrap_or}
+use Rattle.std.proofs.Common.{◌≡◌, ◌∙◌, ◌+◌, ◌<◌, ◌≤◌, ℕ, suc, zero, true, false, List, [], ◌∷◌, ◌++◌, Option, Some, None, drop, length, length-append, refl, sym, ap, append_assoc, append-nil, arith}
+use Rattle.std.specs.Prelude.{IsSome, MatchOption, Vec, get_or, is_some, nat_eq, option_map, slice_get, take, unwrap_or}
 use Rattle.std.specs.declared.alloc.Global.{Global}
 use Rattle.std.proofs.lemmas.List.{map-append, take-append-drop, take_more}
 use Rattle.durable_journal.specs.Words.{batch_of}
-use Rattle.docket_entries.specs.Entries.{court_line, file_after, later_file, next_number, row_entries, row_only, rows_among, standing_file}
+use Rattle.docket_entries.specs.Entries.{file_after, later_file, next_number, row_entries, row_only, rows_among, standing_file}
 
 -- what begins with another byte is no court's file
 pub no_file : (b : ℕ) (bytes : List ℕ) → nat_eq 37 b ≡ false → later_file (b ∷ bytes) ≡ None

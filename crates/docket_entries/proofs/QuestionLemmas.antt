@@ -1,5 +1,5 @@
 -- A line that is answered, and leaves nothing.
-use Rattle.std.proofs.Common.{◌≡◌, ◌∙◌, ℕ, List, [], ◌++◌, append-nil, refl, sym, ap, subst}
+use Rattle.std.proofs.Common.{◌≡◌, ◌∙◌, ℕ, List, [], ◌++◌, append-nil, sym, ap, subst}
 use Rattle.court_days.specs.Words.{CourtView}
 use Rattle.durable_session.specs.Words.{TakesLine}
 use Rattle.office_rows.specs.Words.{names_of}

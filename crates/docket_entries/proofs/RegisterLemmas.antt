@@ -1,5 +1,5 @@
 -- A register after one row more.
-use Rattle.std.proofs.Common.{◌≡◌, ◌∙◌, ◌+◌, ◌<◌, ℕ, String, Vec, string_bytes, List, [], ◌∷◌, ◌++◌, Ok, true, ltb, drop, length, length-append, refl, sym, ap, subst, append_assoc, append-nil, arith}
+use Rattle.std.proofs.Common.{◌≡◌, ◌∙◌, ◌+◌, ◌<◌, ℕ, String, Vec, string_bytes, List, [], ◌∷◌, ◌++◌, Ok, true, ltb, length, length-append, refl, sym, ap, subst, append_assoc, append-nil, arith}
 use Rattle.std.proofs.lemmas.Bool.Decides.{nat_tests}
 use Rattle.std.specs.declared.alloc.Global.{Global}
 use Rattle.court_days.specs.Words.{CourtView}

@@ -1,5 +1,5 @@
 -- The answers to lines one by one, and those of a run of their rows together.
-use Rattle.std.proofs.Common.{◌≡◌, ◌∙◌, ◌+◌, ◌<◌, ◌≤◌, ℕ, true, ltb, List, [], ◌∷◌, ◌++◌, length, length-append, refl, sym, ap, subst, append_assoc, append-nil, arith}
+use Rattle.std.proofs.Common.{◌≡◌, ◌∙◌, ◌+◌, ◌<◌, ◌≤◌, ℕ, true, ltb, List, [], ◌∷◌, ◌++◌, length, length-append, refl, sym, ap, append_assoc, append-nil, arith}
 use Rattle.std.specs.Prelude.{All}
 use Rattle.std.proofs.lemmas.Bool.Decides.{nat_tests}
 use Rattle.std.proofs.lemmas.List.Elements.{All-head, All-tail}
@@ -15,7 +15,7 @@ use Rattle.office_run.specs.Replies.{docketed_after}
 use Rattle.office_run.specs.Text.{lines_from, run_text}
 use Rattle.office_run.specs.Words.{closing_text}
 use Rattle.durable_session.specs.Taken.{left_by, told_to}
-use Rattle.docket_entries.specs.Entries.{later_file, most_entries, next_number, rows_among}
+use Rattle.docket_entries.specs.Entries.{most_entries, next_number, rows_among}
 use Rattle.docket_entries.specs.Laws.{AnswersAreTheRuns, HasNoFault}
 use Rattle.docket_entries.specs.Rows.{answer_to, answers, docketed_by, entry_of, leaves, left_of, most_clerks, row_in, rows_in, told_of, within}
 use Rattle.docket_entries.proofs.EntryLemmas.{is_no_file, says_its_row}

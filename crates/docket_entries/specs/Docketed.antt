@@ -1,5 +1,5 @@
 -- A court and its docket, made of a journal's entries, or why they make none.
-use Rattle.std.specs.Prelude.{◌≡◌, ◌+◌, ℕ, List, [], ◌∷◌, ◌++◌, length, Option, None, Err}
+use Rattle.std.specs.Prelude.{◌≡◌, ◌+◌, ℕ, List, [], ◌∷◌, ◌++◌, length, None, Err}
 use Rattle.court_days.specs.Words.{CourtView, court_in}
 use Rattle.court_file_text.specs.declared.fault.CourtFault.{CourtFault}
 use Rattle.docket_entries.specs.declared.docketed.Docketed.{Docketed}

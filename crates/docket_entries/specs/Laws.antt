@@ -1,5 +1,5 @@
 -- What these definitions come to.
-use Rattle.std.specs.Prelude.{◌≡◌, ◌≢◌, ◌<◌, ◌≤◌, ◌+◌, ℕ, List, [], ◌∷◌, ◌++◌, length, None, All}
+use Rattle.std.specs.Prelude.{◌≡◌, ◌≢◌, ◌<◌, ℕ, List, [], ◌∷◌, ◌++◌, length, map, None, All}
 use Rattle.court_days.specs.Words.{CourtView}
 use Rattle.docket_rows.specs.Words.{parts_of}
 use Rattle.office_rows.specs.declared.fault.RowCause.{RowCause}
@@ -11,6 +11,7 @@ use Rattle.durable_session.specs.Words.{left_by, told_to}
 use Rattle.docket_entries.specs.Entries.{later_file, most_entries, standing_file}
 use Rattle.docket_entries.specs.Rows.{answers, docketed_by, follows, leaves, most_clerks, rows_in}
 use Rattle.docket_entries.specs.History.{IsHistory, SaysCourt}
+use Rattle.docket_entries.specs.LineFaults.{faults_of}
 
 -- What a line leaves may follow when the journal is opened again, and is no court's file.
 abbrev pub WhatIsLeftFollows : Type 0
@@ -31,3 +32,7 @@ abbrev pub AnswersAreTheRuns : Type 0
 AnswersAreTheRuns = (court : CourtView) (file : List ℕ) (lines : List (List ℕ)) → All (HasNoFault (names_of court)) lines → length lines < most_entries
     → run_text court (rows_in (names_of court) lines)
     ≡ told_to (leaves court) (answers court) (file ∷ []) lines ++ closing_text court (parts_of (docketed_by court (file ∷ left_by (leaves court) (file ∷ []) lines)))
+
+-- Lines in which no fault is found are blank or say rows.
+abbrev pub FaultlessLinesSayRows : Type 0
+FaultlessLinesSayRows = (court : CourtView) (kept : List (List ℕ)) (lines : List (ℕ × List ℕ)) → faults_of court kept lines ≡ [] → All (HasNoFault (names_of court)) (map (λ line. line.1) lines)

@@ -4,6 +4,7 @@ pub mod History
 pub mod Register
 pub mod Differences
 pub mod Docketed
+pub mod LineFaults
 pub mod Laws
 pub mod Questions
 pub mod Words

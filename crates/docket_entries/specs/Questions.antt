@@ -1,5 +1,5 @@
 -- What lines are answered by a docket of which only questions are asked.
-use Rattle.std.specs.Prelude.{◌≡◌, ℕ, List, [], ◌++◌, codes}
+use Rattle.std.specs.Prelude.{ℕ, List, [], ◌++◌, codes}
 use Rattle.std.specs.Fmt.{decimal}
 use Rattle.court_days.specs.Words.{CourtView}
 use Rattle.row_line.specs.declared.line.Line.{Line}

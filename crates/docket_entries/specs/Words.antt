@@ -6,6 +6,8 @@ pub use Rattle.docket_entries.specs.History.{IsHistory, SaysCourt}
 pub use Rattle.docket_entries.specs.Register.{StandsAt}
 pub use Rattle.docket_entries.specs.Differences.{Change, change_in, changes_by}
 pub use Rattle.docket_entries.specs.Docketed.{HasHistoryFault, IsDocketed}
-pub use Rattle.docket_entries.specs.Laws.{WhatIsLeftFollows, WhatIsLeftIsHistory, AnswersAreTheRuns}
+pub use Rattle.docket_entries.specs.Laws.{WhatIsLeftFollows, WhatIsLeftIsHistory, AnswersAreTheRuns, FaultlessLinesSayRows}
 pub use Rattle.docket_entries.specs.Questions.{AsksOf, command_text}
 unfoldable pub use Rattle.docket_entries.specs.Questions.{shown}
+pub use Rattle.docket_entries.specs.LineFaults.{FaultyLine, fault_in}
+unfoldable pub use Rattle.docket_entries.specs.LineFaults.{faults_of}

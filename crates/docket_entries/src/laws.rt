@@ -1,5 +1,5 @@
 //! Laws of the definitions, the contracts of functions that do nothing.
-ghost use Rattle.docket_entries.specs.Laws.{AnswersAreTheRuns, WhatIsLeftFollows, WhatIsLeftIsHistory};
+ghost use Rattle.docket_entries.specs.Laws.{AnswersAreTheRuns, FaultlessLinesSayRows, WhatIsLeftFollows, WhatIsLeftIsHistory};
 
 /// What a line leaves may follow when the journal is opened again, and is no court's file.
 #[tactic(auto, using(crate::proofs::EntryLemmas::left_follows))]
@@ -17,4 +17,10 @@ pub fn what_is_left_is_history()
 #[tactic(auto, using(crate::proofs::RunLemmas::answers_are_the_runs_lem))]
 pub fn answers_are_the_runs()
     ensures { AnswersAreTheRuns }
+{}
+
+/// Lines in which no fault is found are blank or say rows.
+#[tactic(auto, using(crate::proofs::LineFaultLemmas::faultless_lines_say_rows_lem))]
+pub fn faultless_lines_say_rows()
+    ensures { FaultlessLinesSayRows }
 {}

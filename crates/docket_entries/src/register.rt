@@ -81,16 +81,7 @@ impl DocketRegister {
         ensures room { IfOk result (λ said. (row : RowOf) → said ≡ says.Row row → self.old.count < most_entries) }
     {
         let said = read_line(alloc, line, MOST_CLERKS, court, &mut self.fields)?;
-        match said {
-            Line::Row(_) => {
-                if self.count < MOST_ENTRIES {
-                    Ok(said)
-                } else {
-                    Ok(Line::Fault(RowCause::TooManyRows))
-                }
-            }
-            _ => Ok(said),
-        }
+        Ok(within(said, self.count))
     }
 
     // Decides a row, and gives its answer.
@@ -188,6 +179,24 @@ impl DocketRegister {
                 Ok(Some(Vec::new(alloc)))
             }
         }
+    }
+}
+
+// What a line says after so many entries: where there is no room for another, a row is one too many.
+pub(crate) fn within(said: Line, count: u32) -> Line
+    ensures said { (kept : List (List ℕ)) → count ≡ length kept → result ≡ within kept said }
+    ensures row { (row : RowOf) → result ≡ says.Row row → said ≡ says.Row row }
+    ensures room { (row : RowOf) → result ≡ says.Row row → count < most_entries }
+{
+    match said {
+        Line::Row(_) => {
+            if count < MOST_ENTRIES {
+                said
+            } else {
+                Line::Fault(RowCause::TooManyRows)
+            }
+        }
+        _ => said,
     }
 }
 

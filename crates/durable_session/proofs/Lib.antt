@@ -1,3 +1,4 @@
+pub mod CallerLemmas
 pub mod LineLemmas
 pub mod PromiseLemmas
 pub mod TakenLemmas

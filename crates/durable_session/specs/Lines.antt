@@ -1,5 +1,5 @@
 -- The lines of bytes.
-use Rattle.std.specs.Prelude.{ℕ, List, [], ◌∷◌, ◌++◌, Bool, ◌==◌, ◌||◌, if◌then◌else◌}
+use Rattle.std.specs.Prelude.{◌≡◌, ℕ, ◌+◌, List, [], ◌∷◌, ◌++◌, map, All, Bool, true, false, ◌==◌, ◌||◌, if◌then◌else◌}
 
 -- whether a byte ends a line: a line feed or a carriage return, so that of the two together the second ends an empty line
 abbrev pub ends_line : ℕ → Bool
@@ -22,3 +22,30 @@ lines_of bytes = lines_from [] bytes
 -- a last line that has no end
 abbrev pub unfinished_of : List ℕ → List ℕ
 unfinished_of bytes = unfinished_from [] bytes
+
+-- no line has an end
+abbrev pub HasNoEnd : List ℕ → Type 0
+HasNoEnd bytes = All (λ byte. ends_line byte ≡ false) bytes
+
+-- the first line of bytes, the byte that ends it, and what comes after it
+pub record IsFirstLine (bytes line : List ℕ) (end : ℕ) (rest : List ℕ) : Type 0 where
+  pub parts : bytes ≡ line ++ end ∷ rest
+  pub within : HasNoEnd line
+  pub ends : ends_line end ≡ true
+
+-- the number of the line after this end in a file, whose lines are counted by their line feeds
+abbrev pub number_after : (number end : ℕ) → ℕ
+number_after number end = if end == 10 then number + 1 else number
+
+-- the lines that bytes end, as above, each with its number
+unfoldable pub numbered_from : (number : ℕ) → (begun : List ℕ) → List ℕ → List (ℕ × List ℕ)
+numbered_from number begun [] = []
+numbered_from number begun (byte ∷ bytes) = if ends_line byte then (number, begun) ∷ numbered_from (number_after number byte) [] bytes else numbered_from number (begun ++ byte ∷ []) bytes
+
+-- the lines of bytes that have an end, each with its number in a file, counted from 1
+abbrev pub numbered_lines : List ℕ → List (ℕ × List ℕ)
+numbered_lines bytes = numbered_from 1 [] bytes
+
+-- The lines that are numbered are all lines, in their order.
+abbrev pub NumberedLinesAreLines : Type 0
+NumberedLinesAreLines = (bytes : List ℕ) → map (λ line. line.1) (numbered_lines bytes) ≡ lines_of bytes

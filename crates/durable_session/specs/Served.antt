@@ -1,5 +1,5 @@
 -- What a session leaves on its disk, and what it has written.
-use Rattle.std.specs.Prelude.{◌≤◌, ℕ, List, ◌++◌, Option, take}
+use Rattle.std.specs.Prelude.{◌≤◌, ◌⊎◌, ℕ, List, ◌++◌, Option, take}
 use Rattle.std.specs.Io.KnownBytes.{Appends, Consumes}
 use Rattle.durable_journal.specs.Words.{StandsFor}
 use Rattle.office_streams.specs.Words.{AppendsFront}
@@ -20,6 +20,10 @@ pub record IsPromised (leaves : List (List ℕ) → List ℕ → List (List ℕ)
   pub written : AppendsFront before after (told_to leaves answers kept (take told lines))
   pub whole : HasWritten → Appends before after (told_to leaves answers kept (take told lines))
   pub lasts : (file : List ℕ) → MayLeave file → (n : ℕ) × (told ≤ n) × StandsFor file (kept ++ left_by leaves kept (take n lines))
+
+-- whatever a crash leaves stands for the entries before, or for these and what all of the lines leave
+abbrev pub IsAllOrNone : (leaves : List (List ℕ) → List ℕ → List (List ℕ)) → (kept lines : List (List ℕ)) → (MayLeave : List ℕ → Type 0) → Type 0
+IsAllOrNone leaves kept lines MayLeave = (file : List ℕ) → MayLeave file → StandsFor file kept ⊎ StandsFor file (kept ++ left_by leaves kept lines)
 
 -- some bytes were read, and this is so of them
 abbrev pub AfterBytes : (before after : Option (List ℕ)) → (List ℕ → Type 0) → Type 0

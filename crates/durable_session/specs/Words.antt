@@ -1,6 +1,7 @@
 -- The words for the crates above, from one place.
 pub use Rattle.durable_session.specs.Faults.{IsToldIfFailed, fault_from}
-pub use Rattle.durable_session.specs.Lines.{lines_of, unfinished_of}
+pub use Rattle.durable_session.specs.Lines.{IsFirstLine, HasNoEnd, lines_of, number_after, numbered_lines, unfinished_of}
+unfoldable pub use Rattle.durable_session.specs.Lines.{numbered_from}
 pub use Rattle.durable_session.specs.Taken.{TakesLine, TakesLines}
 unfoldable pub use Rattle.durable_session.specs.Taken.{left_by, told_to}
-pub use Rattle.durable_session.specs.Served.{AfterBytes, IsPromised, IsServed}
+pub use Rattle.durable_session.specs.Served.{AfterBytes, IsAllOrNone, IsPromised, IsServed}

@@ -1,9 +1,9 @@
 //! A session that keeps nothing: lines are answered, and that is all.
-ghost use Rattle.std.specs.Prelude.{◌≡◌, ◌++◌, ℕ, List, false, IfErr, IfSome, OnOk};
+ghost use Rattle.std.specs.Prelude.{◌≡◌, ◌++◌, [], ℕ, List, false, IfErr, IfSome, OnOk};
 ghost use Rattle.std.specs.Io.KnownBytes.{Appends};
 ghost use Rattle.office_streams.specs.Words.{AppendsFront, has_failed, watched};
 ghost use Rattle.durable_session.specs.Faults.{IsToldIfFailed};
-ghost use Rattle.durable_session.specs.Lines.{lines_from, lines_of, unfinished_from};
+ghost use Rattle.durable_session.specs.Lines.{lines_from, lines_of, unfinished_from, unfinished_of};
 ghost use Rattle.durable_session.specs.Served.{AfterBytes};
 ghost use Rattle.durable_session.specs.Taken.{left_by, told_to};
 
@@ -58,6 +58,7 @@ pub fn answer<O: Register, R: Read, W: Write>(
     ensures front { (kept : List (List ℕ)) → O.stands setup.now register.old kept →
         AfterBytes (R.remaining (watched reader.old)) (R.remaining (watched reader.new)) (λ bytes.
         AppendsFront (W.contents (watched writer.old)) (W.contents (watched writer.new)) (told_to (O.leaves setup.now) (O.answers setup.now) kept (lines_of bytes))) }
+    ensures finished { OnOk result (IfSome (R.remaining (watched reader.old)) (λ input. unfinished_of input ≡ [])) }
     ensures fault { IfErr result (IsToldIfFailed (has_failed writer.new)) }
 {
     let mut begun = Vec::new(alloc);

@@ -2,22 +2,16 @@
 ghost use Rattle.std.specs.Prelude.{◌≡◌, ◌++◌, ◌∷◌, [], ℕ, List, false, IfErr, OnOk};
 ghost use Rattle.durable_journal.specs.Words.{batch_of};
 ghost use Rattle.durable_session.specs.Faults.{IsToldIfFailed};
-ghost use Rattle.durable_session.specs.Lines.{ends_line, lines_from, unfinished_from};
+ghost use Rattle.durable_session.specs.Lines.{lines_from, unfinished_from};
 ghost use Rattle.durable_session.specs.Taken.{TakesLines};
 
 use crate::fault::SessionFault;
+use crate::lines::ends_line;
 use crate::register::Register;
 use std::alloc::Global;
 
 /// The most bytes of a line, without its end.
 pub const MAX_LINE: usize = 65_536;
-
-// Whether the byte ends a line.
-fn ends_line(byte: u8) -> bool
-    ensures { result ≡ ends_line byte }
-{
-    byte == b'\n' || byte == b'\r'
-}
 
 // Adds a byte to a line that has begun.
 fn go_on(begun: &mut Vec<u8>, byte: u8) -> Result<(), SessionFault>

@@ -1,4 +1,4 @@
-use Rattle.std.proofs.Common.{◌≡◌, ◌∙◌, ◌<◌, ◌++◌, ◌∷◌, [], ℕ, List, None, append-nil, ap, length, map, refl, sym, subst, arith}
+use Rattle.std.proofs.Common.{◌≡◌, ◌∙◌, ◌<◌, ◌++◌, ◌∷◌, [], ℕ, List, None, append-nil, ap, length, map, sym, subst, arith}
 use Rattle.std.specs.Prelude.{IsSome, MatchOption, is_some}
 use Rattle.std.proofs.lemmas.List.{map_push}
 use Rattle.docket_entries.specs.Differences.{Change, IsOtherwise, change_in}

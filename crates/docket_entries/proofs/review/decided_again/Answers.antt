@@ -1,4 +1,4 @@
-use Rattle.std.proofs.Common.{◌≡◌, ◌∙◌, ◌+◌, ◌<◌, ◌++◌, ◌∷◌, ℕ, List, [], ap, length, map, refl, sym, subst, arith, take}
+use Rattle.std.proofs.Common.{◌≡◌, ◌∙◌, ◌+◌, ◌<◌, ◌++◌, ◌∷◌, ℕ, List, [], ap, length, map, sym, subst, arith, take}
 use Rattle.durable_journal.specs.Words.{batch_of}
 use Rattle.docket_entries.specs.Differences.{Change, change_as, change_in, changes_by}
 use Rattle.docket_entries.specs.Entries.{later_file}

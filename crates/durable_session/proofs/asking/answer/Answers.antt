@@ -4,7 +4,7 @@ use Rattle.std.proofs.lemmas.Result.{on_ok_weaker}
 use Rattle.std.proofs.KnownBytes.{Appends-nil, Appends-trans, Consumes-all, Consumes-kept, Consumes-nil, Consumes-trans}
 use Rattle.std.specs.Io.KnownBytes.{Appends}
 use Rattle.office_streams.specs.Words.{AppendsFront, has_failed, watched}
-use Rattle.durable_session.specs.Lines.{lines_from, lines_of, unfinished_from}
+use Rattle.durable_session.specs.Lines.{lines_from, lines_of, unfinished_from, unfinished_of}
 use Rattle.durable_session.specs.Taken.{left_by, told_to}
 use Rattle.durable_session.proofs.LineLemmas.{lines_from-append, unfinished_from-append}
 use Rattle.durable_session.proofs.PromiseLemmas.{front_more, none_read, nothing_said, whole_front, whole_input}
@@ -55,6 +55,14 @@ returns-then-count-eq0-clause-answered g c = λ kept stands.
     let last = none_read _ _ _ bytes c.read.new.buf c.in-Ok.count consumed c.in-Ok.ensures.bytes.0 c.if-count-eq0.true in
     let all = Consumes-all _ _ bytes [] bytes last (c.in-Ok.ensures.bytes.1 c.if-count-eq0.true room) refl in
     on_ok_weaker c.ended.result (λ none. whole_input _ _ bytes all (answered kept stands).1) c.ended.ensures.finished
+
+pub returns-then-count-eq0-clause-finished : goal.returns-then-count-eq0-clause-finished
+returns-then-count-eq0-clause-finished g c =
+    let (bytes, consumed, begun, working, answered) = c.reads.invariant in
+    let room : 0 < length c.read.new.buf = grind (arith, common_steps) in
+    let last = none_read _ _ _ bytes c.read.new.buf c.in-Ok.count consumed c.in-Ok.ensures.bytes.0 c.if-count-eq0.true in
+    let all = Consumes-all _ _ bytes [] bytes last (c.in-Ok.ensures.bytes.1 c.if-count-eq0.true room) refl in
+    on_ok_weaker c.ended.result (λ none. whole_input _ (λ input. unfinished_of input ≡ []) bytes all (sym begun ∙ none)) c.ended.ensures.finished
 
 pub returns-in_err-answer_bytes-in-Ok-clause-front : goal.returns-in_err-answer_bytes-in-Ok-clause-front
 returns-in_err-answer_bytes-in-Ok-clause-front g c = λ kept stands.

@@ -42,3 +42,24 @@ returns-clause-promised g c = λ kept keeps stands.
     (λ working. cc (c.in-Err.ensures.failed, working))
     (λ file left. subst (λ (more : List (List ℕ)). StandsFor file (kept ++ more)) batch_is
     (rest_kept g.D.Disk.seen g.D.Disk.may_leave g.D.Disk.is_usable c.append.new.self (kept ++ batch_of c.deref.result.now) (c.in_ok-append.ensures.kept kept keeps) file left))
+
+pub returns-in_err-gather-clause-all_or_none : goal.returns-in_err-gather-clause-all_or_none
+returns-in_err-gather-clause-all_or_none g c = λ kept keeps stands file left. inl (rest_kept g.D.Disk.seen g.D.Disk.may_leave g.D.Disk.is_usable c.args.journal.now kept keeps file left)
+
+pub returns-in_err-append-clause-all_or_none : goal.returns-in_err-append-clause-all_or_none
+returns-in_err-append-clause-all_or_none g c = λ kept keeps stands file left.
+    let taken = c.in_ok-gather.ensures.taken kept stands in
+    let batch_is = ap batch_of c.deref.ensures.value ∙ taken.left ∙ ap (λ l. batch_of l ++ left_by (g.O.Register.leaves c.args.setup.now) kept (lines_from c.args.begun.now.items c.args.bytes.now)) c.new-batch.ensures.items in
+    subst (λ (more : List (List ℕ)). StandsFor file kept ⊎ StandsFor file (kept ++ more)) batch_is (c.append.ensures.crash kept keeps file left)
+
+pub returns-in-Ok-clause-all_or_none : goal.returns-in-Ok-clause-all_or_none
+returns-in-Ok-clause-all_or_none g c = λ kept keeps stands file left.
+    let taken = c.in_ok-gather.ensures.taken kept stands in
+    let batch_is = ap batch_of c.deref.ensures.value ∙ taken.left ∙ ap (λ l. batch_of l ++ left_by (g.O.Register.leaves c.args.setup.now) kept (lines_from c.args.begun.now.items c.args.bytes.now)) c.new-batch.ensures.items in
+    subst (λ (more : List (List ℕ)). StandsFor file kept ⊎ StandsFor file (kept ++ more)) batch_is (c.append.ensures.crash kept keeps file left)
+
+pub returns-clause-all_or_none : goal.returns-clause-all_or_none
+returns-clause-all_or_none g c = λ kept keeps stands file left.
+    let taken = c.in_ok-gather.ensures.taken kept stands in
+    let batch_is = ap batch_of c.deref.ensures.value ∙ taken.left ∙ ap (λ l. batch_of l ++ left_by (g.O.Register.leaves c.args.setup.now) kept (lines_from c.args.begun.now.items c.args.bytes.now)) c.new-batch.ensures.items in
+    subst (λ (more : List (List ℕ)). StandsFor file kept ⊎ StandsFor file (kept ++ more)) batch_is (c.append.ensures.crash kept keeps file left)

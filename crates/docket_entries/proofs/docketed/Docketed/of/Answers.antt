@@ -1,4 +1,4 @@
-use Rattle.std.proofs.Common.{◌∙◌, ℕ, List, sym, subst}
+use Rattle.std.proofs.Common.{ℕ, List, sym, subst}
 use Rattle.docket_entries.specs.Docketed.{IsBadFile}
 use Rattle.docket_entries.proofs.HistoryLemmas.{bad_first_of}
 use Rattle.docket_entries.proofs.docketed.Docketed.of.Goals as goal

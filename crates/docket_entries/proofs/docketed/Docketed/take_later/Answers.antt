@@ -2,7 +2,7 @@ use Rattle.std.proofs.Common.{◌≡◌, ◌∙◌, ◌+◌, ◌<◌, ◌++◌, 
 use Rattle.durable_journal.specs.Words.{batch_of}
 use Rattle.docket_entries.specs.Docketed.{HasHistoryFault, IsDocketed}
 use Rattle.docket_entries.proofs.HistoryLemmas.{fault_in_more}
-use Rattle.docket_entries.proofs.ListLemmas.{begun_batch, parted, take_batch}
+use Rattle.docket_entries.proofs.ListLemmas.{parted, take_batch}
 use Rattle.docket_entries.proofs.docketed.Docketed.take_later.Goals as goal
 
 pub returns-in-Err-clause-cause : goal.returns-in-Err-clause-cause

@@ -1,0 +1,43 @@
+//! A docket on a copy of a journal's file.
+ghost use Rattle.std.specs.Prelude.{◌≡◌, [], ℕ, List, IsTrue, IfOk, OnOk};
+ghost use Rattle.durable_journal.specs.Words.{IsDurable, StandsFor};
+
+use crate::desk::Desk;
+use crate::fault::DeskFault;
+use sqlite_disk::Disk;
+use std::alloc::Global;
+use std::io;
+
+// Writes a file to a disk that is empty.
+fn write_copy<D: Disk>(disk: &mut D, file: &[u8]) -> io::Result<()>
+    requires usable { IsTrue (D.Disk.is_usable disk.old) }
+    requires empty { D.Disk.seen disk.old ≡ [] }
+    ensures { OnOk result (IsDurable D.Disk.seen D.Disk.may_leave D.Disk.is_usable file.now disk.new) }
+{
+    match disk.write_at(0, file) {
+        Ok(()) => disk.sync(),
+        Err(error) => Err(error),
+    }
+}
+
+impl<D: Disk> Desk<D> {
+    ghost use Rattle.desk_program.specs.Desk.{KeepsDocket, disk_under};
+
+    /// Opens the docket of a journal's file on a copy of it, which goes to an empty disk. The file itself is only read. A disk
+    /// in memory fails only for want of memory, so where the copy can't be written that is the fault.
+    pub fn copied(alloc: Global, mut disk: D, file: &[u8]) -> Result<Desk<D>, (DeskFault, D)>
+        requires usable { IsTrue (D.Disk.is_usable disk) }
+        requires empty { D.Disk.seen disk ≡ [] }
+        ensures { IfOk result (λ desk. IsTrue (D.Disk.is_clean (disk_under desk))
+            → (entries : List (List ℕ)) × StandsFor file.now entries × KeepsDocket D.Disk.seen D.Disk.may_leave D.Disk.is_usable entries desk) }
+    {
+        match write_copy(&mut disk, file) {
+            Ok(()) => {}
+            Err(_) => return Err((DeskFault::OutOfMemory, disk)),
+        }
+        match Desk::open(alloc, disk) {
+            Ok((desk, _)) => Ok(desk),
+            Err(refused) => Err(refused),
+        }
+    }
+}

@@ -1,0 +1,42 @@
+//! A trial of rows, which keeps none.
+ghost use Rattle.std.specs.Prelude.{◌≡◌, [], ℕ, List, false, IfSome, OnOk};
+ghost use Rattle.durable_session.specs.Words.{AfterBytes, lines_of, unfinished_of};
+ghost use Rattle.office_streams.specs.Words.{has_failed, watched};
+ghost use Rattle.desk_program.specs.Trial.{IsTried, IsTriedInPart};
+
+use crate::desk::Desk;
+use durable_session::{SessionFault, answer};
+use office_streams::Watched;
+use sqlite_disk::Disk;
+use std::alloc::Global;
+use std::io::{Read, Write};
+
+impl<D: Disk> Desk<D> {
+    ghost use Rattle.desk_program.specs.Desk.{KeepsDocket, court_at, disk_under};
+
+    /// Answers rows, one in a line, as `enter` would answer them, until the input ends. None is kept: the disk is given back
+    /// as it was. However it ends, what is written is a beginning of the answers to the lines that were read.
+    pub fn try_rows<R: Read, W: Write>(
+        self,
+        alloc: Global,
+        reader: &mut Watched<R>,
+        writer: &mut Watched<W>,
+    ) -> (Result<(), SessionFault>, D)
+        requires writer_works { has_failed writer.old ≡ false }
+        ensures tried { (kept : List (List ℕ)) → KeepsDocket D.Disk.seen D.Disk.may_leave D.Disk.is_usable kept self → OnOk result.0
+            (IfSome (R.remaining (watched reader.old)) (λ input. IsTried (court_at self) kept (lines_of input) (W.contents (watched writer.old)) (W.contents (watched writer.new)))) }
+        ensures front { (kept : List (List ℕ)) → KeepsDocket D.Disk.seen D.Disk.may_leave D.Disk.is_usable kept self →
+            AfterBytes (R.remaining (watched reader.old)) (R.remaining (watched reader.new)) (λ bytes.
+            IsTriedInPart (court_at self) kept (lines_of bytes) (W.contents (watched writer.old)) (W.contents (watched writer.new))) }
+        ensures finished { OnOk result.0 (IfSome (R.remaining (watched reader.old)) (λ input. unfinished_of input ≡ [])) }
+        ensures untouched { result.1 ≡ disk_under self }
+    {
+        let Desk {
+            journal,
+            court,
+            mut register,
+        } = self;
+        let ended = answer(&court, alloc, &mut register, reader, writer);
+        (ended, journal.into_disk())
+    }
+}

@@ -1,0 +1,27 @@
+use Rattle.std.proofs.Common.{◌≡◌, ◌+◌, ◌≤◌, ◌++◌, ℕ, [], length, map, subst, sym}
+use Rattle.durable_session.specs.Words.{numbered_from, numbered_lines}
+use Rattle.docket_entries.specs.LineFaults.{fault_in, faults_of}
+use Rattle.docket_entries.specs.Rows.{leaves}
+use Rattle.docket_entries.proofs.LineFaultLemmas.{faults_all, faults_more, number_within}
+use Rattle.docket_entries.proofs.register.DocketRegister.line_faults.Goals as goal
+
+pub loop-split-preserved : goal.loop-split-preserved
+loop-split-preserved c = (
+  subst (λ (n : ℕ). n + length c.in-Some.split.rest.now ≤ length c.args.input.now + 1) (sym c.number_after-number.ensures)
+      (number_within c.loop-split.number c.loop-split.rest.now c.in-Some.split.line.now c.in-Some.split.end c.in-Some.split.rest.now (length c.args.input.now + 1) c.in-Some.ensures c.loop-split.invariant.0),
+  λ kept stands.
+      let (then, count, so_far) = c.loop-split.invariant.1 kept stands in
+      let court = c.args.court.now in
+      let line = c.in-Some.split.line.now in (
+        then ++ leaves court then line,
+        c.in_ok-read.ensures.count then count,
+        subst (λ (n : ℕ). map fault_in c.read.new.self.faults.items ++ faults_of court (then ++ leaves court then line) (numbered_from n [] c.in-Some.split.rest.now) ≡ faults_of court kept (numbered_lines c.args.input.now)) (sym c.number_after-number.ensures)
+            (faults_more court then c.loop-split.number c.loop-split.rest.now line c.in-Some.split.end c.in-Some.split.rest.now (map fault_in c.loop-split.reading.faults.items) (map fault_in c.read.new.self.faults.items) (faults_of court kept (numbered_lines c.args.input.now)) c.in-Some.ensures so_far
+            (c.in_ok-read.ensures.faults then count)),
+      ),
+)
+
+pub returns : goal.returns
+returns c = λ kept stands.
+    let (then, count, so_far) = c.loop-split.invariant.1 kept stands in
+    faults_all c.args.court.now then c.loop-split.number c.loop-split.rest.now (map fault_in c.loop-split.reading.faults.items) (faults_of c.args.court.now kept (numbered_lines c.args.input.now)) c.in_default.ensures so_far

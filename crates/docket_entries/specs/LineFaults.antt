@@ -1,0 +1,31 @@
+-- What is wrong with the lines of an input.
+use Rattle.std.specs.Prelude.{ℕ, List, [], ◌∷◌, ◌++◌}
+use Rattle.court_days.specs.Words.{CourtView}
+use Rattle.office_rows.specs.declared.fault.RowCause.{RowCause}
+use Rattle.office_rows.specs.Words.{names_of}
+use Rattle.row_line.specs.declared.line.Line.{Line}
+use Rattle.row_line.specs.declared.line.Line.TheVariants as says
+use Rattle.row_line.specs.Words.{line_read}
+use Rattle.docket_entries.specs.declared.line_faults.LineFault.{LineFault}
+use Rattle.docket_entries.specs.Rows.{leaves, most_clerks, within}
+
+-- a line that has a fault: its number, what is wrong with it, and the line
+pub record FaultyLine : Type 0 where
+  pub number : ℕ
+  pub cause : RowCause
+  pub line : List ℕ
+
+abbrev pub fault_in : LineFault → FaultyLine
+fault_in fault = record { number = fault.number; cause = fault.cause; line = fault.line.items }
+
+-- the fault of the line of that number, which says this
+abbrev pub fault_as : (number : ℕ) → (line : List ℕ) → Line → List FaultyLine
+fault_as number line says.Blank = []
+fault_as number line (says.Fault cause) = record { number = number; cause = cause; line = line } ∷ []
+fault_as number line (says.Row row) = []
+
+-- the faults of lines with their numbers, each line after what those before it leave
+unfoldable pub faults_of : CourtView → (kept : List (List ℕ)) → List (ℕ × List ℕ) → List FaultyLine
+faults_of court kept [] = []
+faults_of court kept (line ∷ lines) =
+    fault_as line.0 line.1 (within kept (line_read most_clerks (names_of court) line.1)) ++ faults_of court (kept ++ leaves court kept line.1) lines

@@ -1,0 +1,109 @@
+//! What is wrong with the lines of an input, which is found before any of them is kept.
+ghost use Rattle.std.specs.Prelude.{◌≡◌, ◌++◌, ◌∷◌, [], ℕ, List, length, map, IfOk, OnOk};
+ghost use Rattle.office_rows.specs.Words.{names_of};
+ghost use Rattle.row_line.specs.Words.{line_read};
+ghost use Rattle.durable_session.specs.Words.{numbered_lines};
+ghost use Rattle.docket_entries.specs.LineFaults.{fault_as, fault_in, faults_of};
+ghost use Rattle.docket_entries.specs.Rows.{leaves, most_clerks, within};
+
+use crate::register::{DocketRegister, MOST_CLERKS, RowTypes, within};
+use court_days::Court;
+use csv::StringRecord;
+use durable_session::{number_after, split_line};
+use office_rows::RowCause;
+use row_line::{Line, read_line};
+use std::alloc::{AllocError, Global};
+
+/// What is wrong with a line.
+#[derive(Debug, Drop)]
+pub struct LineFault {
+    /// The line's number in its file, counted from 1.
+    pub number: usize,
+    /// What is wrong with it.
+    pub cause: RowCause,
+    /// The line, without its end.
+    pub line: Vec<u8>,
+}
+
+// Lines that are read one after another.
+#[derive(Drop)]
+struct Reading {
+    // The fields of the row that was read last.
+    fields: StringRecord,
+    // How many entries there would be.
+    count: u32,
+    faults: Vec<LineFault>,
+}
+
+impl Reading {
+    // Notes the fault of a line.
+    fn note(
+        &mut self,
+        alloc: Global,
+        number: usize,
+        cause: RowCause,
+        line: &[u8],
+    ) -> Result<(), AllocError>
+        ensures faults { OnOk result (map fault_in self.new.faults.items ≡ map fault_in self.old.faults.items ++ record { number = number; cause = cause; line = line.now } ∷ []) }
+        ensures count { self.new.count ≡ self.old.count }
+        ensures fields { self.new.fields ≡ self.old.fields }
+    {
+        let line = Vec::from_slice(alloc, line)?;
+        self.faults.push(LineFault {
+            number,
+            cause,
+            line,
+        })?;
+        Ok(())
+    }
+
+    // Reads the line of that number.
+    fn read(
+        &mut self,
+        alloc: Global,
+        court: &Court,
+        number: usize,
+        line: &[u8],
+    ) -> Result<(), AllocError>
+        ensures faults { (kept : List (List ℕ)) → self.old.count ≡ length kept → OnOk result
+            (map fault_in self.new.faults.items ≡ map fault_in self.old.faults.items ++ fault_as number line.now (within kept (line_read most_clerks (names_of court.now) line.now))) }
+        ensures count { (kept : List (List ℕ)) → self.old.count ≡ length kept → OnOk result (self.new.count ≡ length (kept ++ leaves court.now kept line.now)) }
+    {
+        let _types: RowTypes = None;
+        let said = read_line(alloc, line, MOST_CLERKS, court, &mut self.fields)?;
+        match within(said, self.count) {
+            Line::Blank => {}
+            Line::Fault(cause) => self.note(alloc, number, cause, line)?,
+            Line::Row(_) => self.count += 1,
+        }
+        Ok(())
+    }
+}
+
+impl DocketRegister {
+    ghost use Rattle.docket_entries.specs.Register.{StandsAt};
+
+    /// What is wrong with the lines of an input, if they come next. `Err` says that memory ran out.
+    pub fn line_faults(
+        &self,
+        alloc: Global,
+        court: &Court,
+        input: &[u8],
+    ) -> Result<Vec<LineFault>, AllocError>
+        ensures { (kept : List (List ℕ)) → StandsAt court.now self.now kept → IfOk result (λ faults. map fault_in faults.items ≡ faults_of court.now kept (numbered_lines input.now)) }
+    {
+        let mut reading = Reading {
+            fields: StringRecord::new(alloc),
+            count: self.count,
+            faults: Vec::new(alloc),
+        };
+        let mut number = 1usize;
+        let mut rest = input;
+        while let Some(split) = split_line(rest) {
+            reading.read(alloc, court, number, split.line)?;
+            number = number_after(number, split.end);
+            rest = split.rest;
+        }
+        Ok(reading.faults)
+    }
+}
