@@ -1,12 +1,14 @@
 #!/usr/bin/env python3
-"""Compares what court_calendar writes with what clerk_office says of the same docket.
+"""Compares what court_calendar writes with what clerk_office and deadline_memo say of the same docket.
 
-    calendar_check.py CALENDAR CLERK [SEED [COUNT]]
+    calendar_check.py CALENDAR CLERK MEMO [SEED [COUNT]]
 
 Inputs are made at random. clerk_office answers each; from the sheets and calendars at the end of its text this script
-makes the list of what is due and a judge's week by itself, and court_calendar must write just that: for any days, any
-judge, any case, and words that say nothing of the court. A faulty input must end both programs alike. It needs Python 3.8
-or later; the status is 0 where all is alike.
+makes the list of what is due, a judge's week and what a page says by itself, and court_calendar must write just that: for
+any days, any judge, any case, and words that say nothing of the court. A page is read by Python's own reader of HTML; its
+markup is looked at too (lib/pages.py). What it says of the reasons of a deadline must be the lines of deadline_memo. A
+faulty input must end both programs alike, and so must names that no court's file may have, such as `<b>`. It needs Python
+3.8 or later; the status is 0 where all is alike.
 """
 import datetime
 import random
@@ -16,12 +18,18 @@ import sys
 from collections import namedtuple
 
 from lib.made_inputs import INPUTS, made_input
+from lib.pages import faults_of, parts_of
 
 # A row at the end that is answered by one line: what follows it are the sheets and the calendars.
 LAST_ROW = b"1,compute,59e,2025-08-04,,,\n"
 UNITS = {"d": ("day", "days"), "h": ("hour", "hours")}
 ACTS = {"filing": "to file", "service": "to serve"}
+# Names that no court's file may have, and that a page would have to escape.
+HOSTILE = ["<b>", "&amp;", "&", '\\"', "'", "a>b", "<script>alert(1)</script>", "x" * 33, "x" * 64, ""]
+# Names that a file may have, of the greatest length and of all characters.
+LONG = ["Calloway-Montgomery_von.Humboldt", "-_.-_.-_.-_.-_.-_.-_.-_.-_.-_.-_"]
 
+Sheet = namedtuple("Sheet", "case filed deadlines motions")
 Item = namedtuple("Item", "day second case kind number line panel")
 Booking = namedtuple("Booking", "day first count case motion room")
 Docket = namedtuple("Docket", "items before calendars")
@@ -139,23 +147,148 @@ def week_text(court, docket, judge, of):
         for b in booked[day]]
 
 
+def sheets_of(lines):
+    """The sheets at the end of a text: of a deadline its words, of a motion its words and those of its hearing."""
+    sheets = []
+    for words in (line.split(" ") for line in lines):
+        if words[0] == "case":
+            sheets.append(Sheet(int(words[1]), words[3], [], []))
+        elif words[0] == "deadline":
+            sheets[-1].deadlines.append(words)
+        elif words[0] == "motion":
+            sheets[-1].motions.append((words, []))
+        elif words[0] == "hearing":
+            sheets[-1].motions[-1][1].extend(words)
+    return sheets
+
+
+def deadline_cells(words):
+    """What the row of a deadline says, but for the period in words."""
+    if words[3] == "beyond":
+        end, state = "beyond the days of the court's file", words[4:]
+    elif words[3] == "until":
+        end, state = "until {} {}".format(named(day_of(words[4])), words[5]), words[6:]
+    else:
+        end, state = "last day " + named(day_of(words[4])), words[5:]
+    done = ": {} {}, {}".format(named(day_of(state[1])), *state[2:]) if len(state) > 1 else ""
+    return [words[1], period_words(words[2]), end, state[0] + done]
+
+
+def reasons_of(lines):
+    """The lines of reasons that deadline_memo writes below each deadline of a sheet, by case and number."""
+    reasons, case, number = {}, None, None
+    for line in lines:
+        words = line.split(" ")
+        if words[0] == "case":
+            case = int(words[1])
+        elif words[0] == "deadline":
+            number = int(words[1])
+            reasons[case, number] = ""
+        elif line.startswith("  ") and case is not None:
+            reasons[case, number] += line + "\n"
+    return reasons
+
+
+def motion_cells(words, hearing):
+    need = "ex parte" if words[5] == "exparte" else "{} {}".format(words[5], UNITS["d"][words[5] != "1"])
+    lines = ["not set"]
+    if hearing:
+        first = minutes(hearing[2])
+        lines = ["{} {}-{}".format(named(day_of(hearing[1])), clock(first), clock(first + 15 * quarters(hearing[3]))),
+                 "before {}, room {}".format(hearing[4], hearing[5]), "notice served " + named(day_of(hearing[7])),
+                 "opposing affidavits: none" if hearing[9] == "none" else "opposing affidavits by " + named(day_of(hearing[9]))]
+    return [[words[1]], [named(day_of(words[3]))], [need], lines]
+
+
+def due_rows(text):
+    """The rows of a page for the lines of what is due: the day, the time, the case and the rest."""
+    rows, day = [], None
+    for line in text[2:]:
+        if line.startswith("  "):
+            time, rest = line[2:].split("  ", 1)
+            case, words = re.match("(case [0-9]+) (.*)", rest).groups()
+            rows.append((day, [time, case, words]))
+        elif line and line != "Nothing is due.":
+            day = line
+    return rows
+
+
+def booking_row(b):
+    return ("Week of " + named(b.day - datetime.timedelta(b.day.weekday())),
+            [named(b.day), "{}-{}".format(clock(b.first), clock(b.first + b.count)),
+             "case {}, motion {}".format(b.case, b.motion), b.room])
+
+
+def page_fault(page, text, docket, sheets, reasons, first, last, judge, case):
+    """What a page says otherwise than the docket, or what is wrong with its markup, or none."""
+    faults = faults_of(page)
+    if faults:
+        return faults[0]
+    parts = parts_of(page)
+    chosen = text[0][len("Due from "):]
+    if (parts.title, parts.chosen, parts.closing) != ("Court calendar, " + chosen, chosen, text[1]):
+        return "another title"
+    if [(day, [cell.text() for cell in cells]) for day, cells in parts.due] != due_rows(text):
+        return "something else is due"
+    calendars = [("Judge " + name, [booking_row(b) for b in bookings if first <= b.day <= last and case in (None, b.case)])
+                 for name, bookings in docket.calendars.items() if judge in (None, name)]
+    found = [(name, [(week, [cell.text() for cell in cells]) for week, cells in rows]) for name, rows in parts.judges]
+    if found != [calendar for calendar in calendars if calendar[1]]:
+        return "other hearings"
+    cases = [s for s in sheets if case in (None, s.case) and (judge is None or judge in docket.before.get(s.case, ()))]
+    if list(parts.cases) != ["case-{}".format(s.case) for s in cases]:
+        return "other cases"
+    for s, found in zip(cases, parts.cases.values()):
+        cells = [[lines[0] for lines in (cell.lines() for cell in row)] for _, row in found.deadlines]
+        notes = [row[1].all("div")[1].raw() for _, row in found.deadlines]
+        if (found.title, found.filed) != ("Case {}".format(s.case), "Filed " + named(day_of(s.filed))) or \
+                cells != [deadline_cells(words) for words in s.deadlines] or \
+                [title for title, _ in found.reasons] != ["Reasons of deadline " + words[1] for words in s.deadlines] or \
+                [note + why for note, (_, why) in zip(notes, found.reasons)] != \
+                [reasons[s.case, int(words[1])] for words in s.deadlines] or \
+                [[cell.lines() for cell in row] for _, row in found.motions] != [motion_cells(*m) for m in s.motions]:
+            return "another sheet of case {}".format(s.case)
+    return None
+
+
+def refuses_hostile_names(calendar, clerk):
+    """What is wrong with names that no court's file may have, or with the longest, or none."""
+    court = 'zone = "-05:00"\nopens = "09:00"\ncloses = "17:00"\nfrom = "2025-01-01"\nto = "2025-12-31"\nfederal = []\n' \
+            'state = []\njudges = ["{}"]\nrooms = ["{}"]\n%%\n1,open,1,2025-08-01\n1,motion,1,2025-08-01,exparte\n' \
+            '1,book,1,1,{},{},2025-09-15,10:00,2,2025-08-01\n'
+    for name in HOSTILE:
+        data = court.format(name, "R1", name, "R1").encode()
+        found, other = ran(calendar, ["page"], data), ran(clerk, [], data)
+        if found != other or found[0] != 2 or found[1]:
+            return "the name {} isn't refused".format(name)
+    for name in LONG:
+        found = ran(calendar, ["page", "--judge", name], court.format(name, name, name, name).encode())
+        if found[0] != 0 or faults_of(found[1]) or parts_of(found[1]).judges[0][1][0][1][3].text() != name:
+            return "the name {} isn't shown".format(name)
+    return None
+
+
 def ran(program, words, data):
     done = subprocess.run([program, *words], input=data, stdout=subprocess.PIPE, stderr=subprocess.PIPE, check=False)
     return done.returncode, done.stdout.decode(), done.stderr.decode()
 
 
-def made_words(chance, court, docket):
-    """Words, and the text that they must give."""
+def made_words(chance, court, docket, sheets, reasons):
+    """Words, and what is wrong with what the program writes for them, or none."""
+    def is_text(lines):
+        wanted = "".join(line + "\n" for line in lines)
+        return lambda found: None if found == wanted else "wanted\n" + wanted
     judges = sorted(docket.calendars)
     days = [item.day for item in docket.items] or [day_of(court["from"])]
     if judges and chance.random() < 0.4:
         judge, of = chance.choice(judges), chance.choice(days)
-        return ["week", "--judge", judge, "--of", str(of)], week_text(court, docket, judge, of)
+        return ["week", "--judge", judge, "--of", str(of)], is_text(week_text(court, docket, judge, of))
     if chance.random() < 0.1:
-        return (["due", "--judge", "Nobody"], ["court_calendar: no judge is named 'Nobody' in the court's file"]) \
+        format_asked = chance.choice(["due", "page"])
+        return ([format_asked, "--judge", "Nobody"], is_text(["court_calendar: no judge is named 'Nobody' in the court's file"])) \
             if chance.random() < 0.5 else \
-            (["due", "--to", "2025-02-29"], ["court_calendar: '2025-02-29' is no day: write one as 2025-09-15"])
-    words, first, last, judge, case = ["due"], day_of(court["from"]), day_of(court["to"]), None, None
+            ([format_asked, "--to", "2025-02-29"], is_text(["court_calendar: '2025-02-29' is no day: write one as 2025-09-15"]))
+    words, first, last, judge, case = [chance.choice(["due", "page"])], day_of(court["from"]), day_of(court["to"]), None, None
     if chance.random() < 0.6:
         first = chance.choice(days)
         words += ["--from", str(first)]
@@ -168,42 +301,56 @@ def made_words(chance, court, docket):
     if chance.random() < 0.3:
         case = chance.choice([item.case for item in docket.items] + [1, 4096])
         words += ["--case", str(case)]
-    return words, due_text(court, docket, first, last, judge, case)
+    text = due_text(court, docket, first, last, judge, case)
+    if words[0] == "page":
+        return words, lambda page: page_fault(page, text, docket, sheets, reasons, first, last, judge, case)
+    return words, is_text(text)
 
 
-def differs(chance, calendar, clerk, data):
-    """How the two programs differ on an input, and how often they were compared."""
+def closing_of(text):
+    """The lines after the last answer: sheets and calendars."""
+    lines = text.splitlines()
+    return lines[max(at for at, line in enumerate(lines) if re.match(r"[0-9]+ 1 ", line)) + 1:]
+
+
+def differs(chance, calendar, clerk, memo, data):
+    """How the programs differ on an input, and how often they were compared."""
     status, text, errors = ran(clerk, [], data + LAST_ROW)
     if status != 0:
         alone = ran(clerk, [], data)
         other = ran(calendar, ["due"], data)
         return (None if alone[0] == 0 or other == alone else "a fault told otherwise"), 1
     court = dict(re.findall(r'^\s*(opens|closes|from|to)\s*=\s*"([^"]*)"', data.decode().split("%%")[0], re.MULTILINE))
-    lines = text.splitlines()
-    closing = max(at for at, line in enumerate(lines) if re.match(r"[0-9]+ 1 ", line)) + 1
-    docket = docket_of(lines[closing:])
-    for _ in range(4):
-        words, wanted = made_words(chance, court, docket)
-        found = ran(calendar, words, data)
-        if found != (0, "".join(line + "\n" for line in wanted), ""):
-            return "{}: {}\nwanted\n{}".format(" ".join(words), found[1] + found[2], "\n".join(wanted)), 4
-    return None, 4
+    lines = closing_of(text)
+    docket, sheets = docket_of(lines), sheets_of(lines)
+    reasons = reasons_of(closing_of(ran(memo, [], data + LAST_ROW)[1]))
+    for _ in range(5):
+        words, fault_in = made_words(chance, court, docket, sheets, reasons)
+        status, text, errors = ran(calendar, words, data)
+        fault = fault_in(text) if (status, errors) == (0, "") else "status {}: {}".format(status, errors)
+        if fault is not None:
+            return "{}: {}\n{}".format(" ".join(words), text, fault), 5
+    return None, 5
 
 
 def main():
-    calendar, clerk = sys.argv[1:3]
-    seed = int(sys.argv[3]) if len(sys.argv) > 3 else 1
-    count = int(sys.argv[4]) if len(sys.argv) > 4 else 200
+    calendar, clerk, memo = sys.argv[1:4]
+    seed = int(sys.argv[4]) if len(sys.argv) > 4 else 1
+    count = int(sys.argv[5]) if len(sys.argv) > 5 else 200
     compared = 0
+    wrong = refuses_hostile_names(calendar, clerk)
+    if wrong:
+        print(wrong)
+        sys.exit(1)
     for number in range(count):
         chance = random.Random("calendar {} {}".format(seed, number))
         data = made_input(chance, chance.choice(INPUTS))
-        wrong, times = differs(chance, calendar, clerk, data)
+        wrong, times = differs(chance, calendar, clerk, memo, data)
         compared += times
         if wrong:
             print("seed {} input {}: {}".format(seed, number, wrong))
             sys.exit(1)
-    print("{} texts of {} inputs are what clerk_office says".format(compared, count))
+    print("{} texts of {} inputs are what clerk_office and deadline_memo say".format(compared, count))
 
 
 main()

@@ -10,8 +10,9 @@ may come to.
 In README.md, docs/, examples/ and runs/ a line of an indented block that begins with `$ ` is a command, run in a shell
 at the top of the repository; the lines below it, up to the next command or the end of the block, are what it must
 print. There the programs are on the PATH, and FOLDER is a new folder for each document. The rows and answers in
-docs/A_DAY.md must be those of examples/a_day.txt and examples/a_day.out, each once and in their order. The programs must
-be built (`make`, `make memo`, `make desk`). It needs Python 3.8 or later; the status is 0 where all is as is written.
+docs/A_DAY.md must be those of examples/a_day.txt and examples/a_day.out, each once and in their order. The rows in the table
+of docs/A_WEEK.md, one after another in the court of examples/district.toml, must have the answers beside them. All
+programs must be built. It needs Python 3.8 or later; the status is 0 where all is as it is written.
 """
 import os
 import pathlib
@@ -22,7 +23,8 @@ import tempfile
 
 TOP = pathlib.Path(__file__).resolve().parent.parent
 PROGRAMS = {".out": "crates/clerk_office/out/clerk_office", ".memo": "crates/deadline_memo/out/deadline_memo"}
-ON_PATH = [str(TOP / "crates" / name / "out") for name in ("clerk_office", "deadline_memo", "docket_desk")]
+ON_PATH = [str(TOP / "crates" / name / "out")
+           for name in ("clerk_office", "deadline_memo", "docket_desk", "court_calendar", "court_file")]
 DIVIDER = "%%\n"
 
 
@@ -86,6 +88,18 @@ def is_told(page, example):
     return pairs == list(zip(rows, answers)) and "".join(line + "\n" for line in closing) in blocks
 
 
+def rows_that_differ(page):
+    """The rows of the page's table whose answer isn't the one beside it, or that have none there."""
+    pairs = re.findall(r"^\| [^|]* \| `(1,[^`]*)` \| `([^`]*)`", page, re.MULTILINE)
+    court = (TOP / "examples" / "district.toml").read_text()
+    rows = court + "\n" + DIVIDER + "".join(row + "\n" for row, _ in pairs)
+    ran = subprocess.run([TOP / PROGRAMS[".out"]], input=rows.encode(), stdout=subprocess.PIPE, stderr=subprocess.STDOUT,
+                         check=False)
+    answers = re.findall(r"^[0-9]+ 1 (.*)$", ran.stdout.decode(), re.MULTILINE)
+    answers += [None] * (len(pairs) - len(answers))
+    return ["no rows"] * (not pairs) + [row for (row, wanted), answer in zip(pairs, answers) if answer != wanted]
+
+
 def main():
     of_documents = [(path, *commands_that_differ(path)) for path in documents()]
     shown = sum(count for _, count, _ in of_documents)
@@ -95,13 +109,16 @@ def main():
     told = is_told((TOP / "docs" / "A_DAY.md").read_text(), TOP / "examples" / "a_day")
     if not told:
         print("docs/A_DAY.md: not the rows and answers of examples/a_day")
+    otherwise = rows_that_differ((TOP / "docs" / "A_WEEK.md").read_text())
+    for row in otherwise:
+        print("docs/A_WEEK.md: answered otherwise: {}".format(row))
     examples = [(path, kind) for path in sorted((TOP / "examples").glob("*.txt")) for kind in PROGRAMS
                 if kind == ".out" or not words_of(path)]
     unanswered = [(path, kind) for path, kind in examples if not is_answered(path, kind)]
     for path, kind in unanswered:
         print("{}: answered otherwise".format(path.with_suffix(kind).relative_to(TOP)))
-    failed = len(wrong) + len(unanswered) + (0 if told else 1)
-    print("{} passed, {} failed".format(shown + len(examples) + 1 - failed, failed))
+    failed = len(wrong) + len(unanswered) + (0 if told else 1) + (1 if otherwise else 0)
+    print("{} passed, {} failed".format(shown + len(examples) + 2 - failed, failed))
     sys.exit(0 if shown and examples and failed == 0 else 1)
 
 

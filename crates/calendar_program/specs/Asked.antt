@@ -5,12 +5,17 @@ use Rattle.std.specs.Str.Parse.{digits_value, without_leading_plus}
 use Rattle.clap.specs.Words.{Row, Text, first_of, one_of, subcommand_of}
 use Rattle.calendar_program.specs.declared.asked.Asked.{Asked}
 use Rattle.calendar_program.specs.declared.asked.Task.{Task}
-use Rattle.calendar_program.specs.declared.asked.Task.TheVariants.{Due, Week}
+use Rattle.calendar_program.specs.declared.asked.Task.TheVariants.{Due, Ics, Json, Page, Week}
 use Rattle.calendar_program.specs.CommandLine.{command_line}
 
 -- what a subcommand of that name writes
 abbrev pub task_of : (name : Text) → Task
-task_of name = if bytes_eq name (codes "week") then Week else Due
+task_of name =
+    if bytes_eq name (codes "week") then Week
+    else if bytes_eq name (codes "page") then Page
+    else if bytes_eq name (codes "ics") then Ics
+    else if bytes_eq name (codes "json") then Json
+    else Due
 
 -- the number that decimal digits write, with or without a `+` before them
 abbrev pub number_written : Text → ℕ
@@ -25,6 +30,7 @@ pub record IsAskedBy (name : Text) (given : List Row) (asked : Asked) : Type 0 w
   pub from : option_map string_bytes asked.from ≡ first_of (codes "from") given
   pub to : option_map string_bytes asked.to ≡ first_of (codes "to") given
   pub of : option_map string_bytes asked.of ≡ first_of (codes "of") given
+  pub stamp : option_map string_bytes asked.stamp ≡ first_of (codes "stamp") given
 
 -- the words have a subcommand, and it asks for that
 abbrev pub IsAsked : List Text → Asked → Type 0

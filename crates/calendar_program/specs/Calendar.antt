@@ -6,15 +6,23 @@ use Rattle.court_days.specs.Words.{CourtView, file_of}
 use Rattle.docket_rows.specs.Words.{Rows, opening_rows, setup_of}
 use Rattle.docket_selection.specs.declared.choice.Choice.{Choice}
 use Rattle.docket_selection.specs.declared.item.DueItem.{DueItem}
-use Rattle.docket_selection.specs.Words.{IsDue, day_bookings, week_days}
+use Rattle.docket_selection.specs.Words.{IsDue, chosen_calendars, chosen_sheets, day_bookings, week_days}
+use Rattle.hearing_changes.specs.declared.change.HearingChange.{HearingChange}
+use Rattle.content_lines.specs.Words.{HasShortLines}
 use Rattle.calendar_texts.specs.Words.{due_text, week_text}
+use Rattle.calendar_ics.specs.Words.{appointments_of, icalendar_text}
+use Rattle.calendar_page.specs.declared.explained.ExplainedSheet.{ExplainedSheet}
+use Rattle.calendar_page.specs.Words.{AreExplained, page_text}
+use Rattle.office_rows.specs.declared.row.Row.{Row}
 use Rattle.office_run.specs.Words.{docketed_after}
+use Rattle.calendar_json.specs.Words.{IsJsonText, document_value}
 use Rattle.office_streams.specs.Words.{Input}
 use Rattle.calendar_program.specs.declared.asked.Asked.{Asked}
 use Rattle.calendar_program.specs.declared.chosen.Chosen.{Chosen}
-use Rattle.calendar_program.specs.declared.chosen.Chosen.TheVariants.{Due, Week}
+use Rattle.calendar_program.specs.declared.chosen.Chosen.TheVariants.{Due, Ics, Json, Page, Week}
 use Rattle.calendar_program.specs.declared.chosen.Unknown.{Unknown}
-use Rattle.calendar_program.specs.declared.chosen.Unknown.TheVariants.{Judge, From, To, Of}
+use Rattle.calendar_program.specs.declared.chosen.Unknown.TheVariants.{Judge, From, To, Of, Stamp}
+use Rattle.calendar_program.specs.Changes.{changes_made}
 use Rattle.calendar_program.specs.Chosen.{chosen_of}
 
 -- the text of what is due: a line for each item of the list of what is due
@@ -27,10 +35,30 @@ pub record IsDueText (court : CourtView) (docketed : Rows) (choice : Choice) (te
 abbrev pub week_text_of : CourtView → (docketed : Rows) → (judge : ℕ) → (day : ℤ) → List ℕ
 week_text_of court docketed judge day = week_text court judge (map (day_bookings (setup_of court) docketed judge) (week_days day))
 
+-- The page of what is due, of the chosen judges' bookings, and of the sheets of the chosen cases with the reasons of each
+-- deadline, by the days that are docketed.
+pub record IsPage (court : CourtView) (docketed : Rows) (choice : Choice) (text : List ℕ) : Type 0 where
+  pub items : List DueItem
+  pub due : IsDue (setup_of court) docketed choice items
+  pub sheets : List ExplainedSheet
+  pub explained : AreExplained docketed.days court.clock (chosen_sheets (setup_of court) docketed choice) sheets
+  pub page : text ≡ page_text court docketed.days choice items (chosen_calendars (setup_of court) docketed choice) sheets
+
+-- the text of a calendar: an event for each item of the list of what is chosen, and for each chosen hearing that is off by
+-- the changes that were made
+pub record IsIcsText (court : CourtView) (docketed : Rows) (changes : List HearingChange) (choice : Choice) (stamp : ℤ) (text : List ℕ) : Type 0 where
+  pub items : List DueItem
+  pub chosen : IsDue (setup_of court) docketed choice items
+  pub lines : text ≡ icalendar_text court stamp (appointments_of choice changes items)
+  pub short : HasShortLines text
+
 -- the text of what is chosen
-abbrev pub IsTextOf : CourtView → (docketed : Rows) → Chosen → List ℕ → Type 0
-IsTextOf court docketed (Due choice) text = IsDueText court docketed choice text
-IsTextOf court docketed (Week judge day) text = text ≡ week_text_of court docketed judge day
+abbrev pub IsTextOf : CourtView → List Row → (docketed : Rows) → List HearingChange → Chosen → List ℕ → Type 0
+IsTextOf court rows docketed changes (Due choice) text = IsDueText court docketed choice text
+IsTextOf court rows docketed changes (Week judge day) text = text ≡ week_text_of court docketed judge day
+IsTextOf court rows docketed changes (Page choice) text = IsPage court docketed choice text
+IsTextOf court rows docketed changes (Ics choice stamp) text = IsIcsText court docketed changes choice stamp text
+IsTextOf court rows docketed changes (Json choice) text = IsJsonText (document_value court choice rows) text
 
 -- the text of a word, where it was given
 abbrev pub word_given : Option (String Global) → List ℕ
@@ -44,19 +72,25 @@ no_judge word = codes "court_calendar: no judge is named '" ++ word_given word +
 abbrev pub no_day : Option (String Global) → List ℕ
 no_day word = codes "court_calendar: '" ++ word_given word ++ codes "' is no day: write one as 2025-09-15\n"
 
+abbrev pub no_instant : Option (String Global) → List ℕ
+no_instant word = codes "court_calendar: '" ++ word_given word ++ codes "' is no instant: write one as 20250915T120000Z, in UTC\n"
+
 abbrev pub unknown_line : Asked → Unknown → List ℕ
 unknown_line asked Judge = no_judge asked.judge
 unknown_line asked From = no_day asked.from
 unknown_line asked To = no_day asked.to
 unknown_line asked Of = no_day asked.of
+unknown_line asked Stamp = no_instant asked.stamp
 
 -- the text of what is chosen, or the line of what says nothing of the court
-abbrev pub IsCalendar : Asked → CourtView → (docketed : Rows) → List ℕ → Type 0
-IsCalendar asked court docketed text =
-    MatchResult (chosen_of court asked) (λ chosen. IsTextOf court docketed chosen text) (λ unknown. text ≡ unknown_line asked unknown)
+abbrev pub IsCalendar : Asked → CourtView → List Row → (docketed : Rows) → List HearingChange → List ℕ → Type 0
+IsCalendar asked court rows docketed changes text =
+    MatchResult (chosen_of court asked) (λ chosen. IsTextOf court rows docketed changes chosen text) (λ unknown. text ≡ unknown_line asked unknown)
 
--- the text of an input, in the court whose file it has: of what is docketed after all its rows
+-- the text of an input, in the court whose file it has: of what is docketed after all its rows, and what they changed of hearings
 pub record IsCalendarOf (asked : Asked) (input : Input) (text : List ℕ) : Type 0 where
   pub court : CourtView
   pub is_court : file_of court ≡ input.file
-  pub is_calendar : IsCalendar asked court (docketed_after (setup_of court) (opening_rows (setup_of court)) input.rows) text
+  pub is_calendar : IsCalendar asked court input.rows
+      (docketed_after (setup_of court) (opening_rows (setup_of court)) input.rows)
+      (changes_made (setup_of court) (opening_rows (setup_of court)) input.rows) text

@@ -1,5 +1,5 @@
 -- What the program's command line may have, as `clap` reads it.
-use Rattle.std.specs.Prelude.{pos, Bool, Some, true, false, [], ◌∷◌, codes}
+use Rattle.std.specs.Prelude.{pos, Bool, Some, true, false, [], ◌∷◌, ◌++◌, codes}
 use Rattle.clap.specs.Words.{App, Rule, Shape, Text, new_rule, with_subcommand}
 use Rattle.clap.specs.Simple.{new_shape}
 use Rattle.clap.specs.declared.builder.action.ArgAction.TheVariants.{Set}
@@ -22,8 +22,17 @@ case_rule = record (new_rule (codes "case")) {
   parser = Some (Signed (pos 1) (pos 4096));
 }
 
-abbrev pub due_shape : Shape
-due_shape = record (new_shape (codes "due")) { rules = day_rule (codes "from") false ∷ day_rule (codes "to") false ∷ judge_rule false ∷ case_rule ∷ [] }
+-- `--stamp INSTANT`, once at most
+abbrev pub stamp_rule : Rule
+stamp_rule = record (new_rule (codes "stamp")) { long = Some (codes "stamp"); action = Some Set; value_names = 1 }
+
+-- a subcommand that takes the days, the judge and the case that are chosen
+abbrev pub choosing_shape : (name : Text) → Shape
+choosing_shape name = record (new_shape name) { rules = day_rule (codes "from") false ∷ day_rule (codes "to") false ∷ judge_rule false ∷ case_rule ∷ [] }
+
+-- the one of calendars, which also takes the instant at which one is written
+abbrev pub ics_shape : Shape
+ics_shape = record (choosing_shape (codes "ics")) { rules = (choosing_shape (codes "ics")).rules ++ stamp_rule ∷ [] }
 
 abbrev pub week_shape : Shape
 week_shape = record (new_shape (codes "week")) { rules = judge_rule true ∷ day_rule (codes "of") true ∷ [] }
@@ -37,4 +46,6 @@ bare_command = record {
 
 -- the whole: a subcommand for each format
 abbrev pub command_line : App
-command_line = with_subcommand (with_subcommand bare_command due_shape) week_shape
+command_line =
+    with_subcommand (with_subcommand (with_subcommand (with_subcommand (with_subcommand bare_command (choosing_shape (codes "due"))) week_shape) (choosing_shape (codes "page"))) ics_shape)
+    (choosing_shape (codes "json"))

@@ -1,4 +1,5 @@
 pub mod Asked
 pub mod Calendar
+pub mod Changes
 pub mod Chosen
 pub mod CommandLine

@@ -15,6 +15,12 @@ pub enum Task {
     Due,
     /// A judge's week.
     Week,
+    /// One page of what is due, of the judges' hearings and of the cases.
+    Page,
+    /// A calendar for calendar programs.
+    Ics,
+    /// JSON, for programs.
+    Json,
 }
 
 /// What the words ask for: what is written, and of what. The texts are as the words have them.
@@ -32,6 +38,8 @@ pub struct Asked {
     pub to: Option<String>,
     /// A day of the week.
     pub of: Option<String>,
+    /// The instant at which a calendar is written.
+    pub stamp: Option<String>,
 }
 
 /// What a subcommand of that name asks for with what it was given. `Err` says that memory ran out.
@@ -49,6 +57,7 @@ pub(crate) fn asked_by(
         from: text_given(alloc, given, "from")?,
         to: text_given(alloc, given, "to")?,
         of: text_given(alloc, given, "of")?,
+        stamp: text_given(alloc, given, "stamp")?,
     })
 }
 
@@ -56,10 +65,12 @@ pub(crate) fn asked_by(
 fn task_of(name: &str) -> Task
     ensures { result ≡ task_of name.now }
 {
-    if name == "week" {
-        Task::Week
-    } else {
-        Task::Due
+    match name {
+        "week" => Task::Week,
+        "page" => Task::Page,
+        "ics" => Task::Ics,
+        "json" => Task::Json,
+        _ => Task::Due,
     }
 }
 

@@ -1,10 +1,11 @@
 //! What is chosen of a court by what was asked for.
 
-ghost use Rattle.std.specs.Prelude.{◌≡◌, Some, option_map, string_bytes};
-ghost use Rattle.calendar_program.specs.Chosen.{chosen_of, day_asked, due_chosen, judge_asked, judge_given, week_chosen};
+ghost use Rattle.std.specs.Prelude.{◌≡◌, Some, Ok, pos, option_map, string_bytes};
+ghost use Rattle.calendar_program.specs.Chosen.{choice_asked, chosen_of, day_asked, due_chosen, ics_chosen, json_chosen, judge_asked, judge_given, page_chosen, stamp_asked, week_chosen};
 
 use crate::asked::{Asked, Task};
-use court_clock::Day;
+use content_lines::stamp_of_text;
+use court_clock::{Day, Instant};
 use court_days::Court;
 use docket_selection::Choice;
 
@@ -15,6 +16,12 @@ pub enum Chosen {
     Due(Choice),
     /// The week of that judge in which the day is.
     Week(u8, Day),
+    /// The page.
+    Page(Choice),
+    /// The calendar of deadlines and hearings, written at that instant.
+    Ics(Choice, Instant),
+    /// What rows were answered, and of the docket the chosen cases and calendars.
+    Json(Choice),
 }
 
 /// Which text says nothing of this court.
@@ -28,9 +35,12 @@ pub enum Unknown {
     To,
     /// The day of the week isn't.
     Of,
+    /// The text is no instant.
+    Stamp,
 }
 
-/// What is chosen of the court, or which text says nothing of it, the first in the order judge, first day, last day.
+/// What is chosen of the court, or which text says nothing of it, the first in the order judge, first day, last day,
+/// instant.
 #[tactic(auto, unfolding(crate::specs::Chosen::chosen_of))]
 pub(crate) fn chosen_of(court: &Court, asked: &Asked) -> Result<Chosen, Unknown>
     ensures { result ≡ chosen_of court.now asked.now }
@@ -38,21 +48,55 @@ pub(crate) fn chosen_of(court: &Court, asked: &Asked) -> Result<Chosen, Unknown>
     match asked.task {
         Task::Due => due_chosen(court, asked),
         Task::Week => week_chosen(court, asked),
+        Task::Page => page_chosen(court, asked),
+        Task::Ics => ics_chosen(court, asked),
+        Task::Json => json_chosen(court, asked),
     }
 }
 
 fn due_chosen(court: &Court, asked: &Asked) -> Result<Chosen, Unknown>
     ensures { result ≡ due_chosen court.now asked.now }
 {
+    let choice = choice_asked(court, asked, false)?;
+    Ok(Chosen::Due(choice))
+}
+
+fn page_chosen(court: &Court, asked: &Asked) -> Result<Chosen, Unknown>
+    ensures { result ≡ page_chosen court.now asked.now }
+{
+    let choice = choice_asked(court, asked, false)?;
+    Ok(Chosen::Page(choice))
+}
+
+fn ics_chosen(court: &Court, asked: &Asked) -> Result<Chosen, Unknown>
+    ensures { result ≡ ics_chosen court.now asked.now }
+{
+    let choice = choice_asked(court, asked, true)?;
+    let stamp = stamp_asked(&asked.stamp)?;
+    Ok(Chosen::Ics(choice, stamp))
+}
+
+fn json_chosen(court: &Court, asked: &Asked) -> Result<Chosen, Unknown>
+    ensures { result ≡ json_chosen court.now asked.now }
+{
+    let choice = choice_asked(court, asked, true)?;
+    Ok(Chosen::Json(choice))
+}
+
+/// The judge, the case and the days that are asked for. `met` says whether deadlines with a timely act are chosen too.
+fn choice_asked(court: &Court, asked: &Asked, met: bool) -> Result<Choice, Unknown>
+    ensures { result ≡ choice_asked court.now asked.now met }
+{
     let judge = judge_asked(court, &asked.judge)?;
     let from = day_asked(&asked.from, court.days().from(), Unknown::From)?;
     let to = day_asked(&asked.to, court.days().to(), Unknown::To)?;
-    Ok(Chosen::Due(Choice {
+    Ok(Choice {
         judge,
         case: asked.case,
         from,
         to,
-    }))
+        met,
+    })
 }
 
 fn week_chosen(court: &Court, asked: &Asked) -> Result<Chosen, Unknown>
@@ -96,5 +140,28 @@ fn day_asked(text: &Option<String>, other: Day, unknown: Unknown) -> Result<Day,
             None => Err(unknown),
         },
         None => Ok(other),
+    }
+}
+
+/// The instant that is asked for, and else the first one of 1970.
+fn stamp_asked(text: &Option<String>) -> Result<Instant, Unknown>
+    ensures { result ≡ stamp_asked (option_map string_bytes text.now) }
+{
+    match text {
+        Some(text) => match stamp_of_text(text.as_str()) {
+            Some(stamp) => Ok(stamp),
+            None => Err(Unknown::Stamp),
+        },
+        None => first_stamp(),
+    }
+}
+
+/// The first instant of 1970, in UTC.
+fn first_stamp() -> Result<Instant, Unknown>
+    ensures { result ≡ Ok (pos 0) }
+{
+    match Instant::new(0) {
+        Some(stamp) => Ok(stamp),
+        None => unreachable!(),
     }
 }

@@ -3,10 +3,10 @@
 ghost use Rattle.std.specs.Prelude.{◌≡◌, false, true, IfErr, IfOk, IfSome};
 ghost use Rattle.clap.specs.Faults.{fault_of};
 ghost use Rattle.clap.specs.Walk.{texts};
-ghost use Rattle.clap.specs.Words.{app_of, rule_of, subcommand_rows_of, takes};
+ghost use Rattle.clap.specs.Words.{app_of, rule_of, subcommand_rows_of, takes, with_subcommand};
 ghost use Rattle.office_options.specs.Words.{IsAnswerFor};
 ghost use Rattle.calendar_program.specs.Asked.{IsAsked, IsAskedBy};
-ghost use Rattle.calendar_program.specs.CommandLine.{case_rule, command_line, day_rule, judge_rule};
+ghost use Rattle.calendar_program.specs.CommandLine.{case_rule, choosing_shape, command_line, day_rule, ics_shape, judge_rule, stamp_rule, week_shape};
 
 use crate::asked::{Asked, asked_by};
 use clap::{Arg, ArgAction, ArgMatches, Command};
@@ -17,20 +17,32 @@ use std::alloc::{AllocError, Global};
 const LAST_CASE: i64 = 4_096;
 
 // What the program is. `clap` breaks no lines, so they are broken here.
-const ABOUT: &str = "The court's calendar, after all rows: what is due, and the week of a judge.";
+const ABOUT: &str =
+    "The court's calendar, after all rows: what is due, a week, a page, iCalendar, JSON.";
 
 const FORMATS: &str =
     "It reads what clerk_office reads: a court's file, a line of %% alone, and rows.
-It writes the calendar to standard output, and no answers.
+It writes the calendar to standard output. JSON alone has the answers to rows.
 
     court_calendar due --from 2025-09-15 --to 2025-09-19 < day.txt
     court_calendar week --judge Calloway --of 2025-09-16 < day.txt
+    court_calendar page --judge Calloway < day.txt > calendar.html
+    court_calendar ics --judge Calloway < day.txt > calendar.ics
+    court_calendar json < day.txt > calendar.json
 
 docs/CALENDAR.md describes what it writes.";
 
 const ABOUT_DUE: &str = "What is due: deadlines with no timely act, and hearings, by day";
 
 const ABOUT_WEEK: &str = "A judge's week, with the half hours down the side";
+
+const ABOUT_JSON: &str = "JSON: the answers of all rows, the cases, and the judges' calendars";
+
+const ABOUT_PAGE: &str = "One HTML page: what is due, each judge's hearings, and the cases";
+
+const ABOUT_ICS: &str = "Deadlines and hearings for calendar programs, as iCalendar (RFC 5545)";
+
+const STAMP: &str = "When it is written, as 20250915T120000Z; else 19700101T000000Z";
 
 const FROM: &str = "The first day, as 2025-09-15; else the first of the court's file";
 
@@ -66,6 +78,17 @@ fn judge_argument<'a>(alloc: Global, needed: bool, help: &'a str) -> Arg<'a>
         .help(help)
 }
 
+fn stamp_argument<'a>(alloc: Global) -> Arg<'a>
+    ensures rule { rule_of result ≡ stamp_rule }
+    ensures local { result.global ≡ false }
+{
+    Arg::new(alloc, "stamp")
+        .long("stamp")
+        .action(ArgAction::Set)
+        .value_name("INSTANT")
+        .help(STAMP)
+}
+
 fn case_argument<'a>(alloc: Global) -> Arg<'a>
     ensures rule { rule_of result ≡ case_rule }
     ensures local { result.global ≡ false }
@@ -78,35 +101,79 @@ fn case_argument<'a>(alloc: Global) -> Arg<'a>
         .help("The case of this number alone")
 }
 
-/// The command line's definition, for one reading of words.
-fn command<'a>(alloc: Global) -> Result<Command<'a>, AllocError>
-    ensures { IfOk result (λ command. app_of command ≡ command_line) }
+/// The command with a subcommand of that name, which takes the days, the judge and the case that are chosen.
+fn with_choosing<'a>(
+    alloc: Global,
+    command: Command<'a>,
+    name: &'a str,
+    about: &'a str,
+) -> Result<Command<'a>, AllocError>
+    ensures { IfOk result (λ whole. app_of whole ≡ with_subcommand (app_of command.entry) (choosing_shape name.now)) }
 {
     let from = day_argument(alloc, "from", false, FROM);
     let to = day_argument(alloc, "to", false, TO);
     let judge = judge_argument(alloc, false, ANY_JUDGE);
     let case = case_argument(alloc);
-    let due = Command::new(alloc, "due")
-        .about(ABOUT_DUE)
+    let chooser = Command::new(alloc, name)
+        .about(about)
         .arg(from)?
         .arg(to)?
         .arg(judge)?
         .arg(case)?;
-    let one = judge_argument(alloc, true, ONE_JUDGE);
+    let whole = command.subcommand(chooser)?;
+    Ok(whole)
+}
+
+/// The command with the subcommand for a judge's week.
+fn with_week<'a>(alloc: Global, command: Command<'a>) -> Result<Command<'a>, AllocError>
+    ensures { IfOk result (λ whole. app_of whole ≡ with_subcommand (app_of command.entry) week_shape) }
+{
+    let judge = judge_argument(alloc, true, ONE_JUDGE);
     let of = day_argument(alloc, "of", true, OF);
     let week = Command::new(alloc, "week")
         .about(ABOUT_WEEK)
-        .arg(one)?
+        .arg(judge)?
         .arg(of)?;
-    let whole = Command::new(alloc, "court_calendar")
+    let whole = command.subcommand(week)?;
+    Ok(whole)
+}
+
+/// The command with the subcommand for a calendar, which also takes the instant at which it is written.
+fn with_ics<'a>(alloc: Global, command: Command<'a>) -> Result<Command<'a>, AllocError>
+    ensures { IfOk result (λ whole. app_of whole ≡ with_subcommand (app_of command.entry) ics_shape) }
+{
+    let from = day_argument(alloc, "from", false, FROM);
+    let to = day_argument(alloc, "to", false, TO);
+    let judge = judge_argument(alloc, false, ANY_JUDGE);
+    let case = case_argument(alloc);
+    let stamp = stamp_argument(alloc);
+    let ics = Command::new(alloc, "ics")
+        .about(ABOUT_ICS)
+        .arg(from)?
+        .arg(to)?
+        .arg(judge)?
+        .arg(case)?
+        .arg(stamp)?;
+    let whole = command.subcommand(ics)?;
+    Ok(whole)
+}
+
+/// The command line's definition, for one reading of words: a subcommand for each format.
+fn command<'a>(alloc: Global) -> Result<Command<'a>, AllocError>
+    ensures { IfOk result (λ command. app_of command ≡ command_line) }
+{
+    let bare = Command::new(alloc, "court_calendar")
         .no_binary_name(true)
         .version("0.1.0")
         .about(ABOUT)
         .after_help(FORMATS)
-        .subcommand_required(true)
-        .subcommand(due)?
-        .subcommand(week)?;
-    Ok(whole)
+        .subcommand_required(true);
+    let due = with_choosing(alloc, bare, "due", ABOUT_DUE)?;
+    let week = with_week(alloc, due)?;
+    let page = with_choosing(alloc, week, "page", ABOUT_PAGE)?;
+    let ics = with_ics(alloc, page)?;
+    let json = with_choosing(alloc, ics, "json", ABOUT_JSON)?;
+    Ok(json)
 }
 
 /// What the words ask for, which are those after the program's name. BadWords where `clap` refuses the words, Help where

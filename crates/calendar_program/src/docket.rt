@@ -1,22 +1,33 @@
-//! The docket after all rows.
+//! The docket after all rows, and what they changed of hearings.
 
-ghost use Rattle.std.specs.Prelude.{◌≡◌, IfOk, OnOk};
+ghost use Rattle.std.specs.Prelude.{◌≡◌, ◌++◌, option_to_list, OnOk, IfOk};
 ghost use Rattle.docket_rows.specs.Words.{opening_rows, setup_of};
 ghost use Rattle.office_run.specs.Words.{Holds, docketed_after};
+ghost use Rattle.calendar_program.specs.Changes.{change_in, changes_made};
 
+use court_clock::Day;
 use court_days::Court;
 use docket_core::Docket;
-use office_rows::Row;
-use office_run::reply_to;
+use docket_rows::Hearing;
+use hearing_changes::{HearingChange, change_made};
+use hearing_slots::Panel;
+use office_rows::{Row, Work};
+use office_run::{Reply, reply_to};
 use std::alloc::{AllocError, Global};
 
-/// The docket of the court after all rows, each of which is carried out as `clerk_office` does. `Err` says that memory
-/// ran out.
-pub(crate) fn docket_after(alloc: Global, court: &Court, rows: &[Row]) -> Result<Docket, AllocError>
-    ensures { IfOk result (λ d. Holds (setup_of court.now) d (docketed_after (setup_of court.now) (opening_rows (setup_of court.now)) rows.now)) }
+/// The docket of the court after all rows, each of which is carried out as `clerk_office` does. What they change of
+/// hearings is added to a list, in their order. `Err` says that memory ran out.
+pub(crate) fn docket_after(
+    alloc: Global,
+    court: &Court,
+    rows: &[Row],
+    changes: &mut Vec<HearingChange>,
+) -> Result<Docket, AllocError>
+    ensures docket { IfOk result (λ d. Holds (setup_of court.now) d (docketed_after (setup_of court.now) (opening_rows (setup_of court.now)) rows.now)) }
+    ensures changes { OnOk result (changes.new.items ≡ changes.old.items ++ changes_made (setup_of court.now) (opening_rows (setup_of court.now)) rows.now) }
 {
     let mut docket = Docket::new(alloc, court)?;
-    carry_out(alloc, court, &mut docket, rows)?;
+    carry_out(alloc, court, &mut docket, rows, changes)?;
     Ok(docket)
 }
 
@@ -26,12 +37,51 @@ fn carry_out(
     court: &Court,
     docket: &mut Docket,
     rows: &[Row],
+    changes: &mut Vec<HearingChange>,
 ) -> Result<(), AllocError>
     requires { Holds (setup_of court.now) docket.old (opening_rows (setup_of court.now)) }
-    ensures { OnOk result (Holds (setup_of court.now) docket.new (docketed_after (setup_of court.now) (opening_rows (setup_of court.now)) rows.now)) }
+    ensures docket { OnOk result (Holds (setup_of court.now) docket.new (docketed_after (setup_of court.now) (opening_rows (setup_of court.now)) rows.now)) }
+    ensures changes { OnOk result (changes.new.items ≡ changes.old.items ++ changes_made (setup_of court.now) (opening_rows (setup_of court.now)) rows.now) }
 {
     for row in rows {
-        let _reply = reply_to(alloc, docket, &row.work)?;
+        let reply = reply_to(alloc, docket, &row.work)?;
+        push_change(changes, &row.work, &reply)?;
     }
     Ok(())
+}
+
+/// The types inside a change. The checker finds them only where they have names, so a function that adds a change to a
+/// `Vec` has a variable of this type.
+type ChangeTypes = Option<(HearingChange, Hearing, Panel, Day)>;
+
+/// Adds what a row that was so answered changed of a hearing, if anything.
+#[tactic(auto, using(docket_selection::proofs::CallerLemmas::nothing_more))]
+fn push_change(
+    changes: &mut Vec<HearingChange>,
+    work: &Work,
+    reply: &Reply,
+) -> Result<(), AllocError>
+    ensures { OnOk result (changes.new.items ≡ changes.old.items ++ option_to_list (change_in work.now reply.now)) }
+{
+    let _types: ChangeTypes = None;
+    match change_in(work, reply) {
+        Some(change) => {
+            changes.push(change)?;
+            Ok(())
+        }
+        None => Ok(()),
+    }
+}
+
+/// What a row that was so answered changed of a hearing, if anything.
+fn change_in(work: &Work, reply: &Reply) -> Option<HearingChange>
+    ensures { result ≡ change_in work.now reply.now }
+{
+    match work {
+        Work::Command(command) => match reply {
+            Reply::Made(answer) => change_made(command, answer),
+            Reply::Viewed(_) => None,
+        },
+        Work::Query(_) => None,
+    }
 }

@@ -1,6 +1,6 @@
 //! The text of what is due.
 
-ghost use Rattle.std.specs.Prelude.{◌≡◌, string_bytes, IfOk};
+ghost use Rattle.std.specs.Prelude.{◌≡◌, IfOk};
 ghost use Rattle.docket_rows.specs.Words.{Rows, setup_of};
 ghost use Rattle.office_run.specs.Words.{Holds};
 ghost use Rattle.calendar_program.specs.Calendar.{IsDueText};
@@ -17,13 +17,13 @@ pub(crate) fn due_text(
     court: &Court,
     docket: &Docket,
     choice: &Choice,
-) -> Result<String, AllocError>
+) -> Result<Vec<u8>, AllocError>
     requires court { docket.now.setup ≡ setup_of court.now }
-    ensures { (docketed : Rows) → Holds (setup_of court.now) docket.now docketed → IfOk result (λ text. IsDueText court.now docketed choice.now (string_bytes text)) }
+    ensures { (docketed : Rows) → Holds (setup_of court.now) docket.now docketed → IfOk result (λ text. IsDueText court.now docketed choice.now text.items) }
 {
     let _types: DueTypes = None;
     let items = due_of(alloc, court, docket, choice)?;
     let mut text = String::new(alloc);
     push_due(&mut text, court, choice, &items)?;
-    Ok(text)
+    Ok(text.into_bytes())
 }

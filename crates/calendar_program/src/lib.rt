@@ -6,6 +6,8 @@ mod chosen;
 mod command;
 mod docket;
 mod due;
+mod ics;
+mod page;
 mod program;
 mod report;
 mod week;

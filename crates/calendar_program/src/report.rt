@@ -3,15 +3,20 @@
 ghost use Rattle.std.specs.Prelude.{◌≡◌, ◌++◌, string_bytes, IfOk};
 ghost use Rattle.docket_rows.specs.Words.{Rows, opening_rows, setup_of};
 ghost use Rattle.office_run.specs.Words.{Holds, docketed_after};
-ghost use Rattle.calendar_program.specs.Calendar.{IsCalendar, IsTextOf, no_day, no_judge, unknown_line, word_given};
+ghost use Rattle.calendar_program.specs.Changes.{changes_made};
+ghost use Rattle.calendar_program.specs.Calendar.{IsCalendar, IsTextOf, no_day, no_instant, no_judge, unknown_line, word_given};
 
 use crate::asked::Asked;
 use crate::chosen::{Chosen, Unknown, chosen_of};
 use crate::docket::docket_after;
 use crate::due::due_text;
+use crate::ics::ics_text;
+use crate::page::page_text;
 use crate::week::week_text;
+use calendar_json::json_text;
 use court_days::Court;
 use docket_core::Docket;
+use hearing_changes::HearingChange;
 use office_rows::Row;
 use office_streams::{CheckedInput, Report};
 use std::alloc::{AllocError, Global};
@@ -37,7 +42,7 @@ impl Report for Asked {
         _file: &[u8],
         checked: CheckedInput,
     ) -> Result<Vec<u8>, AllocError> {
-        Ok(calendar_of(alloc, &checked.court, checked.rows.as_slice(), self)?.into_bytes())
+        calendar_of(alloc, &checked.court, checked.rows.as_slice(), self)
     }
 }
 
@@ -48,15 +53,16 @@ fn calendar_of(
     court: &Court,
     rows: &[Row],
     asked: &Asked,
-) -> Result<String, AllocError>
-    ensures { IfOk result (λ text. IsCalendar asked.now court.now (docketed_after (setup_of court.now) (opening_rows (setup_of court.now)) rows.now) (string_bytes text)) }
+) -> Result<Vec<u8>, AllocError>
+    ensures { IfOk result (λ text. IsCalendar asked.now court.now rows.now (docketed_after (setup_of court.now) (opening_rows (setup_of court.now)) rows.now) (changes_made (setup_of court.now) (opening_rows (setup_of court.now)) rows.now) text.items) }
 {
     match chosen_of(court, asked) {
         Ok(chosen) => {
-            let docket = docket_after(alloc, court, rows)?;
-            text_of(alloc, court, &docket, &chosen)
+            let mut changes = Vec::new(alloc);
+            let docket = docket_after(alloc, court, rows, &mut changes)?;
+            text_of(alloc, court, rows, &docket, changes, &chosen)
         }
-        Err(unknown) => unknown_line(alloc, asked, unknown),
+        Err(unknown) => Ok(unknown_line(alloc, asked, unknown)?.into_bytes()),
     }
 }
 
@@ -64,15 +70,20 @@ fn calendar_of(
 fn text_of(
     alloc: Global,
     court: &Court,
+    rows: &[Row],
     docket: &Docket,
+    changes: Vec<HearingChange>,
     chosen: &Chosen,
-) -> Result<String, AllocError>
+) -> Result<Vec<u8>, AllocError>
     requires court { docket.now.setup ≡ setup_of court.now }
-    ensures { (docketed : Rows) → Holds (setup_of court.now) docket.now docketed → IfOk result (λ text. IsTextOf court.now docketed chosen.now (string_bytes text)) }
+    ensures { (docketed : Rows) → Holds (setup_of court.now) docket.now docketed → IfOk result (λ text. IsTextOf court.now rows.now docketed changes.items chosen.now text.items) }
 {
     match chosen {
         Chosen::Due(choice) => due_text(alloc, court, docket, choice),
         Chosen::Week(judge, day) => week_text(alloc, court, docket, *judge, *day),
+        Chosen::Page(choice) => page_text(alloc, court, docket, choice),
+        Chosen::Ics(choice, stamp) => ics_text(alloc, court, docket, changes, choice, *stamp),
+        Chosen::Json(choice) => json_text(alloc, court, rows, choice),
     }
 }
 
@@ -85,6 +96,7 @@ fn unknown_line(alloc: Global, asked: &Asked, unknown: Unknown) -> Result<String
         Unknown::From => no_day(alloc, &asked.from),
         Unknown::To => no_day(alloc, &asked.to),
         Unknown::Of => no_day(alloc, &asked.of),
+        Unknown::Stamp => no_instant(alloc, &asked.stamp),
     }
 }
 
@@ -100,6 +112,15 @@ fn no_day(alloc: Global, word: &Option<String>) -> Result<String, AllocError>
 {
     let word = word_given(word);
     format!(in alloc; "court_calendar: '{word}' is no day: write one as 2025-09-15\n")
+}
+
+fn no_instant(alloc: Global, word: &Option<String>) -> Result<String, AllocError>
+    ensures { IfOk result (λ line. string_bytes line ≡ no_instant word.now) }
+{
+    let word = word_given(word);
+    format!(in alloc;
+        "court_calendar: '{word}' is no instant: write one as 20250915T120000Z, in UTC\n"
+    )
 }
 
 /// The text of a word, where it was given.

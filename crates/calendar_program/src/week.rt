@@ -1,6 +1,6 @@
 //! The text of a judge's week.
 
-ghost use Rattle.std.specs.Prelude.{◌≡◌, string_bytes, IfOk};
+ghost use Rattle.std.specs.Prelude.{◌≡◌, IfOk};
 ghost use Rattle.docket_rows.specs.Words.{Rows, setup_of};
 ghost use Rattle.office_run.specs.Words.{Holds};
 ghost use Rattle.calendar_program.specs.Calendar.{week_text_of};
@@ -19,12 +19,12 @@ pub(crate) fn week_text(
     docket: &Docket,
     judge: u8,
     day: Day,
-) -> Result<String, AllocError>
-    ensures { (docketed : Rows) → Holds (setup_of court.now) docket.now docketed → IfOk result (λ text. string_bytes text ≡ week_text_of court.now docketed judge day) }
+) -> Result<Vec<u8>, AllocError>
+    ensures { (docketed : Rows) → Holds (setup_of court.now) docket.now docketed → IfOk result (λ text. text.items ≡ week_text_of court.now docketed judge day) }
 {
     let days = week_days(alloc, day)?;
     let week = bookings_on(alloc, docket, judge, &days)?;
     let mut text = String::new(alloc);
     push_week(alloc, &mut text, court, judge, &week)?;
-    Ok(text)
+    Ok(text.into_bytes())
 }

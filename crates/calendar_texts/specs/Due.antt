@@ -19,10 +19,14 @@ abbrev pub case_words : Option ℕ → List ℕ
 case_words (Some case) = codes ", case " ++ decimal case
 case_words None = []
 
+-- `Mon 2025-09-01 to Sun 2025-09-07, judge Ames, case 3`
+unfoldable pub chosen_words : CourtView → Choice → List ℕ
+chosen_words court choice =
+    whole_day choice.from ++ codes " to " ++ whole_day choice.to ++ judge_words court choice.judge ++ case_words choice.case
+
 -- `Due from Mon 2025-09-01 to Sun 2025-09-07, judge Ames, case 3`
 unfoldable pub heading : CourtView → Choice → List ℕ
-heading court choice =
-    codes "Due from " ++ whole_day choice.from ++ codes " to " ++ whole_day choice.to ++ judge_words court choice.judge ++ case_words choice.case ++ 10 ∷ []
+heading court choice = codes "Due from " ++ chosen_words court choice ++ 10 ∷ []
 
 unfoldable pub closing_front : List ℕ
 closing_front = codes "Filing on paper ends at "

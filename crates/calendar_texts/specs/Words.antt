@@ -1,4 +1,11 @@
 -- The words of clauses and definitions, for the crates above, from one place.
-unfoldable pub use Rattle.calendar_texts.specs.Due.{lines_after, due_text}
-unfoldable pub use Rattle.calendar_texts.specs.Items.{item_line}
+unfoldable pub use Rattle.calendar_texts.specs.Days.{whole_day}
+pub use Rattle.calendar_texts.specs.Due.{case_words, is_day_of}
+unfoldable pub use Rattle.calendar_texts.specs.Due.{chosen_words, closing_line, lines_after, due_text}
+pub use Rattle.calendar_texts.specs.Items.{time_words, matter_words, room_words}
+unfoldable pub use Rattle.calendar_texts.specs.Items.{item_line, span_words}
+unfoldable pub use Rattle.calendar_texts.specs.Names.{panel_names}
+unfoldable pub use Rattle.calendar_texts.specs.Periods.{period_words}
+pub use Rattle.calendar_texts.specs.Periods.{unit_words}
+unfoldable pub use Rattle.calendar_texts.specs.Times.{minute_time, second_time}
 unfoldable pub use Rattle.calendar_texts.specs.Week.{week_text}

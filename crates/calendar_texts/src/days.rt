@@ -9,9 +9,9 @@ use court_clock::Day;
 use std::alloc::{AllocError, Global};
 use std::fmt::Write;
 
-/// Adds the day of the week and the date.
+/// Adds the day of the week and the date. `Err` says that memory ran out.
 #[tactic(auto, unfolding(crate::specs::Days::whole_day))]
-pub(crate) fn push_whole_day(text: &mut String, day: Day) -> Result<(), AllocError>
+pub fn push_whole_day(text: &mut String, day: Day) -> Result<(), AllocError>
     ensures { OnOk result (AddsText text.old text.new (whole_day day)) }
 {
     text.push_str(weekday_name(day.weekday()))?;

@@ -3,7 +3,7 @@
 ghost use Rattle.std.specs.Prelude.{◌≡◌, None, OnOk};
 ghost use Rattle.office_texts.specs.Words.{AddsText};
 ghost use Rattle.calendar_texts.specs.Times.{minute_time};
-ghost use Rattle.calendar_texts.specs.Due.{case_words, closing_back, closing_front, closing_line, day_line_if_new, due_text, heading, is_day_of, judge_words, lines_after, lines_or_none};
+ghost use Rattle.calendar_texts.specs.Due.{case_words, chosen_words, closing_back, closing_front, closing_line, day_line_if_new, due_text, heading, is_day_of, judge_words, lines_after, lines_or_none};
 
 use crate::days::push_whole_day;
 use crate::items::push_item;
@@ -30,18 +30,26 @@ pub fn push_due(
     push_lines(text, court, items)
 }
 
-/// Adds which days, which judge and which case were chosen.
+/// Adds the line that says what was chosen.
 #[tactic(auto, unfolding(crate::specs::Due::heading))]
 fn push_heading(text: &mut String, court: &Court, choice: &Choice) -> Result<(), AllocError>
     ensures { OnOk result (AddsText text.old text.new (heading court.now choice.now)) }
 {
     text.push_str("Due from ")?;
+    push_chosen(text, court, choice)?;
+    text.push_str("\n")
+}
+
+/// Adds which days, which judge and which case were chosen. `Err` says that memory ran out.
+#[tactic(auto, unfolding(crate::specs::Due::chosen_words))]
+pub fn push_chosen(text: &mut String, court: &Court, choice: &Choice) -> Result<(), AllocError>
+    ensures { OnOk result (AddsText text.old text.new (chosen_words court.now choice.now)) }
+{
     push_whole_day(text, choice.from)?;
     text.push_str(" to ")?;
     push_whole_day(text, choice.to)?;
     push_judge(text, court, choice.judge)?;
-    push_case(text, choice.case)?;
-    text.push_str("\n")
+    push_case(text, choice.case)
 }
 
 fn push_judge(text: &mut String, court: &Court, judge: Option<u8>) -> Result<(), AllocError>
@@ -68,9 +76,9 @@ fn push_case(text: &mut String, case: Option<u32>) -> Result<(), AllocError>
     }
 }
 
-/// Adds when the clerk's office closes.
+/// Adds when the clerk's office closes, as a line. `Err` says that memory ran out.
 #[tactic(auto, unfolding(crate::specs::Due::closing_line))]
-fn push_closing(text: &mut String, court: &Court) -> Result<(), AllocError>
+pub fn push_closing(text: &mut String, court: &Court) -> Result<(), AllocError>
     ensures { OnOk result (AddsText text.old text.new (closing_line court.now)) }
 {
     push_closing_front(text)?;
@@ -134,7 +142,7 @@ fn push_day_if_new(text: &mut String, before: Option<Day>, day: Day) -> Result<(
 }
 
 /// Whether the two are one day.
-fn is_day_of(before: Option<Day>, day: Day) -> bool
+pub fn is_day_of(before: Option<Day>, day: Day) -> bool
     ensures { result ≡ is_day_of before day }
 {
     match before {

@@ -27,8 +27,8 @@ pub(crate) fn push_item(text: &mut String, court: &Court, item: &DueItem) -> Res
     text.push_str("\n")
 }
 
-/// Adds until when a deadline runs, or from when to when a hearing takes.
-fn push_time(text: &mut String, second: u32, matter: &Matter) -> Result<(), AllocError>
+/// Adds until when a deadline runs, or from when to when a hearing takes. `Err` says that memory ran out.
+pub fn push_time(text: &mut String, second: u32, matter: &Matter) -> Result<(), AllocError>
     ensures { OnOk result (AddsText text.old text.new (time_words second matter.now)) }
 {
     match matter {
@@ -50,9 +50,9 @@ fn push_end(text: &mut String, second: u32, shown: &Shown) -> Result<(), AllocEr
     }
 }
 
-/// Adds when a hearing begins and ends.
+/// Adds when a hearing begins and ends. `Err` says that memory ran out.
 #[tactic(auto, unfolding(crate::specs::Items::span_words))]
-pub(crate) fn push_span(text: &mut String, first: u8, count: u8) -> Result<(), AllocError>
+pub fn push_span(text: &mut String, first: u8, count: u8) -> Result<(), AllocError>
     ensures { OnOk result (AddsText text.old text.new (span_words first count)) }
 {
     push_minute(text, 15 * u32::from(first))?;
@@ -60,8 +60,8 @@ pub(crate) fn push_span(text: &mut String, first: u8, count: u8) -> Result<(), A
     push_minute(text, 15 * (u32::from(first) + u32::from(count)))
 }
 
-/// Adds what is due.
-fn push_matter(
+/// Adds what is due. `Err` says that memory ran out.
+pub fn push_matter(
     text: &mut String,
     court: &Court,
     number: u32,
@@ -121,8 +121,8 @@ fn push_hearing_front(text: &mut String) -> Result<(), AllocError>
     text.push_str(": hearing before ")
 }
 
-/// Adds the name of a room.
-pub(crate) fn push_room(text: &mut String, court: &Court, room: u8) -> Result<(), AllocError>
+/// Adds the name of a room. `Err` says that memory ran out.
+pub fn push_room(text: &mut String, court: &Court, room: u8) -> Result<(), AllocError>
     ensures { OnOk result (AddsText text.old text.new (room_words court.now room)) }
 {
     text.push_str(", room ")?;

@@ -9,9 +9,9 @@ use court_days::Court;
 use hearing_slots::Panel;
 use std::alloc::AllocError;
 
-/// Adds the names of a panel's judges, in its order.
+/// Adds the names of a panel's judges, in its order. `Err` says that memory ran out.
 #[tactic(auto, unfolding(crate::specs::Names::panel_names))]
-pub(crate) fn push_panel(text: &mut String, court: &Court, panel: &Panel) -> Result<(), AllocError>
+pub fn push_panel(text: &mut String, court: &Court, panel: &Panel) -> Result<(), AllocError>
     ensures { OnOk result (AddsText text.old text.new (panel_names court.now panel.now)) }
 {
     match panel.judges().split_first() {
@@ -42,7 +42,7 @@ fn push_joined_name(text: &mut String, court: &Court, judge: u8) -> Result<(), A
 }
 
 /// The name of the judge, if the court has one of that number.
-pub(crate) fn judge_name(court: &Court, number: u8) -> &str
+pub fn judge_name(court: &Court, number: u8) -> &str
     ensures { result.now ≡ name_of court.now.judges number }
 {
     match court.judge_name(number) {
@@ -52,7 +52,7 @@ pub(crate) fn judge_name(court: &Court, number: u8) -> &str
 }
 
 /// The name of the room, if the court has one of that number.
-pub(crate) fn room_name(court: &Court, number: u8) -> &str
+pub fn room_name(court: &Court, number: u8) -> &str
     ensures { result.now ≡ name_of court.now.rooms number }
 {
     match court.room_name(number) {

@@ -11,5 +11,10 @@ mod numbers;
 mod periods;
 mod week;
 
-pub use due::push_due;
+pub use days::push_whole_day;
+pub use due::{is_day_of, push_chosen, push_closing, push_due};
+pub use items::{push_matter, push_room, push_span, push_time};
+pub use judges::{judge_name, push_panel, room_name};
+pub use numbers::{push_minute, push_second};
+pub use periods::{push_period, unit_words};
 pub use week::push_week;

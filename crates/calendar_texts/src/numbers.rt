@@ -19,9 +19,9 @@ fn push_two_digits(text: &mut String, number: u32) -> Result<(), AllocError>
     }
 }
 
-/// Adds the minute of a day, counted from midnight, as hours and minutes.
+/// Adds the minute of a day, counted from midnight, as hours and minutes. `Err` says that memory ran out.
 #[tactic(auto, unfolding(crate::specs::Times::minute_time))]
-pub(crate) fn push_minute(text: &mut String, minute: u32) -> Result<(), AllocError>
+pub fn push_minute(text: &mut String, minute: u32) -> Result<(), AllocError>
     ensures { OnOk result (AddsText text.old text.new (minute_time minute)) }
 {
     push_two_digits(text, minute / 60)?;
@@ -29,9 +29,9 @@ pub(crate) fn push_minute(text: &mut String, minute: u32) -> Result<(), AllocErr
     push_two_digits(text, minute % 60)
 }
 
-/// Adds the second of a day, counted from midnight, as hours, minutes and seconds.
+/// Adds the second of a day, counted from midnight, as hours, minutes and seconds. `Err` says that memory ran out.
 #[tactic(auto, unfolding(crate::specs::Times::second_time))]
-pub(crate) fn push_second(text: &mut String, second: u32) -> Result<(), AllocError>
+pub fn push_second(text: &mut String, second: u32) -> Result<(), AllocError>
     ensures { OnOk result (AddsText text.old text.new (second_time second)) }
 {
     push_minute(text, second / 60)?;

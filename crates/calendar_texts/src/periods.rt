@@ -10,9 +10,9 @@ use rule_periods::{Entered, Length, Mark, Period};
 use rule6::Act;
 use std::alloc::AllocError;
 
-/// Adds the code of a period that the Rules set, or what a court entered.
+/// Adds the code of a period that the Rules set, or what a court entered. `Err` says that memory ran out.
 #[tactic(auto, unfolding(crate::specs::Periods::period_words))]
-pub(crate) fn push_period(text: &mut String, period: &Period) -> Result<(), AllocError>
+pub fn push_period(text: &mut String, period: &Period) -> Result<(), AllocError>
     ensures { OnOk result (AddsText text.old text.new (period_words period.now)) }
 {
     match period {
@@ -47,7 +47,7 @@ fn push_length(text: &mut String, length: Length) -> Result<(), AllocError>
 }
 
 /// The word for one, or that for any other number.
-fn unit_words<'a>(count: u32, one: &'a str, more: &'a str) -> &'a str
+pub fn unit_words<'a>(count: u32, one: &'a str, more: &'a str) -> &'a str
     ensures { result.now ≡ unit_words count one.now more.now }
 {
     if count == 1 { one } else { more }

@@ -1,2 +1,4 @@
+pub mod CalendarLemmas
+pub mod CallerLemmas
 pub mod DueLemmas
 pub mod OrderLemmas

@@ -1,5 +1,5 @@
 -- The bookings of a judge, day by day.
-use Rattle.std.specs.Prelude.{ℕ, ℤ, pos, ◌+ℤ◌, ◌-ℤ◌, List, [], Option, Some, None, option_to_list, if◌then◌else◌}
+use Rattle.std.specs.Prelude.{ℕ, ℤ, pos, ◌+ℤ◌, ◌-ℤ◌, List, [], Option, Some, None, option_to_list, unwrap_or, if◌then◌else◌}
 use Rattle.std.specs.List.{flat_map, range_with_len}
 use Rattle.court_clock.specs.Words.{is_day_number, weekday_of}
 use Rattle.hearing_slots.specs.declared.booking.Booking.{Booking}
@@ -37,3 +37,7 @@ days_of_week day first count = flat_map (λ place. option_to_list (day_of_week d
 -- the seven days of its week, from Monday on
 abbrev pub week_days : (day : ℤ) → List ℤ
 week_days day = days_of_week day 0 7
+
+-- the Monday of its week, or the day itself where that Monday is no day
+abbrev pub week_start : (day : ℤ) → ℤ
+week_start day = unwrap_or (day_of_week day 0) day

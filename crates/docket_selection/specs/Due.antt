@@ -1,5 +1,5 @@
--- What is due: the deadlines with no timely act that end within the chosen days, and the hearings within them.
-use Rattle.std.specs.Prelude.{◌≡◌, ℕ, ◌<◌, ◌≤◌, ◌≤ℤ◌, Bool, ◌&&◌, not, List, ◌++◌, length, filter, slice_index_or, Option, Some, None, if◌then◌else◌}
+-- What is due: the deadlines that end within the chosen days, those with no timely act or all, and the hearings within them.
+use Rattle.std.specs.Prelude.{◌≡◌, ℕ, ◌<◌, ◌≤◌, ◌≤ℤ◌, Bool, ◌&&◌, ◌||◌, not, List, ◌++◌, length, filter, slice_index_or, Option, Some, None, if◌then◌else◌}
 use Rattle.std.specs.List.{filter_map, flat_map}
 use Rattle.std.specs.List.Sorted.{IsPermutation}
 use Rattle.std.specs.Option.{option_and_then}
@@ -22,10 +22,10 @@ abbrev pub is_matter_chosen : Choice → (before : Bool) → Matter → Bool
 is_matter_chosen choice before (Deadline d) = before
 is_matter_chosen choice before (Hearing h) = is_panel_chosen choice h.hearing.judges
 
--- the item is chosen, and no timely act is recorded
+-- the item is chosen, and no timely act is recorded unless such deadlines are chosen too
 abbrev pub is_due : Choice → (before : Bool) → DueItem → Bool
 is_due choice before item =
-    is_case_chosen choice item.case && is_day_chosen choice item.day && not (is_met item.matter) && is_matter_chosen choice before item.matter
+    is_case_chosen choice item.case && is_day_chosen choice item.day && (choice.met || not (is_met item.matter)) && is_matter_chosen choice before item.matter
 
 -- the item, if there is one and it is due
 abbrev pub due_only : Choice → (before : Bool) → Option DueItem → Option DueItem

@@ -1,4 +1,5 @@
 pub mod Bookings
+pub mod Calendars
 pub mod Choice
 pub mod Due
 pub mod Items

@@ -3,7 +3,7 @@
 ghost use Rattle.std.specs.Prelude.{◌≡◌, ◌++◌, ◌+ℤ◌, pos, map, IfOk, OnOk};
 ghost use Rattle.docket_rows.specs.Words.{Rows};
 ghost use Rattle.docket_core.specs.Words.{StandsFor};
-ghost use Rattle.docket_selection.specs.Bookings.{bookings_seen, day_bookings, day_numbered, day_of_week, days_of_week, monday_of, week_days};
+ghost use Rattle.docket_selection.specs.Bookings.{bookings_seen, day_bookings, day_numbered, day_of_week, days_of_week, monday_of, week_days, week_start};
 
 use crate::lists::push_if;
 use court_clock::Day;
@@ -59,6 +59,16 @@ pub fn week_days(alloc: Global, day: Day) -> Result<Vec<Day>, AllocError>
     let mut days = Vec::new(alloc);
     push_days(&mut days, day, 7)?;
     Ok(days)
+}
+
+/// The Monday of the week that the day is in, or the day itself where that Monday is no day.
+pub fn week_start(day: Day) -> Day
+    ensures { result ≡ week_start day }
+{
+    match day_of_week(day, 0) {
+        Some(monday) => monday,
+        None => day,
+    }
 }
 
 /// Adds a number of days of the week that the day is in, from Monday on.

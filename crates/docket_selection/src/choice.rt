@@ -20,6 +20,8 @@ pub struct Choice {
     pub from: Day,
     /// The last day.
     pub to: Day,
+    /// Whether deadlines with a timely act are chosen too.
+    pub met: bool,
 }
 
 /// Whether the case is chosen.

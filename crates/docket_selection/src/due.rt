@@ -17,8 +17,8 @@ use docket_core::Docket;
 use docket_rows::{Sheet, SheetDeadline, SheetMotion};
 use std::alloc::{AllocError, Global};
 
-/// The deadlines with no timely act that end within the chosen days, and the hearings within them, by time. `Err` says
-/// that memory ran out.
+/// The deadlines that end within the chosen days, those with no timely act or all, and the hearings within them, by time.
+/// `Err` says that memory ran out.
 pub fn due_of(
     alloc: Global,
     court: &Court,
@@ -133,12 +133,12 @@ fn due_only(choice: &Choice, before: bool, item: Option<DueItem>) -> Option<DueI
 }
 
 /// Whether an item is chosen and due. `before` says whether its case has a hearing before the chosen judge.
-fn is_due(choice: &Choice, before: bool, item: &DueItem) -> bool
+pub fn is_due(choice: &Choice, before: bool, item: &DueItem) -> bool
     ensures { result ≡ is_due choice.now before item.now }
 {
     is_case_chosen(choice, item.case)
         && is_day_chosen(choice, item.day)
-        && !is_met(&item.matter)
+        && (choice.met || !is_met(&item.matter))
         && is_matter_chosen(choice, before, &item.matter)
 }
 

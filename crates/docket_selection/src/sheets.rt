@@ -1,10 +1,12 @@
 //! The sheets of the open cases.
 
-ghost use Rattle.std.specs.Prelude.{◌≡◌, ◌+◌, ◌≤◌, ◌++◌, IfOk, OnOk};
+ghost use Rattle.std.specs.Prelude.{◌≡◌, ◌+◌, ◌≤◌, ◌++◌, filter, IfOk, OnOk};
 ghost use Rattle.docket_rows.specs.Words.{Rows};
 ghost use Rattle.docket_core.specs.Words.{StandsFor};
+ghost use Rattle.docket_selection.specs.Calendars.{chosen_sheets, is_sheet_chosen};
 ghost use Rattle.docket_selection.specs.Sheets.{open_sheets, sheet_seen, sheets_from};
 
+use crate::choice::{Choice, is_before, is_case_chosen};
 use docket_core::Docket;
 use docket_rows::{LAST_CASE, Query, Sheet, View};
 use std::alloc::{AllocError, Global};
@@ -16,6 +18,34 @@ pub fn sheets_of(alloc: Global, docket: &Docket) -> Result<Vec<Sheet>, AllocErro
     let mut list = Vec::new(alloc);
     push_sheets(alloc, &mut list, docket, 1, LAST_CASE)?;
     Ok(list)
+}
+
+/// The sheets of the chosen cases, by their numbers. `Err` says that memory ran out.
+pub fn sheets_chosen(
+    alloc: Global,
+    docket: &Docket,
+    choice: &Choice,
+) -> Result<Vec<Sheet>, AllocError>
+    ensures { (docketed : Rows) → StandsFor docket.now docketed → IfOk result (λ list. list.items ≡ chosen_sheets docket.now.setup docketed choice.now) }
+{
+    let sheets = sheets_of(alloc, docket)?;
+    Ok(only_chosen(sheets, choice))
+}
+
+/// Those of the sheets that are chosen.
+fn only_chosen(sheets: Vec<Sheet>, choice: &Choice) -> Vec<Sheet>
+    ensures { result.items ≡ filter (is_sheet_chosen choice.now) sheets.items }
+{
+    let mut chosen = sheets;
+    chosen.retain(|sheet| is_sheet_chosen(choice, sheet));
+    chosen
+}
+
+/// Whether the case of a sheet is chosen, and has a hearing before the chosen judge.
+fn is_sheet_chosen(choice: &Choice, sheet: &Sheet) -> bool
+    ensures { result ≡ is_sheet_chosen choice.now sheet.now }
+{
+    is_case_chosen(choice, sheet.case) && is_before(choice, sheet.motions.as_slice())
 }
 
 /// Adds the sheets of those of `count` cases that are open, from the first number on.

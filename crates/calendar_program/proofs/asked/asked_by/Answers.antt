@@ -14,4 +14,5 @@ returns c =
       from = c.in_ok-text_given-2.ensures ∙ first_value-rows given (codes "from");
       to = c.in_ok-text_given-3.ensures ∙ first_value-rows given (codes "to");
       of = c.in_ok-text_given-4.ensures ∙ first_value-rows given (codes "of");
+      stamp = c.in_ok-text_given-5.ensures ∙ first_value-rows given (codes "stamp");
     }

@@ -1,14 +1,24 @@
 -- The kinds of the parse's faults go over to those of the answer.
-use Rattle.std.proofs.Common.{◌∙◌, ap, subst, sym}
+use Rattle.std.proofs.Common.{◌∙◌, List, Option, ap, subst, sym}
+use Rattle.std.specs.Prelude.{IfOk, IfSome}
 use Rattle.clap.specs.Faults.{fault_of, is_simple_and_free}
 use Rattle.clap.specs.Kinds.{HasKind, Kinds}
 use Rattle.clap.specs.Takes.{takes}
 use Rattle.clap.specs.Values.{kind_of}
 use Rattle.clap.specs.Walk.{texts}
+use Rattle.clap.specs.Words.{Row, Text, is_simple, subcommand_of}
+use Rattle.calendar_program.specs.Asked.{IsAskedBy}
 use Rattle.office_options.proofs.CallerLemmas.{fault_among, only_memory}
 use Rattle.calendar_program.specs.CommandLine.{command_line}
 use Rattle.calendar_program.proofs.WordLemmas.{answer_for}
 use Rattle.calendar_program.proofs.command.asked_of.Goals as goal
+
+pub returns-in-Ok-clause-asked : goal.returns-in-Ok-clause-asked
+returns-in-Ok-clause-asked c =
+    let is = c.in_ok-command.ensures in
+    let words = texts c.args.words.now in
+    let found = (c.in-Ok.ensures.matches (ap is_simple is)).1 ∙ ap (λ a. subcommand_of a words) is in
+    subst (λ (rows : Option (Text × List Row)). IfOk c.asked_in.result (λ asked. IfSome rows (λ met. IsAskedBy met.0 met.1 asked))) found c.asked_in.ensures.asked
 
 pub returns-in-Ok-clause-faults : goal.returns-in-Ok-clause-faults
 returns-in-Ok-clause-faults c =

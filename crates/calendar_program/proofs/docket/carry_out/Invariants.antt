@@ -1,8 +1,15 @@
-use Rattle.std.proofs.Common.{take}
+use Rattle.std.proofs.Common.{◌≡◌, ◌++◌, drop, take}
 use Rattle.docket_rows.specs.Words.{opening_rows, setup_of}
 use Rattle.office_run.specs.Words.{Holds, docketed_after}
+use Rattle.calendar_program.specs.Changes.{changes_made}
 use Rattle.calendar_program.proofs.docket.carry_out.Given as goal
 
--- the docket holds what is docketed after the rows so far
+-- the docket holds what is docketed after the rows so far; what these changed, and what the others change of it, is all
 abbrev pub invariant-loop-row : goal.invariant-loop-row
-invariant-loop-row l = Holds (setup_of l.court) l.docket (docketed_after (setup_of l.court) (opening_rows (setup_of l.court)) (take l.row-index l.rows))
+invariant-loop-row l =
+    let setup = setup_of l.court in
+    let docketed = docketed_after setup (opening_rows setup) (take l.row-index l.rows) in
+    record {
+      holds : Holds setup l.docket docketed;
+      so_far : l.changes.items ++ changes_made setup docketed (drop l.row-index l.rows) ≡ l.fn.changes.items ++ changes_made setup (opening_rows setup) l.rows;
+    }

@@ -1,0 +1,249 @@
+#!/usr/bin/env python3
+"""Compares the JSON that court_calendar writes with what clerk_office says of the same docket.
+
+    json_check.py CALENDAR CLERK [SEED [COUNT]]
+    json_check.py --schema CALENDAR CLERK [SEED [COUNT]]
+
+Inputs are made at random. From the JSON alone this script writes the text of clerk_office again: each answer, each sheet and
+each calendar, and the two texts must be the same. Each instant must be that of the day and the time beside it, by a reading
+of the court's zone of its own (reference/civil.py). With a judge, a case or days the JSON must be that part of the whole. A
+faulty input must end both programs alike. It needs Python 3.8 or later; the status is 0 where all is alike.
+
+With --schema each text is also held to docs/court_calendar.schema.json, which needs Debian's python3-jsonschema.
+"""
+import datetime
+import json
+import pathlib
+import random
+import re
+import subprocess
+import sys
+
+from lib.made_inputs import INPUTS, made_input
+from reference.civil import day_of_text, instant_at, offset_at, zone_of_text
+
+SCHEMA = pathlib.Path(__file__).resolve().parent.parent / "docs" / "court_calendar.schema.json"
+WORDS = {"holiday": "holiday entered", "outage": "outage entered"}
+EPOCH = datetime.datetime(1970, 1, 1)
+
+
+def shown(o):
+    if o["last_day"] is not None:
+        return "last " + o["last_day"]
+    return "beyond" if o["end"] is None else "until {} {}".format(o["end"][:10], o["end"][11:19])
+
+
+def refused(refusal):
+    detail = [str(refusal[key]) for key in ("day", "case", "motion") if refusal[key] is not None]
+    return " ".join(["refused", str(refusal["number"]), refusal["name"], *detail])
+
+
+def period(deadline):
+    if deadline["period"] is not None:
+        return deadline["period"]
+    e = deadline["entered"]
+    length = "{}d".format(e["days"]) if e["days"] is not None else "{}h".format(e["hours"])
+    return "/".join([length, e["direction"], e["act"], e["from"], e["mark"]])
+
+
+def span(o):
+    quarters = o["minutes"] // 15
+    return "{} {} {}".format(o["day"], o["time"], "{}q".format(quarters) if quarters % 2 else quarters // 2)
+
+
+def booking_line(b):
+    return "{} case {} motion {} room {}".format(span(b), b["case"], b["motion"], b["room"])
+
+
+def sheet_lines(sheet):
+    yield "case {} filed {}".format(sheet["case"], sheet["filed"])
+    for d in sheet["deadlines"]:
+        filed = d["filed"]
+        done = "" if filed is None else " {day} {time} {means}".format(**filed)
+        yield "deadline {} {} {} {}{}".format(d["number"], period(d), shown(d), d["state"], done)
+    for m in sheet["motions"]:
+        need = "exparte" if m["notice_days"] is None else m["notice_days"]
+        yield "motion {} served {} need {}".format(m["number"], m["served"], need)
+        h = m["hearing"]
+        if h is not None:
+            yield "hearing {} {} {} notice {} affidavits {}".format(span(h), "+".join(h["judges"]), h["room"], h["notice"],
+                                                                  h["affidavits"] or "none")
+
+
+def answer_lines(a):
+    kind = a["kind"]
+    if kind == "deadline":
+        yield "deadline {} {}".format(a["number"], shown(a))
+    elif kind == "filed":
+        yield "filed timely" if a["timely"] else "filed late"
+    elif kind == "extended":
+        yield "extended " + shown(a)
+    elif kind == "motion":
+        yield "motion {}".format(a["number"])
+    elif kind == "refused":
+        yield refused(a["refusal"])
+    elif kind == "sheet":
+        yield "sheet"
+        yield from sheet_lines(a["sheet"])
+    elif kind == "calendar":
+        yield "calendar"
+        yield from map(booking_line, a["bookings"])
+    else:
+        yield shown(a) if kind == "computed" else WORDS.get(kind, kind)
+
+
+def office_text(whole):
+    """The text of clerk_office, written from the JSON alone."""
+    lines = []
+    for a in whole["answers"]:
+        first, *others = answer_lines(a)
+        lines += ["{} {} {}".format(a["row"], a["clerk"], first), *others]
+    for sheet in whole["cases"]:
+        lines += sheet_lines(sheet)
+    bookings = {c["judge"]: c["bookings"] for c in whole["calendars"]}
+    for judge in whole["court"]["judges"]:
+        lines += ["judge " + judge, *map(booking_line, bookings.pop(judge, []))]
+    return None if bookings else "".join(line + "\n" for line in lines)
+
+
+def once(pairs):
+    """An object, whose keys come once."""
+    if len({key for key, _ in pairs}) != len(pairs):
+        raise ValueError("a key that comes twice")
+    return dict(pairs)
+
+
+def objects(value):
+    """Each object of a value, from the outermost in."""
+    inside = list(value.values()) if isinstance(value, dict) else value if isinstance(value, list) else []
+    if isinstance(value, dict):
+        yield value
+    for part in inside:
+        yield from objects(part)
+
+
+def instant_text(zone, day, minute):
+    """A minute of a day, counted from its midnight, as the clock of the zone shows its instant."""
+    at = instant_at(zone, day_of_text(day) + minute // 1440, minute % 1440 * 60)
+    return shown_at(zone, at)
+
+
+def shown_at(zone, at):
+    """An instant, as the clock of the zone shows it."""
+    offset = offset_at(zone, at)
+    seconds = abs(offset)
+    ahead = "{}{:02}:{:02}{}".format("-" if offset < 0 else "+", seconds // 3600, seconds // 60 % 60,
+                                   ":{:02}".format(seconds % 60) if seconds % 60 else "")
+    return (EPOCH + datetime.timedelta(seconds=at + offset)).isoformat() + ahead
+
+
+def minutes(text):
+    return int(text[:2]) * 60 + int(text[3:])
+
+
+def times_fault(zone, whole):
+    """An instant that isn't that of its day and time, or that the clock doesn't show, or none."""
+    for o in objects(whole):
+        wanted = {}
+        if "at" in o:
+            wanted["at"] = instant_text(zone, o["day"], minutes(o["time"]))
+        elif "minutes" in o:
+            wanted["start"] = instant_text(zone, o["day"], minutes(o["time"]))
+            wanted["end"] = instant_text(zone, o["day"], minutes(o["time"]) + o["minutes"])
+        elif o.get("end") is not None:
+            at = datetime.datetime.fromisoformat(o["end"]) - EPOCH.replace(tzinfo=datetime.timezone.utc)
+            wanted["end"] = shown_at(zone, at.days * 86400 + at.seconds)
+        for key, text in wanted.items():
+            if o[key] != text:
+                return "{} is {}, and not {}, in {}".format(key, text, o[key], o)
+    return None
+
+
+def part_of(whole, first, last, judge, case):
+    """The part of the whole that is chosen."""
+    def is_before(sheet):
+        return judge is None or any(judge in m["hearing"]["judges"] for m in sheet["motions"] if m["hearing"] is not None)
+    cases = [s for s in whole["cases"] if case in (None, s["case"]) and is_before(s)]
+    calendars = [dict(c, bookings=[b for b in c["bookings"] if case in (None, b["case"]) and first <= b["day"] <= last])
+                 for c in whole["calendars"] if judge in (None, c["judge"])]
+    return dict(whole, cases=cases, calendars=[c for c in calendars if c["bookings"]])
+
+
+def made_words(chance, whole):
+    """Words, and what they choose."""
+    court = whole["court"]
+    words, first, last, judge, case = ["json"], court["from"], court["to"], None, None
+    days = [o["day"] for o in objects(whole["calendars"]) if "day" in o] or [court["from"]]
+    if chance.random() < 0.3:
+        first = chance.choice(days)
+        words += ["--from", first]
+    if chance.random() < 0.3:
+        last = chance.choice(days)
+        words += ["--to", last]
+    if court["judges"] and chance.random() < 0.5:
+        judge = chance.choice(court["judges"])
+        words += ["--judge", judge]
+    if chance.random() < 0.5:
+        case = chance.choice([s["case"] for s in whole["cases"]] + [1, 4096])
+        words += ["--case", str(case)]
+    return words, (first, last, judge, case)
+
+
+def read(text):
+    """The value of a text, which must be one line in UTF-8, and written as short as it can be."""
+    line = text.decode()
+    value = json.loads(line, object_pairs_hook=once)
+    short = json.dumps(value, ensure_ascii=False, separators=(",", ":")) + "\n"
+    return value if line == short else None
+
+
+def ran(program, words, data):
+    done = subprocess.run([program, *words], input=data, stdout=subprocess.PIPE, stderr=subprocess.PIPE, check=False)
+    return done.returncode, done.stdout, done.stderr.decode()
+
+
+def differs(chance, calendar, clerk, data, valid):
+    """How the JSON of an input differs from the text of clerk_office, or none."""
+    status, text, errors = ran(clerk, [], data)
+    found = ran(calendar, ["json"], data)
+    if status != 0 or found[0] != 0:
+        return None if (found[0], found[2].replace("court_calendar", "clerk_office")) == (status, errors) and not found[1] \
+            else "a fault told otherwise"
+    whole = read(found[1])
+    if whole is None:
+        return "another text of the same value"
+    if office_text(whole) != text.decode():
+        return "another docket"
+    zone = re.search(r'^\s*zone\s*=\s*"([^"]*)"', data.decode(), re.MULTILINE)
+    fault = times_fault(zone_of_text(zone.group(1)), whole) if zone else None
+    if fault or not valid(whole):
+        return fault or "not of the schema"
+    words, chosen = made_words(chance, whole)
+    part = read(ran(calendar, words, data)[1])
+    return None if part == part_of(whole, *chosen) else " ".join(words)
+
+
+def validator():
+    """A test of whether a value is of the schema."""
+    from jsonschema import Draft202012Validator, FormatChecker
+    schema = json.loads(SCHEMA.read_text())
+    Draft202012Validator.check_schema(schema)
+    return Draft202012Validator(schema, format_checker=FormatChecker()).is_valid
+
+
+def main():
+    words = sys.argv[1:]
+    valid = validator() if words[0] == "--schema" else lambda whole: True
+    calendar, clerk, *numbers = words[words[0] == "--schema":]
+    seed, count = [int(number) for number in numbers] + [1, 200][len(numbers):]
+    for number in range(count):
+        chance = random.Random("json {} {}".format(seed, number))
+        data = made_input(chance, chance.choice(INPUTS))
+        fault = differs(chance, calendar, clerk, data, valid)
+        if fault:
+            sys.exit("input {} of seed {}: {}".format(number, seed, fault))
+    print("{} inputs of seed {}: the JSON says what clerk_office says".format(count, seed))
+
+
+if __name__ == "__main__":
+    main()

@@ -1,0 +1,15 @@
+//! What is due, as a calendar in the form of iCalendar (RFC 5545), for calendar programs.
+#![tactic(auto)]
+
+mod appointment;
+mod calendar;
+mod cancelled;
+mod events;
+mod laws;
+mod lists;
+mod times;
+mod words;
+
+pub use appointment::{Appointment, appointments_of};
+pub use calendar::icalendar;
+pub use laws::calendars_are_sent_whole;

@@ -1,0 +1,5 @@
+pub mod DepthLemmas
+pub mod DocketDepth
+pub mod NameLemmas
+pub mod ReadLemmas
+pub mod TokenLemmas

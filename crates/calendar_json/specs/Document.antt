@@ -1,0 +1,67 @@
+-- The whole: the court, what each row was answered, the sheets of the chosen cases and the calendars of the chosen judges.
+use Rattle.std.specs.Prelude.{◌≡◌, ℕ, ◌+◌, List, [], ◌∷◌, ◌++◌, Some, map, codes}
+use Rattle.std.specs.Str.{IsUtf8}
+use Rattle.json.specs.Json.{Json, document}
+use Rattle.json.specs.Print.{print}
+use Rattle.json.specs.Tree.{json_tokens}
+use Rattle.court_days.specs.Words.{CourtView}
+use Rattle.docket_rows.specs.Words.{Rows, opening_rows, setup_of}
+use Rattle.docket_selection.specs.declared.choice.Choice.{Choice}
+use Rattle.docket_selection.specs.Words.{chosen_calendars, chosen_sheets}
+use Rattle.office_rows.specs.declared.row.Row.{Row}
+use Rattle.office_run.specs.Words.{docketed_after, docketed_then, reply_to}
+use Rattle.calendar_json.specs.Answers.{answered_value}
+use Rattle.calendar_json.specs.Bookings.{calendar_value}
+use Rattle.calendar_json.specs.Names.{judges_value}
+use Rattle.calendar_json.specs.Sheets.{sheet_value}
+use Rattle.calendar_json.specs.Times.{day_value, minute_value}
+use Rattle.calendar_json.specs.Values.{Field, array_of, field, object_of}
+
+-- when the clerk's office opens and closes, the first and the last day of the court's file, and its judges
+abbrev pub court_fields : CourtView → List Field
+court_fields court =
+    field (codes "opens") (minute_value court.clock.opens)
+    ∷ field (codes "closes") (minute_value court.clock.closes)
+    ∷ field (codes "from") (day_value court.days.from)
+    ∷ field (codes "to") (day_value court.days.to)
+    ∷ field (codes "judges") (judges_value court)
+    ∷ []
+
+unfoldable pub court_value : CourtView → Json
+court_value court = object_of (court_fields court)
+
+-- what each row is answered, where the first has that number
+unfoldable pub answers_from : CourtView → (docketed : Rows) → (number : ℕ) → List Row → List Json
+answers_from court docketed number [] = []
+answers_from court docketed number (row ∷ rows) =
+    answered_value court (record { number = number; clerk = row.clerk; reply = reply_to (setup_of court) docketed row.work })
+    ∷ answers_from court (docketed_then (setup_of court) docketed row.work) (number + 1) rows
+
+-- the sheets of the chosen cases, by their numbers
+abbrev pub cases_field : CourtView → Choice → (docketed : Rows) → Field
+cases_field court choice docketed =
+    field (codes "cases") (array_of (map (sheet_value court) (chosen_sheets (setup_of court) docketed choice)))
+
+-- the calendars of the chosen judges, with the bookings that are chosen, in the order of the court's file
+abbrev pub calendars_field : CourtView → Choice → (docketed : Rows) → Field
+calendars_field court choice docketed =
+    field (codes "calendars") (array_of (map (calendar_value court) (chosen_calendars (setup_of court) docketed choice)))
+
+abbrev pub closing_fields : CourtView → Choice → (docketed : Rows) → List Field
+closing_fields court choice docketed = cases_field court choice docketed ∷ calendars_field court choice docketed ∷ []
+
+-- of a court and all rows: the sheets and the calendars are those after the last row
+abbrev pub document_fields : CourtView → Choice → List Row → List Field
+document_fields court choice rows =
+    field (codes "court") (court_value court)
+    ∷ field (codes "answers") (array_of (answers_from court (opening_rows (setup_of court)) 1 rows))
+    ∷ closing_fields court choice (docketed_after (setup_of court) (opening_rows (setup_of court)) rows)
+
+unfoldable pub document_value : CourtView → Choice → List Row → Json
+document_value court choice rows = object_of (document_fields court choice rows)
+
+-- the text is one line of JSON, without spaces, that reads as that value
+pub record IsJsonText (value : Json) (text : List ℕ) : Type 0 where
+  pub line : text ≡ print (json_tokens value) ++ 10 ∷ []
+  pub reads : document (print (json_tokens value)) ≡ Some value
+  pub utf8 : IsUtf8 (print (json_tokens value))

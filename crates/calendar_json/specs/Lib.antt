@@ -1,0 +1,11 @@
+pub mod Answers
+pub mod Bookings
+pub mod Deadlines
+pub mod Document
+pub mod Motions
+pub mod Names
+pub mod Periods
+pub mod Sheets
+pub mod Times
+pub mod Values
+pub mod Words

@@ -1,0 +1,196 @@
+//! The whole: the court, what each row was answered, the sheets of cases and the calendars of judges.
+
+ghost use Rattle.std.specs.Prelude.{◌≡◌, ◌<◌, [], ◌∷◌, IfOk, OnOk, codes};
+ghost use Rattle.std.specs.List.{flat_map};
+ghost use Rattle.json.specs.Tree.{json_tokens};
+ghost use Rattle.docket_rows.specs.Words.{Rows, opening_rows, setup_of};
+ghost use Rattle.docket_core.specs.Words.{StandsFor};
+ghost use Rattle.office_run.specs.Words.{Holds, docketed_after};
+ghost use Rattle.calendar_json.specs.Document.{IsJsonText, answers_from, calendars_field, cases_field, closing_fields, court_fields, court_value, document_fields, document_value};
+ghost use Rattle.calendar_json.specs.Values.{Adds, AddsFields, AddsValue, array_of, field};
+
+use crate::answers::AnsweredRow;
+use crate::names::push_judges;
+use crate::to_json::ToJson;
+use crate::writer::JsonWriter;
+use court_days::Court;
+use docket_core::Docket;
+use docket_selection::{Choice, calendars_of, sheets_chosen};
+use office_rows::Row;
+use office_run::reply_to;
+use std::alloc::{AllocError, Global};
+
+/// One line of JSON: an object with the court, what each row was answered, the sheets of the chosen cases and the
+/// calendars of the chosen judges after the last row. `Err` says that memory ran out.
+pub fn json_text(
+    alloc: Global,
+    court: &Court,
+    rows: &[Row],
+    choice: &Choice,
+) -> Result<Vec<u8>, AllocError>
+    ensures { IfOk result (λ text. IsJsonText (document_value court.now choice.now rows.now) text.items) }
+{
+    let mut out = JsonWriter::new(alloc);
+    push_document(alloc, &mut out, court, rows, choice)?;
+    let mut text = out.into_text();
+    text.push(b'\n')?;
+    Ok(text)
+}
+
+/// Writes the whole object.
+fn push_document(
+    alloc: Global,
+    out: &mut JsonWriter,
+    court: &Court,
+    rows: &[Row],
+    choice: &Choice,
+) -> Result<(), AllocError>
+    ensures { OnOk result (AddsValue out.old out.new (document_value court.now choice.now rows.now)) }
+{
+    out.begin_object()?;
+    push_document_fields(alloc, out, court, rows, choice)?;
+    out.end_object()
+}
+
+fn push_document_fields(
+    alloc: Global,
+    out: &mut JsonWriter,
+    court: &Court,
+    rows: &[Row],
+    choice: &Choice,
+) -> Result<(), AllocError>
+    ensures { OnOk result (AddsFields out.old out.new (document_fields court.now choice.now rows.now)) }
+{
+    let mut docket = Docket::new(alloc, court)?;
+    push_court(out, court)?;
+    push_answers(alloc, out, court, &mut docket, rows)?;
+    push_closing(alloc, out, court, &docket, choice)
+}
+
+/// Writes the court.
+#[tactic(auto, unfolding(crate::specs::Values::field_tokens))]
+fn push_court(out: &mut JsonWriter, court: &Court) -> Result<(), AllocError>
+    ensures { OnOk result (AddsFields out.old out.new (field (codes "court") (court_value court.now) ∷ [])) }
+{
+    out.key("court")?;
+    push_court_value(out, court)
+}
+
+fn push_court_value(out: &mut JsonWriter, court: &Court) -> Result<(), AllocError>
+    ensures { OnOk result (AddsValue out.old out.new (court_value court.now)) }
+{
+    out.begin_object()?;
+    push_court_fields(out, court)?;
+    out.end_object()
+}
+
+/// Writes the hours of the clerk's office, the first and the last day, and the judges.
+fn push_court_fields(out: &mut JsonWriter, court: &Court) -> Result<(), AllocError>
+    ensures { OnOk result (AddsFields out.old out.new (court_fields court.now)) }
+{
+    let (opens, closes) = hours_of(court);
+    out.minute_field("opens", opens)?;
+    out.minute_field("closes", closes)?;
+    out.field(court, "from", &court.days().from())?;
+    out.field(court, "to", &court.days().to())?;
+    push_judges(out, court)
+}
+
+/// The minutes of the day at which the clerk's office opens and closes.
+fn hours_of(court: &Court) -> (u16, u16)
+    ensures opens { (result.0 ≡ court.now.clock.opens) × (result.0 < 1440) }
+    ensures closes { (result.1 ≡ court.now.clock.closes) × (result.1 < 1440) }
+{
+    let clock = court.clock();
+    let closes = clock.closes();
+    (clock.opens(), closes)
+}
+
+/// Writes what each row is answered, and carries it out.
+fn push_answers(
+    alloc: Global,
+    out: &mut JsonWriter,
+    court: &Court,
+    docket: &mut Docket,
+    rows: &[Row],
+) -> Result<(), AllocError>
+    requires { Holds (setup_of court.now) docket.old (opening_rows (setup_of court.now)) }
+    ensures answers { OnOk result (AddsFields out.old out.new (field (codes "answers") (array_of (answers_from court.now (opening_rows (setup_of court.now)) 1 rows.now)) ∷ [])) }
+    ensures docket { OnOk result (Holds (setup_of court.now) docket.new (docketed_after (setup_of court.now) (opening_rows (setup_of court.now)) rows.now)) }
+{
+    out.key("answers")?;
+    out.begin_array()?;
+    push_answered(alloc, out, court, docket, rows)?;
+    out.end_array()
+}
+
+/// Carries out each row in turn, and writes what it is answered, without the brackets.
+fn push_answered(
+    alloc: Global,
+    out: &mut JsonWriter,
+    court: &Court,
+    docket: &mut Docket,
+    rows: &[Row],
+) -> Result<(), AllocError>
+    requires { Holds (setup_of court.now) docket.old (opening_rows (setup_of court.now)) }
+    ensures answers { OnOk result (Adds out.old out.new (flat_map json_tokens (answers_from court.now (opening_rows (setup_of court.now)) 1 rows.now))) }
+    ensures docket { OnOk result (Holds (setup_of court.now) docket.new (docketed_after (setup_of court.now) (opening_rows (setup_of court.now)) rows.now)) }
+{
+    let mut number = 1u64;
+    for row in rows {
+        let reply = reply_to(alloc, docket, &row.work)?;
+        let answered = AnsweredRow {
+            number,
+            clerk: row.clerk,
+            reply,
+        };
+        answered.write(out, court)?;
+        number += 1;
+    }
+    Ok(())
+}
+
+/// Writes the sheets of the chosen cases, and the calendars of the chosen judges.
+fn push_closing(
+    alloc: Global,
+    out: &mut JsonWriter,
+    court: &Court,
+    docket: &Docket,
+    choice: &Choice,
+) -> Result<(), AllocError>
+    requires court { docket.now.setup ≡ setup_of court.now }
+    ensures { (docketed : Rows) → StandsFor docket.now docketed → OnOk result (AddsFields out.old out.new (closing_fields court.now choice.now docketed)) }
+{
+    push_cases(alloc, out, court, docket, choice)?;
+    push_calendars(alloc, out, court, docket, choice)
+}
+
+/// Writes the sheets of the chosen cases.
+fn push_cases(
+    alloc: Global,
+    out: &mut JsonWriter,
+    court: &Court,
+    docket: &Docket,
+    choice: &Choice,
+) -> Result<(), AllocError>
+    requires court { docket.now.setup ≡ setup_of court.now }
+    ensures { (docketed : Rows) → StandsFor docket.now docketed → OnOk result (AddsFields out.old out.new (cases_field court.now choice.now docketed ∷ [])) }
+{
+    let sheets = sheets_chosen(alloc, docket, choice)?;
+    out.list_field(court, "cases", &sheets)
+}
+
+/// Writes the calendars of the chosen judges.
+fn push_calendars(
+    alloc: Global,
+    out: &mut JsonWriter,
+    court: &Court,
+    docket: &Docket,
+    choice: &Choice,
+) -> Result<(), AllocError>
+    requires court { docket.now.setup ≡ setup_of court.now }
+    ensures { (docketed : Rows) → StandsFor docket.now docketed → OnOk result (AddsFields out.old out.new (calendars_field court.now choice.now docketed ∷ [])) }
+{
+    let calendars = calendars_of(alloc, court, docket, choice)?;
+    out.list_field(court, "calendars", &calendars)
+}

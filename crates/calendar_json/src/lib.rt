@@ -1,0 +1,17 @@
+//! A docket as JSON: the court, what each row was answered, the sheets of cases and the calendars of judges.
+#![tactic(auto)]
+
+mod answers;
+mod bookings;
+mod deadlines;
+mod document;
+mod motions;
+mod names;
+mod periods;
+mod sheets;
+mod simple;
+mod spans;
+mod to_json;
+mod writer;
+
+pub use document::json_text;

@@ -1,0 +1,108 @@
+-- The sheet of each case: its deadlines and its motions.
+use Rattle.std.specs.Prelude.{ℕ, ℤ, List, [], ◌∷◌, ◌++◌, Option, Some, None, codes}
+use Rattle.std.specs.Fmt.{decimal}
+use Rattle.std.specs.List.{flat_map}
+use Rattle.court_clock.specs.Words.{ClockView}
+use Rattle.court_days.specs.Words.{CourtView, DaysView}
+use Rattle.rule_periods.specs.Words.{DeadlineRowView}
+use Rattle.docket_rows.specs.declared.sheet.SheetDeadline.{SheetDeadline}
+use Rattle.docket_rows.specs.declared.sheet.SheetHearing.{SheetHearing}
+use Rattle.docket_rows.specs.declared.sheet.SheetMotion.{SheetMotion}
+use Rattle.deadline_reasons.specs.declared.reason.Reason.{Reason}
+use Rattle.reason_texts.specs.Words.{course_of, reason_lines}
+use Rattle.period_texts.specs.Words.{heading_lines}
+use Rattle.other_readings.specs.Words.{reading_lines}
+use Rattle.page_markup.specs.declared.tag.Tag.TheVariants as tag
+use Rattle.page_markup.specs.Words.{element, text_in}
+use Rattle.calendar_texts.specs.Words.{period_words, whole_day}
+use Rattle.calendar_page.specs.declared.explained.ExplainedDeadline.{ExplainedDeadline}
+use Rattle.calendar_page.specs.declared.explained.ExplainedSheet.{ExplainedSheet}
+use Rattle.calendar_page.specs.Due.{state_cell}
+use Rattle.calendar_page.specs.Phrases.{affidavits_words, ends_words, hearing_place, hearing_time, need_words, notice_words, state_words}
+use Rattle.calendar_page.specs.Tables.{four_heads}
+
+-- the period of a deadline, and in words what it is for, which section sets it, and from which day and event it runs
+unfoldable pub period_cell : DeadlineRowView → List ℕ
+period_cell row = element tag.Cell (text_in tag.Line (period_words row.period) ++ text_in tag.Note (heading_lines row))
+
+-- the number of a deadline, its period, when its time ends, and whether it was met
+unfoldable pub deadline_row : ClockView → SheetDeadline → List ℕ
+deadline_row clock d =
+    element tag.Row (text_in tag.RowHead (decimal d.number) ++ period_cell d.row ++ text_in tag.Cell (ends_words clock d.shown) ++ text_in (state_cell d.state) (state_words d.state d.row.filed))
+
+-- `Reasons of deadline 3`
+unfoldable pub reasons_title : (number : ℕ) → List ℕ
+reasons_title number = codes "Reasons of deadline " ++ decimal number
+
+-- a line for each reason, and for each other reading that gives another end; a holiday is named as the law of the United
+-- States names it
+unfoldable pub reasons_text : DaysView → ClockView → DeadlineRowView → List Reason → List ℕ
+reasons_text days clock row reasons = reason_lines clock [] (course_of row.period) reasons ++ reading_lines days clock row
+
+-- a cell over the whole table, with the reasons of a deadline folded in it
+unfoldable pub reasons_cell : DaysView → ClockView → ExplainedDeadline → List ℕ
+reasons_cell days clock e =
+    element tag.WideCell (element tag.Details (text_in tag.Summary (reasons_title e.deadline.number) ++ text_in tag.Reasons (reasons_text days clock e.deadline.row e.reasons.items)))
+
+-- the row of a deadline, and below it the row of its reasons
+unfoldable pub deadline_rows : DaysView → ClockView → ExplainedDeadline → List ℕ
+deadline_rows days clock e = deadline_row clock e.deadline ++ element tag.Row (reasons_cell days clock e)
+
+unfoldable pub deadline_heads : List ℕ
+deadline_heads = four_heads (codes "No.") (codes "Period") (codes "Time ends") (codes "State")
+
+-- `Deadlines of case 3`
+unfoldable pub deadline_caption : (case : ℕ) → List ℕ
+deadline_caption case = codes "Deadlines of case " ++ decimal case
+
+-- two rows for each deadline, or that there are none
+unfoldable pub deadline_table : DaysView → ClockView → (case : ℕ) → List ExplainedDeadline → List ℕ
+deadline_table days clock case [] = text_in tag.Paragraph (codes "No deadline is entered.")
+deadline_table days clock case (e ∷ deadlines) =
+    element tag.Table (text_in tag.Caption (deadline_caption case) ++ deadline_heads ++ element tag.TableBody (flat_map (deadline_rows days clock) (e ∷ deadlines)))
+
+-- the hearing of a motion, or that none is set
+unfoldable pub hearing_cell : CourtView → Option SheetHearing → List ℕ
+hearing_cell court None = text_in tag.Cell (codes "not set")
+hearing_cell court (Some h) =
+    element tag.Cell (text_in tag.Line (hearing_time h.hearing) ++ text_in tag.Line (hearing_place court h.hearing) ++ text_in tag.Line (notice_words h.hearing.notice) ++ text_in tag.Line (affidavits_words h.affidavits))
+
+-- the number of a motion, when it was served, the notice that it needs, and its hearing
+unfoldable pub motion_row : CourtView → SheetMotion → List ℕ
+motion_row court m =
+    element tag.Row (text_in tag.RowHead (decimal m.number) ++ text_in tag.Cell (whole_day m.served) ++ text_in tag.Cell (need_words m.need) ++ hearing_cell court m.hearing)
+
+unfoldable pub motion_heads : List ℕ
+motion_heads = four_heads (codes "No.") (codes "Served") (codes "Notice") (codes "Hearing")
+
+-- `Motions of case 3`
+unfoldable pub motion_caption : (case : ℕ) → List ℕ
+motion_caption case = codes "Motions of case " ++ decimal case
+
+-- a row for each motion, or that there are none
+unfoldable pub motion_table : CourtView → (case : ℕ) → List SheetMotion → List ℕ
+motion_table court case [] = text_in tag.Paragraph (codes "No motion is entered.")
+motion_table court case (m ∷ motions) =
+    element tag.Table (text_in tag.Caption (motion_caption case) ++ motion_heads ++ element tag.TableBody (flat_map (motion_row court) (m ∷ motions)))
+
+-- `Case 3`
+unfoldable pub case_title : (case : ℕ) → List ℕ
+case_title case = codes "Case " ++ decimal case
+
+-- `Filed Mon 2025-03-03`
+unfoldable pub filed_words : (filed : ℤ) → List ℕ
+filed_words filed = codes "Filed " ++ whole_day filed
+
+-- the sheet of a case
+unfoldable pub case_part : CourtView → DaysView → ExplainedSheet → List ℕ
+case_part court days s =
+    element (tag.CaseSection s.case) (text_in tag.Heading3 (case_title s.case) ++ text_in tag.Paragraph (filed_words s.filed) ++ deadline_table days court.clock s.case s.deadlines.items ++ motion_table court s.case s.motions)
+
+-- a part for each case, or that there is none
+abbrev pub case_parts : CourtView → DaysView → List ExplainedSheet → List ℕ
+case_parts court days [] = text_in tag.Paragraph (codes "No case is open.")
+case_parts court days (s ∷ sheets) = flat_map (case_part court days) (s ∷ sheets)
+
+-- the sheets of the cases
+unfoldable pub cases_part : CourtView → DaysView → List ExplainedSheet → List ℕ
+cases_part court days sheets = element tag.Section (text_in tag.Heading2 (codes "Cases") ++ case_parts court days sheets)

@@ -1,0 +1,8 @@
+pub mod Cases
+pub mod Due
+pub mod Explained
+pub mod Judges
+pub mod Page
+pub mod Phrases
+pub mod Tables
+pub mod Words

@@ -1,0 +1,19 @@
+//! One page of the court's calendar: what is due, the judges' hearings, and the sheets of the cases. It is one file with no
+//! script, and loads nothing. Each text in it is escaped.
+#![tactic(auto)]
+
+mod cases;
+mod deadlines;
+mod due;
+mod explained;
+mod judges;
+mod laws;
+mod motions;
+mod page;
+mod phrases;
+mod reasons;
+mod tables;
+
+pub use explained::{ExplainedDeadline, ExplainedSheet, explain};
+pub use laws::content_is_markup;
+pub use page::push_page;

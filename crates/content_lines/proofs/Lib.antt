@@ -1,0 +1,8 @@
+pub mod CallerLemmas
+pub mod CharacterLemmas
+pub mod EscapingLemmas
+pub mod FoldingLemmas
+pub mod PropertyLemmas
+pub mod ShortLemmas
+pub mod StampLemmas
+pub mod WholeLemmas

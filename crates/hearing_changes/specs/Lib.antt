@@ -1,0 +1,4 @@
+pub mod Change
+pub mod History
+pub mod Noted
+pub mod Words

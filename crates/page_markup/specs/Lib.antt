@@ -1,0 +1,4 @@
+pub mod Elements
+pub mod Escaping
+pub mod Frame
+pub mod Words
