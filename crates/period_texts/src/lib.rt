@@ -5,3 +5,4 @@ mod heading;
 mod words;
 
 pub use heading::push_heading;
+pub use words::{event_words, rule_section, rule_words};

@@ -8,7 +8,7 @@ use rule_periods::{Mark, RulePeriod};
 use rule6::Act;
 
 /// The section that sets a period of the Rules.
-pub(crate) fn rule_section(rule: RulePeriod) -> &'static str
+pub fn rule_section(rule: RulePeriod) -> &'static str
     ensures { result.now ≡ rule_section rule }
 {
     match rule {
@@ -26,7 +26,7 @@ pub(crate) fn rule_section(rule: RulePeriod) -> &'static str
 }
 
 /// What is to be done within a period of the Rules.
-pub(crate) fn rule_words(rule: RulePeriod) -> &'static str
+pub fn rule_words(rule: RulePeriod) -> &'static str
     ensures { result.now ≡ rule_words rule }
 {
     match rule {
@@ -44,7 +44,7 @@ pub(crate) fn rule_words(rule: RulePeriod) -> &'static str
 }
 
 /// The event from which a period of the Rules runs.
-pub(crate) fn event_words(rule: RulePeriod) -> &'static str
+pub fn event_words(rule: RulePeriod) -> &'static str
     ensures { result.now ≡ event_words rule }
 {
     match rule {
