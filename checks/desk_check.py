@@ -99,7 +99,7 @@ def check_trial(programs, draw):
 
 
 def check_together(programs, draw):
-    """Rows that are kept together: all faults are told, each with its line, and nothing is kept; or all rows, as `enter` does."""
+    """Rows that are kept together: all faults are written, each with its line, and nothing is kept; or all rows, as `enter` does."""
     with tempfile.TemporaryDirectory() as parent:
         desk = Desk(programs, parent, SHORT_COURT)
         desk.enter([b"1,open,3,2025-03-03\n"])

@@ -155,7 +155,7 @@ def kill_together(desk, rows, pace, draw):
 
 
 def killed_together(programs, draw, count):
-    """Kills so many sessions that keep their rows together, and says how many of them kept all rows."""
+    """Kills that many sessions that keep their rows together, and says how many of them kept all rows."""
     counts = Counter()
     with tempfile.TemporaryDirectory() as parent:
         desk, pace = Desk(programs, parent, SHORT_COURT), 0
