@@ -12,8 +12,7 @@ use shared_docket::DocketParts;
 use std::io;
 use std::io::Write;
 use versioned_steps::{
-    finished_commands_stand_once, fresh_means_untouched, serial_history,
-    versions_are_last_touches,
+    finished_commands_stand_once, fresh_means_untouched, serial_history, versions_are_last_touches,
 };
 
 /// Makes the steps of each schedule that standard input holds: a court's file, a line `%%`, rows that are the commands, a
