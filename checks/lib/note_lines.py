@@ -143,20 +143,19 @@ def of_end(court, row, end):
     return [note(last, "the end lies after the event it counts back from")] if after else []
 
 
-def of_event(event, filed, today):
-    """The notes on an event, where it counts from a day or None."""
-    lines = [note(event, "the event lies before the filing of the case")] if event < filed else []
-    if today is not None and abs(event - today) >= YEAR:
-        side = "before" if event < today else "after"
-        lines.append(note(event, "the event lies a year or more {} {}".format(side, day_text(today))))
-    return lines
+def far_from(today, event):
+    """The note on an event that lies a year or more from a day."""
+    if abs(event - today) < YEAR:
+        return []
+    return [note(event, "the event lies a year or more {} {}".format("before" if event < today else "after", day_text(today)))]
 
 
 def of_deadline(court, rows, row, filed, today):
     """The notes on a deadline of a case that was filed on that day, where it counts from a day or None."""
-    lines = []
-    for event in [row.event.day] + ([] if row.second is None else [row.second]):
-        lines += of_event(event, filed, today if row.filed is None else None)
+    events = [row.event.day] + ([] if row.second is None else [row.second])
+    lines = [note(event, "the event lies before the filing of the case") for event in events if event < filed]
+    if today is not None and row.filed is None:
+        lines += [line for event in events for line in far_from(today, event)]
     rule = right_from(row.period.text)
     if rule is not None and starts(row) < day_of_text(rule):
         lines.append(note(starts(row), "the event lies before the rule that is applied"))

@@ -21,6 +21,11 @@ abbrev pub before_filing : (filed event : ℤ) → List ℕ
 before_filing filed event =
     if int_lt event filed then note (Some event) (codes "the event lies before the filing of the case") else []
 
+-- the same of the second event, where a period has one
+abbrev pub second_before_filing : (filed : ℤ) → (second : Option ℤ) → List ℕ
+second_before_filing filed (Some event) = before_filing filed event
+second_before_filing filed None = []
+
 -- an event that lies 365 days or more from the day that counts as today: its year may be wrong
 unfoldable pub far_from : (today event : ℤ) → List ℕ
 far_from today event =
@@ -28,19 +33,14 @@ far_from today event =
     else if int_le (today +ℤ pos 365) event then note (Some event) (codes "the event lies a year or more after " ++ day_text today)
     else []
 
--- where a day counts as today, and no act is recorded yet
-abbrev pub far_if_open : (today : Option ℤ) → (done : Option Filing) → (event : ℤ) → List ℕ
-far_if_open (Some today) None event = far_from today event
-far_if_open today done event = []
+abbrev pub second_far_from : (today : ℤ) → (second : Option ℤ) → List ℕ
+second_far_from today (Some event) = far_from today event
+second_far_from today None = []
 
--- the notes on an event
-abbrev pub event_notes : (filed : ℤ) → (today : Option ℤ) → (done : Option Filing) → (event : ℤ) → List ℕ
-event_notes filed today done event = before_filing filed event ++ far_if_open today done event
-
--- the same of the second event, where a period has one
-abbrev pub second_notes : (filed : ℤ) → (today : Option ℤ) → (done : Option Filing) → (second : Option ℤ) → List ℕ
-second_notes filed today done (Some event) = event_notes filed today done event
-second_notes filed today done None = []
+-- the same of both events, where a day counts as today and no act is recorded
+abbrev pub far_if_open : (today : Option ℤ) → (done : Option Filing) → DeadlineRowView → List ℕ
+far_if_open (Some today) None row = far_from today row.event.day ++ second_far_from today row.second
+far_if_open today done row = []
 
 -- the period runs from a day before the one from which it is right as it is applied
 abbrev pub before_rule : (start right_from : ℤ) → List ℕ
@@ -83,7 +83,7 @@ act_notes row = early_act (direction_of row.period) (runs_from row) row.filed
 -- the notes on a deadline as it was started: on its events, its rule and its hours, and on the holidays that count for its end
 unfoldable pub start_notes : DaysView → ClockView → (filed : ℤ) → (today : Option ℤ) → DeadlineRowView → Shown → List ℕ
 start_notes c clock filed today row shown =
-    event_notes filed today row.filed row.event.day ++ second_notes filed today row.filed row.second ++ before_rule (runs_from row) (course_of row.period).right_from ++ without_time row ++ without_holidays c (end_day clock shown)
+    before_filing filed row.event.day ++ second_before_filing filed row.second ++ far_if_open today row.filed row ++ before_rule (runs_from row) (course_of row.period).right_from ++ without_time row ++ without_holidays c (end_day clock shown)
 
 -- the notes on a deadline, of which this is shown, in a case that was filed on that day
 unfoldable pub deadline_notes : DaysView → ClockView → (filed : ℤ) → (today : Option ℤ) → DeadlineRowView → Shown → List ℕ

@@ -1,10 +1,13 @@
 //! The notes on a deadline.
 
 ghost use Rattle.std.specs.Prelude.{◌≡◌, ◌++◌, OnOk, string_bytes};
+ghost use Rattle.reason_texts.specs.Words.{course_of};
 ghost use Rattle.docket_notes.specs.Notes.{deadline_notes, start_notes, without_holidays, without_time};
 
 use crate::end::{push_act_notes, push_end_notes};
-use crate::event::{push_before_rule, push_event_notes, push_second_notes};
+use crate::event::{
+    push_before_filing, push_before_rule, push_far_if_open, push_second_before_filing,
+};
 use crate::holidays::lists_no_more;
 use act_margins::end_day;
 use court_clock::{Clock, Day};
@@ -49,12 +52,20 @@ fn push_start_notes(
 ) -> Result<(), AllocError>
     ensures { OnOk result (string_bytes text.new ≡ string_bytes text.old ++ start_notes days.now clock.now filed today row.now shown.now) }
 {
-    let done = row.filed();
-    push_event_notes(alloc, text, filed, today, done, row.event().day())?;
-    push_second_notes(alloc, text, filed, today, done, row.second())?;
-    push_before_rule(text, runs_from(row), Course::of(&row.period()).right_from)?;
+    push_before_filing(text, filed, row.event().day())?;
+    push_second_before_filing(text, filed, row.second())?;
+    push_far_if_open(alloc, text, today, row)?;
+    push_before_rule(text, runs_from(row), right_from(row))?;
     push_without_time(text, row)?;
     push_without_holidays(text, days, end_day(clock, shown))
+}
+
+/// The day from which the deadline's period is right as it is applied.
+fn right_from(row: &DeadlineRow) -> Day
+    ensures { result ≡ (course_of row.now.period).right_from }
+{
+    let period = row.period();
+    Course::of(&period).right_from
 }
 
 /// Adds the note on hours whose event has no time of day.

@@ -2,51 +2,20 @@
 
 ghost use Rattle.std.specs.Prelude.{◌≡◌, ◌++◌, Some, OnOk, string_bytes};
 ghost use Rattle.court_clock.specs.Words.{day_text};
-ghost use Rattle.docket_notes.specs.Notes.{before_filing, before_rule, event_notes, far_from, note, second_notes};
+ghost use Rattle.docket_notes.specs.Notes.{before_filing, before_rule, far_from, far_if_open, note, second_before_filing, second_far_from};
 
 use court_clock::Day;
 use reason_texts::push_note;
-use rule6::Filing;
+use rule_periods::DeadlineRow;
 use std::alloc::{AllocError, Global};
 
-/// Adds the notes on an event: that it lies before the day on which the case was filed, and, where no act is recorded, that
-/// it lies a year or more from the day that counts as today. `Err` says that memory ran out.
-pub(crate) fn push_event_notes(
-    alloc: Global,
+/// Adds the note on an event that lies before the day on which the case was filed. `Err` says that memory ran
+/// out.
+pub(crate) fn push_before_filing(
     text: &mut String,
     filed: Day,
-    today: Option<Day>,
-    done: Option<Filing>,
     event: Day,
 ) -> Result<(), AllocError>
-    ensures { OnOk result (string_bytes text.new ≡ string_bytes text.old ++ event_notes filed today done event) }
-{
-    push_before_filing(text, filed, event)?;
-    match (today, done) {
-        (Some(today), None) => push_far(alloc, text, today, event),
-        _ => Ok(()),
-    }
-}
-
-/// Adds the same of the second event, where a period has one.
-pub(crate) fn push_second_notes(
-    alloc: Global,
-    text: &mut String,
-    filed: Day,
-    today: Option<Day>,
-    done: Option<Filing>,
-    second: Option<Day>,
-) -> Result<(), AllocError>
-    ensures { OnOk result (string_bytes text.new ≡ string_bytes text.old ++ second_notes filed today done second) }
-{
-    match second {
-        Some(event) => push_event_notes(alloc, text, filed, today, done, event),
-        None => Ok(()),
-    }
-}
-
-/// Adds the note on an event that lies before the day on which the case was filed.
-fn push_before_filing(text: &mut String, filed: Day, event: Day) -> Result<(), AllocError>
     ensures { OnOk result (string_bytes text.new ≡ string_bytes text.old ++ before_filing filed event) }
 {
     if event.number() < filed.number() {
@@ -61,16 +30,75 @@ fn push_before_filing(text: &mut String, filed: Day, event: Day) -> Result<(), A
     }
 }
 
+/// Adds the same of the second event, where a period has one.
+pub(crate) fn push_second_before_filing(
+    text: &mut String,
+    filed: Day,
+    second: Option<Day>,
+) -> Result<(), AllocError>
+    ensures { OnOk result (string_bytes text.new ≡ string_bytes text.old ++ second_before_filing filed second) }
+{
+    match second {
+        Some(event) => push_before_filing(text, filed, event),
+        None => Ok(()),
+    }
+}
+
+/// Adds the notes on events that lie a year or more from the day that counts as today, where one does and no act is recorded.
+pub(crate) fn push_far_if_open(
+    alloc: Global,
+    text: &mut String,
+    today: Option<Day>,
+    row: &DeadlineRow,
+) -> Result<(), AllocError>
+    ensures { OnOk result (string_bytes text.new ≡ string_bytes text.old ++ far_if_open today row.now.filed row.now) }
+{
+    match (today, row.filed()) {
+        (Some(today), None) => {
+            push_far(alloc, text, today, row.event().day())?;
+            push_second_far(alloc, text, today, row.second())
+        }
+        _ => Ok(()),
+    }
+}
+
+/// Adds the same of the second event, where a period has one.
+fn push_second_far(
+    alloc: Global,
+    text: &mut String,
+    today: Day,
+    second: Option<Day>,
+) -> Result<(), AllocError>
+    ensures { OnOk result (string_bytes text.new ≡ string_bytes text.old ++ second_far_from today second) }
+{
+    match second {
+        Some(event) => push_far(alloc, text, today, event),
+        None => Ok(()),
+    }
+}
+
 /// Adds the note on an event that lies 365 days or more from the day that counts as today.
 #[tactic(auto, unfolding(crate::specs::Notes::far_from))]
 fn push_far(alloc: Global, text: &mut String, today: Day, event: Day) -> Result<(), AllocError>
     ensures { OnOk result (string_bytes text.new ≡ string_bytes text.old ++ far_from today event) }
 {
     if event.number() + 365 <= today.number() {
-        return push_far_words(alloc, text, today, event, "the event lies a year or more before ");
+        return push_far_words(
+            alloc,
+            text,
+            today,
+            event,
+            "the event lies a year or more before ",
+        );
     }
     if today.number() + 365 <= event.number() {
-        return push_far_words(alloc, text, today, event, "the event lies a year or more after ");
+        return push_far_words(
+            alloc,
+            text,
+            today,
+            event,
+            "the event lies a year or more after ",
+        );
     }
     Ok(())
 }
