@@ -1,5 +1,5 @@
 -- What the words of the command line ask for.
-use Rattle.std.specs.Prelude.{◌≡◌, ◌==◌, ◌&&◌, ℕ, Bool, List, [], ◌∷◌, length, Option, Some, None, codes, is_some, if◌then◌else◌}
+use Rattle.std.specs.Prelude.{◌≡◌, ◌&&◌, ℕ, Bool, true, false, List, [], ◌∷◌, Option, Some, None, codes, is_some, if◌then◌else◌}
 use Rattle.std.specs.Option.{option_and_then}
 use Rattle.std.specs.Str.Parse.{ParsesUnsigned}
 use Rattle.std.specs.declared.num.ParseIntError.{ParseIntError}
@@ -39,6 +39,15 @@ faults_given given = faults_of_day (first_of (codes "today") given) (first_of (c
 abbrev pub faults_of : List Text → Kinds
 faults_of words = or_else (fault_of command_line words) (faults_given (matches_of command_line words))
 
--- whether the program takes the words
+-- a day is given that counts, or none is
+abbrev pub day_is_taken : (today case : Option Text) → Bool
+day_is_taken None case = true
+day_is_taken (Some text) None = false
+day_is_taken (Some text) (Some number) = is_some (day_of_text text)
+
+abbrev pub are_given_taken : List Row → Bool
+are_given_taken given = day_is_taken (first_of (codes "today") given) (first_of (codes "case") given)
+
+-- the program takes the words: the command line does, and the day counts
 abbrev pub are_taken : List Text → Bool
-are_taken words = takes command_line words && length (faults_given (matches_of command_line words)) == 0
+are_taken words = takes command_line words && are_given_taken (matches_of command_line words)

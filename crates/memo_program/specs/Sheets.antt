@@ -27,10 +27,13 @@ abbrev pub ahead_if_pending : ClockView → (today : Option ℤ) → State → S
 ahead_if_pending clock (Some today) Pending shown = ahead_line clock today shown
 ahead_if_pending clock today state shown = []
 
--- what comes before the reasons of a deadline on the whole sheet of a case: the rows that made it what it is
-abbrev pub first_lines : Detail → (number : ℕ) → List ℕ
-first_lines Reasons number = []
-first_lines (Whole today sources) number = source_lines number sources
+-- what comes before the reasons of a deadline: its line, and on the whole sheet of a case the rows that made it what it is
+abbrev pub source_lines_if : Detail → (number : ℕ) → List ℕ
+source_lines_if Reasons number = []
+source_lines_if (Whole today sources) number = source_lines number sources
+
+abbrev pub first_lines : ClockView → Detail → SheetDeadline → List ℕ
+first_lines clock detail d = deadline_line clock d ++ source_lines_if detail d.number
 
 -- what comes after them on that of a case that was filed on that day: the act that is recorded and by how much it was in time
 -- or late, how far the end lies from a day, and what a reader is warned of
@@ -45,7 +48,7 @@ more_lines court days filed (Whole today sources) d = whole_lines court days fil
 -- the line of a deadline, its reasons, and what comes before and after them
 abbrev pub IsDeadline : CourtView → List NamedDay → DaysView → (filed : ℤ) → Detail → SheetDeadline → List ℕ → Type 0
 IsDeadline court names days filed detail d =
-    Then (Is (deadline_line court.clock d ++ first_lines detail d.number)) (Then (AreReasons court names days d.row) (Is (more_lines court days filed detail d)))
+    Then (Is (first_lines court.clock detail d)) (Then (AreReasons court names days d.row) (Is (more_lines court days filed detail d)))
 
 -- what a reader is warned of a hearing, where one is set
 abbrev pub notes_if_set : DaysView → Option SheetHearing → List ℕ

@@ -1,13 +1,13 @@
 //! What the words of the command line ask for.
 
-ghost use Rattle.std.specs.Prelude.{◌≡◌, ◌∷◌, [], option_map, IfOk};
+ghost use Rattle.std.specs.Prelude.{◌≡◌, ◌∷◌, [], true, option_map, IfErr, IfOk};
 ghost use Rattle.std.specs.Option.{option_and_then};
 ghost use Rattle.clap.specs.declared.error.kind.ErrorKind.{ErrorKind};
 ghost use Rattle.clap.specs.declared.error.kind.ErrorKind.TheVariants.{MissingRequiredArgument, ValueValidation};
 ghost use Rattle.clap.specs.Words.{found_of, rows_of};
 ghost use Rattle.court_clock.specs.Words.{day_of_text};
 ghost use Rattle.office_options.specs.Words.{IsAnswerFor, IsFaultAmong};
-ghost use Rattle.memo_program.specs.Asked.{IsAskedBy, faults_given, faults_of_day};
+ghost use Rattle.memo_program.specs.Asked.{IsAskedBy, are_given_taken, day_is_taken, faults_given, faults_of_day};
 
 use clap::ArgMatches;
 use court_clock::Day;
@@ -27,12 +27,15 @@ pub struct Asked {
 pub(crate) fn asked_by(alloc: Global, given: &ArgMatches<'_>) -> Result<Asked, OptionsFault>
     ensures asked { IfOk result (λ asked. IsAskedBy (rows_of (found_of given.now)) asked) }
     ensures faults { IsAnswerFor (faults_given (rows_of (found_of given.now))) result }
+    ensures taken { are_given_taken (rows_of (found_of given.now)) ≡ true → IfErr result (λ fault. fault ≡ OptionsFault.OutOfMemory) }
 {
-    let today = day_asked(alloc, given.get_str("today"), given.get_str("case"))?;
-    Ok(Asked {
-        case: given.get_one::<u32>("case"),
-        today,
-    })
+    match day_asked(alloc, given.get_str("today"), given.get_str("case")) {
+        Ok(today) => Ok(Asked {
+            case: given.get_one::<u32>("case"),
+            today,
+        }),
+        Err(fault) => Err(fault),
+    }
 }
 
 /// The day that the text of its option writes, where it is given. It counts for a case alone.
@@ -41,8 +44,9 @@ fn day_asked(
     today: Option<&str>,
     case: Option<&str>,
 ) -> Result<Option<Day>, OptionsFault>
-    ensures day { IfOk result (λ day. day ≡ option_and_then day_of_text (option_map (λ text. text.now) today)) }
-    ensures faults { IsAnswerFor (faults_of_day (option_map (λ text. text.now) today) (option_map (λ text. text.now) case)) result }
+    ensures day { IfOk result (λ day. day ≡ option_and_then day_of_text (option_map (λ text. text.now) today.entry)) }
+    ensures faults { IsAnswerFor (faults_of_day (option_map (λ text. text.now) today.entry) (option_map (λ text. text.now) case.entry)) result }
+    ensures taken { day_is_taken (option_map (λ text. text.now) today.entry) (option_map (λ text. text.now) case.entry) ≡ true → IfErr result (λ fault. fault ≡ OptionsFault.OutOfMemory) }
 {
     match (today, case) {
         (None, _) => Ok(None),

@@ -3,7 +3,6 @@
 ghost use Rattle.std.specs.Prelude.{◌≡◌, ◌+◌, ◌++◌, ◌≤◌, OnOk, string_bytes};
 ghost use Rattle.docket_rows.specs.Words.{Rows, setup_of};
 ghost use Rattle.office_run.specs.Words.{Holds};
-ghost use Rattle.office_texts.specs.Words.{deadline_line};
 ghost use Rattle.memo_program.specs.Memo.{AreSheets};
 ghost use Rattle.memo_program.specs.Sheets.{IsDeadline, IsSheet, IsSheetShown, first_lines};
 ghost use Rattle.memo_program.specs.Texts.{Each, Pushes};
@@ -92,7 +91,7 @@ fn push_first_lines(
     detail: &Detail,
     deadline: &SheetDeadline,
 ) -> Result<(), AllocError>
-    ensures { OnOk result (string_bytes text.new ≡ string_bytes text.old ++ deadline_line court.now.clock deadline.now ++ first_lines detail.now deadline.now.number) }
+    ensures { OnOk result (string_bytes text.new ≡ string_bytes text.old ++ first_lines court.now.clock detail.now deadline.now) }
 {
     push_deadline(text, court.clock(), deadline)?;
     match detail {

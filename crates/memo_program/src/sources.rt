@@ -152,7 +152,11 @@ fn source_if(asked: u32, case: u32, deadline: u32, deed: Deed, row: u64) -> Opti
     ensures { result ≡ source_if asked case deadline deed row }
 {
     if case == asked {
-        Some(Source { deadline, deed, row })
+        Some(Source {
+            deadline,
+            deed,
+            row,
+        })
     } else {
         None
     }

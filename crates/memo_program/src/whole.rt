@@ -30,7 +30,7 @@ pub(crate) fn push_more(
     match detail {
         Detail::Reasons => Ok(()),
         Detail::Whole { today, .. } => {
-            push_whole(alloc, text, court, days, filed, *today, deadline)
+            push_whole(alloc, text, court, days, filed, today, deadline)
         }
     }
 }
@@ -42,21 +42,21 @@ fn push_whole(
     court: &Court,
     days: &Days,
     filed: Day,
-    today: Option<Day>,
+    today: &Option<Day>,
     deadline: &SheetDeadline,
 ) -> Result<(), AllocError>
-    ensures { OnOk result (string_bytes text.new ≡ string_bytes text.old ++ whole_lines court.now days.now filed today deadline.now) }
+    ensures { OnOk result (string_bytes text.new ≡ string_bytes text.old ++ whole_lines court.now days.now filed today.now deadline.now) }
 {
     let (clock, row) = (court.clock(), &deadline.row);
     push_recorded(alloc, text, days, clock, Some(row))?;
-    push_if_pending(alloc, text, clock, today, deadline.state, &deadline.shown)?;
+    push_if_pending(alloc, text, clock, *today, deadline.state, &deadline.shown)?;
     push_deadline_notes(
         alloc,
         text,
         days,
         clock,
         filed,
-        today,
+        *today,
         row,
         &deadline.shown,
     )

@@ -1,5 +1,4 @@
-use Rattle.std.proofs.Common.{◌++◌, string_bytes}
-use Rattle.office_texts.specs.Words.{deadline_line}
+use Rattle.std.proofs.Common.{string_bytes}
 use Rattle.memo_program.specs.Reasons.{AreReasons}
 use Rattle.memo_program.specs.Sheets.{first_lines, more_lines}
 use Rattle.memo_program.specs.Texts.{Is, Then}
@@ -10,7 +9,7 @@ pub returns : goal.returns
 returns c =
     let court = c.args.court.now in
     let deadline = c.args.deadline.now in
-    let first = deadline_line court.clock deadline ++ first_lines c.args.detail.now deadline.number in
+    let first = first_lines court.clock c.args.detail.now deadline in
     let told = AreReasons court c.args.names.now c.args.days.now deadline.row in
     let more = more_lines court c.args.days.now c.args.filed c.args.detail.now deadline in
     let with_more = on_ok c.push_more.result (λ appended. adds_then told (Is more) _ _ (string_bytes c.push_more.new.text) c.in_ok-push_deadline_reasons.ensures (adds_text more _ _ appended)) c.push_more.ensures in
