@@ -160,7 +160,9 @@ BAD_LENGTH = reason(b" " * 14, b"a period is 1 to 3650 days, or 1 to 8760 hours"
 OPEN_CASE = COURT + OPEN.replace(b"64", b"1")
 CASE = b"case 1 filed 2025-03-03\n"
 TOLD = b"deadline_memo: "
-NO_DAY = TOLD + b"'X' is no day: write one as 2025-09-15\n"
+TRY_HELP = b"\n\nFor more information, try '--help'.\n"
+NO_DAY = b"error: invalid value 'X' for '--today <DAY>': write a day as 2025-09-15" + TRY_HELP
+NO_CASE = b"error: '--today <DAY>' counts for one case: name it by '--case <N>'" + TRY_HELP
 
 MEMO_RUNS = [(name, [], named(entries), 0, LINE + reasons(cause) + JUDGE, b"") for name, entries, cause in NAMES] + [
     ("names that are no table", [], b"holiday_names = 3\n" + ROWS, 0, LINE + reasons(b"Labor Day") + JUDGE, b""),
@@ -171,9 +173,12 @@ MEMO_RUNS = [(name, [], named(entries), 0, LINE + reasons(cause) + JUDGE, b"") f
     ("a case", ["--case", "1"], OPEN_CASE, 0, CASE, b""),
     ("a case and a day", ["--today=2025-03-03", "--case=1"], OPEN_CASE, 0, CASE, b""),
     ("a case that isn't open", ["--case", "2"], OPEN_CASE, 0, TOLD + b"case 2 isn't open: no row has opened it\n", b""),
-    ("a day that is none", ["--case", "1", "--today", "2025-02-29"], OPEN_CASE, 0, NO_DAY.replace(b"X", b"2025-02-29"), b""),
-    ("an empty day", ["--case", "1", "--today="], OPEN_CASE, 0, NO_DAY.replace(b"X", b""), b""),
-    ("a day and no case", ["--today", "2025-03-03"], OPEN_CASE, 0, TOLD + b"--today counts for one case: name it by --case\n", b""),
+    ("a day that is none", ["--case", "1", "--today", "2025-02-29"], OPEN_CASE, 1, b"", NO_DAY.replace(b"X", b"2025-02-29")),
+    ("an empty day", ["--case", "1", "--today="], OPEN_CASE, 1, b"", NO_DAY.replace(b"X", b"")),
+    ("a day that is none, and a fault of the court's file", ["--case", "1", "--today", "X"], b"", 1, b"", NO_DAY),
+    ("a day and no case", ["--today", "2025-03-03"], OPEN_CASE, 1, b"", NO_CASE),
+    ("no day and no case", ["--today", "X"], OPEN_CASE, 1, b"", NO_CASE),
+    ("a day that is none, and help after it", ["--case", "1", "--today", "X", "--help"], b"", 0, Has(b"--case 1 --today"), b""),
     ("a fault of the court's file and a case", ["--case", "1"], b"", 2, b"", b"court fault 2 Missing zone\n"),
     ("the greatest number of a case", ["--case", "4096"], OPEN_CASE, 0, Has(b"case 4096 isn't open"), b""),
     ("a case too many", ["--case", "4097"], OPEN_CASE, 1, b"", usage(b"invalid value '4097' for '--case <N>'")),

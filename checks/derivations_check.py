@@ -10,9 +10,9 @@ what is shown, by the steps of lib/derivation_steps.py alone, which computes no 
 give another end, which the second program in plain Python computes (lib/other_readings.py). The lines of an act, of a
 refusal and of what a reader is warned of must be those of lib/note_lines.py. So must those of the examples and of the stored
 run. Of each input the sheets of some cases are asked for too, from days at random: they must have the lines of the sheet that
-the second program writes, each with its reasons, its act, how far its end lies from that day, and what a reader is warned of.
-Then lines of every shape are spoiled in every way below and must be refused. The status is 0 where all of this is so. It needs
-Python 3.8 or later.
+the second program writes, each with the rows that made it what it is, its reasons, its act, how far its end lies from that
+day, and what a reader is warned of. Then lines of every shape are spoiled in every way below and must be refused. The status
+is 0 where all of this is so. It needs Python 3.8 or later.
 """
 import pathlib
 import random
@@ -24,7 +24,7 @@ from collections import Counter
 from lib import note_lines, other_readings
 from lib.derivation_steps import AFTER, COLUMN, WEEKDAYS, Calendar, Deadline, Line, Wrong, checked, expect, line_of
 from lib.made_inputs import CODES, HOLIDAYS, ZONES, listed, quoted
-from lib.period_words import heading
+from lib.period_words import COUNTING, SUMMONS, heading
 from reference import periods
 from reference.civil import day_of_text, day_text, minute_of_text, minute_text, weekday
 from reference.court_file import court_of, split, table_of
@@ -36,7 +36,6 @@ TOP = pathlib.Path(__file__).resolve().parent.parent
 
 # Of the periods of the Rules the number of days, the act, whether they run from service under Rule 5(b)(2), and the day
 # from which they are so.
-COUNTING, SUMMONS = "2009-12-01", "2015-12-01"
 RULES = {"4m": (90, "service", False, SUMMONS), "12a1Ai": (21, "service", False, COUNTING),
          "12a1Aii-us": (60, "service", False, COUNTING), "12a1Aii-abroad": (90, "service", False, COUNTING),
          "12a1B": (21, "service", True, COUNTING), "12a1C": (21, "service", True, COUNTING),
@@ -83,9 +82,9 @@ def enter(calendar, fields):
 
 
 def derivations(data, output):
-    """Each deadline that is shown: the calendar as it was then, the deadline, its lines, what is shown, and the lines that
-    must follow those of the deadline. Each other answer: None, the lines that must follow, those that do, the answer, and
-    nothing."""
+    """Each deadline that is shown: the calendar as it was then, the deadline, its lines, what is shown, the lines that must
+    follow those of the deadline, and those that must come before them. Each other answer: None, the lines that must follow,
+    those that do, the answer, and nothing."""
     file, rows = split(data)
     calendar, started = calendar_of(file), {}
     court = court_of(file)
@@ -123,11 +122,11 @@ def derivations(data, output):
                     deadline = started[fields[1], fields[2]]
                     deadline.grants.append(fields[3])
                 more = note_lines.notes(court, docket, work, made)
-                yield copy(), deadline._replace(grants=list(deadline.grants)), told(), shown[2], more
+                yield copy(), deadline._replace(grants=list(deadline.grants)), told(), shown[2], more, []
                 continue
             if text in ("holiday entered", "outage entered"):
                 enter(calendar, fields)
-            yield None, note_lines.notes(court, docket, work, made), told(), text, []
+            yield None, note_lines.notes(court, docket, work, made), told(), text, [], []
             continue
         found = re.fullmatch(r"case (\d+) filed .*", line)
         if found:
@@ -136,21 +135,18 @@ def derivations(data, output):
         found = re.fullmatch(r"deadline (\d+) \S+ ((?:last \S+|until \S+ \S+|beyond)) .*", line)
         if found:
             deadline = started[case, found[1]]
-            yield copy(), deadline._replace(grants=list(deadline.grants)), told(), found[2], []
+            yield copy(), deadline._replace(grants=list(deadline.grants)), told(), found[2], [], []
             continue
         if line.startswith("  "):
             raise Wrong("reasons under an answer that shows no deadline: " + line)
 
 
 def docket_after(data):
-    """The court's file, its court, and what is docketed after all rows."""
+    """The court's file, its court, what is docketed after all rows, and by case and deadline the lines of the rows."""
     file, rows = split(data)
     court = court_of(file)
-    docket = opening(court)
-    for row in rows_of(rows, 1, court):
-        if row.work[0] in STEPS:
-            docket, _ = step(court, docket, row.work)
-    return file, court, docket
+    sources, docket = note_lines.sources(court, [row.work for row in rows_of(rows, 1, court)])
+    return file, court, docket, sources
 
 
 def grant_text(grant):
@@ -166,7 +162,7 @@ def of_row(row):
 
 def whole_case(ended, output, case, today):
     """The same of the whole sheet of a case, counted from a day or None, where the input ended so."""
-    file, court, docket = ended
+    file, court, docket, sources = ended
     lines = output.decode().split("\n")[:-1]
     if case_of(docket, case) is None:
         expect(lines == ["deadline_memo: case {} isn't open: no row has opened it".format(case)], "a case that isn't open is shown")
@@ -185,16 +181,17 @@ def whole_case(ended, output, case, today):
     blocks = iter(blocks[2:])
     for deadline in deadlines_of(docket, case):
         row, block = deadline.row, next(blocks)
+        first = sources[case, deadline.number]
         more = note_lines.act(court, docket, row) + note_lines.ahead(court, docket, row, today)
-        more += note_lines.of_deadline(court, docket, row, filed)
+        more += note_lines.of_deadline(court, docket, row, filed, today)
         shown = shown_text(court, periods.shown(days, court.clock, row))
-        yield calendar, of_row(row), block[1:], shown, more
+        yield calendar, of_row(row), block[1:], shown, more, first
     for motion in motions_of(docket, case):
         block, hearing = next(blocks), hearing_of(docket, case, motion.number)
-        yield None, [], block[1:], block[0], []
+        yield None, [], block[1:], block[0], [], []
         if hearing is not None:
             block = next(blocks)
-            yield None, note_lines.of_hearing(docket, hearing.day), block[1:], block[0], []
+            yield None, note_lines.of_hearing(docket, hearing.day), block[1:], block[0], [], []
 
 
 def asked(deadline):
@@ -204,9 +201,11 @@ def asked(deadline):
     return periods.Deadline(periods.period_of_text(deadline.text), event, deadline.second, deadline.kind, grants, None)
 
 
-def follow(calendar, deadline, texts, shown, more):
-    """That the lines are the deadline's period in words, its reasons, the other readings, and these."""
+def follow(calendar, deadline, texts, shown, more, first):
+    """That the lines are the first ones, the deadline's period in words, its reasons, the other readings, and the others."""
     lines = [line_of(text) for text in texts]
+    expect(lines[:len(first)] == [Line(*line) for line in first], "other rows made the deadline")
+    lines = lines[len(first):]
     event = deadline.event if deadline.second is None else max(deadline.event, deadline.second)
     wanted = [Line(*line) for line in heading(deadline.text, event)]
     expect(lines[:len(wanted)] == wanted, "the period is another")
@@ -216,13 +215,13 @@ def follow(calendar, deadline, texts, shown, more):
     expect(left[len(readings):] == [Line(*line) for line in more], "other lines follow the reasons")
 
 
-def wrong_with(calendar, deadline, texts, shown, more):
+def wrong_with(calendar, deadline, texts, shown, more, first):
     """Why these lines can't follow what is shown, or None. Without a calendar `deadline` is the lines that must follow."""
     try:
         if calendar is None:
             expect([line_of(text) for text in texts] == [Line(*line) for line in deadline], "other lines follow this answer")
         else:
-            follow(calendar, deadline, texts, shown, more)
+            follow(calendar, deadline, texts, shown, more, first)
     except Wrong as wrong:
         return str(wrong)
     return None
@@ -387,11 +386,13 @@ def line_spoiled(text):
     found = re.match(r"day (\d+),", text[18:])
     if found:
         yield "a day too many", swapped(text, found[0], "day {},".format(int(found[1]) + 1))
-    found = re.match(r"(?:timely, |late, |asked at |case |in |passed )?(\d+)", text[18:])
+    found = re.match(r"(?:timely, |late, |asked at |case |in |passed |\w+ by row )?(\d+)", text[18:])
     if found:
         number = str(int(found[1]) + 1).zfill(len(found[1]))
         yield "another number", swapped(text, found[0], found[0][:len(found[0]) - len(found[1])] + number)
     yield "passed for in", re.sub(r"^(.{18})in (\d+ days?)      ", r"\1passed \2 ago ", text)
+    yield "another row's deed", re.sub(r"^(.{18})(started|extended|filed) by", lambda found: found[1] + {"started": "extended", "extended": "filed", "filed": "started"}[found[2]] + " by", text)
+    yield "a year after for before", re.sub(r"(a year or more) before (\S+) ", r"\1 after \2  ", text)
     yield "as of another day", re.sub(r"as of 2(\d{3})-(\d\d)-(\d\d)$", r"as of 2\1-\2-01" if not text.endswith("-01") else r"as of 2\1-\2-02", text)
     yield "late for timely", swapped(text, "timely, ", "late, ")
     yield "timely for late", swapped(text, "late, ", "timely, ")
@@ -456,7 +457,7 @@ def all_derivations(program, data, chance):
 
 def ends_near(ended, case, chance):
     """A day at an end of a deadline of the case that is pending, or a day beside it, where there is one."""
-    _, court, docket = ended
+    _, court, docket, _ = ended
     rows = [deadline.row for deadline in deadlines_of(docket, case) if deadline.row.filed is None]
     ends = [note_lines.end_of(court, periods.shown(docket.days, court.clock, row))[0] for row in rows]
     ends = [end for end in ends if end is not None]
@@ -490,9 +491,9 @@ def main(words):
     print("{} deadlines, and {} other answers, of whose lines {} were refused; {} shapes of lines".format(
         shown, said, wrong, len(shapes)))
     taken, refused = Counter(), Counter()
-    for calendar, deadline, texts, answer, more in shapes.values():
+    for calendar, deadline, texts, answer, more, first in shapes.values():
         for name, spoiled in lines_spoiled(texts):
-            if wrong_with(calendar, deadline, spoiled, answer, more):
+            if wrong_with(calendar, deadline, spoiled, answer, more, first):
                 refused[name] += 1
             else:
                 taken[name] += 1

@@ -5,8 +5,9 @@ A line is (day or None, what, section). `rows` is the docket after the command.
 """
 from lib.derivation_steps import time_text
 from lib.legal_names import legal_name
-from reference.civil import civil, day_text, instant_at, minute_text, weekday
-from reference.docket import DATES, DEADLINES, GRANTS, MOTIONS, OUTAGES, deadline_of, hearing_of, motion_of
+from lib.period_words import right_from
+from reference.civil import civil, day_of_text, day_text, instant_at, minute_text, weekday
+from reference.docket import DATES, DEADLINES, GRANTS, MOTIONS, OUTAGES, STEPS, deadline_of, hearing_of, motion_of, opening, step
 from reference.periods import granted, is_in_range, shown
 from reference.rule6 import AFTER, BEFORE, ELECTRONIC, FILING, PAPER, Filing, is_timely
 
@@ -61,10 +62,23 @@ def act(court, rows, row):
     assert by.startswith("timely") == is_timely(court.clock, end, row.period.act, done)
     section = "6(a)(2)" if end.kind == "until" else "6(a)(4)" if end.kind == "last" and files(row) else "ours"
     lines.append((end_of(court, end)[0], by, section))
-    event = row.event.day if row.second is None else max(row.event.day, row.second)
-    if row.period.direction == AFTER and done.day < event:
-        lines.append((event, "other reading: no act, done before its event", "ours"))
+    if row.period.direction == AFTER and done.day < starts(row):
+        lines.append((starts(row), "other reading: no act, done before its event", "ours"))
     return lines
+
+
+def sources(court, works):
+    """What rows did to deadlines: by case and number of the deadline the lines that say so, and the docket after them. Each of
+    `works` is what a row asks for."""
+    made, docket = {}, opening(court)
+    for number, work in enumerate(works, 1):
+        if work[0] in STEPS:
+            docket, answer = step(court, docket, work)
+            if answer[0] in ("started", "extended", "filed"):
+                deadline = answer[1] if answer[0] == "started" else work[2]
+                line = (None, "{} by row {}".format(answer[0], number), "docketed")
+                made.setdefault((work[1], deadline), []).append(line)
+    return made, docket
 
 
 def files(row):
@@ -103,34 +117,65 @@ def ahead(court, rows, row, today):
     return [(last, what, "as of " + day_text(today))]
 
 
+YEAR = 365
+
+
+def note(day, what):
+    return (day, what, "note")
+
+
+def starts(row):
+    """The day from which a period runs: that of its event, or the later of two."""
+    return row.event.day if row.second is None else max(row.event.day, row.second)
+
+
 def of_extension(court, rows, command, end):
-    """The end that an extension gave was past when it was asked for."""
-    asked = command[3].asked
-    act_due = docketed(rows, command).period.act
-    if is_timely(court.clock, end, act_due, Filing(asked.day, asked.minute, ELECTRONIC)):
+    """The end that an extension gave was past when it was asked for, or lies after the event that it counts back from."""
+    asked, row = command[3].asked, docketed(rows, command)
+    filing = Filing(asked.day, asked.minute, ELECTRONIC)
+    lines = [] if is_timely(court.clock, end, row.period.act, filing) else [note(asked.day, "asked for after the end that it gives")]
+    return lines + of_end(court, row, end)
+
+
+def of_end(court, row, end):
+    last = end_of(court, end)[0]
+    after = row.period.direction == BEFORE and last is not None and last > row.event.day
+    return [note(last, "the end lies after the event it counts back from")] if after else []
+
+
+def far_from(today, event):
+    """The note on an event that lies a year or more from a day."""
+    if abs(event - today) < YEAR:
         return []
-    return [(asked.day, "asked for after the end that it gives", "note")]
+    return [note(event, "the event lies a year or more {} {}".format("before" if event < today else "after", day_text(today)))]
 
 
-def of_deadline(court, rows, row, filed):
-    """The notes on a deadline of a case that was filed on that day."""
-    lines = []
-    for event in [row.event.day] + ([] if row.second is None else [row.second]):
-        if event < filed:
-            lines.append((event, "the event lies before the filing of the case", "note"))
+def of_deadline(court, rows, row, filed, today):
+    """The notes on a deadline of a case that was filed on that day, where it counts from a day or None."""
+    events = [row.event.day] + ([] if row.second is None else [row.second])
+    lines = [note(event, "the event lies before the filing of the case") for event in events if event < filed]
+    if today is not None and row.filed is None:
+        lines += [line for event in events for line in far_from(today, event)]
+    rule = right_from(row.period.text)
+    if rule is not None and starts(row) < day_of_text(rule):
+        lines.append(note(starts(row), "the event lies before the rule that is applied"))
     if row.period.unit == "h" and row.event.minute == 0:
-        lines.append((row.event.day, "event at 00:00, or its time of day is missing", "note"))
-    last = end_of(court, shown(rows.days, court.clock, row))[0]
+        lines.append(note(row.event.day, "event at 00:00, or its time of day is missing"))
+    end = shown(rows.days, court.clock, row)
+    last = end_of(court, end)[0]
     if last is not None and rows.days.first <= last <= rows.days.last and not any(
             last <= day <= rows.days.last for day in rows.days.federal):
-        lines.append((last, "no federal holiday is listed from this day on", "note"))
+        lines.append(note(last, "no federal holiday is listed from this day on"))
+    lines += of_end(court, row, end)
+    if row.period.direction == AFTER and row.filed is not None and row.filed.day < starts(row):
+        lines.append(note(row.filed.day, "the act was done before its event"))
     return lines
 
 
 def of_hearing(rows, day):
     """The notes on a hearing of that day."""
     outages = [outage for outage in rows.days.outages if outage.day == day]
-    return [(day, "the clerk's office was inaccessible on this day", "note")] if outages else []
+    return [note(day, "the clerk's office was inaccessible on this day")] if outages else []
 
 
 # Refusals of extensions

@@ -17,6 +17,9 @@ RULES = {
     "59e": (28, "a motion to alter or amend a judgment", "59(e)", "from the entry of judgment"),
 }
 
+# The days from which they are right as they are applied.
+COUNTING, SUMMONS = "2009-12-01", "2015-12-01"
+
 # Of the marks of entered periods: the section, and what is to be done.
 MARKS = {
     "50b": ("50(b)", "a renewed motion for judgment as a matter of law"),
@@ -27,6 +30,11 @@ MARKS = {
     "59e": ("59(e)", "a motion to alter or amend a judgment"),
     "60b": ("60(b)", "a motion for relief from a judgment"),
 }
+
+
+def right_from(text):
+    """The day from which a period is right as it is applied, or None for one that is entered."""
+    return None if text not in RULES else SUMMONS if text == "4m" else COUNTING
 
 
 def counted(number, unit):

@@ -11,12 +11,15 @@ use std::alloc::Global;
 pub struct CourtCalendar;
 
 impl Program for CourtCalendar {
+    ghost use Rattle.clap.specs.Words.{fault_of, takes};
     ghost use Rattle.calendar_program.specs.Asked.{IsAsked};
     ghost use Rattle.calendar_program.specs.CommandLine.{command_line};
 
     type Report = Asked;
 
-    ghost command_line = { command_line };
+    ghost faults = { fault_of command_line };
+
+    ghost takes = { takes command_line };
 
     ghost is_chosen = { IsAsked };
 

@@ -10,12 +10,15 @@ use std::alloc::Global;
 pub struct ClerkOffice;
 
 impl Program for ClerkOffice {
+    ghost use Rattle.clap.specs.Words.{fault_of, takes};
     ghost use Rattle.office_options.specs.Words.{command_line};
     ghost use Rattle.clerk_program.specs.Choice.{Give};
 
     type Report = Answers;
 
-    ghost command_line = { command_line };
+    ghost faults = { fault_of command_line };
+
+    ghost takes = { takes command_line };
 
     ghost is_chosen = { λ words answers. Give words answers.options.clerks answers.options.journal };
 

@@ -1,5 +1,7 @@
 -- The faults of the crates below, as a desk's, and the statuses with which the program ends.
-use Rattle.std.specs.Prelude.{ℕ}
+use Rattle.std.specs.Prelude.{◌≡◌, ℕ, List, String, string_bytes}
+use Rattle.std.specs.declared.alloc.Global.{Global}
+use Rattle.std.specs.declared.io.Error.{Error}
 use Rattle.court_file_text.specs.declared.fault.CourtFault.TheVariants as court
 use Rattle.durable_journal.specs.declared.fault.JournalFault.{JournalFault}
 use Rattle.durable_journal.specs.declared.fault.JournalFault.TheVariants as journal
@@ -22,6 +24,10 @@ history_fault history.NoCourt = NoJournal
 history_fault (history.Court number cause) = KeptCourt number cause
 history_fault (history.Other number) = Other number
 history_fault history.OutOfMemory = OutOfMemory
+
+-- the fault has the file's name and the error of the call on it
+abbrev pub IsNamed : (name : List ℕ) → Error → DeskFault → Type 0
+IsNamed name error fault = (held : String Global) × (string_bytes held ≡ name) × (fault ≡ File held error)
 
 -- the status of a fault: 2 for the court's file, 3 for rows, 4 for files and streams, 5 for want of memory, 6 for the journal,
 -- 7 for a court's file that isn't taken since answers would differ

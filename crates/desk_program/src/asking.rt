@@ -1,5 +1,5 @@
 //! Questions on a docket that is only read.
-ghost use Rattle.std.specs.Prelude.{◌≡◌, ◌≤◌, List, ℕ, length, false, IfSome, OnOk};
+ghost use Rattle.std.specs.Prelude.{◌≡◌, ◌≤◌, length, false, IfSome, OnOk};
 ghost use Rattle.durable_journal.specs.Words.{batch_of};
 ghost use Rattle.durable_session.specs.Words.{lines_of};
 ghost use Rattle.docket_entries.specs.Words.{most_entries};

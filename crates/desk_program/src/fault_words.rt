@@ -1,5 +1,5 @@
 //! What is said of a line that has a fault: what was found, and what is expected there.
-ghost use Rattle.std.specs.Prelude.{◌≡◌, ◌==◌, ◌++◌, ℕ, List, OnOk};
+ghost use Rattle.std.specs.Prelude.{◌≡◌, ◌==◌, ◌++◌, List, OnOk};
 ghost use Rattle.std.specs.List.{after_first, before_first};
 ghost use Rattle.desk_program.specs.FaultWords.{expected, fault_words, field_words, form_text, form_words, found_text, line_words, not_text, part};
 

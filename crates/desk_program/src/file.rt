@@ -1,11 +1,29 @@
 //! The journal's file of a folder.
-ghost use Rattle.std.specs.Prelude.{IfOk};
+ghost use Rattle.std.specs.Prelude.{◌≡◌, ◌≢◌, ◌⊎◌, IfOk};
+ghost use Rattle.std.specs.IoError.{error_kind};
 ghost use Rattle.durable_journal.specs.Words.{IsDurable};
+ghost use Rattle.desk_program.specs.Faults.{IsNamed};
 ghost use Rattle.desk_program.specs.File.{file_is_usable, file_may_leave, file_seen};
 
 use crate::fault::DeskFault;
 use sqlite_disk::Start;
 use sqlite_std_file::{FileFrom, OpenError, open};
+use std::alloc::Global;
+use std::io::{self, ErrorKind};
+
+/// The fault of a call on the file or the folder of that name. Want of memory has no name.
+pub fn file_fault(alloc: Global, name: &str, error: io::Error) -> DeskFault
+    ensures memory { error_kind error ≡ ErrorKind.OutOfMemory → result ≡ DeskFault.OutOfMemory }
+    ensures named { error_kind error ≢ ErrorKind.OutOfMemory → IsNamed name.now error result ⊎ (result ≡ DeskFault.OutOfMemory) }
+{
+    if error.kind() == ErrorKind::OutOfMemory {
+        return DeskFault::OutOfMemory;
+    }
+    match String::from_str(alloc, name) {
+        Ok(name) => DeskFault::File(name, error),
+        Err(_) => DeskFault::OutOfMemory,
+    }
+}
 
 /// Opens a journal's file, or makes it. No other program can open it until it is dropped. What it holds is that of `start`,
 /// which stands for what no code can read before: by the model of the disk it is all on the disk, and a read gives it.
@@ -17,9 +35,6 @@ pub fn open_file<S: Start>(rt: &HostRuntime, path: &str, start: S) -> Result<Fil
         Err(OpenError::Busy) => Err(DeskFault::Busy),
         Err(OpenError::HotJournal) => Err(DeskFault::Foreign),
         Err(OpenError::OutOfMemory) => Err(DeskFault::OutOfMemory),
-        Err(OpenError::Io(error)) => Err(DeskFault::File(
-            String::from_str(rt.alloc(), path)?,
-            error,
-        )),
+        Err(OpenError::Io(error)) => Err(file_fault(rt.alloc(), path, error)),
     }
 }

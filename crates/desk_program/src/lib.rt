@@ -20,5 +20,5 @@ pub use court::{check_court, court_of};
 pub use desk::Desk;
 pub use fault::DeskFault;
 pub use fault_lines::{DeskFaultLine, ended_by, status_of};
-pub use file::open_file;
+pub use file::{file_fault, open_file};
 pub use rows::{write_count, write_rows};

@@ -1,29 +1,21 @@
 //! A folder with a journal.
 ghost use Rattle.std.specs.Prelude.{◌<◌, ◌≤◌, length, IfOk};
 
-use desk_program::{Desk, DeskFault, open_file};
+use desk_program::{Desk, DeskFault, file_fault, open_file};
 use durable_journal::entries_in;
 use sqlite_disk::Memory;
 use sqlite_std_file::{FileFrom, Wary};
 use std::fs;
-use std::io::{self, ErrorKind};
+use std::io::ErrorKind;
 
 /// A docket over the journal of a folder.
 pub type FolderDesk = Desk<FileFrom<Wary>>;
-
-// The fault of a call on the file or the folder of that name.
-fn file_fault(rt: &HostRuntime, name: &str, error: io::Error) -> DeskFault {
-    match String::from_str(rt.alloc(), name) {
-        Ok(name) => DeskFault::File(name, error),
-        Err(_) => DeskFault::OutOfMemory,
-    }
-}
 
 /// All bytes of a file.
 pub fn read_file(rt: &HostRuntime, name: &str) -> Result<Vec<u8>, DeskFault> {
     match fs::read(rt, name) {
         Ok(bytes) => Ok(bytes),
-        Err(error) => Err(file_fault(rt, name, error)),
+        Err(error) => Err(file_fault(rt.alloc(), name, error)),
     }
 }
 
@@ -37,7 +29,7 @@ pub fn make_folder(rt: &HostRuntime, folder: &str) -> Result<(), DeskFault> {
     match fs::create_dir(rt, folder) {
         Ok(()) => Ok(()),
         Err(error) if error.kind() == ErrorKind::AlreadyExists => Ok(()),
-        Err(error) => Err(file_fault(rt, folder, error)),
+        Err(error) => Err(file_fault(rt.alloc(), folder, error)),
     }
 }
 
@@ -46,7 +38,7 @@ fn find_journal(rt: &HostRuntime, name: &str) -> Result<(), DeskFault> {
     match fs::symlink_metadata(rt, name) {
         Ok(_) => Ok(()),
         Err(error) if error.kind() == ErrorKind::NotFound => Err(DeskFault::NoJournal),
-        Err(error) => Err(file_fault(rt, name, error)),
+        Err(error) => Err(file_fault(rt.alloc(), name, error)),
     }
 }
 

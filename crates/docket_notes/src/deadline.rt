@@ -1,65 +1,71 @@
 //! The notes on a deadline.
 
 ghost use Rattle.std.specs.Prelude.{◌≡◌, ◌++◌, OnOk, string_bytes};
-ghost use Rattle.docket_notes.specs.Notes.{before_filing, deadline_notes, second_before_filing, without_holidays, without_time};
+ghost use Rattle.reason_texts.specs.Words.{course_of};
+ghost use Rattle.docket_notes.specs.Notes.{deadline_notes, start_notes, without_holidays, without_time};
 
+use crate::end::{push_act_notes, push_end_notes};
+use crate::event::{
+    push_before_filing, push_before_rule, push_far_if_open, push_second_before_filing,
+};
 use crate::holidays::lists_no_more;
 use act_margins::end_day;
 use court_clock::{Clock, Day};
 use court_days::Days;
-use reason_texts::push_note;
-use rule_periods::DeadlineRow;
+use reason_texts::{Course, push_note};
+use rule_periods::{DeadlineRow, runs_from};
 use rule6::Shown;
-use std::alloc::AllocError;
+use std::alloc::{AllocError, Global};
 
-/// Adds the notes on a deadline, of which this is shown, in a case that was filed on that day: an event before that day,
-/// hours whose event has no time of day, and an end after the last federal holiday that the court's file lists. `Err` says
-/// that memory ran out.
+/// Adds the notes on a deadline, of which this is shown, in a case that was filed on that day, where that day counts as
+/// today if one is given: those on its start, on its end and on its act. `Err` says that memory ran out.
 #[tactic(auto, unfolding(crate::specs::Notes::deadline_notes))]
 pub fn push_deadline_notes(
+    alloc: Global,
     text: &mut String,
     days: &Days,
     clock: &Clock,
     filed: Day,
+    today: Option<Day>,
     row: &DeadlineRow,
     shown: &Shown,
 ) -> Result<(), AllocError>
-    ensures { OnOk result (string_bytes text.new ≡ string_bytes text.old ++ deadline_notes days.now clock.now filed row.now shown.now) }
+    ensures { OnOk result (string_bytes text.new ≡ string_bytes text.old ++ deadline_notes days.now clock.now filed today row.now shown.now) }
+{
+    push_start_notes(alloc, text, days, clock, filed, today, row, shown)?;
+    push_end_notes(text, clock, row, shown)?;
+    push_act_notes(text, row)
+}
+
+/// Adds the notes on a deadline as it was started: on its events, its rule and its hours, and where the court's file lists no
+/// federal holiday from its end on.
+#[tactic(auto, unfolding(crate::specs::Notes::start_notes))]
+fn push_start_notes(
+    alloc: Global,
+    text: &mut String,
+    days: &Days,
+    clock: &Clock,
+    filed: Day,
+    today: Option<Day>,
+    row: &DeadlineRow,
+    shown: &Shown,
+) -> Result<(), AllocError>
+    ensures { OnOk result (string_bytes text.new ≡ string_bytes text.old ++ start_notes days.now clock.now filed today row.now shown.now) }
 {
     push_before_filing(text, filed, row.event().day())?;
     push_second_before_filing(text, filed, row.second())?;
+    push_far_if_open(alloc, text, today, row)?;
+    push_before_rule(text, runs_from(row), right_from(row))?;
     push_without_time(text, row)?;
     push_without_holidays(text, days, end_day(clock, shown))
 }
 
-/// Adds the note on an event that lies before the day on which the case was filed.
-fn push_before_filing(text: &mut String, filed: Day, event: Day) -> Result<(), AllocError>
-    ensures { OnOk result (string_bytes text.new ≡ string_bytes text.old ++ before_filing filed event) }
+/// The day from which the deadline's period is right as it is applied.
+fn right_from(row: &DeadlineRow) -> Day
+    ensures { result ≡ (course_of row.now.period).right_from }
 {
-    if event.number() < filed.number() {
-        push_note(
-            text,
-            Some(event),
-            "the event lies before the filing of the case",
-            "note",
-        )
-    } else {
-        Ok(())
-    }
-}
-
-/// Adds the same of the second event, where a period has one.
-fn push_second_before_filing(
-    text: &mut String,
-    filed: Day,
-    second: Option<Day>,
-) -> Result<(), AllocError>
-    ensures { OnOk result (string_bytes text.new ≡ string_bytes text.old ++ second_before_filing filed second) }
-{
-    match second {
-        Some(event) => push_before_filing(text, filed, event),
-        None => Ok(()),
-    }
+    let period = row.period();
+    Course::of(&period).right_from
 }
 
 /// Adds the note on hours whose event has no time of day.

@@ -2,6 +2,8 @@
 #![tactic(auto)]
 
 mod deadline;
+mod end;
+mod event;
 mod extension;
 mod hearing;
 mod holidays;

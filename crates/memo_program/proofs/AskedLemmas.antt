@@ -1,9 +1,13 @@
--- The number of a case, as it is read of the text of its option.
-use Rattle.std.proofs.Common.{◌≡◌, ℕ, List, Option, Some, None, Result, refl}
+-- The number of a case, as it is read of the text of its option, and the faults of words.
+use Rattle.std.proofs.Common.{◌≡◌, ℕ, Bool, true, false, ◌&&◌, List, [], ◌∷◌, Option, Some, None, Result, inl, inr, refl}
 use Rattle.std.specs.Str.Parse.{ExplainsUnsignedError, HasUnsignedDigitsIfOk, ParsesUnsigned}
 use Rattle.std.specs.declared.num.ParseIntError.{ParseIntError}
+use Rattle.clap.specs.Kinds.{Kinds, or_else}
 use Rattle.clap.specs.Matches.{ReadsOne}
 use Rattle.clap.specs.Words.{Text}
+use Rattle.office_options.specs.declared.fault.OptionsFault.{OptionsFault}
+use Rattle.office_options.specs.declared.fault.OptionsFault.TheVariants.{BadWords, Help, OutOfMemory}
+use Rattle.office_options.specs.Words.{IsFaultAmong}
 use Rattle.memo_program.specs.Asked.{IsNumberIn}
 
 -- how a text is read as a number of 32 bits
@@ -15,3 +19,16 @@ pub case_read : (text : Option Text) (number : Option ℕ) → (text ≡ None �
 case_read None number none value = none refl
 case_read (Some t) (Some n) none value = let read = value t refl in read.0
 case_read (Some t) None none value = let read = value t refl in (read.0, read.1.0)
+
+-- what passes two tests passes each
+pub both_taken : (a b : Bool) → (a && b) ≡ true → (a ≡ true) × (b ≡ true)
+both_taken true b both = (refl, both)
+both_taken false b both = absurd cc
+
+-- a fault of the first kinds is one of those that come first
+pub first_fault : (kinds next : Kinds) (fault : OptionsFault) → IsFaultAmong kinds fault → IsFaultAmong (or_else kinds next) fault
+first_fault (k ∷ ks) next fault among = among
+first_fault [] next (BadWords text) among = absurd among.1
+first_fault [] next (Help text) (inl none) = absurd none
+first_fault [] next (Help text) (inr none) = absurd none
+first_fault [] next OutOfMemory among = tt

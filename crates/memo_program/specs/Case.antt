@@ -9,7 +9,9 @@ use Rattle.docket_rows.specs.Words.{Rows, opening_rows, setup_of, view_of}
 use Rattle.office_rows.specs.declared.row.Row.{Row}
 use Rattle.office_run.specs.Words.{docketed_after}
 use Rattle.reason_texts.specs.Words.{NamedDay}
+use Rattle.memo_program.specs.declared.detail.Detail.{Detail}
 use Rattle.memo_program.specs.declared.detail.Detail.TheVariants.{Whole}
+use Rattle.memo_program.specs.Sources.{sources_made}
 use Rattle.memo_program.specs.Sheets.{IsSheet}
 use Rattle.memo_program.specs.Texts.{Is}
 
@@ -17,17 +19,18 @@ use Rattle.memo_program.specs.Texts.{Is}
 abbrev pub closed_line : (case : ℕ) → List ℕ
 closed_line case = codes "deadline_memo: case " ++ decimal case ++ codes " isn't open: no row has opened it\n"
 
--- the whole sheet of the case, where the view is one
-abbrev pub IsCaseShown : CourtView → List NamedDay → DaysView → (today : Option ℤ) → (case : ℕ) → View → List ℕ → Type 0
-IsCaseShown court names days today case (view.Sheet sheet) = IsSheet court names days (Whole today) sheet
-IsCaseShown court names days today case _ = Is (closed_line case)
+-- the sheet of the case with that much detail, where the view is one
+abbrev pub IsCaseShown : CourtView → List NamedDay → DaysView → Detail → (case : ℕ) → View → List ℕ → Type 0
+IsCaseShown court names days detail case (view.Sheet sheet) = IsSheet court names days detail sheet
+IsCaseShown court names days detail case _ = Is (closed_line case)
 
 -- by what is docketed
-abbrev pub IsCaseOf : CourtView → List NamedDay → (docketed : Rows) → (case : ℕ) → (today : Option ℤ) → List ℕ → Type 0
-IsCaseOf court names docketed case today =
-    IsCaseShown court names docketed.days today case (view_of (setup_of court) docketed (query.Sheet case))
+abbrev pub IsCaseOf : CourtView → List NamedDay → (docketed : Rows) → (case : ℕ) → Detail → List ℕ → Type 0
+IsCaseOf court names docketed case detail =
+    IsCaseShown court names docketed.days detail case (view_of (setup_of court) docketed (query.Sheet case))
 
--- after all rows
+-- the whole sheet after all rows, with what they did to the deadlines of the case
 abbrev pub IsCaseMemo : CourtView → List NamedDay → List Row → (case : ℕ) → (today : Option ℤ) → List ℕ → Type 0
 IsCaseMemo court names rows case today =
-    IsCaseOf court names (docketed_after (setup_of court) (opening_rows (setup_of court)) rows) case today
+    let opening = opening_rows (setup_of court) in
+    IsCaseOf court names (docketed_after (setup_of court) opening rows) case (Whole today (sources_made (setup_of court) case opening 1 rows))

@@ -1,6 +1,7 @@
 pub mod Names
 pub mod Texts
 pub mod Reasons
+pub mod Sources
 pub mod Sheets
 pub mod Notes
 pub mod Replies

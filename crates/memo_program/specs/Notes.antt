@@ -37,16 +37,17 @@ abbrev pub motion_at : CourtView → (docketed : Rows) → Option (ℕ × ℕ) �
 motion_at court docketed (Some at) = motion_viewed at.1 (view_of (setup_of court) docketed (query.Sheet at.0))
 motion_at court docketed None = None
 
--- what a reader is warned of an extension, by the request for it
-abbrev pub notes_of_request : CourtView → Shown → Option Request → List ℕ
-notes_of_request court shown (Some request) = extension_notes court.clock shown request
-notes_of_request court shown None = []
+-- what a reader is warned of an extension, by the deadline as it was left and the request for it
+abbrev pub notes_of_request : CourtView → Shown → Option DeadlineRowView → Option Request → List ℕ
+notes_of_request court shown (Some row) (Some request) = extension_notes court.clock row shown request
+notes_of_request court shown row request = []
 
 -- what is said of the answer to a command
 abbrev pub notes_of : CourtView → (docketed : Rows) → CommandOf → Answer → List ℕ
 notes_of court docketed command (answer.Filed timely) =
     recorded_lines docketed.days court.clock (deadline_at docketed (deadline_asked command))
-notes_of court docketed command (answer.Extended shown) = notes_of_request court shown (request_asked command)
+notes_of court docketed command (answer.Extended shown) =
+    notes_of_request court shown (deadline_at docketed (deadline_asked command)) (request_asked command)
 notes_of court docketed command (answer.Refused refusal) =
     refusal_lines docketed.days court.clock command (deadline_at docketed (deadline_asked command)) (motion_at court docketed (motion_of_refusal command refusal)) refusal
 notes_of court docketed command answer = []

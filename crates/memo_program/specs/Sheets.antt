@@ -19,6 +19,7 @@ use Rattle.docket_notes.specs.Words.{deadline_notes, hearing_notes}
 use Rattle.memo_program.specs.declared.detail.Detail.{Detail}
 use Rattle.memo_program.specs.declared.detail.Detail.TheVariants.{Reasons, Whole}
 use Rattle.memo_program.specs.Reasons.{AreReasons}
+use Rattle.memo_program.specs.Sources.{source_lines}
 use Rattle.memo_program.specs.Texts.{Each, Is, Then}
 
 -- how far the end of a deadline lies from a day, where one is given and no act is recorded
@@ -26,20 +27,28 @@ abbrev pub ahead_if_pending : ClockView → (today : Option ℤ) → State → S
 ahead_if_pending clock (Some today) Pending shown = ahead_line clock today shown
 ahead_if_pending clock today state shown = []
 
--- what comes after the reasons of a deadline on the whole sheet of a case that was filed on that day: the act that is recorded
--- and by how much it was in time or late, how far the end lies from a day, and what a reader is warned of
+-- what comes before the reasons of a deadline: its line, and on the whole sheet of a case the rows that made it what it is
+abbrev pub source_lines_if : Detail → (number : ℕ) → List ℕ
+source_lines_if Reasons number = []
+source_lines_if (Whole today sources) number = source_lines number sources
+
+abbrev pub first_lines : ClockView → Detail → SheetDeadline → List ℕ
+first_lines clock detail d = deadline_line clock d ++ source_lines_if detail d.number
+
+-- what comes after them on that of a case that was filed on that day: the act that is recorded and by how much it was in time
+-- or late, how far the end lies from a day, and what a reader is warned of
 abbrev pub whole_lines : CourtView → DaysView → (filed : ℤ) → (today : Option ℤ) → SheetDeadline → List ℕ
 whole_lines court days filed today d =
-    recorded_lines days court.clock (Some d.row) ++ ahead_if_pending court.clock today d.state d.shown ++ deadline_notes days court.clock filed d.row d.shown
+    recorded_lines days court.clock (Some d.row) ++ ahead_if_pending court.clock today d.state d.shown ++ deadline_notes days court.clock filed today d.row d.shown
 
 abbrev pub more_lines : CourtView → DaysView → (filed : ℤ) → Detail → SheetDeadline → List ℕ
 more_lines court days filed Reasons d = []
-more_lines court days filed (Whole today) d = whole_lines court days filed today d
+more_lines court days filed (Whole today sources) d = whole_lines court days filed today d
 
--- the line of a deadline, its reasons, and what comes after them
+-- the line of a deadline, its reasons, and what comes before and after them
 abbrev pub IsDeadline : CourtView → List NamedDay → DaysView → (filed : ℤ) → Detail → SheetDeadline → List ℕ → Type 0
 IsDeadline court names days filed detail d =
-    Then (Is (deadline_line court.clock d)) (Then (AreReasons court names days d.row) (Is (more_lines court days filed detail d)))
+    Then (Is (first_lines court.clock detail d)) (Then (AreReasons court names days d.row) (Is (more_lines court days filed detail d)))
 
 -- what a reader is warned of a hearing, where one is set
 abbrev pub notes_if_set : DaysView → Option SheetHearing → List ℕ
@@ -52,7 +61,7 @@ whole_motion court days m = motion_lines court m ++ notes_if_set days m.hearing
 
 abbrev pub motions_text : CourtView → DaysView → Detail → List SheetMotion → List ℕ
 motions_text court days Reasons motions = flat_map (motion_lines court) motions
-motions_text court days (Whole today) motions = flat_map (whole_motion court days) motions
+motions_text court days (Whole today sources) motions = flat_map (whole_motion court days) motions
 
 -- the line of the case, then its deadlines, each with its reasons, then its motions
 abbrev pub IsSheet : CourtView → List NamedDay → DaysView → Detail → Sheet → List ℕ → Type 0

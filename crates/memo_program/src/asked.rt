@@ -1,63 +1,84 @@
 //! What the words of the command line ask for.
 
-ghost use Rattle.std.specs.Prelude.{◌≡◌, option_map, string_bytes, IfOk};
-ghost use Rattle.clap.specs.Matches.{first_value};
+ghost use Rattle.std.specs.Prelude.{◌≡◌, ◌∷◌, [], true, option_map, IfErr, IfOk};
+ghost use Rattle.std.specs.Option.{option_and_then};
+ghost use Rattle.clap.specs.declared.error.kind.ErrorKind.{ErrorKind};
+ghost use Rattle.clap.specs.declared.error.kind.ErrorKind.TheVariants.{MissingRequiredArgument, ValueValidation};
 ghost use Rattle.clap.specs.Words.{found_of, rows_of};
-ghost use Rattle.memo_program.specs.Asked.{IsAskedBy, today_of};
+ghost use Rattle.court_clock.specs.Words.{day_of_text};
+ghost use Rattle.office_options.specs.Words.{IsAnswerFor, IsFaultAmong};
+ghost use Rattle.memo_program.specs.Asked.{IsAskedBy, are_given_taken, day_is_taken, faults_given, faults_of_day};
 
 use clap::ArgMatches;
 use court_clock::Day;
-use std::alloc::{AllocError, Global};
+use office_options::OptionsFault;
+use std::alloc::Global;
 
 /// What the words ask for: the memo of one case, or of all rows where no case is named.
-#[derive(Debug, Drop)]
+#[derive(Clone, Copy, Debug, PartialEq, Eq)]
 pub struct Asked {
     /// The number of a case.
     pub case: Option<u32>,
-    /// The text of a day, as the words have it.
-    pub today: Option<String>,
+    /// The day from which its deadlines are counted.
+    pub today: Option<Day>,
 }
 
-/// The day that is asked for.
-#[derive(Clone, Copy, Debug, PartialEq, Eq)]
-pub(crate) enum Today {
-    /// None is.
-    NotGiven,
-    /// That day.
-    On(Day),
-    /// The text is no day.
-    NoDay,
-}
-
-/// What the options were given asks for. `Err` says that memory ran out.
-pub(crate) fn asked_by(alloc: Global, given: &ArgMatches<'_>) -> Result<Asked, AllocError>
-    ensures { IfOk result (λ asked. IsAskedBy (rows_of (found_of given.now)) asked) }
+/// What the options were given asks for. BadWords where the day has a fault, and OutOfMemory where memory runs out.
+pub(crate) fn asked_by(alloc: Global, given: &ArgMatches<'_>) -> Result<Asked, OptionsFault>
+    ensures asked { IfOk result (λ asked. IsAskedBy (rows_of (found_of given.now)) asked) }
+    ensures faults { IsAnswerFor (faults_given (rows_of (found_of given.now))) result }
+    ensures taken { are_given_taken (rows_of (found_of given.now)) ≡ true → IfErr result (λ fault. fault ≡ OptionsFault.OutOfMemory) }
 {
-    Ok(Asked {
-        case: given.get_one::<u32>("case"),
-        today: text_given(alloc, given, "today")?,
-    })
-}
-
-/// The text of an option, if it is given.
-fn text_given(alloc: Global, given: &ArgMatches<'_>, id: &str) -> Result<Option<String>, AllocError>
-    ensures { IfOk result (λ text. option_map string_bytes text ≡ first_value (found_of given.now) id.now) }
-{
-    match given.get_str(id) {
-        Some(text) => Ok(Some(String::from_str(alloc, text)?)),
-        None => Ok(None),
+    match day_asked(alloc, given.get_str("today"), given.get_str("case")) {
+        Ok(today) => Ok(Asked {
+            case: given.get_one::<u32>("case"),
+            today,
+        }),
+        Err(fault) => Err(fault),
     }
 }
 
-/// The day that the text writes, where it is given.
-pub(crate) fn today_of(text: &Option<String>) -> Today
-    ensures { result ≡ today_of (option_map string_bytes text.now) }
+/// The day that the text of its option writes, where it is given. It counts for a case alone.
+fn day_asked(
+    alloc: Global,
+    today: Option<&str>,
+    case: Option<&str>,
+) -> Result<Option<Day>, OptionsFault>
+    ensures day { IfOk result (λ day. day ≡ option_and_then day_of_text (option_map (λ text. text.now) today.entry)) }
+    ensures faults { IsAnswerFor (faults_of_day (option_map (λ text. text.now) today.entry) (option_map (λ text. text.now) case.entry)) result }
+    ensures taken { day_is_taken (option_map (λ text. text.now) today.entry) (option_map (λ text. text.now) case.entry) ≡ true → IfErr result (λ fault. fault ≡ OptionsFault.OutOfMemory) }
 {
-    match text {
-        Some(text) => match Day::from_text(text.as_str()) {
-            Some(day) => Today::On(day),
-            None => Today::NoDay,
+    match (today, case) {
+        (None, _) => Ok(None),
+        (Some(_), None) => Err(without_case(alloc)),
+        (Some(text), Some(_)) => match Day::from_text(text) {
+            Some(day) => Ok(Some(day)),
+            None => Err(no_day(alloc, text)),
         },
-        None => Today::NotGiven,
+    }
+}
+
+/// A day is given and no case.
+fn without_case(alloc: Global) -> OptionsFault
+    ensures { IsFaultAmong (ErrorKind.MissingRequiredArgument ∷ []) result }
+{
+    match String::from_str(
+        alloc,
+        "error: '--today <DAY>' counts for one case: name it by '--case <N>'\n\nFor more information, try '--help'.\n",
+    ) {
+        Ok(text) => OptionsFault::BadWords(text),
+        Err(_) => OptionsFault::OutOfMemory,
+    }
+}
+
+/// The text is no day.
+fn no_day(alloc: Global, text: &str) -> OptionsFault
+    ensures { IsFaultAmong (ErrorKind.ValueValidation ∷ []) result }
+{
+    match format!(in alloc;
+        "error: invalid value '{text}' for '--today <DAY>': write a day as 2025-09-15\n\nFor more information, try '--help'.\n"
+    ) {
+        Ok(text) => OptionsFault::BadWords(text),
+        Err(_) => OptionsFault::OutOfMemory,
     }
 }

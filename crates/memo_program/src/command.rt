@@ -1,11 +1,10 @@
 //! The command line, as `clap` is told of it.
 
 ghost use Rattle.std.specs.Prelude.{◌≡◌, false, true, IfErr, IfOk};
-ghost use Rattle.clap.specs.Faults.{fault_of};
 ghost use Rattle.clap.specs.Walk.{texts};
-ghost use Rattle.clap.specs.Words.{app_of, rule_of, takes};
+ghost use Rattle.clap.specs.Words.{app_of, rule_of};
 ghost use Rattle.office_options.specs.Words.{IsAnswerFor};
-ghost use Rattle.memo_program.specs.Asked.{IsAsked};
+ghost use Rattle.memo_program.specs.Asked.{IsAsked, are_taken, faults_of};
 ghost use Rattle.memo_program.specs.CommandLine.{case_rule, command_line, today_rule};
 
 use crate::asked::{Asked, asked_by};
@@ -86,19 +85,16 @@ fn command<'a>(alloc: Global) -> Result<Command<'a>, AllocError>
     Ok(whole)
 }
 
-/// What the words ask for, which are those after the program's name. BadWords where `clap` refuses the words, Help where
-/// they ask for the help or the version first, and OutOfMemory where memory runs out.
+/// What the words ask for, which are those after the program's name. BadWords where `clap` refuses the words or the day has
+/// a fault, Help where they ask for the help or the version first, and OutOfMemory where memory runs out.
 pub(crate) fn asked_of(alloc: Global, words: &[&str]) -> Result<Asked, OptionsFault>
     ensures asked { IfOk result (λ asked. IsAsked (texts words.now) asked) }
-    ensures faults { IsAnswerFor (fault_of command_line (texts words.now)) result }
-    ensures taken { takes command_line (texts words.now) ≡ true → IfErr result (λ fault. fault ≡ OptionsFault.OutOfMemory) }
+    ensures faults { IsAnswerFor (faults_of (texts words.now)) result }
+    ensures taken { are_taken (texts words.now) ≡ true → IfErr result (λ fault. fault ≡ OptionsFault.OutOfMemory) }
 {
     let command = command(alloc)?;
     match command.try_get_matches_from(words) {
-        Ok(matches) => {
-            let asked = asked_by(alloc, &matches)?;
-            Ok(asked)
-        }
+        Ok(matches) => asked_by(alloc, &matches),
         Err(error) => Err(fault_from(alloc, &error)),
     }
 }

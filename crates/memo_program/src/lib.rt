@@ -14,6 +14,7 @@ mod reasons;
 mod replies;
 mod report;
 mod sheets;
+mod sources;
 mod whole;
 
 pub use asked::Asked;

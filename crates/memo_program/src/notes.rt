@@ -6,7 +6,7 @@ ghost use Rattle.court_days.specs.Words.{CourtView};
 ghost use Rattle.docket_rows.specs.Words.{CourtSetup, Rows, setup_of};
 ghost use Rattle.office_run.specs.Words.{Holds};
 ghost use Rattle.act_margins.specs.Words.{recorded_lines};
-ghost use Rattle.refusal_texts.specs.Words.{deadline_asked};
+ghost use Rattle.refusal_texts.specs.Words.{deadline_asked, request_asked};
 ghost use Rattle.memo_program.specs.Notes.{deadline_at, motion_at, motion_viewed, notes_of, notes_of_request, notes_text, notes_viewed};
 
 use act_margins::push_recorded;
@@ -61,7 +61,7 @@ fn push_notes_of(
 {
     match answer {
         Answer::Filed(_) => push_filed(alloc, text, court, docket, command),
-        Answer::Extended(shown) => push_extended(text, court, shown, request_asked(command)),
+        Answer::Extended(shown) => push_extended(text, court, docket, command, shown),
         Answer::Refused(refusal) => push_refused(alloc, text, court, docket, command, refusal),
         _ => Ok(()),
     }
@@ -81,18 +81,35 @@ fn push_filed(
     push_recorded(alloc, text, docket.days(), court.clock(), row)
 }
 
-/// Adds what a reader is warned of an extension.
+/// Adds what a reader is warned of the extension that a command asked for.
 fn push_extended(
     text: &mut String,
     court: &Court,
+    docket: &Docket,
+    command: &Command,
     shown: &Shown,
+) -> Result<(), AllocError>
+    ensures { (docketed : Rows) → Holds (setup_of court.now) docket.now docketed → OnOk result (string_bytes text.new ≡ string_bytes text.old ++ notes_of_request court.now shown.now (deadline_at docketed (deadline_asked command.now)) (request_asked command.now)) }
+{
+    let row = deadline_at(docket, deadline_asked(command));
+    push_notes_of_request(text, court, shown, row, request_asked(command))
+}
+
+/// Adds the notes on an extension, by the deadline as it was left and the request for it.
+fn push_notes_of_request(
+    text: &mut String,
+    court: &Court,
+    shown: &Shown,
+    row: Option<&DeadlineRow>,
     request: Option<Request>,
 ) -> Result<(), AllocError>
-    ensures { OnOk result (string_bytes text.new ≡ string_bytes text.old ++ notes_of_request court.now shown.now request) }
+    ensures { OnOk result (string_bytes text.new ≡ string_bytes text.old ++ notes_of_request court.now shown.now (option_copied row.entry) request) }
 {
-    match request {
-        Some(request) => push_extension_notes(text, court.clock(), shown, &request),
-        None => Ok(()),
+    match (row, request) {
+        (Some(row), Some(request)) => {
+            push_extension_notes(text, court.clock(), row, shown, &request)
+        }
+        _ => Ok(()),
     }
 }
 

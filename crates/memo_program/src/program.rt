@@ -11,12 +11,13 @@ use std::alloc::Global;
 pub struct DeadlineMemo;
 
 impl Program for DeadlineMemo {
-    ghost use Rattle.memo_program.specs.Asked.{IsAsked};
-    ghost use Rattle.memo_program.specs.CommandLine.{command_line};
+    ghost use Rattle.memo_program.specs.Asked.{IsAsked, are_taken, faults_of};
 
     type Report = Asked;
 
-    ghost command_line = { command_line };
+    ghost faults = { faults_of };
+
+    ghost takes = { are_taken };
 
     ghost is_chosen = { IsAsked };
 

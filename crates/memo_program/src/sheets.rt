@@ -1,14 +1,15 @@
 //! Sheets with the reasons of their deadlines.
 
-ghost use Rattle.std.specs.Prelude.{◌+◌, ◌≤◌};
+ghost use Rattle.std.specs.Prelude.{◌≡◌, ◌+◌, ◌++◌, ◌≤◌, OnOk, string_bytes};
 ghost use Rattle.docket_rows.specs.Words.{Rows, setup_of};
 ghost use Rattle.office_run.specs.Words.{Holds};
 ghost use Rattle.memo_program.specs.Memo.{AreSheets};
-ghost use Rattle.memo_program.specs.Sheets.{IsDeadline, IsSheet, IsSheetShown};
+ghost use Rattle.memo_program.specs.Sheets.{IsDeadline, IsSheet, IsSheetShown, first_lines};
 ghost use Rattle.memo_program.specs.Texts.{Each, Pushes};
 
 use crate::detail::Detail;
 use crate::reasons::push_deadline_reasons;
+use crate::sources::push_sources;
 use crate::whole::{push_all_motions, push_more};
 use court_clock::Day;
 use court_days::{Court, Days};
@@ -45,7 +46,7 @@ pub(crate) fn push_sheet(
     push_all_motions(text, court, days, detail, sheet.motions.as_slice())
 }
 
-/// Adds the line of each deadline, its reasons, and what comes after them.
+/// Adds the line of each deadline, its reasons, and what comes before and after them.
 fn push_deadlines(
     alloc: Global,
     text: &mut String,
@@ -64,7 +65,7 @@ fn push_deadlines(
     Ok(())
 }
 
-/// Adds the line of a deadline, its reasons, and what comes after them.
+/// Adds the line of a deadline, its reasons, and what comes before and after them.
 fn push_explained(
     alloc: Global,
     text: &mut String,
@@ -77,9 +78,28 @@ fn push_explained(
 ) -> Result<(), AllocError>
     ensures { Pushes (IsDeadline court.now names.now days.now filed detail.now deadline.now) result text.old text.new }
 {
-    push_deadline(text, court.clock(), deadline)?;
+    push_first_lines(alloc, text, court, detail, deadline)?;
     push_deadline_reasons(alloc, text, court, names, days, &deadline.row)?;
     push_more(alloc, text, court, days, filed, detail, deadline)
+}
+
+/// Adds the line of a deadline, and where the whole sheet is asked for the rows that made it what it is.
+fn push_first_lines(
+    alloc: Global,
+    text: &mut String,
+    court: &Court,
+    detail: &Detail,
+    deadline: &SheetDeadline,
+) -> Result<(), AllocError>
+    ensures { OnOk result (string_bytes text.new ≡ string_bytes text.old ++ first_lines court.now.clock detail.now deadline.now) }
+{
+    push_deadline(text, court.clock(), deadline)?;
+    match detail {
+        Detail::Reasons => Ok(()),
+        Detail::Whole { sources, .. } => {
+            push_sources(alloc, text, deadline.number, sources.as_slice())
+        }
+    }
 }
 
 /// Adds the sheets of the open ones of that number of cases, from the first number on.

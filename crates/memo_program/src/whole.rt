@@ -27,9 +27,11 @@ pub(crate) fn push_more(
 ) -> Result<(), AllocError>
     ensures { OnOk result (string_bytes text.new ≡ string_bytes text.old ++ more_lines court.now days.now filed detail.now deadline.now) }
 {
-    match *detail {
+    match detail {
         Detail::Reasons => Ok(()),
-        Detail::Whole(today) => push_whole(alloc, text, court, days, filed, today, deadline),
+        Detail::Whole { today, .. } => {
+            push_whole(alloc, text, court, days, filed, today, deadline)
+        }
     }
 }
 
@@ -40,15 +42,24 @@ fn push_whole(
     court: &Court,
     days: &Days,
     filed: Day,
-    today: Option<Day>,
+    today: &Option<Day>,
     deadline: &SheetDeadline,
 ) -> Result<(), AllocError>
-    ensures { OnOk result (string_bytes text.new ≡ string_bytes text.old ++ whole_lines court.now days.now filed today deadline.now) }
+    ensures { OnOk result (string_bytes text.new ≡ string_bytes text.old ++ whole_lines court.now days.now filed today.now deadline.now) }
 {
     let (clock, row) = (court.clock(), &deadline.row);
     push_recorded(alloc, text, days, clock, Some(row))?;
-    push_if_pending(alloc, text, clock, today, deadline.state, &deadline.shown)?;
-    push_deadline_notes(text, days, clock, filed, row, &deadline.shown)
+    push_if_pending(alloc, text, clock, *today, deadline.state, &deadline.shown)?;
+    push_deadline_notes(
+        alloc,
+        text,
+        days,
+        clock,
+        filed,
+        *today,
+        row,
+        &deadline.shown,
+    )
 }
 
 /// Adds how far the end of a deadline lies from a day, where one is given and no act is recorded.
@@ -78,9 +89,9 @@ pub(crate) fn push_all_motions(
 ) -> Result<(), AllocError>
     ensures { OnOk result (string_bytes text.new ≡ string_bytes text.old ++ motions_text court.now days.now detail.now motions.now) }
 {
-    match *detail {
+    match detail {
         Detail::Reasons => push_motions(text, court, motions),
-        Detail::Whole(_) => push_whole_motions(text, court, days, motions),
+        Detail::Whole { .. } => push_whole_motions(text, court, days, motions),
     }
 }
 

@@ -1,16 +1,15 @@
 -- How the program ends that has a fault.
-use Rattle.std.proofs.Common.{◌≡◌, ◌≢◌, ◌<◌, ◌⊎◌, ℕ, List, [], Option, Some, None, Err, IfSome, inl, inr, arith}
-use Rattle.clap.specs.Faults.{fault_of}
-use Rattle.clap.specs.Words.{App, Text}
+use Rattle.std.proofs.Common.{◌≡◌, ◌≢◌, ◌<◌, ◌⊎◌, ℕ, Bool, List, [], Option, Some, None, Err, IfSome, inl, inr, arith}
+use Rattle.clap.specs.Words.{Kinds, Text}
 use Rattle.office_streams.specs.declared.fault.OfficeFault.{OfficeFault}
 use Rattle.office_streams.specs.declared.fault.OfficeFault.TheVariants.{Court, Row, ReadFault, WriteFault, OutOfMemory}
 use Rattle.office_streams.specs.Words.{HasFaultTold, Input, IsReportRun, IsTold, IsToldAs, input_of}
 use Rattle.office_streams.proofs.CallerLemmas.{told_as, told_is_past_1}
 use Rattle.office_program.specs.Program.{IsEnding, WithReport}
 
-module _ {R : Type 0} (command_line : App) (IsChosen : List Text → R → Type 0) (clerk_count : R → ℕ) (IsText : R → (file : List ℕ) → Input → List ℕ → Type 0) (words : List Text) (report : R) (faultless : fault_of command_line words ≡ []) (chosen : IsChosen words report) (old new : Option (List ℕ)) (G : List ℕ → Type 0) (status : ℕ) where
+module _ {R : Type 0} (faults_of : List Text → Kinds) (takes : List Text → Bool) (IsChosen : List Text → R → Type 0) (clerk_count : R → ℕ) (IsText : R → (file : List ℕ) → Input → List ℕ → Type 0) (words : List Text) (report : R) (faultless : faults_of words ≡ []) (chosen : IsChosen words report) (old new : Option (List ℕ)) (G : List ℕ → Type 0) (status : ℕ) where
   -- the words choose the report
-  chosen_report : {IsSo : R → Type 0} → IsSo report → WithReport command_line IsChosen words IsSo
+  chosen_report : {IsSo : R → Type 0} → IsSo report → WithReport faults_of IsChosen words IsSo
   chosen_report is_so = record { report = report; faultless = faultless; chosen = chosen; is_so = is_so }
 
   -- with 2 or 3 the line of the input's fault is told
@@ -30,14 +29,14 @@ module _ {R : Type 0} (command_line : App) (IsChosen : List Text → R → Type 
   faulty fault input run (inr memory) (inr three) = absurd (omega (arith, three, memory.numbered))
 
   -- nothing is written, but where a write failed
-  cut : (fault : OfficeFault) (input : List ℕ) → IsReportRun (clerk_count report) (IsText report) old new (Err fault) input → (fault ≢ WriteFault → new ≡ old) → (new ≡ old) ⊎ WithReport command_line IsChosen words (λ r. IsReportRun (clerk_count r) (IsText r) old new (Err WriteFault) input)
+  cut : (fault : OfficeFault) (input : List ℕ) → IsReportRun (clerk_count report) (IsText report) old new (Err fault) input → (fault ≢ WriteFault → new ≡ old) → (new ≡ old) ⊎ WithReport faults_of IsChosen words (λ r. IsReportRun (clerk_count r) (IsText r) old new (Err WriteFault) input)
   cut (Court fault) input run nothing = inl (nothing (λ e. cc e))
   cut (Row number cause) input run nothing = inl (nothing (λ e. cc e))
   cut ReadFault input run nothing = inl (nothing (λ e. cc e))
   cut WriteFault input run nothing = inr (chosen_report run)
   cut OutOfMemory input run nothing = inl (nothing (λ e. cc e))
 
-  ends_with_fault : (fault : OfficeFault) (input : List ℕ) → IsReportRun (clerk_count report) (IsText report) old new (Err fault) input → (fault ≢ WriteFault → new ≡ old) → IsTold fault status G → IsEnding command_line IsChosen clerk_count IsText words old new G status input
+  ends_with_fault : (fault : OfficeFault) (input : List ℕ) → IsReportRun (clerk_count report) (IsText report) old new (Err fault) input → (fault ≢ WriteFault → new ≡ old) → IsTold fault status G → IsEnding faults_of takes IsChosen clerk_count IsText words old new G status input
   ends_with_fault fault input run nothing told =
       let past : 1 < status = told_is_past_1 fault status G told in
       record {
@@ -47,6 +46,6 @@ module _ {R : Type 0} (command_line : App) (IsChosen : List Text → R → Type 
       }
 
   -- where the input is known
-  pub ends_if_known : (fault : OfficeFault) (input : Option (List ℕ)) → IfSome input (IsReportRun (clerk_count report) (IsText report) old new (Err fault)) → (fault ≢ WriteFault → new ≡ old) → IsTold fault status G → IfSome input (IsEnding command_line IsChosen clerk_count IsText words old new G status)
+  pub ends_if_known : (fault : OfficeFault) (input : Option (List ℕ)) → IfSome input (IsReportRun (clerk_count report) (IsText report) old new (Err fault)) → (fault ≢ WriteFault → new ≡ old) → IsTold fault status G → IfSome input (IsEnding faults_of takes IsChosen clerk_count IsText words old new G status)
   ends_if_known fault None run nothing told = tt
   ends_if_known fault (Some input) run nothing told = ends_with_fault fault input run nothing told

@@ -1,43 +1,42 @@
 -- What the status with which a program ends says of its words and of its run.
-use Rattle.std.specs.Prelude.{◌≡◌, ◌⊎◌, ℕ, List, [], Option, Result, Ok, Err, String, string_bytes, true, IfOk, IfErr}
+use Rattle.std.specs.Prelude.{◌≡◌, ◌⊎◌, ℕ, Bool, List, [], Option, Result, Ok, Err, String, string_bytes, true, IfOk, IfErr}
 use Rattle.std.specs.Io.KnownBytes.{Appends}
 use Rattle.std.specs.declared.alloc.Global.{Global}
-use Rattle.clap.specs.Faults.{fault_of}
-use Rattle.clap.specs.Words.{App, Text, takes}
+use Rattle.clap.specs.Words.{Kinds, Text}
 use Rattle.office_options.specs.declared.fault.OptionsFault.{OptionsFault}
 use Rattle.office_options.specs.declared.fault.OptionsFault.TheVariants.{Help, OutOfMemory}
 use Rattle.office_options.specs.Words.{IsAnswerFor}
 use Rattle.office_streams.specs.declared.fault.OfficeFault.TheVariants.{WriteFault}
 use Rattle.office_streams.specs.Words.{AppendsFront, HasFaultTold, Input, IsReportRun, input_of}
 
--- what reading the words of such a command line answers: a report that they choose, or one of their faults, unless
--- memory runs out; help and version are among the faults
-pub record AnswersWords {R : Type 0} (command_line : App) (IsChosen : List Text → R → Type 0) (words : List Text) (answer : Result R OptionsFault) : Type 0 where
+-- what reading the words answers: a report that they choose, or one of their faults, unless memory runs out; help and version
+-- are among the faults
+pub record AnswersWords {R : Type 0} (faults_of : List Text → Kinds) (takes : List Text → Bool) (IsChosen : List Text → R → Type 0) (words : List Text) (answer : Result R OptionsFault) : Type 0 where
   pub chosen : IfOk answer (IsChosen words)
-  pub faults : IsAnswerFor (fault_of command_line words) answer
-  pub taken : takes command_line words ≡ true → IfErr answer (λ fault. fault ≡ OutOfMemory)
+  pub faults : IsAnswerFor (faults_of words) answer
+  pub taken : takes words ≡ true → IfErr answer (λ fault. fault ≡ OutOfMemory)
 
 -- reading the words may give such a text, and this is so of it
-pub record WithText {R : Type 0} (command_line : App) (IsChosen : List Text → R → Type 0) (words : List Text) (fault_with : String Global → OptionsFault) (IsSo : List ℕ → Type 0) : Type 0 where
+pub record WithText {R : Type 0} (faults_of : List Text → Kinds) (takes : List Text → Bool) (IsChosen : List Text → R → Type 0) (words : List Text) (fault_with : String Global → OptionsFault) (IsSo : List ℕ → Type 0) : Type 0 where
   pub text : String Global
-  pub answer : AnswersWords command_line IsChosen words (Err (fault_with text))
+  pub answer : AnswersWords faults_of takes IsChosen words (Err (fault_with text))
   pub is_so : IsSo (string_bytes text)
 
 -- the words have no fault and choose a report, and this is so of it
-pub record WithReport {R : Type 0} (command_line : App) (IsChosen : List Text → R → Type 0) (words : List Text) (IsSo : R → Type 0) : Type 0 where
+pub record WithReport {R : Type 0} (faults_of : List Text → Kinds) (IsChosen : List Text → R → Type 0) (words : List Text) (IsSo : R → Type 0) : Type 0 where
   pub report : R
-  pub faultless : fault_of command_line words ≡ []
+  pub faultless : faults_of words ≡ []
   pub chosen : IsChosen words report
   pub is_so : IsSo report
 
 -- 0 says that the help or the version, which the words ask for, was written, or that all rows were answered; 2 that the
 -- court's file has a fault and 3 that a row has one, whose line is told; 4 that nothing was written, or that writing
 -- stopped within what was to be written. A report says how many clerks there are.
-pub record IsEnding {R : Type 0} (command_line : App) (IsChosen : List Text → R → Type 0) (clerk_count : R → ℕ) (IsText : R → (file : List ℕ) → Input → List ℕ → Type 0)
+pub record IsEnding {R : Type 0} (faults_of : List Text → Kinds) (takes : List Text → Bool) (IsChosen : List Text → R → Type 0) (clerk_count : R → ℕ) (IsText : R → (file : List ℕ) → Input → List ℕ → Type 0)
     (words : List Text) (old new : Option (List ℕ)) (IsGivenErrors : List ℕ → Type 0) (status : ℕ) (input : List ℕ) : Type 0 where
-  pub answered : status ≡ 0 → WithText command_line IsChosen words Help (Appends old new)
-      ⊎ WithReport command_line IsChosen words (λ report. IsReportRun (clerk_count report) (IsText report) old new (Ok tt) input)
+  pub answered : status ≡ 0 → WithText faults_of takes IsChosen words Help (Appends old new)
+      ⊎ WithReport faults_of IsChosen words (λ report. IsReportRun (clerk_count report) (IsText report) old new (Ok tt) input)
   pub faulty : (status ≡ 2) ⊎ (status ≡ 3)
-      → WithReport command_line IsChosen words (λ report. HasFaultTold status IsGivenErrors (input_of (clerk_count report) input))
-  pub cut : status ≡ 4 → WithText command_line IsChosen words Help (AppendsFront old new)
-      ⊎ ((new ≡ old) ⊎ WithReport command_line IsChosen words (λ report. IsReportRun (clerk_count report) (IsText report) old new (Err WriteFault) input))
+      → WithReport faults_of IsChosen words (λ report. HasFaultTold status IsGivenErrors (input_of (clerk_count report) input))
+  pub cut : status ≡ 4 → WithText faults_of takes IsChosen words Help (AppendsFront old new)
+      ⊎ ((new ≡ old) ⊎ WithReport faults_of IsChosen words (λ report. IsReportRun (clerk_count report) (IsText report) old new (Err WriteFault) input))

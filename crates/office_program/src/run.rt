@@ -2,8 +2,6 @@
 
 ghost use Rattle.std.specs.Prelude.{◌≡◌, ◌≢◌, ◌≤◌, ◌⊎◌, [], true, false, map, string_bytes, IfErr, IfOk, IfSome};
 ghost use Rattle.std.specs.IoError.{error_kind};
-ghost use Rattle.clap.specs.Faults.{fault_of};
-ghost use Rattle.clap.specs.Words.{takes};
 ghost use Rattle.office_options.specs.Words.{HasMistake, IsRefused, arguments_in};
 ghost use Rattle.office_streams.specs.Words.{IsGiven, IsToldAs, WasCutShort, has_ended, has_failed, no_text_line, told_line, was_called_again, watched};
 ghost use Rattle.office_program.specs.Program.{IsEnding, WithText};
@@ -20,7 +18,7 @@ use std::thread::Threads;
 
 /// Writes the report that the words choose, of which the first is the program's name. The status is 0 where
 /// every row was answered, and where help or the version was asked for and is written instead; 1 where a word is no text
-/// or the words are not of the command line; and else that of the fault, of which one line goes to `errors`, as does
+/// or the words have a mistake; and else that of the fault, of which one line goes to `errors`, as does
 /// what is wrong with the words. A line that can't be written there is lost.
 pub fn run_program<H: Threads + Wait + Sync, P: Program, R: Read, W: Write, E: Write>(
     rt: &H,
@@ -42,19 +40,19 @@ pub fn run_program<H: Threads + Wait + Sync, P: Program, R: Read, W: Write, E: W
 
     // Words that are refused: only those that have a mistake, and where they ask for no help nothing else can happen to
     // them but that memory runs out. What is wrong with them is told.
-    ensures mistaken { IfOk words (λ all. result ≡ 1 → HasMistake (fault_of P.command_line (arguments_in (map string_bytes all.items)))) }
+    ensures mistaken { IfOk words (λ all. result ≡ 1 → HasMistake (P.faults (arguments_in (map string_bytes all.items)))) }
     ensures told { IfOk words (λ all. result ≡ 1 →
-        WithText P.command_line P.is_chosen (arguments_in (map string_bytes all.items)) OptionsFault.BadWords (IsGiven E.contents errors.old errors.new)) }
-    ensures refused { IfOk words (λ all. IsRefused (fault_of P.command_line (arguments_in (map string_bytes all.items))) → (result ≡ 1) ⊎ (result ≡ 5)) }
-    ensures taken { IfOk words (λ all. takes P.command_line (arguments_in (map string_bytes all.items)) ≡ true → result ≢ 1) }
+        WithText P.faults P.takes P.is_chosen (arguments_in (map string_bytes all.items)) OptionsFault.BadWords (IsGiven E.contents errors.old errors.new)) }
+    ensures refused { IfOk words (λ all. IsRefused (P.faults (arguments_in (map string_bytes all.items))) → (result ≡ 1) ⊎ (result ≡ 5)) }
+    ensures taken { IfOk words (λ all. P.takes (arguments_in (map string_bytes all.items)) ≡ true → result ≢ 1) }
 
     // Where the words choose no report, nothing is read.
     ensures no_words { IfErr words (λ e. reader.new ≡ reader.old) }
-    ensures no_report { IfOk words (λ all. fault_of P.command_line (arguments_in (map string_bytes all.items)) ≢ [] → reader.new ≡ reader.old) }
+    ensures no_report { IfOk words (λ all. P.faults (arguments_in (map string_bytes all.items)) ≢ [] → reader.new ≡ reader.old) }
 
     // What the statuses 0, 2, 3 and 4 say of the words, and of what was read, written and told.
     ensures ending { IfOk words (λ all. IfSome (R.remaining (watched reader.old)) (λ input.
-        IsEnding P.command_line P.is_chosen P.Report.clerk_count P.Report.is_text (arguments_in (map string_bytes all.items)) (W.contents (watched writer.old)) (W.contents (watched writer.new))
+        IsEnding P.faults P.takes P.is_chosen P.Report.clerk_count P.Report.is_text (arguments_in (map string_bytes all.items)) (W.contents (watched writer.old)) (W.contents (watched writer.new))
         (IsGiven E.contents errors.old errors.new) result input)) }
     ensures worked { result ≡ 0 → has_failed writer.new ≡ false }
     ensures quiet { result ≡ 0 → errors.new ≡ errors.old }

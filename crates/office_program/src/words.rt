@@ -14,7 +14,7 @@ pub(crate) fn report_behind<P: Program>(
     alloc: Global,
     words: &[String],
 ) -> Result<P::Report, OptionsFault>
-    ensures { AnswersWords P.command_line P.is_chosen (arguments_in (map string_bytes words.now)) result }
+    ensures { AnswersWords P.faults P.takes P.is_chosen (arguments_in (map string_bytes words.now)) result }
 {
     let texts = argument_texts(alloc, words)?;
     program.report(alloc, texts.as_slice())

@@ -1,7 +1,6 @@
 use Rattle.std.proofs.Common.{string_bytes}
-use Rattle.office_texts.specs.Words.{deadline_line}
 use Rattle.memo_program.specs.Reasons.{AreReasons}
-use Rattle.memo_program.specs.Sheets.{more_lines}
+use Rattle.memo_program.specs.Sheets.{first_lines, more_lines}
 use Rattle.memo_program.specs.Texts.{Is, Then}
 use Rattle.memo_program.proofs.TextLemmas.{adds_text, adds_then, on_ok}
 use Rattle.memo_program.proofs.sheets.push_explained.Goals as goal
@@ -10,8 +9,8 @@ pub returns : goal.returns
 returns c =
     let court = c.args.court.now in
     let deadline = c.args.deadline.now in
-    let line = deadline_line court.clock deadline in
+    let first = first_lines court.clock c.args.detail.now deadline in
     let told = AreReasons court c.args.names.now c.args.days.now deadline.row in
     let more = more_lines court c.args.days.now c.args.filed c.args.detail.now deadline in
     let with_more = on_ok c.push_more.result (λ appended. adds_then told (Is more) _ _ (string_bytes c.push_more.new.text) c.in_ok-push_deadline_reasons.ensures (adds_text more _ _ appended)) c.push_more.ensures in
-    on_ok c.push_more.result (λ added. adds_then (Is line) (Then told (Is more)) (string_bytes c.args.text.now) _ (string_bytes c.push_more.new.text) (adds_text line _ _ (rw c.clock.ensures at c.in_ok-push_deadline.ensures)) added) with_more
+    on_ok c.push_more.result (λ added. adds_then (Is first) (Then told (Is more)) (string_bytes c.args.text.now) _ (string_bytes c.push_more.new.text) (adds_text first _ _ c.in_ok-push_first_lines.ensures) added) with_more
