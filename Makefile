@@ -42,14 +42,15 @@ court_file:
 calendar:
 	@python3 tools/prove.py court_calendar
 
-# Proofs, edits that the prover must refuse, tests, and the programs' stored runs. Some kits leave out what an earlier run
-# on this machine has passed for the same files.
+# The gate, rt ci: proofs, edits that the prover must refuse, tests, and the programs' stored runs; and before its last
+# line a table of the processor seconds that each crate took. Some kits leave out what an earlier run on this machine has
+# passed for the same files.
 test:
-	@rt ci
-
-# Everything from nothing, and then a table of the processor seconds that each crate took.
-times:
 	@python3 tools/gate_times.py
+
+# The same, with everything from nothing whatever the kit.
+times:
+	@python3 tools/gate_times.py --anew
 
 bench: build
 	@python3 bench/bench.py $(PROGRAM)
@@ -75,8 +76,8 @@ help:
 	@echo "make court_file  the same for the one for courts' files, crates/court_file/out/court_file"
 	@echo "make calendar    the same for the calendar, crates/court_calendar/out/court_calendar"
 	@echo "make run         proves and builds the program, and runs it on $(EXAMPLE)"
-	@echo "make test        the gate (rt ci): proves and tests everything"
-	@echo "make times       the gate from nothing, with a table of the seconds of each crate; it needs Linux"
+	@echo "make test        the gate (rt ci): proves and tests everything, with a table of the seconds of each crate"
+	@echo "make times       the gate from nothing, whatever an earlier run has passed"
 	@echo "make bench       prints the program's rows per second and peak memory; it needs Linux"
 	@echo "make bench-desk  the desk's rows per second and the time of one row, beside SQLite; it needs Linux"
 	@echo "make check       all quick checks beside the gate"

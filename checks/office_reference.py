@@ -23,11 +23,18 @@ from reference.text_out import answer_lines, closing_lines
 MOST_BYTES = 16777216
 
 
+class Words(argparse.ArgumentParser):
+    """The words of a command line. What is said of refused words, and help, only the program knows."""
+
+    def error(self, message):
+        raise CannotTell(message)
+
+
 def options_in(words):
     """How many clerks there are, and how many entries the journal takes, by the words of a command line."""
-    parser = argparse.ArgumentParser()
-    parser.add_argument("--clerks", type=int, default=1)
-    parser.add_argument("--journal", type=int, default=100000)
+    parser = Words(add_help=False, allow_abbrev=False)
+    parser.add_argument("--clerks", type=int, default=1, choices=range(1, 65))
+    parser.add_argument("--journal", type=int, default=100000, choices=range(1000001))
     return parser.parse_args(words)
 
 

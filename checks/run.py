@@ -92,7 +92,7 @@ ALL = [
                                        "examples/deadlines.txt", "runs/docket/sheets_and_calendars_at_the_end.in",
                                        "runs/clerks/hearings_side_by_side.in"]],
           "each growth and thread refused (needs cc)", "5 min"),
-    Check("refuse_steps", [STEPS], [["refuse_steps.py", built(STEPS), "crates/stored_steps/stdin"]],
+    Check("refuse_steps", [STEPS], [["refuse_steps.py", built(STEPS), "checks/refuse_steps.txt"]],
           "each growth refused to clerks' steps (cc)", "30 s", seeded=True),
     Check("refuse_office", [OFFICE], [["refuse_office.py", built(OFFICE), "checks/refuse_office.txt"]],
           "each growth refused to an office's seats (cc)", "1 min"),

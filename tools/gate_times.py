@@ -1,24 +1,27 @@
 #!/usr/bin/env python3
 """Runs the gate, and says how many seconds each crate took of it.
 
-    gate_times.py
+    gate_times.py [--anew]
 
-It runs `rt ci` so that it takes nothing from earlier runs. That prints no times, so this looks at its processes
-twice a second and adds up the processor time of each: what proving a crate took, building it by two compilers, proving
-its tests, its must-fail edits, and the runs of its program and tests. Processes that end within half a second may be
-missed. The table has the crates that took most first. The status is that of the gate. It needs Linux and Python 3.8 or
-later.
+It runs `rt ci`, and prints what that prints. With --anew it takes nothing from earlier runs, which some kits keep.
+`rt ci` prints no times, so this looks at its processes twice a second and adds up the processor time of each: what
+proving a crate took, building it by two compilers, proving its tests, its must-fail edits, and the runs of its program
+and tests. Processes that end within half a second may be missed. The table has the crates that took most first, and
+comes before the last line of `rt ci`, 'N passed, M failed'. The status is that of `rt ci`. Where there is no /proc, as on
+another system than Linux, there is no table. It needs Python 3.8 or later.
 """
 import collections
 import os
 import pathlib
 import subprocess
 import sys
+import threading
 import time
 
 TOP = pathlib.Path(__file__).resolve().parent.parent
 KINDS = ("proof", "build", "tests", "edits", "runs")
 SECONDS_BETWEEN_LOOKS = 0.5
+PROCESSES = pathlib.Path("/proc/self/stat")
 TICKS = os.sysconf("SC_CLK_TCK")
 
 
@@ -28,7 +31,7 @@ def read_process(folder):
         fields = (folder / "stat").read_text().rpartition(")")[2].split()
         words = (folder / "cmdline").read_bytes().decode(errors="replace").split("\0")[:-1]
         place = os.readlink(str(folder / "cwd"))
-    except (OSError, ValueError):
+    except (OSError, ValueError, IndexError):
         return None
     return int(fields[1]), (int(folder.name), fields[19]), (int(fields[11]) + int(fields[12])) / TICKS, words, place
 
@@ -94,25 +97,53 @@ def print_table(rows, minutes):
     print("{:.0f} processor minutes, in {:.0f} minutes".format(sum(sums) / 60, minutes))
 
 
-def gate_words():
+def gate_words(is_anew):
     """`rt ci`, which in some kits keeps what it passed, and has a word to take nothing of that."""
+    if not is_anew:
+        return ["rt", "ci"]
     told = subprocess.run(["rt", "--help"], stdout=subprocess.PIPE, stderr=subprocess.STDOUT, check=False).stdout
     return ["rt", "ci", "--anew"] if b"--anew" in told else ["rt", "ci"]
 
 
-def main():
+class Passed(threading.Thread):
+    """Passes on the lines of the gate as they come, each once the next is there; so the last is left to be printed."""
+
+    def __init__(self, lines):
+        super().__init__(daemon=True)
+        self.lines, self.last = lines, b""
+
+    def run(self):
+        for line in self.lines:
+            self.pass_on()
+            self.last = line
+
+    def pass_on(self):
+        sys.stdout.buffer.write(self.last)
+        sys.stdout.flush()
+
+
+def main(words):
+    if words not in ([], ["--anew"]):
+        sys.exit("usage: gate_times.py [--anew]")
     began = time.monotonic()
-    gate = subprocess.Popen(gate_words(), cwd=str(TOP))
-    times = Times(gate.pid)
+    gate = subprocess.Popen(gate_words(bool(words)), cwd=str(TOP), stdout=subprocess.PIPE)
+    times, passed = Times(gate.pid), Passed(gate.stdout)
+    passed.start()
     try:
         while gate.poll() is None:
-            times.look()
+            if PROCESSES.exists():
+                times.look()
             time.sleep(SECONDS_BETWEEN_LOOKS)
     except KeyboardInterrupt:
         gate.wait()
-    print_table(times.table(), (time.monotonic() - began) / 60)
+    passed.join()
+    rows = times.table()
+    if rows:
+        print_table(rows, (time.monotonic() - began) / 60)
+    sys.stdout.flush()
+    passed.pass_on()
     sys.exit(gate.returncode)
 
 
 if __name__ == "__main__":
-    main()
+    main(sys.argv[1:])

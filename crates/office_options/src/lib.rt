@@ -6,8 +6,6 @@ mod command;
 mod fault;
 mod options;
 mod reading;
-#[cfg(test)]
-mod tests;
 mod words;
 
 pub use fault::OptionsFault;

@@ -1,4 +1,0 @@
-pub mod Counters
-pub mod Lawful
-pub mod Switches
-pub mod SwitchesLawful
