@@ -33,9 +33,9 @@ SELECT hearing_day, begins, case_number, 1, motion_number, begins, room, NULL, m
  WHERE hearing_day BETWEEN '{0}' AND '{1}'
 ORDER BY 1, 2, 3, 4, 5"""
 WEEK = """SELECT hearing_day, begins, minutes, case_number, motion_number, room
-FROM hearings NATURAL JOIN hearing_judges
+FROM hearings NATURAL JOIN panels
 WHERE judge = '{0}' AND hearing_day BETWEEN '{1}' AND '{2}' ORDER BY hearing_day, begins"""
-PANELS = "SELECT case_number, motion_number, judge FROM hearing_judges ORDER BY case_number, motion_number, place"
+PANELS = "SELECT case_number, motion_number, judge FROM panels ORDER BY case_number, motion_number, place"
 TABLES = {
     "cases": ("number, filed", "number"),
     "deadlines": ("case_number, number, event_day, event_time, second_day, service, last_day, {ends_at}, filed_day, filed_time,"

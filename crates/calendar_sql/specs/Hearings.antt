@@ -42,8 +42,11 @@ unfoldable pub hearing_row : CourtView → (case motion : ℕ) → SheetHearing 
 hearing_row court case motion h = row_of (codes "hearings") case (hearing_values court motion h)
 
 -- a judge of a panel, by its place in it, counted from 1
+unfoldable pub judge_values : CourtView → (motion : ℕ) → (place judge : ℕ) → List SqlValue
+judge_values court motion place judge = number motion ∷ number place ∷ text (name_of court.judges judge) ∷ []
+
 unfoldable pub judge_row : CourtView → (case motion : ℕ) → (place judge : ℕ) → List ℕ
-judge_row court case motion place judge = row_of (codes "hearing_judges") case (number motion ∷ number place ∷ text (name_of court.judges judge) ∷ [])
+judge_row court case motion place judge = row_of (codes "panels") case (judge_values court motion place judge)
 
 -- a hearing, and each judge of its panel, in its order
 unfoldable pub hearing_rows : CourtView → (case motion : ℕ) → SheetHearing → List ℕ

@@ -78,9 +78,9 @@ hearings_table =
     ++ codes ");\n"
 
 -- the judges before whom a hearing is, by their places in the panel
-unfoldable pub hearing_judges_table : List ℕ
-hearing_judges_table =
-    codes "CREATE TABLE hearing_judges (\n"
+unfoldable pub panels_table : List ℕ
+panels_table =
+    codes "CREATE TABLE panels (\n"
     ++ codes "  case_number INTEGER NOT NULL,\n"
     ++ codes "  motion_number INTEGER NOT NULL,\n"
     ++ codes "  place INTEGER NOT NULL,\n"
@@ -111,4 +111,4 @@ answers_table =
     ++ codes ");\n"
 
 unfoldable pub tables : List ℕ
-tables = cases_table ++ deadlines_table ++ grants_table ++ motions_table ++ hearings_table ++ hearing_judges_table ++ outages_table ++ answers_table
+tables = cases_table ++ deadlines_table ++ grants_table ++ motions_table ++ hearings_table ++ panels_table ++ outages_table ++ answers_table

@@ -4,7 +4,7 @@ ghost use Rattle.std.specs.Prelude.{◌≡◌, ◌-◌, ◌++◌, [], ◌∷◌,
 ghost use Rattle.docket_rows.specs.Words.{opening_rows, setup_of};
 ghost use Rattle.office_run.specs.Words.{Holds, docketed_after, reply_text};
 ghost use Rattle.calendar_sql.specs.Answers.{answer_row, answer_rows, answer_words, refusal_value};
-ghost use Rattle.calendar_sql.specs.Rows.{AddsValues};
+ghost use Rattle.calendar_sql.specs.Rows.{AddsValues, text};
 
 use crate::script::Script;
 use court_days::Court;
@@ -48,13 +48,26 @@ fn push_answer(
 ) -> Result<(), AllocError>
     ensures { OnOk result (out.new ≡ out.old ++ answer_row court.now place clerk reply.now) }
 {
-    line.clear();
-    push_reply(line, court, reply)?;
     out.begin_row("answers", place)?;
     out.number(u64::from(clerk))?;
     push_refusal(out, reply)?;
-    out.text_of(without_end(line))?;
+    push_words(out, line, court, reply)?;
     out.end_row()
+}
+
+/// Adds what clerk_office writes of a reply, without the end of its last line.
+#[tactic(auto, unfolding(crate::specs::Answers::answer_words))]
+fn push_words(
+    out: &mut Script,
+    line: &mut String,
+    court: &Court,
+    reply: &Reply,
+) -> Result<(), AllocError>
+    ensures { OnOk result (AddsValues out.old out.new (text (answer_words court.now reply.now) ∷ [])) }
+{
+    line.clear();
+    push_reply(line, court, reply)?;
+    out.text_of(without_end(line))
 }
 
 /// A text without its last byte.

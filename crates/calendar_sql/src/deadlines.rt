@@ -141,6 +141,7 @@ fn push_until(out: &mut Script, clock: &Clock, end: Instant) -> Result<(), Alloc
 /// Adds the act that was recorded, if one was.
 #[tactic(auto, unfolding(crate::specs::Deadlines::filed_values))]
 fn push_filed(out: &mut Script, filed: Option<Filing>) -> Result<(), AllocError>
+    requires { IfSome filed (λ f. f.minute < 1440) }
     ensures { OnOk result (AddsValues out.old out.new (filed_values filed)) }
 {
     match filed {

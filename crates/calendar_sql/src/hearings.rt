@@ -1,7 +1,7 @@
 //! Motions, their hearings, and the judges of these.
 
 ghost use Rattle.std.specs.Prelude.{◌≡◌, ◌++◌, [], ◌∷◌, OnOk};
-ghost use Rattle.calendar_sql.specs.Hearings.{hearing_row, hearing_rows, hearing_rows_if_set, hearing_values, judge_row, motion_row, motion_rows, notice_value, noticed_values, set_values};
+ghost use Rattle.calendar_sql.specs.Hearings.{hearing_row, hearing_rows, hearing_rows_if_set, hearing_values, judge_row, judge_values, motion_row, motion_rows, notice_value, noticed_values, set_values};
 ghost use Rattle.calendar_sql.specs.Rows.{AddsValues, numbered};
 
 use crate::script::Script;
@@ -162,9 +162,22 @@ fn push_judge(
 ) -> Result<(), AllocError>
     ensures { OnOk result (out.new ≡ out.old ++ judge_row court.now case motion place judge) }
 {
-    out.begin_row("hearing_judges", u64::from(case))?;
+    out.begin_row("panels", u64::from(case))?;
+    push_judge_values(out, court, motion, place, judge)?;
+    out.end_row()
+}
+
+#[tactic(auto, unfolding(crate::specs::Hearings::judge_values))]
+fn push_judge_values(
+    out: &mut Script,
+    court: &Court,
+    motion: u32,
+    place: u64,
+    judge: u8,
+) -> Result<(), AllocError>
+    ensures { OnOk result (AddsValues out.old out.new (judge_values court.now motion place judge)) }
+{
     out.number(u64::from(motion))?;
     out.number(place)?;
-    out.text(judge_name(court, judge))?;
-    out.end_row()
+    out.text(judge_name(court, judge))
 }

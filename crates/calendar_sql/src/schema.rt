@@ -1,7 +1,7 @@
 //! The tables.
 
 ghost use Rattle.std.specs.Prelude.{◌≡◌, ◌++◌, OnOk};
-ghost use Rattle.calendar_sql.specs.Schema.{answers_table, cases_table, deadlines_table, grants_table, hearing_judges_table, hearings_table, motions_table, outages_table, tables};
+ghost use Rattle.calendar_sql.specs.Schema.{answers_table, cases_table, deadlines_table, grants_table, hearings_table, motions_table, outages_table, panels_table, tables};
 
 use crate::script::Script;
 use std::alloc::AllocError;
@@ -16,7 +16,7 @@ pub(crate) fn push_tables(out: &mut Script) -> Result<(), AllocError>
     push_grants(out)?;
     push_motions(out)?;
     push_hearings(out)?;
-    push_hearing_judges(out)?;
+    push_panels(out)?;
     push_outages(out)?;
     push_answers(out)
 }
@@ -128,12 +128,12 @@ fn push_hearings(out: &mut Script) -> Result<(), AllocError>
 }
 
 /// The judges before whom a hearing is, by their places in the panel.
-#[tactic(auto, unfolding(crate::specs::Schema::hearing_judges_table))]
-fn push_hearing_judges(out: &mut Script) -> Result<(), AllocError>
-    ensures { OnOk result (out.new ≡ out.old ++ hearing_judges_table) }
+#[tactic(auto, unfolding(crate::specs::Schema::panels_table))]
+fn push_panels(out: &mut Script) -> Result<(), AllocError>
+    ensures { OnOk result (out.new ≡ out.old ++ panels_table) }
 {
     out.statement(
-        "CREATE TABLE hearing_judges (
+        "CREATE TABLE panels (
   case_number INTEGER NOT NULL,
   motion_number INTEGER NOT NULL,
   place INTEGER NOT NULL,

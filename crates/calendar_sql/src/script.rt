@@ -105,6 +105,13 @@ impl Script {
     {
         push_text(&mut self.bytes, words.as_bytes())
     }
+
+    /// Adds the text of these bytes.
+    pub(crate) fn text_of(&mut self, words: &[u8]) -> Result<(), AllocError>
+        ensures { OnOk result (AddsValues self.old self.new (text words.now ∷ [])) }
+    {
+        push_text(&mut self.bytes, words)
+    }
 }
 
 /// Adds a text after another value.

@@ -31,7 +31,8 @@ pub(crate) fn push_docketed(
 {
     push_outages(out, docket.days().outages())?;
     let sheets = sheets_of(alloc, docket)?;
-    push_sheets(out, court, &sheets)
+    push_sheets(out, court, &sheets)?;
+    Ok(())
 }
 
 /// Adds the outages, each with its number.
