@@ -38,7 +38,7 @@ desk:
 court_file:
 	@python3 tools/prove.py court_file
 
-# The program that writes what is due, a judge's week, a page, iCalendar or JSON, proved and built at crates/court_calendar/out/court_calendar.
+# The program that writes what is due, a judge's week, a page, iCalendar, JSON or SQL, proved and built at crates/court_calendar/out/court_calendar.
 calendar:
 	@python3 tools/prove.py court_calendar
 

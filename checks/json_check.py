@@ -1,12 +1,13 @@
 #!/usr/bin/env python3
-"""Compares the JSON that court_calendar writes with what clerk_office says of the same docket.
+"""Compares the JSON that court_calendar writes with what clerk_office and deadline_memo say of the same docket.
 
-    json_check.py CALENDAR CLERK [SEED [COUNT]]
-    json_check.py --schema CALENDAR CLERK [SEED [COUNT]]
+    json_check.py CALENDAR CLERK MEMO [SEED [COUNT]]
+    json_check.py --schema CALENDAR CLERK MEMO [SEED [COUNT]]
 
 Inputs are made at random. From the JSON alone this script writes the text of clerk_office again: each answer, each sheet and
 each calendar, and the two texts must be the same. Each instant must be that of the day and the time beside it, by a reading
-of the court's zone of its own (reference/civil.py). With a judge, a case or days the JSON must be that part of the whole. A
+of the court's zone of its own (reference/civil.py). Each reason of a deadline must be a line of deadline_memo below it, in
+the same order. With a judge, a case or days the JSON must be that part of the whole. A
 faulty input must end both programs alike. It needs Python 3.8 or later; the status is 0 where all is alike.
 
 With --schema each text is also held to docs/court_calendar.schema.json, which needs Debian's python3-jsonschema.
@@ -113,6 +114,32 @@ def once(pairs):
     return dict(pairs)
 
 
+def reason_line(reason):
+    """A reason as deadline_memo writes it."""
+    day = " " * 14 if reason["day"] is None else datetime.date.fromisoformat(reason["day"]).strftime("%a %Y-%m-%d")
+    return "  {}  {:<50}  {}".format(day, reason["text"], reason["section"])
+
+
+def reasons_fault(whole, memo):
+    """A deadline whose reasons aren't among the lines of deadline_memo, one after another, or none."""
+    lines, case, number, below = memo.splitlines(), None, None, {}
+    for line in lines[max([at for at, line in enumerate(lines) if re.match("[0-9]+ 1 ", line)] or [0]):]:
+        words = line.split(" ")
+        if words[0] == "case":
+            case = int(words[1])
+        elif words[0] == "deadline":
+            number = int(words[1])
+            below[case, number] = []
+        elif line.startswith("  ") and case is not None:
+            below[case, number].append(line)
+    for sheet in whole["cases"]:
+        for deadline in sheet["deadlines"]:
+            left = iter(below[sheet["case"], deadline["number"]])
+            if not all(any(line == wanted for line in left) for wanted in map(reason_line, deadline["reasons"])):
+                return "case {} deadline {}: other reasons".format(sheet["case"], deadline["number"])
+    return None
+
+
 def objects(value):
     """Each object of a value, from the outermost in."""
     inside = list(value.values()) if isinstance(value, dict) else value if isinstance(value, list) else []
@@ -137,6 +164,12 @@ def shown_at(zone, at):
     return (EPOCH + datetime.timedelta(seconds=at + offset)).isoformat() + ahead
 
 
+def shown_again(zone, text):
+    """The instant of a text, as the clock of the zone shows it."""
+    at = datetime.datetime.fromisoformat(text) - EPOCH.replace(tzinfo=datetime.timezone.utc)
+    return shown_at(zone, at.days * 86400 + at.seconds)
+
+
 def minutes(text):
     return int(text[:2]) * 60 + int(text[3:])
 
@@ -145,14 +178,15 @@ def times_fault(zone, whole):
     """An instant that isn't that of its day and time, or that the clock doesn't show, or none."""
     for o in objects(whole):
         wanted = {}
-        if "at" in o:
+        if "section" in o:
+            wanted = {} if o["at"] is None else {"at": shown_again(zone, o["at"]), "day": o["at"][:10]}
+        elif "at" in o:
             wanted["at"] = instant_text(zone, o["day"], minutes(o["time"]))
         elif "minutes" in o:
             wanted["start"] = instant_text(zone, o["day"], minutes(o["time"]))
             wanted["end"] = instant_text(zone, o["day"], minutes(o["time"]) + o["minutes"])
         elif o.get("end") is not None:
-            at = datetime.datetime.fromisoformat(o["end"]) - EPOCH.replace(tzinfo=datetime.timezone.utc)
-            wanted["end"] = shown_at(zone, at.days * 86400 + at.seconds)
+            wanted["end"] = shown_again(zone, o["end"])
         for key, text in wanted.items():
             if o[key] != text:
                 return "{} is {}, and not {}, in {}".format(key, text, o[key], o)
@@ -202,8 +236,8 @@ def ran(program, words, data):
     return done.returncode, done.stdout, done.stderr.decode()
 
 
-def differs(chance, calendar, clerk, data, valid):
-    """How the JSON of an input differs from the text of clerk_office, or none."""
+def differs(chance, calendar, clerk, memo, data, valid):
+    """How the JSON of an input differs from the texts of clerk_office and deadline_memo, or none."""
     status, text, errors = ran(clerk, [], data)
     found = ran(calendar, ["json"], data)
     if status != 0 or found[0] != 0:
@@ -216,6 +250,7 @@ def differs(chance, calendar, clerk, data, valid):
         return "another docket"
     zone = re.search(r'^\s*zone\s*=\s*"([^"]*)"', data.decode(), re.MULTILINE)
     fault = times_fault(zone_of_text(zone.group(1)), whole) if zone else None
+    fault = fault or reasons_fault(whole, ran(memo, [], data)[1].decode())
     if fault or not valid(whole):
         return fault or "not of the schema"
     words, chosen = made_words(chance, whole)
@@ -234,15 +269,15 @@ def validator():
 def main():
     words = sys.argv[1:]
     valid = validator() if words[0] == "--schema" else lambda whole: True
-    calendar, clerk, *numbers = words[words[0] == "--schema":]
+    calendar, clerk, memo, *numbers = words[words[0] == "--schema":]
     seed, count = [int(number) for number in numbers] + [1, 200][len(numbers):]
     for number in range(count):
         chance = random.Random("json {} {}".format(seed, number))
         data = made_input(chance, chance.choice(INPUTS))
-        fault = differs(chance, calendar, clerk, data, valid)
+        fault = differs(chance, calendar, clerk, memo, data, valid)
         if fault:
             sys.exit("input {} of seed {}: {}".format(number, seed, fault))
-    print("{} inputs of seed {}: the JSON says what clerk_office says".format(count, seed))
+    print("{} inputs of seed {}: the JSON says what clerk_office and deadline_memo say".format(count, seed))
 
 
 if __name__ == "__main__":

@@ -13,3 +13,4 @@ mod words;
 pub use appointment::{Appointment, appointments_of};
 pub use calendar::icalendar;
 pub use laws::calendars_are_sent_whole;
+pub use times::slot_begins;

@@ -25,9 +25,9 @@ pub(crate) fn push_slot(
     }
 }
 
-/// The instant at which a slot of a day begins, by the court's clock.
+/// The instant at which a slot of a day begins, by the court's clock. None past the last of all days.
 #[tactic(auto, unfolding(crate::specs::Times::slot_begins))]
-fn slot_begins(clock: &Clock, day: Day, slot: u32) -> Option<Instant>
+pub fn slot_begins(clock: &Clock, day: Day, slot: u32) -> Option<Instant>
     requires { slot < 1000 }
     ensures { result ≡ slot_begins clock.now day slot }
 {

@@ -4,6 +4,7 @@ use Rattle.std.specs.List.{range_with_len}
 use Rattle.json.specs.Json.{string, max_depth}
 use Rattle.json.specs.Tree.{depth}
 use Rattle.jiff_tz.specs.declared.timezone.TimeZone.{TimeZone}
+use Rattle.court_clock.specs.Words.{ClockView}
 use Rattle.court_days.specs.Words.{CourtView}
 use Rattle.rule6.specs.declared.timeliness.Filing.{Filing}
 use Rattle.rule6.specs.declared.timeliness.Shown.{Shown}
@@ -23,7 +24,12 @@ use Rattle.docket_rows.specs.declared.view.View.TheVariants as view
 use Rattle.docket_rows.specs.Words.{Rows, opening_rows, setup_of}
 use Rattle.docket_selection.specs.declared.calendars.JudgeCalendar.{JudgeCalendar}
 use Rattle.docket_selection.specs.declared.choice.Choice.{Choice}
-use Rattle.docket_selection.specs.Words.{chosen_calendars, chosen_sheets}
+use Rattle.docket_selection.specs.Words.{chosen_calendars}
+use Rattle.explained_sheets.specs.declared.explained.ExplainedDeadline.{ExplainedDeadline}
+use Rattle.explained_sheets.specs.declared.explained.ExplainedSheet.{ExplainedSheet}
+use Rattle.deadline_reasons.specs.declared.reason.Reason.{Reason}
+use Rattle.reason_texts.specs.declared.course.Course.{Course}
+use Rattle.reason_texts.specs.Words.{course_after, course_of, day_shown}
 use Rattle.office_texts.specs.Words.{means_text, state_word}
 use Rattle.office_rows.specs.declared.row.Row.{Row}
 use Rattle.office_run.specs.declared.reply.Reply.{Reply}
@@ -37,6 +43,7 @@ use Rattle.calendar_json.specs.Document.{answers_from, court_value, court_fields
 use Rattle.calendar_json.specs.Motions.{hearing_fields, hearing_value, motion_fields, motion_value, notice_days_of}
 use Rattle.calendar_json.specs.Names.{judges_value, name_value, names_from}
 use Rattle.calendar_json.specs.Periods.{code_of, day_of_grant, days_of_grant, days_of_length, entered_fields, entered_of, entered_value, grant_fields, grant_value, hours_of_grant, hours_of_length, service_value}
+use Rattle.calendar_json.specs.Reasons.{case_fields, case_value, explained_fields, explained_value, instant_shown, reason_fields, reason_value, reason_values, reasons_field}
 use Rattle.calendar_json.specs.Sheets.{sheet_fields, sheet_value}
 use Rattle.calendar_json.specs.Times.{day_value, happened_fields, instant_value}
 use Rattle.calendar_json.specs.Values.{amount, field, or_null}
@@ -115,6 +122,30 @@ sheet_within court s =
     object_within 4 (sheet_fields court s)
     (omega arith, (omega arith, (array_within _ 3 (deadline_within court.clock.zone) s.deadlines, (array_within _ 3 (motion_within court) s.motions, tt))))
 
+reason_within : (clock : ClockView) (course : Course) (r : Reason) → depth (reason_value clock course r) ≤ 1
+unfolding reason_value
+reason_within clock course r =
+    object_within 0 (reason_fields clock course r)
+    (nullable day_value 0 (λ _. flat) (day_shown clock r), (nullable (instant_value clock.zone) 0 (instant_within clock.zone) (instant_shown r), (flat, (flat, tt))))
+
+reasons_within : (clock : ClockView) (course : Course) (reasons : List Reason) → AllWithin 1 (reason_values clock course reasons)
+unfolding reason_values
+reasons_within clock course [] = tt
+reasons_within clock course (r ∷ reasons) = (reason_within clock course r, reasons_within clock (course_after course r) reasons)
+
+explained_within : (clock : ClockView) (e : ExplainedDeadline) → depth (explained_value clock e) ≤ 3
+unfolding explained_value
+explained_within clock e =
+    object_within 2 (explained_fields clock e)
+    (append_within 2 (deadline_fields clock.zone e.deadline) (reasons_field clock e ∷ []) (append_within 2 (docketed_fields clock.zone e.deadline) (outcome_fields clock.zone e.deadline) (docketed_within clock.zone e.deadline) (outcome_within clock.zone e.deadline))
+    (list_within 1 _ (reasons_within clock (course_of e.deadline.row.period) e.reasons.items), tt))
+
+case_within : (court : CourtView) (e : ExplainedSheet) → depth (case_value court e) ≤ 5
+unfolding case_value
+case_within court e =
+    object_within 4 (case_fields court e)
+    (omega arith, (omega arith, (array_within _ 3 (explained_within court.clock) e.deadlines.items, (array_within _ 3 (motion_within court) e.motions, tt))))
+
 booking_within : (court : CourtView) (b : Booking) → depth (booking_value court b) ≤ 1
 unfolding booking_value
 booking_within court b =
@@ -190,13 +221,13 @@ calendar_within court c =
     object_within 2 (calendar_fields court c)
     (nullable string 2 (λ _. omega arith) _, (array_within (booking_value court) 1 (booking_within court) c.bookings, tt))
 
-pub document_within : (court : CourtView) (choice : Choice) (rows : List Row) → depth (document_value court choice rows) ≤ max_depth
+pub document_within : (court : CourtView) (choice : Choice) (rows : List Row) (sheets : List ExplainedSheet) → depth (document_value court choice rows sheets) ≤ max_depth
 unfolding document_value
-document_within court choice rows =
+document_within court choice rows sheets =
     let docketed = docketed_after (setup_of court) (opening_rows (setup_of court)) rows in
     let here : depth (court_value court) ≤ 7 = let h = court_within court in omega arith in
     let answers = list_within 6 _ (answers_within court (opening_rows (setup_of court)) 1 rows) in
-    let cases = array_within (sheet_value court) 5 (sheet_within court) (chosen_sheets (setup_of court) docketed choice) in
+    let cases = array_within (case_value court) 5 (case_within court) sheets in
     let calendars = array_within (calendar_value court) 3 (calendar_within court) (chosen_calendars (setup_of court) docketed choice) in
-    let whole = object_within 7 (document_fields court choice rows) (here, (answers, (omega arith, (omega arith, tt)))) in
+    let whole = object_within 7 (document_fields court choice rows sheets) (here, (answers, (omega arith, (omega arith, tt)))) in
     omega arith

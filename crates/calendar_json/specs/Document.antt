@@ -8,12 +8,14 @@ use Rattle.court_days.specs.Words.{CourtView}
 use Rattle.docket_rows.specs.Words.{Rows, opening_rows, setup_of}
 use Rattle.docket_selection.specs.declared.choice.Choice.{Choice}
 use Rattle.docket_selection.specs.Words.{chosen_calendars, chosen_sheets}
+use Rattle.explained_sheets.specs.declared.explained.ExplainedSheet.{ExplainedSheet}
+use Rattle.explained_sheets.specs.Words.{AreExplained}
 use Rattle.office_rows.specs.declared.row.Row.{Row}
 use Rattle.office_run.specs.Words.{docketed_after, docketed_then, reply_to}
 use Rattle.calendar_json.specs.Answers.{answered_value}
 use Rattle.calendar_json.specs.Bookings.{calendar_value}
 use Rattle.calendar_json.specs.Names.{judges_value}
-use Rattle.calendar_json.specs.Sheets.{sheet_value}
+use Rattle.calendar_json.specs.Reasons.{case_value}
 use Rattle.calendar_json.specs.Times.{day_value, minute_value}
 use Rattle.calendar_json.specs.Values.{Field, array_of, field, object_of}
 
@@ -37,31 +39,46 @@ answers_from court docketed number (row ∷ rows) =
     answered_value court (record { number = number; clerk = row.clerk; reply = reply_to (setup_of court) docketed row.work })
     ∷ answers_from court (docketed_then (setup_of court) docketed row.work) (number + 1) rows
 
--- the sheets of the chosen cases, by their numbers
-abbrev pub cases_field : CourtView → Choice → (docketed : Rows) → Field
-cases_field court choice docketed =
-    field (codes "cases") (array_of (map (sheet_value court) (chosen_sheets (setup_of court) docketed choice)))
+-- the sheets of cases, with the reasons of each deadline
+abbrev pub cases_field : CourtView → List ExplainedSheet → Field
+cases_field court sheets = field (codes "cases") (array_of (map (case_value court) sheets))
 
 -- the calendars of the chosen judges, with the bookings that are chosen, in the order of the court's file
 abbrev pub calendars_field : CourtView → Choice → (docketed : Rows) → Field
 calendars_field court choice docketed =
     field (codes "calendars") (array_of (map (calendar_value court) (chosen_calendars (setup_of court) docketed choice)))
 
-abbrev pub closing_fields : CourtView → Choice → (docketed : Rows) → List Field
-closing_fields court choice docketed = cases_field court choice docketed ∷ calendars_field court choice docketed ∷ []
+abbrev pub closing_fields : CourtView → Choice → (docketed : Rows) → List ExplainedSheet → List Field
+closing_fields court choice docketed sheets = cases_field court sheets ∷ calendars_field court choice docketed ∷ []
 
--- of a court and all rows: the sheets and the calendars are those after the last row
-abbrev pub document_fields : CourtView → Choice → List Row → List Field
-document_fields court choice rows =
+-- what is docketed after all rows
+abbrev pub docketed_by : CourtView → List Row → Rows
+docketed_by court rows = docketed_after (setup_of court) (opening_rows (setup_of court)) rows
+
+-- of a court and all rows, with these sheets: the calendars are those after the last row
+abbrev pub document_fields : CourtView → Choice → List Row → List ExplainedSheet → List Field
+document_fields court choice rows sheets =
     field (codes "court") (court_value court)
     ∷ field (codes "answers") (array_of (answers_from court (opening_rows (setup_of court)) 1 rows))
-    ∷ closing_fields court choice (docketed_after (setup_of court) (opening_rows (setup_of court)) rows)
+    ∷ closing_fields court choice (docketed_by court rows) sheets
 
-unfoldable pub document_value : CourtView → Choice → List Row → Json
-document_value court choice rows = object_of (document_fields court choice rows)
+unfoldable pub document_value : CourtView → Choice → List Row → List ExplainedSheet → Json
+document_value court choice rows sheets = object_of (document_fields court choice rows sheets)
+
+-- the sheets of the chosen cases after all rows, by their numbers, with the reasons of a derivation of what is shown of each
+-- deadline, by the days that are docketed
+abbrev pub AreSheetsAfter : CourtView → Choice → List Row → List ExplainedSheet → Type 0
+AreSheetsAfter court choice rows sheets =
+    AreExplained (docketed_by court rows).days court.clock (chosen_sheets (setup_of court) (docketed_by court rows) choice) sheets
 
 -- the text is one line of JSON, without spaces, that reads as that value
 pub record IsJsonText (value : Json) (text : List ℕ) : Type 0 where
   pub line : text ≡ print (json_tokens value) ++ 10 ∷ []
   pub reads : document (print (json_tokens value)) ≡ Some value
   pub utf8 : IsUtf8 (print (json_tokens value))
+
+-- the text is that of the court and all rows, with the sheets of the chosen cases
+pub record IsDocketJson (court : CourtView) (choice : Choice) (rows : List Row) (text : List ℕ) : Type 0 where
+  pub sheets : List ExplainedSheet
+  pub explained : AreSheetsAfter court choice rows sheets
+  pub json : IsJsonText (document_value court choice rows sheets) text

@@ -5,6 +5,7 @@ pub mod Document
 pub mod Motions
 pub mod Names
 pub mod Periods
+pub mod Reasons
 pub mod Sheets
 pub mod Times
 pub mod Values

@@ -6,7 +6,7 @@ ghost use Rattle.json.specs.Tree.{json_tokens};
 ghost use Rattle.docket_rows.specs.Words.{Rows, opening_rows, setup_of};
 ghost use Rattle.docket_core.specs.Words.{StandsFor};
 ghost use Rattle.office_run.specs.Words.{Holds, docketed_after};
-ghost use Rattle.calendar_json.specs.Document.{IsJsonText, answers_from, calendars_field, cases_field, closing_fields, court_fields, court_value, document_fields, document_value};
+ghost use Rattle.calendar_json.specs.Document.{AreSheetsAfter, IsDocketJson, answers_from, calendars_field, closing_fields, court_fields, court_value, document_fields, document_value};
 ghost use Rattle.calendar_json.specs.Values.{Adds, AddsFields, AddsValue, array_of, field};
 
 use crate::answers::AnsweredRow;
@@ -15,41 +15,44 @@ use crate::to_json::ToJson;
 use crate::writer::JsonWriter;
 use court_days::Court;
 use docket_core::Docket;
-use docket_selection::{Choice, calendars_of, sheets_chosen};
+use docket_selection::{Choice, calendars_of};
+use explained_sheets::{ExplainedSheet, explained_sheets};
 use office_rows::Row;
 use office_run::reply_to;
 use std::alloc::{AllocError, Global};
 
-/// One line of JSON: an object with the court, what each row was answered, the sheets of the chosen cases and the
-/// calendars of the chosen judges after the last row. `Err` says that memory ran out.
+/// One line of JSON: an object with the court, what each row was answered, the sheets of the chosen cases with the reasons
+/// of each deadline, and the calendars of the chosen judges after the last row. `Err` says that memory ran out.
 pub fn json_text(
     alloc: Global,
     court: &Court,
     rows: &[Row],
     choice: &Choice,
 ) -> Result<Vec<u8>, AllocError>
-    ensures { IfOk result (λ text. IsJsonText (document_value court.now choice.now rows.now) text.items) }
+    ensures { IfOk result (λ text. IsDocketJson court.now choice.now rows.now text.items) }
 {
     let mut out = JsonWriter::new(alloc);
-    push_document(alloc, &mut out, court, rows, choice)?;
+    let _sheets = push_document(alloc, &mut out, court, rows, choice)?;
     let mut text = out.into_text();
     text.push(b'\n')?;
     Ok(text)
 }
 
-/// Writes the whole object.
+/// Writes the whole object, and gives the sheets that are in it.
 fn push_document(
     alloc: Global,
     out: &mut JsonWriter,
     court: &Court,
     rows: &[Row],
     choice: &Choice,
-) -> Result<(), AllocError>
-    ensures { OnOk result (AddsValue out.old out.new (document_value court.now choice.now rows.now)) }
+) -> Result<Vec<ExplainedSheet>, AllocError>
+    ensures sheets { IfOk result (λ sheets. AreSheetsAfter court.now choice.now rows.now sheets.items) }
+    ensures object { IfOk result (λ sheets. AddsValue out.old out.new (document_value court.now choice.now rows.now sheets.items)) }
 {
     out.begin_object()?;
-    push_document_fields(alloc, out, court, rows, choice)?;
-    out.end_object()
+    let sheets = push_document_fields(alloc, out, court, rows, choice)?;
+    out.end_object()?;
+    Ok(sheets)
 }
 
 fn push_document_fields(
@@ -58,13 +61,16 @@ fn push_document_fields(
     court: &Court,
     rows: &[Row],
     choice: &Choice,
-) -> Result<(), AllocError>
-    ensures { OnOk result (AddsFields out.old out.new (document_fields court.now choice.now rows.now)) }
+) -> Result<Vec<ExplainedSheet>, AllocError>
+    ensures sheets { IfOk result (λ sheets. AreSheetsAfter court.now choice.now rows.now sheets.items) }
+    ensures fields { IfOk result (λ sheets. AddsFields out.old out.new (document_fields court.now choice.now rows.now sheets.items)) }
 {
     let mut docket = Docket::new(alloc, court)?;
     push_court(out, court)?;
     push_answers(alloc, out, court, &mut docket, rows)?;
-    push_closing(alloc, out, court, &docket, choice)
+    let sheets = explained_sheets(alloc, court, &docket, choice)?;
+    push_closing(alloc, out, court, &docket, choice, &sheets)?;
+    Ok(sheets)
 }
 
 /// Writes the court.
@@ -150,34 +156,20 @@ fn push_answered(
     Ok(())
 }
 
-/// Writes the sheets of the chosen cases, and the calendars of the chosen judges.
+/// Writes these sheets, and the calendars of the chosen judges.
 fn push_closing(
     alloc: Global,
     out: &mut JsonWriter,
     court: &Court,
     docket: &Docket,
     choice: &Choice,
+    sheets: &[ExplainedSheet],
 ) -> Result<(), AllocError>
     requires court { docket.now.setup ≡ setup_of court.now }
-    ensures { (docketed : Rows) → StandsFor docket.now docketed → OnOk result (AddsFields out.old out.new (closing_fields court.now choice.now docketed)) }
+    ensures { (docketed : Rows) → StandsFor docket.now docketed → OnOk result (AddsFields out.old out.new (closing_fields court.now choice.now docketed sheets.now)) }
 {
-    push_cases(alloc, out, court, docket, choice)?;
+    out.list_field(court, "cases", sheets)?;
     push_calendars(alloc, out, court, docket, choice)
-}
-
-/// Writes the sheets of the chosen cases.
-fn push_cases(
-    alloc: Global,
-    out: &mut JsonWriter,
-    court: &Court,
-    docket: &Docket,
-    choice: &Choice,
-) -> Result<(), AllocError>
-    requires court { docket.now.setup ≡ setup_of court.now }
-    ensures { (docketed : Rows) → StandsFor docket.now docketed → OnOk result (AddsFields out.old out.new (cases_field court.now choice.now docketed ∷ [])) }
-{
-    let sheets = sheets_chosen(alloc, docket, choice)?;
-    out.list_field(court, "cases", &sheets)
 }
 
 /// Writes the calendars of the chosen judges.

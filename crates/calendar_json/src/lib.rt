@@ -8,6 +8,7 @@ mod document;
 mod motions;
 mod names;
 mod periods;
+mod reasons;
 mod sheets;
 mod simple;
 mod spans;

@@ -8,6 +8,7 @@ ghost use Rattle.json.specs.Print.{print};
 ghost use Rattle.json.specs.Token.{begin_object, end_object, begin_array, end_array, key, string, number, boolean, null};
 ghost use Rattle.calendar_json.specs.Values.{Adds};
 
+mod reasons;
 mod times;
 
 use json::Writer;

@@ -1,2 +1,1 @@
-pub mod AlikeLemmas
 pub mod MarkupLemmas

@@ -15,8 +15,8 @@ use Rattle.other_readings.specs.Words.{reading_lines}
 use Rattle.page_markup.specs.declared.tag.Tag.TheVariants as tag
 use Rattle.page_markup.specs.Words.{element, text_in}
 use Rattle.calendar_texts.specs.Words.{period_words, whole_day}
-use Rattle.calendar_page.specs.declared.explained.ExplainedDeadline.{ExplainedDeadline}
-use Rattle.calendar_page.specs.declared.explained.ExplainedSheet.{ExplainedSheet}
+use Rattle.explained_sheets.specs.declared.explained.ExplainedDeadline.{ExplainedDeadline}
+use Rattle.explained_sheets.specs.declared.explained.ExplainedSheet.{ExplainedSheet}
 use Rattle.calendar_page.specs.Due.{state_cell}
 use Rattle.calendar_page.specs.Phrases.{affidavits_words, ends_words, hearing_place, hearing_time, need_words, notice_words, state_words}
 use Rattle.calendar_page.specs.Tables.{four_heads}

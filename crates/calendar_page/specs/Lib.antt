@@ -1,6 +1,5 @@
 pub mod Cases
 pub mod Due
-pub mod Explained
 pub mod Judges
 pub mod Page
 pub mod Phrases

@@ -7,7 +7,7 @@ use Rattle.docket_selection.specs.declared.item.DueItem.{DueItem}
 use Rattle.page_markup.specs.declared.tag.Tag.TheVariants as tag
 use Rattle.page_markup.specs.Words.{IsMarkup, page_with, text_in}
 use Rattle.calendar_texts.specs.Words.{chosen_words}
-use Rattle.calendar_page.specs.declared.explained.ExplainedSheet.{ExplainedSheet}
+use Rattle.explained_sheets.specs.declared.explained.ExplainedSheet.{ExplainedSheet}
 use Rattle.calendar_page.specs.Cases.{cases_part}
 use Rattle.calendar_page.specs.Due.{due_part}
 use Rattle.calendar_page.specs.Judges.{judges_part}

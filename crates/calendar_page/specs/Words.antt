@@ -1,3 +1,2 @@
 -- The words of clauses and definitions, for the crates above, from one place.
 unfoldable pub use Rattle.calendar_page.specs.Page.{page_text}
-pub use Rattle.calendar_page.specs.Explained.{AreAlike, IsExplained, IsSheetExplained, AreExplained}

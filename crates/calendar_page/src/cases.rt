@@ -5,11 +5,11 @@ ghost use Rattle.std.specs.List.{flat_map};
 ghost use Rattle.calendar_page.specs.Cases.{case_part, case_parts, case_title, cases_part, filed_words};
 
 use crate::deadlines::push_deadlines;
-use crate::explained::ExplainedSheet;
 use crate::motions::push_motions;
 use calendar_texts::push_whole_day;
 use court_clock::Day;
 use court_days::{Court, Days};
+use explained_sheets::ExplainedSheet;
 use office_texts::push_number;
 use page_markup::{Page, Tag};
 use std::alloc::{AllocError, Global};

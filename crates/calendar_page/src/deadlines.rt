@@ -5,7 +5,6 @@ ghost use Rattle.std.specs.List.{flat_map};
 ghost use Rattle.calendar_page.specs.Cases.{deadline_caption, deadline_heads, deadline_row, deadline_rows, deadline_table, period_cell};
 
 use crate::due::state_cell;
-use crate::explained::ExplainedDeadline;
 use crate::phrases::{set_end, set_number, set_state};
 use crate::reasons::push_reasons_cell;
 use crate::tables::push_four_heads;
@@ -13,6 +12,7 @@ use calendar_texts::push_period;
 use court_clock::Clock;
 use court_days::Days;
 use docket_rows::SheetDeadline;
+use explained_sheets::ExplainedDeadline;
 use office_texts::push_number;
 use page_markup::{Page, Tag};
 use period_texts::push_heading;

@@ -5,7 +5,6 @@
 mod cases;
 mod deadlines;
 mod due;
-mod explained;
 mod judges;
 mod laws;
 mod motions;
@@ -14,6 +13,5 @@ mod phrases;
 mod reasons;
 mod tables;
 
-pub use explained::{ExplainedDeadline, ExplainedSheet, explain};
 pub use laws::content_is_markup;
 pub use page::push_page;

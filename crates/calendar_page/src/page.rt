@@ -5,11 +5,11 @@ ghost use Rattle.calendar_page.specs.Page.{content, page_text, title};
 
 use crate::cases::push_cases;
 use crate::due::push_due;
-use crate::explained::ExplainedSheet;
 use crate::judges::push_judges;
 use calendar_texts::push_chosen;
 use court_days::{Court, Days};
 use docket_selection::{Choice, DueItem, DueTypes, JudgeCalendar};
+use explained_sheets::ExplainedSheet;
 use page_markup::{Page, Tag, begin_page, end_page};
 use std::alloc::{AllocError, Global};
 

@@ -3,10 +3,10 @@
 ghost use Rattle.std.specs.Prelude.{◌≡◌, ◌++◌, OnOk, string_bytes};
 ghost use Rattle.calendar_page.specs.Cases.{reasons_cell, reasons_text, reasons_title};
 
-use crate::explained::ExplainedDeadline;
 use court_clock::Clock;
 use court_days::Days;
 use deadline_reasons::Reason;
+use explained_sheets::ExplainedDeadline;
 use office_texts::push_number;
 use other_readings::push_readings;
 use page_markup::{Page, Tag};

@@ -5,7 +5,7 @@ use Rattle.std.specs.Str.Parse.{digits_value, without_leading_plus}
 use Rattle.clap.specs.Words.{Row, Text, first_of, one_of, subcommand_of}
 use Rattle.calendar_program.specs.declared.asked.Asked.{Asked}
 use Rattle.calendar_program.specs.declared.asked.Task.{Task}
-use Rattle.calendar_program.specs.declared.asked.Task.TheVariants.{Due, Ics, Json, Page, Week}
+use Rattle.calendar_program.specs.declared.asked.Task.TheVariants.{Due, Ics, Json, Page, Sql, Week}
 use Rattle.calendar_program.specs.CommandLine.{command_line}
 
 -- what a subcommand of that name writes
@@ -15,6 +15,7 @@ task_of name =
     else if bytes_eq name (codes "page") then Page
     else if bytes_eq name (codes "ics") then Ics
     else if bytes_eq name (codes "json") then Json
+    else if bytes_eq name (codes "sql") then Sql
     else Due
 
 -- the number that decimal digits write, with or without a `+` before them

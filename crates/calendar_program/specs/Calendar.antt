@@ -11,15 +11,19 @@ use Rattle.hearing_changes.specs.declared.change.HearingChange.{HearingChange}
 use Rattle.content_lines.specs.Words.{HasShortLines}
 use Rattle.calendar_texts.specs.Words.{due_text, week_text}
 use Rattle.calendar_ics.specs.Words.{appointments_of, icalendar_text}
-use Rattle.calendar_page.specs.declared.explained.ExplainedSheet.{ExplainedSheet}
-use Rattle.calendar_page.specs.Words.{AreExplained, page_text}
+use Rattle.explained_sheets.specs.declared.explained.ExplainedSheet.{ExplainedSheet}
+use Rattle.explained_sheets.specs.Words.{AreExplained}
+use Rattle.calendar_page.specs.Words.{page_text}
 use Rattle.office_rows.specs.declared.row.Row.{Row}
 use Rattle.office_run.specs.Words.{docketed_after}
-use Rattle.calendar_json.specs.Words.{IsJsonText, document_value}
+use Rattle.calendar_json.specs.Words.{IsDocketJson}
+use Rattle.calendar_sql.specs.Words.{script_text}
 use Rattle.office_streams.specs.Words.{Input}
 use Rattle.calendar_program.specs.declared.asked.Asked.{Asked}
 use Rattle.calendar_program.specs.declared.chosen.Chosen.{Chosen}
-use Rattle.calendar_program.specs.declared.chosen.Chosen.TheVariants.{Due, Ics, Json, Page, Week}
+use Rattle.calendar_program.specs.declared.chosen.Chosen.TheVariants.{Json, Listed, Sql}
+use Rattle.calendar_program.specs.declared.chosen.Listing.{Listing}
+use Rattle.calendar_program.specs.declared.chosen.Listing.TheVariants.{Due, Ics, Page, Week}
 use Rattle.calendar_program.specs.declared.chosen.Unknown.{Unknown}
 use Rattle.calendar_program.specs.declared.chosen.Unknown.TheVariants.{Judge, From, To, Of, Stamp}
 use Rattle.calendar_program.specs.Changes.{changes_made}
@@ -52,13 +56,25 @@ pub record IsIcsText (court : CourtView) (docketed : Rows) (changes : List Heari
   pub lines : text ≡ icalendar_text court stamp (appointments_of choice changes items)
   pub short : HasShortLines text
 
+-- the text of what is shown of the docket
+abbrev pub IsListing : CourtView → (docketed : Rows) → List HearingChange → Listing → List ℕ → Type 0
+IsListing court docketed changes (Due choice) text = IsDueText court docketed choice text
+IsListing court docketed changes (Week judge day) text = text ≡ week_text_of court docketed judge day
+IsListing court docketed changes (Page choice) text = IsPage court docketed choice text
+IsListing court docketed changes (Ics choice stamp) text = IsIcsText court docketed changes choice stamp text
+
+-- what is docketed after all rows, and what they changed of hearings
+abbrev pub docketed_by : CourtView → List Row → Rows
+docketed_by court rows = docketed_after (setup_of court) (opening_rows (setup_of court)) rows
+
+abbrev pub changes_by : CourtView → List Row → List HearingChange
+changes_by court rows = changes_made (setup_of court) (opening_rows (setup_of court)) rows
+
 -- the text of what is chosen
-abbrev pub IsTextOf : CourtView → List Row → (docketed : Rows) → List HearingChange → Chosen → List ℕ → Type 0
-IsTextOf court rows docketed changes (Due choice) text = IsDueText court docketed choice text
-IsTextOf court rows docketed changes (Week judge day) text = text ≡ week_text_of court docketed judge day
-IsTextOf court rows docketed changes (Page choice) text = IsPage court docketed choice text
-IsTextOf court rows docketed changes (Ics choice stamp) text = IsIcsText court docketed changes choice stamp text
-IsTextOf court rows docketed changes (Json choice) text = IsJsonText (document_value court choice rows) text
+abbrev pub IsTextOf : CourtView → List Row → Chosen → List ℕ → Type 0
+IsTextOf court rows (Listed listing) text = IsListing court (docketed_by court rows) (changes_by court rows) listing text
+IsTextOf court rows (Json choice) text = IsDocketJson court choice rows text
+IsTextOf court rows Sql text = text ≡ script_text court rows
 
 -- the text of a word, where it was given
 abbrev pub word_given : Option (String Global) → List ℕ
@@ -83,14 +99,12 @@ unknown_line asked Of = no_day asked.of
 unknown_line asked Stamp = no_instant asked.stamp
 
 -- the text of what is chosen, or the line of what says nothing of the court
-abbrev pub IsCalendar : Asked → CourtView → List Row → (docketed : Rows) → List HearingChange → List ℕ → Type 0
-IsCalendar asked court rows docketed changes text =
-    MatchResult (chosen_of court asked) (λ chosen. IsTextOf court rows docketed changes chosen text) (λ unknown. text ≡ unknown_line asked unknown)
+abbrev pub IsCalendar : Asked → CourtView → List Row → List ℕ → Type 0
+IsCalendar asked court rows text =
+    MatchResult (chosen_of court asked) (λ chosen. IsTextOf court rows chosen text) (λ unknown. text ≡ unknown_line asked unknown)
 
--- the text of an input, in the court whose file it has: of what is docketed after all its rows, and what they changed of hearings
+-- the text of an input, in the court whose file it has
 pub record IsCalendarOf (asked : Asked) (input : Input) (text : List ℕ) : Type 0 where
   pub court : CourtView
   pub is_court : file_of court ≡ input.file
-  pub is_calendar : IsCalendar asked court input.rows
-      (docketed_after (setup_of court) (opening_rows (setup_of court)) input.rows)
-      (changes_made (setup_of court) (opening_rows (setup_of court)) input.rows) text
+  pub is_calendar : IsCalendar asked court input.rows text

@@ -10,7 +10,8 @@ use Rattle.calendar_program.specs.declared.asked.Asked.{Asked}
 use Rattle.calendar_program.specs.declared.asked.Task.TheVariants as task
 use Rattle.calendar_program.specs.declared.asked.Task.{Task}
 use Rattle.calendar_program.specs.declared.chosen.Chosen.{Chosen}
-use Rattle.calendar_program.specs.declared.chosen.Chosen.TheVariants.{Due, Ics, Json, Page, Week}
+use Rattle.calendar_program.specs.declared.chosen.Chosen.TheVariants.{Json, Listed, Sql}
+use Rattle.calendar_program.specs.declared.chosen.Listing.TheVariants.{Due, Ics, Page, Week}
 use Rattle.calendar_program.specs.declared.chosen.Unknown.{Unknown}
 use Rattle.calendar_program.specs.declared.chosen.Unknown.TheVariants.{Judge, From, To, Of, Stamp}
 
@@ -47,13 +48,13 @@ choice_asked court asked met = do
 abbrev pub due_chosen : CourtView → Asked → Result Chosen Unknown
 due_chosen court asked = do
   choice ← choice_asked court asked false
-  Ok (Due choice)
+  Ok (Listed (Due choice))
 
 -- the page of that
 abbrev pub page_chosen : CourtView → Asked → Result Chosen Unknown
 page_chosen court asked = do
   choice ← choice_asked court asked false
-  Ok (Page choice)
+  Ok (Listed (Page choice))
 
 -- the instant that the text names, or the first one of 1970 where none is asked for
 abbrev pub stamp_asked : (text : Option (List ℕ)) → Result ℤ Unknown
@@ -65,14 +66,14 @@ abbrev pub ics_chosen : CourtView → Asked → Result Chosen Unknown
 ics_chosen court asked = do
   choice ← choice_asked court asked true
   stamp ← stamp_asked (option_map string_bytes asked.stamp)
-  Ok (Ics choice stamp)
+  Ok (Listed (Ics choice stamp))
 
 -- the week of the judge in which the day is
 abbrev pub week_chosen : CourtView → Asked → Result Chosen Unknown
 week_chosen court asked = do
   judge ← judge_given court (option_map string_bytes asked.judge)
   day ← day_asked (option_map string_bytes asked.of) court.days.from Of
-  Ok (Week judge day)
+  Ok (Listed (Week judge day))
 
 -- the JSON of that
 abbrev pub json_chosen : CourtView → Asked → Result Chosen Unknown
@@ -86,6 +87,7 @@ chosen_by task.Week court asked = week_chosen court asked
 chosen_by task.Page court asked = page_chosen court asked
 chosen_by task.Ics court asked = ics_chosen court asked
 chosen_by task.Json court asked = json_chosen court asked
+chosen_by task.Sql court asked = Ok Sql
 
 -- what is chosen, or which text says nothing of the court
 unfoldable pub chosen_of : CourtView → Asked → Result Chosen Unknown

@@ -47,5 +47,5 @@ bare_command = record {
 -- the whole: a subcommand for each format
 abbrev pub command_line : App
 command_line =
-    with_subcommand (with_subcommand (with_subcommand (with_subcommand (with_subcommand bare_command (choosing_shape (codes "due"))) week_shape) (choosing_shape (codes "page"))) ics_shape)
-    (choosing_shape (codes "json"))
+    with_subcommand (with_subcommand (with_subcommand (with_subcommand (with_subcommand (with_subcommand bare_command (choosing_shape (codes "due"))) week_shape) (choosing_shape (codes "page"))) ics_shape)
+    (choosing_shape (codes "json"))) (new_shape (codes "sql"))

@@ -21,6 +21,8 @@ pub enum Task {
     Ics,
     /// JSON, for programs.
     Json,
+    /// SQL, for databases.
+    Sql,
 }
 
 /// What the words ask for: what is written, and of what. The texts are as the words have them.
@@ -70,6 +72,7 @@ fn task_of(name: &str) -> Task
         "page" => Task::Page,
         "ics" => Task::Ics,
         "json" => Task::Json,
+        "sql" => Task::Sql,
         _ => Task::Due,
     }
 }

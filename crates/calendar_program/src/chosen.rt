@@ -9,9 +9,9 @@ use court_clock::{Day, Instant};
 use court_days::Court;
 use docket_selection::Choice;
 
-/// What is chosen, by what is written of it.
+/// What is shown of the docket after all rows.
 #[derive(Clone, Copy, Debug, PartialEq, Eq)]
-pub enum Chosen {
+pub enum Listing {
     /// What is due.
     Due(Choice),
     /// The week of that judge in which the day is.
@@ -20,8 +20,17 @@ pub enum Chosen {
     Page(Choice),
     /// The calendar of deadlines and hearings, written at that instant.
     Ics(Choice, Instant),
-    /// What rows were answered, and of the docket the chosen cases and calendars.
+}
+
+/// What is chosen, by what is written of it.
+#[derive(Clone, Copy, Debug, PartialEq, Eq)]
+pub enum Chosen {
+    /// What is shown of the docket after all rows.
+    Listed(Listing),
+    /// What rows were answered, and of the docket the chosen cases and calendars, as JSON.
     Json(Choice),
+    /// What rows were answered, and all of the docket, as SQL.
+    Sql,
 }
 
 /// Which text says nothing of this court.
@@ -51,6 +60,7 @@ pub(crate) fn chosen_of(court: &Court, asked: &Asked) -> Result<Chosen, Unknown>
         Task::Page => page_chosen(court, asked),
         Task::Ics => ics_chosen(court, asked),
         Task::Json => json_chosen(court, asked),
+        Task::Sql => Ok(Chosen::Sql),
     }
 }
 
@@ -58,14 +68,14 @@ fn due_chosen(court: &Court, asked: &Asked) -> Result<Chosen, Unknown>
     ensures { result ≡ due_chosen court.now asked.now }
 {
     let choice = choice_asked(court, asked, false)?;
-    Ok(Chosen::Due(choice))
+    Ok(Chosen::Listed(Listing::Due(choice)))
 }
 
 fn page_chosen(court: &Court, asked: &Asked) -> Result<Chosen, Unknown>
     ensures { result ≡ page_chosen court.now asked.now }
 {
     let choice = choice_asked(court, asked, false)?;
-    Ok(Chosen::Page(choice))
+    Ok(Chosen::Listed(Listing::Page(choice)))
 }
 
 fn ics_chosen(court: &Court, asked: &Asked) -> Result<Chosen, Unknown>
@@ -73,7 +83,7 @@ fn ics_chosen(court: &Court, asked: &Asked) -> Result<Chosen, Unknown>
 {
     let choice = choice_asked(court, asked, true)?;
     let stamp = stamp_asked(&asked.stamp)?;
-    Ok(Chosen::Ics(choice, stamp))
+    Ok(Chosen::Listed(Listing::Ics(choice, stamp)))
 }
 
 fn json_chosen(court: &Court, asked: &Asked) -> Result<Chosen, Unknown>
@@ -104,7 +114,7 @@ fn week_chosen(court: &Court, asked: &Asked) -> Result<Chosen, Unknown>
 {
     let judge = judge_given(court, &asked.judge)?;
     let day = day_asked(&asked.of, court.days().from(), Unknown::Of)?;
-    Ok(Chosen::Week(judge, day))
+    Ok(Chosen::Listed(Listing::Week(judge, day)))
 }
 
 /// The number of the judge that is asked for, if one is.

@@ -1,6 +1,7 @@
 //! The command line, as `clap` is told of it.
 
-ghost use Rattle.std.specs.Prelude.{◌≡◌, false, true, IfErr, IfOk, IfSome};
+ghost use Rattle.std.specs.Prelude.{◌≡◌, false, true, codes, IfErr, IfOk, IfSome};
+ghost use Rattle.clap.specs.Simple.{new_shape};
 ghost use Rattle.clap.specs.Faults.{fault_of};
 ghost use Rattle.clap.specs.Walk.{texts};
 ghost use Rattle.clap.specs.Words.{app_of, rule_of, subcommand_rows_of, takes, with_subcommand};
@@ -18,17 +19,18 @@ const LAST_CASE: i64 = 4_096;
 
 // What the program is. `clap` breaks no lines, so they are broken here.
 const ABOUT: &str =
-    "The court's calendar, after all rows: what is due, a week, a page, iCalendar, JSON.";
+    "The court's calendar, after all rows: what is due, a week, a page, iCalendar, JSON, SQL.";
 
 const FORMATS: &str =
     "It reads what clerk_office reads: a court's file, a line of %% alone, and rows.
-It writes the calendar to standard output. JSON alone has the answers to rows.
+It writes the calendar to standard output. JSON and SQL have the answers to rows.
 
     court_calendar due --from 2025-09-15 --to 2025-09-19 < day.txt
     court_calendar week --judge Calloway --of 2025-09-16 < day.txt
     court_calendar page --judge Calloway < day.txt > calendar.html
     court_calendar ics --judge Calloway < day.txt > calendar.ics
     court_calendar json < day.txt > calendar.json
+    court_calendar sql < day.txt | sqlite3 docket.db
 
 docs/CALENDAR.md describes what it writes.";
 
@@ -37,6 +39,8 @@ const ABOUT_DUE: &str = "What is due: deadlines with no timely act, and hearings
 const ABOUT_WEEK: &str = "A judge's week, with the half hours down the side";
 
 const ABOUT_JSON: &str = "JSON: the answers of all rows, the cases, and the judges' calendars";
+
+const ABOUT_SQL: &str = "SQL: tables of the answers and the docket, for sqlite3 and PostgreSQL";
 
 const ABOUT_PAGE: &str = "One HTML page: what is due, each judge's hearings, and the cases";
 
@@ -158,6 +162,15 @@ fn with_ics<'a>(alloc: Global, command: Command<'a>) -> Result<Command<'a>, Allo
     Ok(whole)
 }
 
+/// The command with the subcommand for a database, which takes nothing.
+fn with_sql<'a>(alloc: Global, command: Command<'a>) -> Result<Command<'a>, AllocError>
+    ensures { IfOk result (λ whole. app_of whole ≡ with_subcommand (app_of command.entry) (new_shape (codes "sql"))) }
+{
+    let sql = Command::new(alloc, "sql").about(ABOUT_SQL);
+    let whole = command.subcommand(sql)?;
+    Ok(whole)
+}
+
 /// The command line's definition, for one reading of words: a subcommand for each format.
 fn command<'a>(alloc: Global) -> Result<Command<'a>, AllocError>
     ensures { IfOk result (λ command. app_of command ≡ command_line) }
@@ -173,7 +186,8 @@ fn command<'a>(alloc: Global) -> Result<Command<'a>, AllocError>
     let page = with_choosing(alloc, week, "page", ABOUT_PAGE)?;
     let ics = with_ics(alloc, page)?;
     let json = with_choosing(alloc, ics, "json", ABOUT_JSON)?;
-    Ok(json)
+    let sql = with_sql(alloc, json)?;
+    Ok(sql)
 }
 
 /// What the words ask for, which are those after the program's name. BadWords where `clap` refuses the words, Help where

@@ -5,10 +5,11 @@ ghost use Rattle.docket_rows.specs.Words.{Rows, setup_of};
 ghost use Rattle.office_run.specs.Words.{Holds};
 ghost use Rattle.calendar_program.specs.Calendar.{IsPage};
 
-use calendar_page::{explain, push_page};
+use calendar_page::push_page;
 use court_days::Court;
 use docket_core::Docket;
-use docket_selection::{Choice, DueTypes, calendars_of, due_of, sheets_chosen};
+use docket_selection::{Choice, DueTypes, calendars_of, due_of};
+use explained_sheets::explained_sheets;
 use page_markup::Page;
 use std::alloc::{AllocError, Global};
 
@@ -26,8 +27,7 @@ pub(crate) fn page_text(
     let _types: DueTypes = None;
     let items = due_of(alloc, court, docket, choice)?;
     let calendars = calendars_of(alloc, court, docket, choice)?;
-    let chosen = sheets_chosen(alloc, docket, choice)?;
-    let sheets = explain(alloc, docket.days(), court.clock(), chosen)?;
+    let sheets = explained_sheets(alloc, court, docket, choice)?;
     let mut page = Page::new(alloc);
     push_page(
         alloc,

@@ -1,19 +1,19 @@
 //! The calendar, as what is written of a run.
 
 ghost use Rattle.std.specs.Prelude.{◌≡◌, ◌++◌, string_bytes, IfOk};
-ghost use Rattle.docket_rows.specs.Words.{Rows, opening_rows, setup_of};
-ghost use Rattle.office_run.specs.Words.{Holds, docketed_after};
-ghost use Rattle.calendar_program.specs.Changes.{changes_made};
-ghost use Rattle.calendar_program.specs.Calendar.{IsCalendar, IsTextOf, no_day, no_instant, no_judge, unknown_line, word_given};
+ghost use Rattle.docket_rows.specs.Words.{Rows, setup_of};
+ghost use Rattle.office_run.specs.Words.{Holds};
+ghost use Rattle.calendar_program.specs.Calendar.{IsCalendar, IsListing, IsTextOf, changes_by, docketed_by, no_day, no_instant, no_judge, unknown_line, word_given};
 
 use crate::asked::Asked;
-use crate::chosen::{Chosen, Unknown, chosen_of};
+use crate::chosen::{Chosen, Listing, Unknown, chosen_of};
 use crate::docket::docket_after;
 use crate::due::due_text;
 use crate::ics::ics_text;
 use crate::page::page_text;
 use crate::week::week_text;
 use calendar_json::json_text;
+use calendar_sql::sql_text;
 use court_days::Court;
 use docket_core::Docket;
 use hearing_changes::HearingChange;
@@ -54,14 +54,10 @@ fn calendar_of(
     rows: &[Row],
     asked: &Asked,
 ) -> Result<Vec<u8>, AllocError>
-    ensures { IfOk result (λ text. IsCalendar asked.now court.now rows.now (docketed_after (setup_of court.now) (opening_rows (setup_of court.now)) rows.now) (changes_made (setup_of court.now) (opening_rows (setup_of court.now)) rows.now) text.items) }
+    ensures { IfOk result (λ text. IsCalendar asked.now court.now rows.now text.items) }
 {
     match chosen_of(court, asked) {
-        Ok(chosen) => {
-            let mut changes = Vec::new(alloc);
-            let docket = docket_after(alloc, court, rows, &mut changes)?;
-            text_of(alloc, court, rows, &docket, changes, &chosen)
-        }
+        Ok(chosen) => text_of(alloc, court, rows, &chosen),
         Err(unknown) => Ok(unknown_line(alloc, asked, unknown)?.into_bytes()),
     }
 }
@@ -71,19 +67,47 @@ fn text_of(
     alloc: Global,
     court: &Court,
     rows: &[Row],
-    docket: &Docket,
-    changes: Vec<HearingChange>,
     chosen: &Chosen,
 ) -> Result<Vec<u8>, AllocError>
-    requires court { docket.now.setup ≡ setup_of court.now }
-    ensures { (docketed : Rows) → Holds (setup_of court.now) docket.now docketed → IfOk result (λ text. IsTextOf court.now rows.now docketed changes.items chosen.now text.items) }
+    ensures { IfOk result (λ text. IsTextOf court.now rows.now chosen.now text.items) }
 {
     match chosen {
-        Chosen::Due(choice) => due_text(alloc, court, docket, choice),
-        Chosen::Week(judge, day) => week_text(alloc, court, docket, *judge, *day),
-        Chosen::Page(choice) => page_text(alloc, court, docket, choice),
-        Chosen::Ics(choice, stamp) => ics_text(alloc, court, docket, changes, choice, *stamp),
+        Chosen::Listed(listing) => listed(alloc, court, rows, listing),
         Chosen::Json(choice) => json_text(alloc, court, rows, choice),
+        Chosen::Sql => sql_text(alloc, court, rows),
+    }
+}
+
+/// The text of what is shown of the docket after all rows.
+fn listed(
+    alloc: Global,
+    court: &Court,
+    rows: &[Row],
+    listing: &Listing,
+) -> Result<Vec<u8>, AllocError>
+    ensures { IfOk result (λ text. IsListing court.now (docketed_by court.now rows.now) (changes_by court.now rows.now) listing.now text.items) }
+{
+    let mut changes = Vec::new(alloc);
+    let docket = docket_after(alloc, court, rows, &mut changes)?;
+    listing_of(alloc, court, &docket, changes, listing)
+}
+
+/// The text of what is shown of a docket.
+fn listing_of(
+    alloc: Global,
+    court: &Court,
+    docket: &Docket,
+    changes: Vec<HearingChange>,
+    listing: &Listing,
+) -> Result<Vec<u8>, AllocError>
+    requires court { docket.now.setup ≡ setup_of court.now }
+    ensures { (docketed : Rows) → Holds (setup_of court.now) docket.now docketed → IfOk result (λ text. IsListing court.now docketed changes.items listing.now text.items) }
+{
+    match listing {
+        Listing::Due(choice) => due_text(alloc, court, docket, choice),
+        Listing::Week(judge, day) => week_text(alloc, court, docket, *judge, *day),
+        Listing::Page(choice) => page_text(alloc, court, docket, choice),
+        Listing::Ics(choice, stamp) => ics_text(alloc, court, docket, changes, choice, *stamp),
     }
 }
 

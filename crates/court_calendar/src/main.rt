@@ -1,5 +1,5 @@
 //! The court's calendar: it reads a court's file, a line `%%` and rows from standard input, and writes what is due, a
-//! judge's week or a page to standard output.
+//! judge's week, a page, iCalendar, JSON or SQL to standard output.
 #![tactic(auto)]
 
 use calendar_program::CourtCalendar;

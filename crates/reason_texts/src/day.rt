@@ -11,7 +11,7 @@ use std::alloc::AllocError;
 use std::fmt::Write;
 
 /// The day that a reason is about, where it is about one. An instant lies on the day that the court's clock shows.
-pub(crate) fn day_shown(clock: &Clock, reason: &Reason) -> Option<Day>
+pub fn day_shown(clock: &Clock, reason: &Reason) -> Option<Day>
     ensures { result ≡ day_shown clock.now reason.now }
 {
     match *reason {

@@ -13,7 +13,10 @@ mod times;
 mod what;
 
 pub use course::{Course, Search};
+pub use day::day_shown;
 pub use line::{push_reason, push_reasons};
 pub use names::{HolidayName, push_legal};
 pub use note::push_note;
+pub use section::push_section;
 pub use times::{push_minute, push_time_at};
+pub use what::push_what;

@@ -8,12 +8,8 @@ use court_clock::Direction;
 use deadline_reasons::{Cause, Reason};
 use std::alloc::AllocError;
 
-/// Adds the section by which a reason goes, and for a holiday that which says what one is.
-pub(crate) fn push_section(
-    text: &mut String,
-    course: &Course,
-    reason: &Reason,
-) -> Result<(), AllocError>
+/// Adds the section by which a reason goes, and for a holiday that which says what one is. `Err` says that memory ran out.
+pub fn push_section(text: &mut String, course: &Course, reason: &Reason) -> Result<(), AllocError>
     ensures { OnOk result (string_bytes text.new ≡ string_bytes text.old ++ section_text course.now reason.now) }
 {
     text.push_str(section_of(course, reason))?;

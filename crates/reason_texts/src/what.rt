@@ -13,9 +13,10 @@ use rule6::ServiceKind;
 use std::alloc::AllocError;
 use std::fmt::Write;
 
-/// Adds what happened.
+/// Adds what happened. A holiday is called by the first of these names that its day has, if it has one. `Err` says that memory
+/// ran out.
 #[tactic(auto, unfolding(crate::specs::What::what_text))]
-pub(crate) fn push_what(
+pub fn push_what(
     text: &mut String,
     clock: &Clock,
     names: &[HolidayName],

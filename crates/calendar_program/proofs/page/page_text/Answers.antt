@@ -1,15 +1,12 @@
-use Rattle.std.proofs.Common.{◌≡◌, ◌∙◌, ◌++◌, ℕ, List, ap, subst}
-use Rattle.court_clock.specs.Words.{ClockView}
+use Rattle.std.proofs.Common.{◌≡◌, ◌∙◌, ◌++◌, ℕ, List, ap}
 use Rattle.court_days.specs.Words.{DaysView}
-use Rattle.docket_rows.specs.declared.sheet.Sheet.{Sheet}
-use Rattle.docket_rows.specs.Words.{parts_of, setup_of}
+use Rattle.docket_rows.specs.Words.{parts_of}
 use Rattle.docket_core.specs.Words.{parts_held}
 use Rattle.docket_laws.proofs.CallerLemmas.{hold_same}
 use Rattle.docket_selection.specs.declared.calendars.JudgeCalendar.{JudgeCalendar}
 use Rattle.docket_selection.specs.declared.item.DueItem.{DueItem}
-use Rattle.docket_selection.specs.Words.{chosen_calendars, chosen_sheets}
-use Rattle.calendar_page.specs.declared.explained.ExplainedSheet.{ExplainedSheet}
-use Rattle.calendar_page.specs.Words.{AreExplained, page_text}
+use Rattle.explained_sheets.specs.declared.explained.ExplainedSheet.{ExplainedSheet}
+use Rattle.calendar_page.specs.Words.{page_text}
 use Rattle.calendar_program.proofs.page.page_text.Goals as goal
 
 pub returns : goal.returns
@@ -20,18 +17,15 @@ returns c = λ docketed holds.
     let items = c.in_ok-items.items.items in
     let sheets = c.in_ok-sheets.sheets.items in
     let held : (parts_held c.args.docket.now).days ≡ docketed.days = (hold_same (parts_held c.args.docket.now) (parts_of docketed) holds.stands).days in
-    let chosen = c.in_ok-chosen.ensures docketed holds.stands ∙ ap (λ setup. chosen_sheets setup docketed choice) holds.setup_is in
-    let explained = subst (λ (ss : List Sheet). AreExplained c.days.result.now c.clock.result.now ss sheets) chosen c.in_ok-sheets.ensures in
-    let by_clock = subst (λ (clock : ClockView). AreExplained c.days.result.now clock (chosen_sheets (setup_of court) docketed choice) sheets) c.clock.ensures explained in
-    let shown = c.into_bytes.ensures ∙ c.in_ok-push_page.ensures ∙ ap (λ (old : List ℕ). old ++ page_text court c.days-2.result.now choice c.deref.result.now c.deref-2.result.now c.deref-3.result.now) c.new-page.ensures in
-    let by_items = ap (λ (xs : List DueItem). page_text court c.days-2.result.now choice xs c.deref-2.result.now c.deref-3.result.now) c.deref.ensures.value in
-    let by_sheets = ap (λ (xs : List ExplainedSheet). page_text court c.days-2.result.now choice items c.deref-2.result.now xs) c.deref-3.ensures.value in
-    let by_days = ap (λ (days : DaysView). page_text court days choice items c.deref-2.result.now sheets) (c.days-2.ensures ∙ held) in
+    let shown = c.into_bytes.ensures ∙ c.in_ok-push_page.ensures ∙ ap (λ (old : List ℕ). old ++ page_text court c.days.result.now choice c.deref.result.now c.deref-2.result.now c.deref-3.result.now) c.new-page.ensures in
+    let by_items = ap (λ (xs : List DueItem). page_text court c.days.result.now choice xs c.deref-2.result.now c.deref-3.result.now) c.deref.ensures.value in
+    let by_sheets = ap (λ (xs : List ExplainedSheet). page_text court c.days.result.now choice items c.deref-2.result.now xs) c.deref-3.ensures.value in
+    let by_days = ap (λ (days : DaysView). page_text court days choice items c.deref-2.result.now sheets) (c.days.ensures ∙ held) in
     let of_judges = ap (λ (calendars : List JudgeCalendar). page_text court docketed.days choice items calendars sheets) (c.deref-2.ensures.value ∙ c.in_ok-calendars.ensures docketed holds.stands) in
     record {
       items = items;
       due = c.in_ok-items.ensures docketed holds.stands;
       sheets = sheets;
-      explained = subst (λ (days : DaysView). AreExplained days court.clock (chosen_sheets (setup_of court) docketed choice) sheets) (c.days.ensures ∙ held) by_clock;
+      explained = c.in_ok-sheets.ensures docketed holds.stands;
       page = shown ∙ by_items ∙ by_sheets ∙ by_days ∙ of_judges;
     }

@@ -1,0 +1,2 @@
+pub mod LiteralLemmas
+pub mod RowLemmas

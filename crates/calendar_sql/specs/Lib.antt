@@ -1,0 +1,9 @@
+pub mod Answers
+pub mod Deadlines
+pub mod Hearings
+pub mod Literals
+pub mod Rows
+pub mod Schema
+pub mod Script
+pub mod Times
+pub mod Words

@@ -1,0 +1,42 @@
+-- The whole: one transaction that makes the tables and puts each row into them.
+use Rattle.std.specs.Prelude.{ℕ, List, [], ◌∷◌, ◌++◌, codes}
+use Rattle.std.specs.List.{flat_map}
+use Rattle.court_days.specs.Words.{CourtView, OutageView}
+use Rattle.docket_rows.specs.declared.sheet.Sheet.{Sheet}
+use Rattle.docket_rows.specs.Words.{Rows, opening_rows, setup_of}
+use Rattle.docket_selection.specs.Words.{open_sheets}
+use Rattle.office_rows.specs.declared.row.Row.{Row}
+use Rattle.office_run.specs.Words.{docketed_after}
+use Rattle.calendar_sql.specs.Answers.{answer_rows}
+use Rattle.calendar_sql.specs.Deadlines.{deadline_rows}
+use Rattle.calendar_sql.specs.Hearings.{motion_rows}
+use Rattle.calendar_sql.specs.Rows.{numbered, row_of}
+use Rattle.calendar_sql.specs.Schema.{tables}
+use Rattle.calendar_sql.specs.Times.{day_value, minute_value}
+
+-- a case, by its number, with each of its deadlines and each of its motions, in order
+unfoldable pub case_row : Sheet → List ℕ
+case_row s = row_of (codes "cases") s.case (day_value s.filed ∷ [])
+
+unfoldable pub sheet_rows : CourtView → Sheet → List ℕ
+sheet_rows court s = case_row s ++ flat_map (deadline_rows court.clock s.case) s.deadlines ++ flat_map (motion_rows court s.case) s.motions
+
+-- an outage, by its number, counted from 1 in the order in which they were entered
+unfoldable pub outage_row : (place : ℕ) → OutageView → List ℕ
+outage_row place o = row_of (codes "outages") place (day_value o.day ∷ minute_value o.from ∷ minute_value o.to ∷ [])
+
+-- what is docketed: each outage, and each open case by its number
+abbrev pub docketed_text : CourtView → (docketed : Rows) → List ℕ
+docketed_text court docketed = numbered outage_row 1 docketed.days.outages ++ flat_map (sheet_rows court) (open_sheets (setup_of court) docketed)
+
+unfoldable pub transaction_front : List ℕ
+transaction_front = codes "BEGIN TRANSACTION;\n"
+
+unfoldable pub transaction_end : List ℕ
+transaction_end = codes "COMMIT;\n"
+
+-- of a court and all rows: the tables, what each row was answered, and what is docketed after the last
+unfoldable pub script_text : CourtView → List Row → List ℕ
+script_text court rows =
+    let opening = opening_rows (setup_of court) in
+    transaction_front ++ tables ++ answer_rows court opening 1 rows ++ docketed_text court (docketed_after (setup_of court) opening rows) ++ transaction_end

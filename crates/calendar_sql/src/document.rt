@@ -1,0 +1,43 @@
+//! The whole script.
+
+ghost use Rattle.std.specs.Prelude.{◌≡◌, ◌++◌, IfOk, OnOk};
+ghost use Rattle.calendar_sql.specs.Script.{script_text, transaction_end, transaction_front};
+
+use crate::answers::push_answers;
+use crate::schema::push_tables;
+use crate::script::Script;
+use crate::sheets::push_docketed;
+use court_days::Court;
+use docket_core::Docket;
+use office_rows::Row;
+use std::alloc::{AllocError, Global};
+
+/// One transaction of SQL: it makes the tables, and puts into them what each row was answered and what is docketed after
+/// the last. `Err` says that memory ran out.
+#[tactic(auto, unfolding(crate::specs::Script::script_text))]
+pub fn sql_text(alloc: Global, court: &Court, rows: &[Row]) -> Result<Vec<u8>, AllocError>
+    ensures { IfOk result (λ text. text.items ≡ script_text court.now rows.now) }
+{
+    let mut out = Script::new(alloc);
+    let mut docket = Docket::new(alloc, court)?;
+    push_front(&mut out)?;
+    push_tables(&mut out)?;
+    push_answers(alloc, &mut out, court, &mut docket, rows)?;
+    push_docketed(alloc, &mut out, court, &docket)?;
+    push_end(&mut out)?;
+    Ok(out.into_bytes())
+}
+
+#[tactic(auto, unfolding(crate::specs::Script::transaction_front))]
+fn push_front(out: &mut Script) -> Result<(), AllocError>
+    ensures { OnOk result (out.new ≡ out.old ++ transaction_front) }
+{
+    out.statement("BEGIN TRANSACTION;\n")
+}
+
+#[tactic(auto, unfolding(crate::specs::Script::transaction_end))]
+fn push_end(out: &mut Script) -> Result<(), AllocError>
+    ensures { OnOk result (out.new ≡ out.old ++ transaction_end) }
+{
+    out.statement("COMMIT;\n")
+}

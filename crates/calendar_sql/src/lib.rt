@@ -1,0 +1,16 @@
+//! A docket as SQL: one transaction that makes tables of cases, deadlines, extensions, motions, hearings, outages and answers,
+//! and puts a row into them for each.
+#![tactic(auto)]
+
+mod answers;
+mod deadlines;
+mod document;
+mod hearings;
+mod laws;
+mod literals;
+mod schema;
+mod script;
+mod sheets;
+
+pub use document::sql_text;
+pub use laws::quoted_reads_back;

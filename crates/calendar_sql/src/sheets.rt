@@ -1,0 +1,117 @@
+//! What is docketed: outages, and cases with all that is on their sheets.
+
+ghost use Rattle.std.specs.Prelude.{◌≡◌, ◌++◌, OnOk};
+ghost use Rattle.std.specs.List.{flat_map};
+ghost use Rattle.docket_rows.specs.Words.{Rows, setup_of};
+ghost use Rattle.docket_core.specs.Words.{StandsFor};
+ghost use Rattle.calendar_sql.specs.Deadlines.{deadline_rows};
+ghost use Rattle.calendar_sql.specs.Hearings.{motion_rows};
+ghost use Rattle.calendar_sql.specs.Rows.{numbered};
+ghost use Rattle.calendar_sql.specs.Script.{case_row, docketed_text, outage_row, sheet_rows};
+
+use crate::deadlines::push_deadline;
+use crate::hearings::push_motion;
+use crate::script::Script;
+use court_clock::Clock;
+use court_days::{Court, Outage};
+use docket_core::Docket;
+use docket_rows::{Sheet, SheetDeadline, SheetMotion};
+use docket_selection::sheets_of;
+use std::alloc::{AllocError, Global};
+
+/// Adds each outage, and each open case with all that is on its sheet. `Err` says that memory ran out.
+pub(crate) fn push_docketed(
+    alloc: Global,
+    out: &mut Script,
+    court: &Court,
+    docket: &Docket,
+) -> Result<(), AllocError>
+    requires court { docket.now.setup ≡ setup_of court.now }
+    ensures { (docketed : Rows) → StandsFor docket.now docketed → OnOk result (out.new ≡ out.old ++ docketed_text court.now docketed) }
+{
+    push_outages(out, docket.days().outages())?;
+    let sheets = sheets_of(alloc, docket)?;
+    push_sheets(out, court, &sheets)?;
+    Ok(())
+}
+
+/// Adds the outages, each with its number.
+fn push_outages(out: &mut Script, outages: &[Outage]) -> Result<(), AllocError>
+    ensures { OnOk result (out.new ≡ out.old ++ numbered outage_row 1 outages.now) }
+{
+    let mut place = 1u64;
+    for outage in outages {
+        push_outage(out, place, *outage)?;
+        place += 1;
+    }
+    Ok(())
+}
+
+#[tactic(auto, unfolding(crate::specs::Script::outage_row))]
+fn push_outage(out: &mut Script, place: u64, outage: Outage) -> Result<(), AllocError>
+    ensures { OnOk result (out.new ≡ out.old ++ outage_row place outage) }
+{
+    out.begin_row("outages", place)?;
+    out.day(outage.day())?;
+    out.minute(u32::from(outage.from()))?;
+    out.minute(u32::from(outage.to()))?;
+    out.end_row()
+}
+
+/// Adds each case with all that is on its sheet.
+fn push_sheets(out: &mut Script, court: &Court, sheets: &[Sheet]) -> Result<(), AllocError>
+    ensures { OnOk result (out.new ≡ out.old ++ flat_map (sheet_rows court.now) sheets.now) }
+{
+    for sheet in sheets {
+        push_sheet(out, court, sheet)?;
+    }
+    Ok(())
+}
+
+#[tactic(auto, unfolding(crate::specs::Script::sheet_rows))]
+fn push_sheet(out: &mut Script, court: &Court, sheet: &Sheet) -> Result<(), AllocError>
+    ensures { OnOk result (out.new ≡ out.old ++ sheet_rows court.now sheet.now) }
+{
+    push_case(out, sheet)?;
+    push_deadlines(out, court.clock(), sheet.case, sheet.deadlines.as_slice())?;
+    push_motions(out, court, sheet.case, sheet.motions.as_slice())
+}
+
+#[tactic(auto, unfolding(crate::specs::Script::case_row))]
+fn push_case(out: &mut Script, sheet: &Sheet) -> Result<(), AllocError>
+    ensures { OnOk result (out.new ≡ out.old ++ case_row sheet.now) }
+{
+    out.begin_row("cases", u64::from(sheet.case))?;
+    out.day(sheet.filed)?;
+    out.end_row()
+}
+
+/// Adds each deadline of a case.
+fn push_deadlines(
+    out: &mut Script,
+    clock: &Clock,
+    case: u32,
+    deadlines: &[SheetDeadline],
+) -> Result<(), AllocError>
+    ensures { OnOk result (out.new ≡ out.old ++ flat_map (deadline_rows clock.now case) deadlines.now) }
+{
+    for deadline in deadlines {
+        push_deadline(out, clock, case, deadline)?;
+    }
+    Ok(())
+}
+
+/// Adds each motion of a case.
+fn push_motions(
+    out: &mut Script,
+    court: &Court,
+    case: u32,
+    motions: &[SheetMotion],
+) -> Result<(), AllocError>
+    ensures { OnOk result (out.new ≡ out.old ++ flat_map (motion_rows court.now case) motions.now) }
+{
+    for motion in motions {
+        push_motion(out, court, case, motion)?;
+    }
+    Ok(())
+}

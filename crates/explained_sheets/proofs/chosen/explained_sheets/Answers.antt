@@ -1,0 +1,21 @@
+use Rattle.std.proofs.Common.{◌≡◌, ◌∙◌, List, ap, subst}
+use Rattle.std.specs.Prelude.{IfOk}
+use Rattle.court_clock.specs.Words.{ClockView}
+use Rattle.court_days.specs.Words.{DaysView}
+use Rattle.docket_rows.specs.declared.sheet.Sheet.{Sheet}
+use Rattle.docket_rows.specs.Words.{parts_of, setup_of}
+use Rattle.docket_core.specs.Words.{parts_held}
+use Rattle.docket_laws.proofs.CallerLemmas.{hold_same}
+use Rattle.docket_selection.specs.Words.{chosen_sheets}
+use Rattle.explained_sheets.specs.Explained.{AreExplained}
+use Rattle.explained_sheets.proofs.chosen.explained_sheets.Goals as goal
+
+pub returns : goal.returns
+unfolding parts_of
+returns c = λ docketed stands.
+    let choice = c.args.choice.now in
+    let held : (parts_held c.args.docket.now).days ≡ docketed.days = (hold_same (parts_held c.args.docket.now) (parts_of docketed) stands).days in
+    let chosen = c.in_ok-sheets.ensures docketed stands ∙ ap (λ setup. chosen_sheets setup docketed choice) c.requires.court in
+    let by_sheets = subst (λ (ss : List Sheet). IfOk c.explain.result (λ list. AreExplained c.days.result.now c.clock.result.now ss list.items)) chosen c.explain.ensures in
+    let by_clock = subst (λ (clock : ClockView). IfOk c.explain.result (λ list. AreExplained c.days.result.now clock (chosen_sheets (setup_of c.args.court.now) docketed choice) list.items)) c.clock.ensures by_sheets in
+    subst (λ (days : DaysView). IfOk c.explain.result (λ list. AreExplained days c.args.court.now.clock (chosen_sheets (setup_of c.args.court.now) docketed choice) list.items)) (c.days.ensures ∙ held) by_clock

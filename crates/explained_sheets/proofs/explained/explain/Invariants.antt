@@ -1,0 +1,11 @@
+use Rattle.std.proofs.Common.{length}
+use Rattle.explained_sheets.specs.Explained.{IsSheetExplained}
+use Rattle.explained_sheets.proofs.AlikeLemmas.{AreLeft}
+use Rattle.explained_sheets.proofs.explained.explain.Given as goal
+
+-- those that are left, and those that are explained, last first, are all
+abbrev pub invariant-loop-sheet : goal.invariant-loop-sheet
+invariant-loop-sheet l = AreLeft (IsSheetExplained l.days l.clock) l.fn.sheets.items l.left.items l.list.items
+
+abbrev pub decreases-loop-sheet : goal.decreases-loop-sheet
+decreases-loop-sheet l = length l.left.items
