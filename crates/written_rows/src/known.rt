@@ -1,0 +1,29 @@
+//! Whether a row names judges and a room that the court has.
+
+ghost use Rattle.std.specs.Prelude.{◌≡◌, length};
+ghost use Rattle.office_rows.specs.Words.{names_of};
+ghost use Rattle.written_rows.specs.Known.{names_known, setting_known};
+
+use court_days::Court;
+use docket_rows::{Command, Query, Setting};
+use office_rows::Work;
+
+// Whether the court has the judges and the room of a hearing.
+fn setting_known(court: &Court, setting: &Setting) -> bool
+    ensures { result ≡ setting_known (names_of court.now) setting.now }
+{
+    let judges = court.judges();
+    setting.room < court.rooms() && setting.judges.judges().iter().all(|judge| *judge < judges)
+}
+
+/// Whether the court has all judges and the room that a row names.
+pub fn names_known(court: &Court, work: &Work) -> bool
+    ensures { result ≡ names_known (names_of court.now) work.now }
+{
+    match work {
+        Work::Command(Command::Book(setting)) => setting_known(court, setting),
+        Work::Command(Command::MoveHearing(setting)) => setting_known(court, setting),
+        Work::Query(Query::JudgeDay(judge, _)) => *judge < court.judges(),
+        _ => true,
+    }
+}
