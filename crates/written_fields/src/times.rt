@@ -1,6 +1,6 @@
 //! Times of day.
 
-ghost use Rattle.std.specs.Prelude.{◌≡◌, IfOk};
+ghost use Rattle.std.specs.Prelude.{◌≡◌, ◌<◌, IfOk, IfSome};
 ghost use Rattle.court_clock.specs.Words.{minute_at, two_digits};
 ghost use Rattle.written_fields.specs.Times.{bare_said, hour_said, in_half, minute_said, time_said};
 
@@ -29,7 +29,8 @@ fn two_digits(tens: u8, units: u8) -> Option<u16>
 
 // The minute of the day at an hour and a minute.
 fn minute_at(hour: Option<u16>, minute: Option<u16>) -> Option<u16>
-    ensures { result ≡ minute_at hour minute }
+    ensures value { result ≡ minute_at hour minute }
+    ensures in_the_day { IfSome result (λ m. m < 1440) }
 {
     let (hour, minute) = (hour?, minute?);
     if hour < 24 && minute < 60 {
@@ -41,7 +42,8 @@ fn minute_at(hour: Option<u16>, minute: Option<u16>) -> Option<u16>
 
 // The minute of the day that `9:30` and `09:30` say.
 fn minute_said(text: &[u8]) -> Option<u16>
-    ensures { result ≡ minute_said text.now }
+    ensures value { result ≡ minute_said text.now }
+    ensures in_the_day { IfSome result (λ m. m < 1440) }
 {
     match text {
         [h, b':', m, n] => minute_at(two_digits(b'0', *h), two_digits(*m, *n)),
@@ -52,7 +54,8 @@ fn minute_said(text: &[u8]) -> Option<u16>
 
 // The minute of the day that `9` and `09` say before `am` or `pm`.
 fn hour_said(text: &[u8]) -> Option<u16>
-    ensures { result ≡ hour_said text.now }
+    ensures value { result ≡ hour_said text.now }
+    ensures in_the_day { IfSome result (λ m. m < 1440) }
 {
     match text {
         [h] => minute_at(two_digits(b'0', *h), Some(0)),
@@ -63,7 +66,8 @@ fn hour_said(text: &[u8]) -> Option<u16>
 
 // The minute of the day in that half of it: its clock goes from 12:00 to 12:59, and from 1:00 to 11:59.
 fn in_half(half: Half, minute: Option<u16>) -> Option<u16>
-    ensures { result ≡ in_half half minute }
+    ensures value { result ≡ in_half half minute }
+    ensures in_the_day { IfSome result (λ m. m < 1440) }
 {
     let minute = minute?;
     if minute < 60 || minute >= 780 {
@@ -77,7 +81,8 @@ fn in_half(half: Half, minute: Option<u16>) -> Option<u16>
 
 // The minute of the day that a text in small letters says, without blanks and dots.
 fn bare_said(text: &[u8]) -> Option<u16>
-    ensures { result ≡ bare_said text.now }
+    ensures value { result ≡ bare_said text.now }
+    ensures in_the_day { IfSome result (λ m. m < 1440) }
 {
     if text.ends_with(b"am") {
         return in_half(Half::Morning, hour_said(text.split_at(text.len() - 2).0));
@@ -91,7 +96,8 @@ fn bare_said(text: &[u8]) -> Option<u16>
 /// The minute of the day that a text says, counted from midnight.
 #[tactic(auto, unfolding(crate::specs::Times::time_said))]
 pub fn time_said(alloc: Global, text: &str) -> Result<Option<u16>, AllocError>
-    ensures { IfOk result (λ said. said ≡ time_said text.now) }
+    ensures value { IfOk result (λ said. said ≡ time_said text.now) }
+    ensures in_the_day { IfOk result (λ said. IfSome said (λ m. m < 1440)) }
 {
     let text = bare(alloc, text)?;
     Ok(bare_said(text.as_bytes()))

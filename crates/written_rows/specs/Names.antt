@@ -34,6 +34,13 @@ said_among [] = Unknown
 said_among (name ∷ []) = Clear name
 said_among (name ∷ other ∷ more) = Unclear name other
 
+-- what is said where these names fit too
+abbrev pub chosen : Said (List ℕ) → List (List ℕ) → Said (List ℕ)
+chosen Unknown names = said_among names
+chosen (Clear first) [] = Clear first
+chosen (Clear first) (name ∷ more) = Unclear first name
+chosen (Unclear first second) names = Unclear first second
+
 -- The name that is meant: this very one, or one that differs in the case of letters, in blanks and in dots alone.
 abbrev pub name_said : List (List ℕ) → List ℕ → Said (List ℕ)
 name_said names text = if is_named names text then Clear text else said_among (filter (same_name (bare text)) names)

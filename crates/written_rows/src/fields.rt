@@ -1,6 +1,8 @@
 //! What a field says, by what its column holds, as a plain row writes it.
 
 ghost use Rattle.std.specs.Prelude.{◌≡◌, ◌++◌, ◌<◌, IfOk, OnOk, string_bytes};
+ghost use Rattle.std.specs.Char.{is_ascii_digit};
+ghost use Rattle.std.specs.List.{list_all};
 ghost use Rattle.jiff_fmt.specs.Text.{pad2};
 ghost use Rattle.court_clock.specs.Words.{day_text};
 ghost use Rattle.office_rows.specs.Words.{is_number, names_of};
@@ -21,10 +23,18 @@ use written_fields::{
 fn is_number(text: &[u8]) -> bool
     ensures { result ≡ is_number text.now }
 {
-    let count = text.len();
-    if count < 1 || count > 9 || (count > 1 && text[0] == b'0') {
+    if text.is_empty() || text.len() > 9 {
         return false;
     }
+    if text.len() > 1 && text[0] == b'0' {
+        return false;
+    }
+    has_digits_only(text)
+}
+
+fn has_digits_only(text: &[u8]) -> bool
+    ensures { result ≡ list_all is_ascii_digit text.now }
+{
     text.iter().all(|byte| byte.is_ascii_digit())
 }
 
@@ -79,11 +89,7 @@ fn day_texts(alloc: Global, said: Said<Day>) -> Result<Said<String>, AllocError>
 }
 
 // A date.
-fn day_said(
-    alloc: Global,
-    order: Option<DateOrder>,
-    text: &str,
-) -> Result<Said<String>, AllocError>
+fn day_said(alloc: Global, order: Option<DateOrder>, text: &str) -> Result<Said<String>, AllocError>
     ensures { IfOk result (λ said. said_map string_bytes said ≡ said_map day_text (date_said order text.now)) }
 {
     let said = date_said(alloc, order, text)?;
@@ -129,11 +135,7 @@ fn ending_said(alloc: Global, text: &str) -> Result<Said<String>, AllocError>
 }
 
 // The words of a table, for a text that is folded.
-fn word_said(
-    alloc: Global,
-    column: Column,
-    text: &str,
-) -> Result<Said<String>, AllocError>
+fn word_said(alloc: Global, column: Column, text: &str) -> Result<Said<String>, AllocError>
     ensures { IfOk result (λ said. said_map string_bytes said ≡ word_said column text.now) }
 {
     let word = folded(alloc, text)?;
@@ -231,6 +233,7 @@ fn filled_said(
 }
 
 /// What a field of a column says, as a plain row writes it.
+#[tactic(auto, unfolding(crate::specs::Fields::field_said))]
 pub fn field_said(
     alloc: Global,
     court: &Court,

@@ -1,6 +1,7 @@
 //! Whether a row names judges and a room that the court has.
 
-ghost use Rattle.std.specs.Prelude.{◌≡◌, length};
+ghost use Rattle.std.specs.Prelude.{◌≡◌, nat_lt};
+ghost use Rattle.std.specs.List.{list_all};
 ghost use Rattle.office_rows.specs.Words.{names_of};
 ghost use Rattle.written_rows.specs.Known.{names_known, setting_known};
 
@@ -8,12 +9,18 @@ use court_days::Court;
 use docket_rows::{Command, Query, Setting};
 use office_rows::Work;
 
+// Whether all numbers are below this one.
+fn are_below(numbers: &[u8], most: u8) -> bool
+    ensures { result ≡ list_all (λ number. nat_lt number most) numbers.now }
+{
+    numbers.iter().all(|number| *number < most)
+}
+
 // Whether the court has the judges and the room of a hearing.
 fn setting_known(court: &Court, setting: &Setting) -> bool
     ensures { result ≡ setting_known (names_of court.now) setting.now }
 {
-    let judges = court.judges();
-    setting.room < court.rooms() && setting.judges.judges().iter().all(|judge| *judge < judges)
+    setting.room < court.rooms() && are_below(setting.judges.judges(), court.judges())
 }
 
 /// Whether the court has all judges and the room that a row names.

@@ -1,12 +1,14 @@
 //! The names of a court's judges and rooms.
 
-ghost use Rattle.std.specs.Prelude.{◌≡◌, ◌++◌, ◌≤◌, IfOk, OnOk, length, option_copied, option_map, slice_get, string_bytes};
-ghost use Rattle.std.specs.Str.{bytes_eq};
+ghost use Rattle.std.specs.Prelude.{◌≡◌, IfOk, OnOk, [], length, slice_get, string_bytes, unwrap_or};
+ghost use Rattle.csv.specs.Records.{fields_of};
 ghost use Rattle.office_rows.specs.Words.{names_of};
-ghost use Rattle.written_fields.specs.Words.{bare, said_map};
-ghost use Rattle.written_rows.specs.Names.{is_named, name_said, named, panel_said, same_name, with_choice, with_name};
+ghost use Rattle.written_fields.specs.Words.{said_map};
+ghost use Rattle.written_rows.specs.Names.{is_named, name_said, named, names_after, panel_said, same_name, with_choice, with_name};
 
+use crate::headings::word_at;
 use court_days::Court;
+use csv::StringRecord;
 use std::alloc::{AllocError, Global};
 use written_fields::{Said, bare, cut_line};
 
@@ -29,13 +31,13 @@ fn count_of(court: &Court, of: Named) -> u8
     }
 }
 
-// The name of that number.
-fn name_at(court: &Court, of: Named, number: u8) -> Option<&str>
-    ensures { option_copied result ≡ slice_get (named (names_of court.now) of) number }
+// The name of that number; empty where there is none.
+fn name_at(court: &Court, of: Named, number: u8) -> &str
+    ensures { result.now ≡ unwrap_or (slice_get (named (names_of court.now) of) number) [] }
 {
     match of {
-        Named::Judges => court.judge_name(number),
-        Named::Rooms => court.room_name(number),
+        Named::Judges => court.judge_name(number).unwrap_or(""),
+        Named::Rooms => court.room_name(number).unwrap_or(""),
     }
 }
 
@@ -58,7 +60,7 @@ fn same_name(alloc: Global, text: &str, name: &str) -> Result<bool, AllocError>
 }
 
 // What is said where one more name fits.
-fn with_choice(said: Said<&str>, name: &str) -> Said<&str>
+fn with_choice<'a>(said: Said<&'a str>, name: &'a str) -> Said<&'a str>
     ensures { said_map (λ n. n.now) result ≡ with_choice (said_map (λ n. n.now) said.entry) name.now }
 {
     match said {
@@ -99,10 +101,9 @@ pub fn name_said(
     let plain = bare(alloc, text)?;
     let mut said = Said::Unknown;
     for number in 0..count_of(court, of) {
-        if let Some(name) = name_at(court, of, number) {
-            if same_name(alloc, plain.as_str(), name)? {
-                said = with_choice(said, name);
-            }
+        let name = name_at(court, of, number);
+        if same_name(alloc, plain.as_str(), name)? {
+            said = with_choice(said, name);
         }
     }
     owned(alloc, said)
@@ -118,18 +119,26 @@ fn push_name(names: &mut String, name: &str) -> Result<(), AllocError>
     names.push_str(name)
 }
 
+// The judges that are meant by these names.
+fn panel_of(alloc: Global, court: &Court, pieces: &StringRecord) -> Result<Said<String>, AllocError>
+    ensures { IfOk result (λ said. said_map string_bytes said ≡ names_after (names_of court.now).judges [] (fields_of pieces.now)) }
+{
+    let mut names = String::new(alloc);
+    for i in 0..pieces.len() {
+        let piece = word_at(pieces, i);
+        match name_said(alloc, court, Named::Judges, piece)? {
+            Said::Clear(name) => push_name(&mut names, name.as_str())?,
+            Said::Unknown => return Ok(Said::Unknown),
+            Said::Unclear(one, other) => return Ok(Said::Unclear(one, other)),
+        }
+    }
+    Ok(Said::Clear(names))
+}
+
 /// The judges that are meant, whose names a plus joins.
 pub fn panel_said(alloc: Global, court: &Court, text: &str) -> Result<Said<String>, AllocError>
     ensures { IfOk result (λ said. said_map string_bytes said ≡ panel_said (names_of court.now).judges text.now) }
 {
     let pieces = cut_line(alloc, text, b'+')?;
-    let mut names = String::new(alloc);
-    for i in 0..pieces.len() {
-        let piece = pieces.get(i).unwrap_or("");
-        match name_said(alloc, court, Named::Judges, piece)? {
-            Said::Clear(name) => push_name(&mut names, name.as_str())?,
-            said => return Ok(said),
-        }
-    }
-    Ok(Said::Clear(names))
+    panel_of(alloc, court, &pieces)
 }
