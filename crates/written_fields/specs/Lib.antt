@@ -1,0 +1,9 @@
+pub mod Said
+pub mod Letters
+pub mod Choices
+pub mod Months
+pub mod Dates
+pub mod Times
+pub mod Line
+pub mod Laws
+pub mod Words

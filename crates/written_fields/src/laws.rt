@@ -1,0 +1,18 @@
+//! What the definitions of fields mean.
+
+ghost use Rattle.written_fields.specs.Laws.{NoOtherReading, OrderIsKept, PlacesFollowTheirMarks};
+
+/// A date in numbers is read in the order that is named, and in no other.
+pub fn order_is_kept()
+    ensures { OrderIsKept }
+{}
+
+/// Where no order is named, a date in numbers is read as a day only if no reading gives another day.
+pub fn no_other_reading()
+    ensures { NoOtherReading }
+{}
+
+/// As many separating marks come before a field's place as there are fields before it.
+pub fn places_follow_their_marks()
+    ensures { PlacesFollowTheirMarks }
+{}

@@ -1,0 +1,19 @@
+//! Fields as people write them: a line cut into fields, dates, times, words and the Rules' numbers.
+#![tactic(auto)]
+
+mod choices;
+mod dates;
+mod laws;
+mod letters;
+mod line;
+mod months;
+mod said;
+mod times;
+
+pub use choices::{answer_said, list_said, means_said, rule_said, service_said};
+pub use dates::{DateOrder, date_said};
+pub use laws::{no_other_reading, order_is_kept, places_follow_their_marks};
+pub use letters::{bare, folded};
+pub use line::{cut_line, place_in, separator_of, typed};
+pub use said::Said;
+pub use times::time_said;

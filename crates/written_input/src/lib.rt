@@ -1,0 +1,13 @@
+//! Inputs as people write them, read as plain rows, and what is said of their faults.
+#![tactic(auto)]
+
+mod advice;
+mod json;
+mod nearest;
+mod reading;
+mod report;
+mod wording;
+
+pub use json::json_of;
+pub use reading::{FaultyLine, Reading, read_input};
+pub use report::report_of;

@@ -1,0 +1,3 @@
+mod RowLemmas
+mod LawLemmas
+pub mod CallerLemmas

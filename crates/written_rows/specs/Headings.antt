@@ -1,0 +1,59 @@
+-- Lines that name columns.
+use Rattle.std.specs.Prelude.{ℕ, ◌+◌, not, nat_lt, Bool, true, false, List, [], ◌∷◌, ◌++◌, codes, length, unwrap_or, Option, Some, None, if◌then◌else◌}
+use Rattle.std.specs.Str.{bytes_eq}
+use Rattle.csv.specs.Records.{field_at}
+use Rattle.written_fields.specs.Words.{folded}
+use Rattle.written_rows.specs.declared.fault.Flaw.{Flaw}
+use Rattle.written_rows.specs.declared.fault.Flaw.TheVariants.{NoHeading, TwiceNamed}
+use Rattle.written_rows.specs.Columns.{heading_said}
+use Rattle.written_rows.specs.Fault.{FieldFault, fault_at}
+
+-- the field of that number, counted from 0; empty where there is none
+abbrev pub word_at : List (List ℕ) → ℕ → List ℕ
+word_at fields n = unwrap_or (field_at fields n) []
+
+-- a text that isn't empty
+abbrev pub is_filled : List ℕ → Bool
+is_filled [] = false
+is_filled (b ∷ text) = true
+
+-- how many names come before this one: all of them, where it isn't among them
+unfoldable pub index_of : (name : List ℕ) → List (List ℕ) → ℕ
+index_of name [] = 0
+index_of name (other ∷ names) = if bytes_eq other name then 0 else index_of name names + 1
+
+-- the name is among them
+abbrev pub has_name : List (List ℕ) → List ℕ → Bool
+has_name names name = nat_lt (index_of name names) (length names)
+
+-- the heading that a field says; empty where it says none
+abbrev pub heading_of : List ℕ → List ℕ
+heading_of field = unwrap_or (heading_said (folded field)) []
+
+-- a line with these headings names columns: one of them is that of command words
+abbrev pub names_columns : List (List ℕ) → Bool
+names_columns headings = has_name headings (codes "command")
+
+-- what is wrong with the heading of a column, after those of the columns before it
+abbrev pub heading_flaw : (before : List (List ℕ)) → (heading : List ℕ) → Option Flaw
+heading_flaw before heading =
+    if not (is_filled heading) then Some NoHeading
+    else if bytes_eq heading (codes "note") then None
+    else if has_name before heading then Some TwiceNamed
+    else None
+
+-- the fault of a field, where there is one
+abbrev pub flawed : (text : List ℕ) → (number : ℕ) → (field : List ℕ) → Option Flaw → List FieldFault
+flawed text number field None = []
+flawed text number field (Some flaw) = fault_at text number flaw field [] [] ∷ []
+
+-- the fault of a field of a line that names columns
+abbrev pub heading_fault : (text : List ℕ) → (number : ℕ) → (before : List (List ℕ)) → (field : List ℕ) → List FieldFault
+heading_fault text number before field =
+    if is_filled field then flawed text number field (heading_flaw before (heading_of field)) else []
+
+-- the faults of such a line's fields, of which the first has this number
+unfoldable pub heading_faults : (text : List ℕ) → (number : ℕ) → (before fields : List (List ℕ)) → List FieldFault
+heading_faults text number before [] = []
+heading_faults text number before (field ∷ fields) =
+    heading_fault text number before field ++ heading_faults text (number + 1) (before ++ heading_of field ∷ []) fields

@@ -1,0 +1,24 @@
+-- What the definitions come to.
+use Rattle.std.specs.Prelude.{◌≡◌, ℕ, true, List, Option, Some, None}
+use Rattle.office_rows.specs.declared.row.Row.{Row}
+use Rattle.office_rows.specs.Words.{CourtNames}
+use Rattle.row_line.specs.declared.line.Line.TheVariants as line
+use Rattle.row_line.specs.Words.{line_read}
+use Rattle.written_fields.specs.declared.dates.DateOrder.{DateOrder}
+use Rattle.written_rows.specs.declared.rows.Written.TheVariants.{Plain}
+use Rattle.written_rows.specs.Known.{names_known}
+use Rattle.written_rows.specs.Rows.{read_as}
+
+-- a text is a plain row as the office reads it, whose judges and room the court has
+pub record IsPlainRow (clerks : ℕ) (names : CourtNames) (text : List ℕ) (row : Row) : Type 0 where
+  pub read : line_read clerks names text ≡ line.Row row
+  pub known : names_known names row.work ≡ true
+
+-- A plain row stays as it is, where columns have no headings.
+abbrev pub PlainRowsStay : Type 0
+PlainRowsStay = (clerks : ℕ) (names : CourtNames) (order : Option DateOrder) (text : List ℕ) (row : Row) → IsPlainRow clerks names text row → read_as clerks names order None text ≡ Plain text
+
+-- What a line is read as, if it is read as a row, is a plain row.
+abbrev pub RowsArePlain : Type 0
+RowsArePlain = (clerks : ℕ) (names : CourtNames) (order : Option DateOrder) (header : Option (List (List ℕ))) (line text : List ℕ) → read_as clerks names order header line ≡ Plain text
+    → (row : Row) × IsPlainRow clerks names text row

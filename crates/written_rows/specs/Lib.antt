@@ -1,0 +1,9 @@
+pub mod Columns
+pub mod Names
+pub mod Fields
+pub mod Known
+pub mod Fault
+pub mod Headings
+pub mod Rows
+pub mod Laws
+pub mod Words

@@ -1,0 +1,208 @@
+//! The columns of rows, and their headings.
+
+ghost use Rattle.std.specs.Prelude.{◌≡◌, option_map};
+ghost use Rattle.written_rows.specs.Columns.{columns_of, heading_said, name_of};
+
+/// What a column of a row holds.
+#[derive(Clone, Copy, Debug, PartialEq, Eq)]
+pub enum Column {
+    /// The clerk's number.
+    Clerk,
+    /// The command word.
+    Command,
+    /// A case's number.
+    Case,
+    /// A deadline's number.
+    Deadline,
+    /// A motion's number.
+    Motion,
+    /// A period.
+    Period,
+    /// A date.
+    Date,
+    /// A time of day.
+    Time,
+    /// A time of day, or nothing.
+    TimeOrNone,
+    /// A second date, or nothing.
+    SecondOrNone,
+    /// A kind of service, or nothing.
+    ServiceOrNone,
+    /// How a paper reached the clerk.
+    Means,
+    /// An extension.
+    Grant,
+    /// Whether it was asked by a motion.
+    ByMotion,
+    /// Whether there was good cause.
+    Cause,
+    /// Whether there was excusable neglect.
+    Neglect,
+    /// The notice that a motion needs.
+    Need,
+    /// A list of holidays.
+    Holidays,
+    /// The time of day at which an outage begins.
+    From,
+    /// The time of day at which it ends, or the end of the day.
+    To,
+    /// A judge.
+    Judge,
+    /// One to three judges.
+    Judges,
+    /// A room.
+    Room,
+    /// How many slots.
+    Slots,
+    /// The day on which notice was served.
+    Notice,
+}
+
+/// The columns of the rows with this command word, from the first on.
+#[tactic(auto, unfolding(crate::specs::Columns::columns_of))]
+pub fn columns_of(word: &str) -> Option<&'static [Column]>
+    ensures { option_map (λ columns. columns.now) result ≡ columns_of word.now }
+{
+    match word {
+        "open" => Some(&[Column::Clerk, Column::Command, Column::Case, Column::Date]),
+        "start" => Some(&[
+            Column::Clerk,
+            Column::Command,
+            Column::Case,
+            Column::Period,
+            Column::Date,
+            Column::TimeOrNone,
+            Column::SecondOrNone,
+            Column::ServiceOrNone,
+        ]),
+        "file" => Some(&[
+            Column::Clerk,
+            Column::Command,
+            Column::Case,
+            Column::Deadline,
+            Column::Date,
+            Column::Time,
+            Column::Means,
+        ]),
+        "extend" => Some(&[
+            Column::Clerk,
+            Column::Command,
+            Column::Case,
+            Column::Deadline,
+            Column::Grant,
+            Column::Date,
+            Column::Time,
+            Column::ByMotion,
+            Column::Cause,
+            Column::Neglect,
+        ]),
+        "motion" => Some(&[
+            Column::Clerk,
+            Column::Command,
+            Column::Case,
+            Column::Date,
+            Column::Need,
+        ]),
+        "book" | "move" => Some(&[
+            Column::Clerk,
+            Column::Command,
+            Column::Case,
+            Column::Motion,
+            Column::Judges,
+            Column::Room,
+            Column::Date,
+            Column::Time,
+            Column::Slots,
+            Column::Notice,
+        ]),
+        "cancel" => Some(&[Column::Clerk, Column::Command, Column::Case, Column::Motion]),
+        "holiday" => Some(&[
+            Column::Clerk,
+            Column::Command,
+            Column::Date,
+            Column::Holidays,
+        ]),
+        "inaccessible" => Some(&[
+            Column::Clerk,
+            Column::Command,
+            Column::Date,
+            Column::From,
+            Column::To,
+        ]),
+        "compute" => Some(&[
+            Column::Clerk,
+            Column::Command,
+            Column::Period,
+            Column::Date,
+            Column::TimeOrNone,
+            Column::SecondOrNone,
+            Column::ServiceOrNone,
+        ]),
+        "sheet" => Some(&[Column::Clerk, Column::Command, Column::Case]),
+        "calendar" => Some(&[Column::Clerk, Column::Command, Column::Judge, Column::Date]),
+        _ => None,
+    }
+}
+
+/// The heading of a column.
+pub fn name_of(column: Column) -> &'static str
+    ensures { result.now ≡ name_of column }
+{
+    match column {
+        Column::Clerk => "clerk",
+        Column::Command => "command",
+        Column::Case => "case",
+        Column::Deadline => "deadline",
+        Column::Motion | Column::ByMotion => "motion",
+        Column::Period => "period",
+        Column::Date => "date",
+        Column::Time | Column::TimeOrNone => "time",
+        Column::SecondOrNone => "second",
+        Column::ServiceOrNone => "kind",
+        Column::Means => "means",
+        Column::Grant => "grant",
+        Column::Cause => "cause",
+        Column::Neglect => "neglect",
+        Column::Need => "need",
+        Column::Holidays => "list",
+        Column::From => "from",
+        Column::To => "to",
+        Column::Judge | Column::Judges => "judge",
+        Column::Room => "room",
+        Column::Slots => "slots",
+        Column::Notice => "notice",
+    }
+}
+
+/// The heading that is meant, for a text that is folded. `note` is that of a column that no row has, and that is passed over.
+#[tactic(auto, unfolding(crate::specs::Columns::heading_said))]
+pub fn heading_said(word: &str) -> Option<&'static str>
+    ensures { option_map (λ name. name.now) result ≡ heading_said word.now }
+{
+    match word {
+        "clerk" => Some("clerk"),
+        "command" | "action" => Some("command"),
+        "case" | "caseno" | "casenumber" => Some("case"),
+        "deadline" | "deadlineno" => Some("deadline"),
+        "motion" | "motionno" => Some("motion"),
+        "period" | "rule" => Some("period"),
+        "date" | "day" => Some("date"),
+        "time" => Some("time"),
+        "second" | "seconddate" => Some("second"),
+        "kind" | "service" | "serviceby" => Some("kind"),
+        "means" => Some("means"),
+        "grant" | "extension" => Some("grant"),
+        "cause" | "goodcause" => Some("cause"),
+        "neglect" | "excusableneglect" => Some("neglect"),
+        "need" | "noticedays" => Some("need"),
+        "list" | "holidays" => Some("list"),
+        "from" => Some("from"),
+        "to" => Some("to"),
+        "judge" | "judges" => Some("judge"),
+        "room" | "courtroom" => Some("room"),
+        "slots" => Some("slots"),
+        "notice" | "noticeserved" => Some("notice"),
+        "note" | "notes" | "remarks" | "comment" | "comments" => Some("note"),
+        _ => None,
+    }
+}

@@ -1,0 +1,17 @@
+//! Lines as people write them, read as plain rows.
+#![tactic(auto)]
+
+mod columns;
+mod fault;
+mod fields;
+mod headings;
+mod known;
+mod laws;
+mod names;
+mod rows;
+
+pub use columns::{Column, columns_of, heading_said, name_of};
+pub use fault::{Fault, Flaw};
+pub use fields::field_said;
+pub use laws::{plain_rows_stay, rows_are_plain};
+pub use rows::{Written, WrittenLine, read_written};
