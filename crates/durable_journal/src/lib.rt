@@ -11,8 +11,6 @@ mod next;
 mod pack;
 mod publish;
 mod recovery;
-#[cfg(test)]
-mod tests;
 mod walk;
 
 pub use fault::JournalFault;
