@@ -3,7 +3,7 @@ import hashlib
 from typing import NamedTuple
 
 OPEN, SHUT = 43, 45
-FIRST_CHECKSUM = bytes(32)
+FIRST_CHECKSUM = hashlib.sha256(b"durable journal, version 1").digest()
 # What comes between a latch and the entry: two numbers of four bytes, and a checksum.
 HEAD = 4 + 4 + 32
 MOST_ENTRIES = 1_000_000

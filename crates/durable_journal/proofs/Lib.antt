@@ -1,6 +1,7 @@
 pub mod BatchLemmas
 pub mod CallerLemmas
 pub mod CrashLemmas
+pub mod DamageLemmas
 pub mod DiskLemmas
 pub mod FaultLemmas
 pub mod FrameLemmas

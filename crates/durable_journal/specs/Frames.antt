@@ -1,5 +1,5 @@
 -- What a journal's file is: frames, each an open latch and an entry, and then a shut latch.
-use Rattle.std.specs.Prelude.{◌≡◌, ◌≢◌, ℕ, List, [], ◌∷◌, ◌++◌, length, map, replicate, All}
+use Rattle.std.specs.Prelude.{◌≡◌, ◌≢◌, ℕ, List, [], ◌∷◌, ◌++◌, codes, length, map, All}
 use Rattle.std.specs.Int.{w32, from_be_bytes, to_be_bytes}
 use Rattle.sha2.specs.Sha256.{sha256}
 
@@ -28,9 +28,9 @@ framed durable entry = record { durable = to_be_bytes w32 durable; size = to_be_
 unfoldable pub checksum : List ℕ → Frame → List ℕ
 checksum previous f = sha256 (previous ++ f.durable ++ f.size ++ f.entry)
 
--- what counts as the checksum before the first entry: 32 zeros
+-- what counts as the checksum before the first entry: the SHA-256 of the format's name and version
 unfoldable pub first_checksum : List ℕ
-first_checksum = replicate 32 0
+first_checksum = sha256 (codes "durable journal, version 1")
 
 -- a frame as it is written after its latch, where the entry before it has that checksum
 abbrev pub packed : List ℕ → Frame → List ℕ

@@ -1,4 +1,5 @@
 pub mod Batches
+pub mod Damage
 pub mod Disks
 pub mod Faults
 pub mod Frames

@@ -17,12 +17,13 @@ pub fn checksum_of(previous: &[u8; 32], durable: &[u8], size: &[u8], entry: &[u8
     hasher.finalize()
 }
 
-/// What counts as the checksum before the first entry.
+/// What counts as the checksum before the first entry: the SHA-256 of the format's name and version. So a file of another
+/// format is never read as one of this.
 #[tactic(auto, unfolding(crate::specs::Frames::first_checksum))]
 pub fn first() -> [u8; 32]
     ensures { result ≡ first_checksum }
 {
-    [0; 32]
+    Sha256::digest(b"durable journal, version 1")
 }
 
 /// Four bytes as a number, the highest first.

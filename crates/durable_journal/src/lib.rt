@@ -11,11 +11,9 @@ mod next;
 mod pack;
 mod publish;
 mod recovery;
-#[cfg(test)]
-mod tests;
 mod walk;
 
 pub use fault::JournalFault;
 pub use journal::Journal;
-pub use laws::stands_for_one_list;
+pub use laws::{cut_files_keep_the_first, no_entry_is_another, stands_for_one_list};
 pub use recovery::{Recovered, entries_in, recover};

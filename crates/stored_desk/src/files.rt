@@ -46,8 +46,8 @@ pub fn count_kept(alloc: Global, expected: &[Vec<u8>], file: &[u8]) -> Result<Op
     }
 }
 
-// Whether the entries are the first of those expected.
-fn are_first(expected: &[Vec<u8>], entries: &[Vec<u8>]) -> bool {
+/// Whether the entries are the first of those expected.
+pub fn are_first(expected: &[Vec<u8>], entries: &[Vec<u8>]) -> bool {
     let mut both = expected.iter().zip(entries.iter());
     entries.len() <= expected.len() && both.all(|(one, other)| one == other)
 }

@@ -2,6 +2,7 @@
 #![tactic(auto)]
 
 mod crash;
+mod damage;
 mod expected;
 mod files;
 mod moments;
@@ -16,8 +17,8 @@ use std::io::Write;
 
 /// Makes the sessions that standard input holds: a court's file, and then journals with a line `%%` before each, which are
 /// rows with a line `--` between two batches. Each journal is filled again and again, on a disk that passes no call on, then
-/// one, and so on, and each file that a crash may leave then is opened again. For each journal it writes how many there
-/// were of each, and the first that wasn't as it must be. Where the input isn't written so, it writes nothing, says in one
+/// one, and so on, and each file that a crash may leave then is opened again. Of the whole journal each byte is changed in
+/// turn. For each journal it writes how many there were of each, and the first that wasn't as it must be. Where the input isn't written so, it writes nothing, says in one
 /// line on standard error what is wrong, and ends with status 1.
 fn main(rt: HostRuntime) -> Result<()> {
     let input = io::read_to_string(rt.alloc(), rt.stdin())?;

@@ -1,4 +1,5 @@
 //! All journals of an input.
+use crate::damage::check_damage;
 use crate::expected::{Expected, expected_of};
 use crate::moments::check_stopped;
 use crate::session::session;
@@ -37,7 +38,7 @@ fn fill_again(
         check_stopped(alloc, expected, &mut stopped, tally)?;
         tally.count_session();
         if stopped.done.saturating_add(1) == expected.states.len() {
-            return Ok(());
+            return check_damage(alloc, expected, stopped.disk.inner().bytes(), tally);
         }
     }
     bail!("a session makes more than {CALLS} calls")
@@ -50,12 +51,14 @@ fn push_tally(alloc: Global, text: &mut String, expected: &Expected, tally: &Tal
         files,
         newer,
         openings,
+        found,
+        hidden,
         wrong,
     } = tally;
     let entries = expected.entries.len();
     let steps = expected.states.len().saturating_sub(1);
     let lines = format!(in alloc;
-        "entries {entries}, kept in {steps} steps\nsessions {sessions}, the last of them whole\nfiles {files}, of which {newer} have the batch that was being kept\nopened on disks that fail: {openings}\n"
+        "entries {entries}, kept in {steps} steps\nsessions {sessions}, the last of them whole\nfiles {files}, of which {newer} have the batch that was being kept\nopened on disks that fail: {openings}\nbytes changed: {found} found, {hidden} not\n"
     )?;
     text.push_str(&lines)?;
     match wrong {

@@ -3,13 +3,16 @@ use anyhow::Result;
 use std::alloc::Global;
 
 /// How many sessions there were, how many files were opened that a crash may leave, how many of these had the batch that was
-/// being kept, how many were opened on disks that fail, and what wasn't as it must be.
+/// being kept, how many were opened on disks that fail, of how many changed bytes the damage was found and of how many not,
+/// and what wasn't as it must be.
 #[derive(Drop)]
 pub struct Tally {
     pub sessions: u64,
     pub files: u64,
     pub newer: u64,
     pub openings: u64,
+    pub found: u64,
+    pub hidden: u64,
     pub wrong: Option<String>,
 }
 
@@ -21,6 +24,8 @@ impl Tally {
             files: 0,
             newer: 0,
             openings: 0,
+            found: 0,
+            hidden: 0,
             wrong: None,
         }
     }
@@ -36,6 +41,16 @@ impl Tally {
     /// Counts a file that is opened on disks that fail.
     pub fn count_opening(&mut self) {
         self.openings = self.openings.saturating_add(1);
+    }
+
+    /// Counts a changed byte whose damage is found.
+    pub fn count_found(&mut self) {
+        self.found = self.found.saturating_add(1);
+    }
+
+    /// Counts a changed byte with which entries are read.
+    pub fn count_hidden(&mut self) {
+        self.hidden = self.hidden.saturating_add(1);
     }
 
     /// Counts a session.
