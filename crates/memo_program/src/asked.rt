@@ -3,7 +3,6 @@
 ghost use Rattle.std.specs.Prelude.{◌≡◌, ◌∷◌, [], true, option_map, IfErr, IfOk};
 ghost use Rattle.std.specs.Option.{option_and_then};
 ghost use Rattle.clap.specs.declared.error.kind.ErrorKind.{ErrorKind};
-ghost use Rattle.clap.specs.declared.error.kind.ErrorKind.TheVariants.{MissingRequiredArgument, ValueValidation};
 ghost use Rattle.clap.specs.Words.{found_of, rows_of};
 ghost use Rattle.court_clock.specs.Words.{day_of_text};
 ghost use Rattle.office_options.specs.Words.{IsAnswerFor, IsFaultAmong};

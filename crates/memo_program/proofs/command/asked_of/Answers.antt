@@ -1,5 +1,5 @@
 -- The kinds of the parse's faults go over to those of the answer.
-use Rattle.std.proofs.Common.{◌≡◌, ◌∙◌, [], true, ap, subst, sym}
+use Rattle.std.proofs.Common.{◌≡◌, ◌∙◌, [], ap, subst, sym}
 use Rattle.clap.specs.Faults.{fault_of, is_simple_and_free}
 use Rattle.clap.specs.Kinds.{HasKind, Kinds}
 use Rattle.clap.specs.Simple.{is_simple}
