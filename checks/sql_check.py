@@ -26,7 +26,7 @@ import tempfile
 from lib.made_inputs import INPUTS, made_input
 from reference.civil import day_of_text, instant_at, zone_of_text
 
-DUE = """SELECT due_day, COALESCE(due_time, '00:00:00'), case_number, 0, number, due_time, term, timely, '' FROM deadlines
+DUE = """SELECT due_day, COALESCE(due_time, '00:00:00'), case_number, 0, number, due_time, term, timely, NULL FROM deadlines
  WHERE timely IS NOT TRUE AND due_day BETWEEN '{0}' AND '{1}'
 UNION ALL
 SELECT hearing_day, begins, case_number, 1, motion_number, begins, room, NULL, minutes FROM hearings

@@ -47,7 +47,7 @@ impl Course {
     }
 
     /// The course after a reason.
-    pub(crate) fn after(&self, reason: &Reason) -> Course
+    pub fn after(&self, reason: &Reason) -> Course
         ensures { result ≡ course_after self.now reason.now }
     {
         match *reason {
