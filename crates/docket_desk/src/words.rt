@@ -130,9 +130,13 @@ fn command<'a>(alloc: Global) -> Result<Command<'a>, AllocError> {
         .long("json")
         .action(ArgAction::SetTrue)
         .help("Write their faults as JSON");
-    let dates = text_argument(alloc, "dates", "ORDER", "month-first or day-first, for 9/2/2025").long(
+    let dates = text_argument(
+        alloc,
         "dates",
-    );
+        "ORDER",
+        "month-first or day-first, for 9/2/2025",
+    )
+    .long("dates");
     Command::new(alloc, "docket_desk")
         .no_binary_name(true)
         .version("0.1.0")
@@ -190,7 +194,7 @@ fn court_task(alloc: Global, said: Said) -> Result<Task, OptionsFault> {
 }
 
 // How rows are written.
-fn style(alloc: Global, said: &Said) -> Result<Style, OptionsFault> {
+fn style_of(alloc: Global, said: &Said) -> Result<Style, OptionsFault> {
     let order = match &said.dates {
         None => None,
         Some(word) => match word.as_str() {
@@ -211,7 +215,7 @@ fn enter_task(alloc: Global, said: &Said) -> Result<Task, OptionsFault> {
         return Err(wrong(alloc, ENTER_WORDS));
     }
     match (said.together, said.written) {
-        (true, true) => Ok(Task::EnterWritten(style(alloc, said)?)),
+        (true, true) => Ok(Task::EnterWritten(style_of(alloc, said)?)),
         (true, false) if !said.has_style() => Ok(Task::EnterTogether),
         (false, false) if !said.has_style() => Ok(Task::Enter),
         _ => Err(wrong(alloc, WRITTEN_WORDS)),
@@ -224,7 +228,7 @@ fn trial_task(alloc: Global, said: &Said) -> Result<Task, OptionsFault> {
         return Err(wrong(alloc, "'try' takes a folder: rows come from standard input"));
     }
     if said.written {
-        return Ok(Task::TryWritten(style(alloc, said)?));
+        return Ok(Task::TryWritten(style_of(alloc, said)?));
     }
     if said.has_style() {
         return Err(wrong(alloc, WRITTEN_WORDS));
@@ -237,7 +241,7 @@ fn reading_task(alloc: Global, said: &Said) -> Result<Task, OptionsFault> {
     if said.has_file() || said.together || said.written {
         return Err(wrong(alloc, "'plain' takes a folder, --dates and --json"));
     }
-    Ok(Task::Plain(style(alloc, said)?))
+    Ok(Task::Plain(style_of(alloc, said)?))
 }
 
 // A task to which nothing is said but the folder.
