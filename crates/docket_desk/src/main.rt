@@ -4,6 +4,7 @@
 mod folder;
 mod tasks;
 mod words;
+mod written;
 
 use desk_program::{DeskFault, ended_by};
 use office_options::{OptionsFault, arguments_of};

@@ -4,6 +4,7 @@ ghost use Rattle.office_streams.specs.Words.{has_failed};
 
 use crate::folder::{copied_beside, entries_beside, journal_name, make_folder, opened, read_file};
 use crate::words::Task;
+use crate::written::{enter_written, plain, try_written};
 use desk_program::{Desk, DeskFault, ask, check_court, open_file, write_count, write_rows};
 use durable_session::SessionFault;
 use office_streams::{OfficeFault, Watched, read_all};
@@ -38,8 +39,8 @@ fn enter<W: Write>(rt: &HostRuntime, writer: &mut Watched<W>, folder: &str) -> R
     }
 }
 
-// All of standard input.
-fn whole_input(rt: &HostRuntime) -> Result<Vec<u8>, DeskFault> {
+/// All of standard input.
+pub(crate) fn whole_input(rt: &HostRuntime) -> Result<Vec<u8>, DeskFault> {
     let mut reader = Watched::new(rt.stdin());
     match read_all(rt.alloc(), &mut reader) {
         Ok(input) => Ok(input),
@@ -150,7 +151,10 @@ pub fn done<W: Write>(
         Task::Open(court) => open_folder(rt, folder, court.as_str()),
         Task::Enter => enter(rt, writer, folder),
         Task::EnterTogether => enter_together(rt, writer, folder),
+        Task::EnterWritten(style) => enter_written(rt, writer, folder, *style),
         Task::Try => try_folder(rt, writer, folder),
+        Task::TryWritten(style) => try_written(rt, writer, folder, *style),
+        Task::Plain(style) => plain(rt, writer, folder, *style),
         Task::Ask => ask_folder(rt, writer, folder),
         Task::Rows => rows(rt, writer, folder),
         Task::Check => check(rt, writer, folder),

@@ -3,6 +3,7 @@
 use clap::{Arg, ArgAction, ArgMatches, Command};
 use office_options::{OptionsFault, argument_texts, fault_from};
 use std::alloc::{AllocError, Global};
+use written_fields::DateOrder;
 
 const ABOUT: &str =
     "A docket that lasts. Rows are kept in a folder's journal, through any crash, and
@@ -16,6 +17,9 @@ const TASKS: &str = "Tasks:
                                   rows only if no line has a fault
   try FOLDER                      answer rows as 'enter' would, and keep none;
                                   also while another program enters rows
+  plain FOLDER                    write the plain rows that the lines of
+                                  standard input are, or what is wrong with
+                                  them; nothing is kept
   ask FOLDER                      answer questions alone, also while another
                                   program enters rows
   rows FOLDER                     write the court's file, %% and all rows, as
@@ -31,6 +35,11 @@ const OPEN_WORDS: &str = "'open' needs the court's file: open FOLDER --court FIL
 const ENTER_WORDS: &str =
     "'enter' takes a folder, and --all-or-nothing: rows come from standard input";
 
+const WRITTEN_WORDS: &str =
+    "--as-written is for 'try' and for 'enter FOLDER --all-or-nothing'; --dates and --json are for it and for 'plain'";
+
+const DATES_WORDS: &str = "--dates is month-first or day-first";
+
 const COURT_WORDS: &str = "'court' needs another court's file: court FOLDER FILE [--accept]";
 
 /// What is asked for, of a folder.
@@ -42,8 +51,14 @@ pub enum Task {
     Enter,
     /// Rows, which are kept together if no line has a fault, and then answered.
     EnterTogether,
+    /// Rows as people write them, which are kept together if no line has a fault, and then answered.
+    EnterWritten(Style),
     /// Rows, which are answered and not kept.
     Try,
+    /// Rows as people write them, which are answered and not kept.
+    TryWritten(Style),
+    /// Rows as people write them, which are written as plain rows.
+    Plain(Style),
     /// Questions, which are answered.
     Ask,
     /// The court's file and all rows, as clerk_office reads them.
@@ -54,13 +69,37 @@ pub enum Task {
     Court(String, bool),
 }
 
+/// How rows are written, and how their faults are.
+#[derive(Clone, Copy, Debug)]
+pub struct Style {
+    /// Which comes first in a date in numbers, if that is known.
+    pub order: Option<DateOrder>,
+    /// Whether faults are written as JSON.
+    pub json: bool,
+}
+
 // What the words say, before it is known whether it fits the task.
 #[derive(Drop)]
 struct Said {
     file: Option<String>,
     court: Option<String>,
+    dates: Option<String>,
     accept: bool,
     together: bool,
+    written: bool,
+    json: bool,
+}
+
+impl Said {
+    // Whether it says how rows are written.
+    fn has_style(&self) -> bool {
+        self.dates.is_some() || self.written || self.json
+    }
+
+    // Whether it says what belongs to no task that takes rows.
+    fn has_file(&self) -> bool {
+        self.file.is_some() || self.court.is_some() || self.accept
+    }
 }
 
 fn text_argument<'a>(alloc: Global, name: &'a str, value: &'a str, help: &'a str) -> Arg<'a> {
@@ -83,6 +122,21 @@ fn command<'a>(alloc: Global) -> Result<Command<'a>, AllocError> {
         .long("all-or-nothing")
         .action(ArgAction::SetTrue)
         .help("Keep all rows of 'enter', or none if a line has a fault");
+    let written = Arg::new(alloc, "written")
+        .long("as-written")
+        .action(ArgAction::SetTrue)
+        .help("Take rows as people write them");
+    let json = Arg::new(alloc, "json")
+        .long("json")
+        .action(ArgAction::SetTrue)
+        .help("Write their faults as JSON");
+    let dates = text_argument(
+        alloc,
+        "dates",
+        "ORDER",
+        "month-first or day-first, for 9/2/2025",
+    )
+    .long("dates");
     Command::new(alloc, "docket_desk")
         .no_binary_name(true)
         .version("0.1.0")
@@ -93,7 +147,10 @@ fn command<'a>(alloc: Global) -> Result<Command<'a>, AllocError> {
         .arg(text_argument(alloc, "file", "FILE", "Another court's file, for 'court'"))?
         .arg(text_argument(alloc, "court", "FILE", "The court's file, for 'open'").long("court"))?
         .arg(accept)?
-        .arg(together)
+        .arg(together)?
+        .arg(written)?
+        .arg(dates)?
+        .arg(json)
 }
 
 // The text of an argument, if it was given.
@@ -114,15 +171,10 @@ fn wrong(alloc: Global, text: &str) -> OptionsFault {
 
 // A new folder, which needs a court's file and nothing else.
 fn open_task(alloc: Global, said: Said) -> Result<Task, OptionsFault> {
-    let Said {
-        file,
-        court,
-        accept,
-        together,
-    } = said;
-    if file.is_some() || accept || together {
+    if said.file.is_some() || said.accept || said.together || said.has_style() {
         return Err(wrong(alloc, OPEN_WORDS));
     }
+    let Said { court, .. } = said;
     match court {
         Some(court) => Ok(Task::Open(court)),
         None => Err(wrong(alloc, OPEN_WORDS)),
@@ -131,40 +183,73 @@ fn open_task(alloc: Global, said: Said) -> Result<Task, OptionsFault> {
 
 // Another court's file, which is named after the folder.
 fn court_task(alloc: Global, said: Said) -> Result<Task, OptionsFault> {
-    let Said {
-        file,
-        court,
-        accept,
-        together,
-    } = said;
-    if court.is_some() || together {
+    if said.court.is_some() || said.together || said.has_style() {
         return Err(wrong(alloc, COURT_WORDS));
     }
+    let Said { file, accept, .. } = said;
     match file {
         Some(file) => Ok(Task::Court(file, accept)),
         None => Err(wrong(alloc, COURT_WORDS)),
     }
 }
 
+// How rows are written.
+fn style_of(alloc: Global, said: &Said) -> Result<Style, OptionsFault> {
+    let order = match &said.dates {
+        None => None,
+        Some(word) => match word.as_str() {
+            "month-first" => Some(DateOrder::MonthFirst),
+            "day-first" => Some(DateOrder::DayFirst),
+            _ => return Err(wrong(alloc, DATES_WORDS)),
+        },
+    };
+    Ok(Style {
+        order,
+        json: said.json,
+    })
+}
+
 // Rows that are kept, one after another or together.
 fn enter_task(alloc: Global, said: &Said) -> Result<Task, OptionsFault> {
-    if said.file.is_some() || said.court.is_some() || said.accept {
+    if said.has_file() {
         return Err(wrong(alloc, ENTER_WORDS));
     }
-    if said.together {
-        Ok(Task::EnterTogether)
-    } else {
-        Ok(Task::Enter)
+    match (said.together, said.written) {
+        (true, true) => Ok(Task::EnterWritten(style_of(alloc, said)?)),
+        (true, false) if !said.has_style() => Ok(Task::EnterTogether),
+        (false, false) if !said.has_style() => Ok(Task::Enter),
+        _ => Err(wrong(alloc, WRITTEN_WORDS)),
     }
+}
+
+// Rows that are not kept.
+fn trial_task(alloc: Global, said: &Said) -> Result<Task, OptionsFault> {
+    if said.has_file() || said.together {
+        return Err(wrong(alloc, "'try' takes a folder: rows come from standard input"));
+    }
+    if said.written {
+        return Ok(Task::TryWritten(style_of(alloc, said)?));
+    }
+    if said.has_style() {
+        return Err(wrong(alloc, WRITTEN_WORDS));
+    }
+    Ok(Task::Try)
+}
+
+// Rows that are only read.
+fn reading_task(alloc: Global, said: &Said) -> Result<Task, OptionsFault> {
+    if said.has_file() || said.together || said.written {
+        return Err(wrong(alloc, "'plain' takes a folder, --dates and --json"));
+    }
+    Ok(Task::Plain(style_of(alloc, said)?))
 }
 
 // A task to which nothing is said but the folder.
 fn plain_task(alloc: Global, name: &str, said: &Said) -> Result<Task, OptionsFault> {
-    if said.file.is_some() || said.court.is_some() || said.accept || said.together {
+    if said.has_file() || said.together || said.has_style() {
         return Err(wrong(alloc, "this task takes a folder alone"));
     }
     match name {
-        "try" => Ok(Task::Try),
         "ask" => Ok(Task::Ask),
         "rows" => Ok(Task::Rows),
         "check" => Ok(Task::Check),
@@ -178,6 +263,8 @@ fn task_of(alloc: Global, name: &str, said: Said) -> Result<Task, OptionsFault> 
         "open" => open_task(alloc, said),
         "court" => court_task(alloc, said),
         "enter" => enter_task(alloc, &said),
+        "try" => trial_task(alloc, &said),
+        "plain" => reading_task(alloc, &said),
         _ => plain_task(alloc, name, &said),
     }
 }
@@ -187,8 +274,11 @@ fn asked(alloc: Global, matches: &ArgMatches<'_>) -> Result<(Task, String), Opti
     let said = Said {
         file: given(alloc, matches, "file")?,
         court: given(alloc, matches, "court")?,
+        dates: given(alloc, matches, "dates")?,
         accept: matches.get_flag("accept"),
         together: matches.get_flag("together"),
+        written: matches.get_flag("written"),
+        json: matches.get_flag("json"),
     };
     let folder = given(alloc, matches, "folder")?;
     match (matches.get_str("task"), folder) {

@@ -10,8 +10,7 @@ use Rattle.written_rows.proofs.CallerLemmas.{found_all, found_more}
 use Rattle.written_input.specs.Reading.{FaultyText, faulty_as, faulty_of, header_after, row_of, rows_of}
 
 module _ (clerks : ℕ) (names : CourtNames) (order : Option DateOrder) (header then : Option (List (List ℕ))) (number : ℕ) (rest line : List ℕ) (end : ℕ) (after : List ℕ) (first : IsFirstLine rest line end after)
-  (next : then ≡ header_after header (read_as clerks names order header line)) where
-
+    (next : then ≡ header_after header (read_as clerks names order header line)) where
   -- the rows of an input are those that were found, that of its first line and those of what is left
   pub rows_more : (found more all : List ℕ) → found ++ rows_of clerks names order header (numbered_from number [] rest) ≡ all → more ≡ found ++ row_of (read_as clerks names order header line)
       → more ++ rows_of clerks names order then (numbered_from (number_after number end) [] after) ≡ all

@@ -34,20 +34,20 @@ fn has_year_first(text: &[u8]) -> bool {
 fn in_other_order(alloc: Global, order: DateOrder, day: Day) -> Result<String, AllocError> {
     match order {
         DateOrder::MonthFirst => {
-            format!(in alloc; "with the day first it would be {day}, but --dates says that the month is first")
+            format!(in alloc;
+                "with the day first it would be {day}, but --dates says that the month is first"
+            )
         }
         DateOrder::DayFirst => {
-            format!(in alloc; "with the month first it would be {day}, but --dates says that the day is first")
+            format!(in alloc;
+                "with the month first it would be {day}, but --dates says that the day is first"
+            )
         }
     }
 }
 
 /// What to write in place of what is no date.
-fn for_date(
-    alloc: Global,
-    order: Option<DateOrder>,
-    found: &str,
-) -> Result<String, AllocError> {
+fn for_date(alloc: Global, order: Option<DateOrder>, found: &str) -> Result<String, AllocError> {
     if let Some(order) = order {
         if let Said::Clear(day) = date_said(alloc, None, found)? {
             return in_other_order(alloc, order, day);
@@ -80,8 +80,10 @@ fn for_two(column: Column) -> &'static str {
         Column::Period => {
             "12a1Aii-us is for a request that was sent to a place in the United States, 12a1Aii-abroad for one sent abroad"
         }
-        Column::Judge | Column::Judges | Column::Room => "write the name as the court's file has it",
-        _ => "say which comes first by --dates month-first or --dates day-first, or write the date as 2025-09-02",
+        Column::Judge | Column::Judges | Column::Room =>
+            "write the name as the court's file has it",
+        _ =>
+            "say which comes first by --dates month-first or --dates day-first, or write the date as 2025-09-02",
     }
 }
 

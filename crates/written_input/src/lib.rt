@@ -2,12 +2,12 @@
 #![tactic(auto)]
 
 mod advice;
-mod json;
 mod nearest;
+mod objects;
 mod reading;
 mod report;
 mod wording;
 
-pub use json::json_of;
+pub use objects::json_of;
 pub use reading::{FaultyLine, Reading, read_input};
 pub use report::report_of;

@@ -25,29 +25,9 @@ const COMMANDS: [&str; 13] = [
 
 /// The headings of columns.
 const HEADINGS: [&str; 23] = [
-    "clerk",
-    "command",
-    "case",
-    "deadline",
-    "motion",
-    "period",
-    "date",
-    "time",
-    "second",
-    "kind",
-    "means",
-    "grant",
-    "cause",
-    "neglect",
-    "need",
-    "list",
-    "from",
-    "to",
-    "judge",
-    "room",
-    "slots",
-    "notice",
-    "note",
+    "clerk", "command", "case", "deadline", "motion", "period", "date", "time", "second", "kind",
+    "means", "grant", "cause", "neglect", "need", "list", "from", "to", "judge", "room", "slots",
+    "notice", "note",
 ];
 
 /// The periods of the Rules.
@@ -70,11 +50,7 @@ fn most_edits(word: &str) -> usize {
 }
 
 /// The word that is nearest to a text, if one is near.
-fn nearest_of<'a>(
-    alloc: Global,
-    text: &str,
-    words: &[&'a str],
-) -> Result<Option<&'a str>, AllocError> {
+fn nearest_of(alloc: Global, text: &str, words: &[&str]) -> Result<Option<String>, AllocError> {
     let found = folded(alloc, text)?;
     let mut nearest = None;
     let mut least = 3;
@@ -83,7 +59,7 @@ fn nearest_of<'a>(
         let edits = levenshtein(alloc, found.as_str(), known.as_str())?;
         if edits < least && edits <= most_edits(known.as_str()) {
             least = edits;
-            nearest = Some(*word);
+            nearest = Some(String::from_str(alloc, word)?);
         }
     }
     Ok(nearest)
@@ -112,11 +88,7 @@ fn rooms_of<'a>(alloc: Global, court: &'a Court) -> Result<Vec<&'a str>, AllocEr
 }
 
 /// The judge that is nearest to the first name of a panel that the court doesn't have.
-fn nearest_judge<'a>(
-    alloc: Global,
-    court: &'a Court,
-    panel: &str,
-) -> Result<Option<&'a str>, AllocError> {
+fn nearest_judge(alloc: Global, court: &Court, panel: &str) -> Result<Option<String>, AllocError> {
     let names = judges_of(alloc, court)?;
     let pieces = cut_line(alloc, panel, b'+')?;
     for i in 0..pieces.len() {
@@ -129,12 +101,12 @@ fn nearest_judge<'a>(
 }
 
 /// The known word that is nearest to what was found in a column, if one is near.
-fn nearest_in<'a>(
+fn nearest_in(
     alloc: Global,
-    court: &'a Court,
+    court: &Court,
     column: Column,
     found: &str,
-) -> Result<Option<&'a str>, AllocError> {
+) -> Result<Option<String>, AllocError> {
     match column {
         Column::Judge | Column::Judges => nearest_judge(alloc, court, found),
         Column::Room => {
@@ -158,12 +130,12 @@ fn nearest_in<'a>(
 }
 
 /// The known word that is nearest to what was found, if one is near.
-pub(crate) fn nearest<'a>(
+pub(crate) fn nearest(
     alloc: Global,
-    court: &'a Court,
+    court: &Court,
     flaw: Flaw,
     found: &str,
-) -> Result<Option<&'a str>, AllocError> {
+) -> Result<Option<String>, AllocError> {
     match flaw {
         Flaw::Unknown(column) => nearest_in(alloc, court, column, found),
         Flaw::NoCommand => nearest_of(alloc, found, &COMMANDS),

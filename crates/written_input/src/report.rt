@@ -35,6 +35,7 @@ pub(crate) fn sentence(
         format!(in alloc; "found \"{found}\", expected {wanted}")?
     };
     if let Some(word) = nearest(alloc, court, fault.flaw, found)? {
+        let word = word.as_str();
         write!(text, "; did you mean {word}?")?;
     }
     let advice = advice(alloc, order, fault)?;

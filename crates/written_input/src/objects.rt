@@ -49,7 +49,7 @@ fn put_fault(
     put_text(out, "one", fault.one.as_str())?;
     put_text(out, "other", fault.other.as_str())?;
     if let Some(word) = nearest(alloc, court, fault.flaw, found)? {
-        put_text(out, "nearest", word)?;
+        put_text(out, "nearest", word.as_str())?;
     }
     put_text(out, "advice", advice.as_str())?;
     put_text(out, "said", said.as_str())?;
