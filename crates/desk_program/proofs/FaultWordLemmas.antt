@@ -1,5 +1,5 @@
 -- Parts of a line.
-use Rattle.std.proofs.Common.{◌≡◌, ◌∙◌, ◌-◌, ◌==◌, ◌<◌, ℕ, suc, zero, Bool, true, false, List, [], take, drop, length, refl, sym, ap, arith, take_all}
+use Rattle.std.proofs.Common.{◌≡◌, ◌∙◌, ◌-◌, ◌==◌, ◌<◌, ℕ, suc, zero, Bool, true, false, List, [], take, length, refl, sym, ap, arith, take_all}
 use Rattle.std.specs.List.{after_first, before_first, position_or_len}
 use Rattle.std.proofs.lemmas.List.{drop_all}
 use Rattle.std.specs.Prelude.{if◌then◌else◌}

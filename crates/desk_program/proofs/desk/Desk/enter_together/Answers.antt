@@ -1,4 +1,4 @@
-use Rattle.std.proofs.Common.{◌≡◌, ◌∙◌, ap, map, refl, subst}
+use Rattle.std.proofs.Common.{◌∙◌, ap, map, refl, subst}
 use Rattle.durable_journal.specs.Words.{IsKept}
 use Rattle.durable_session.specs.Words.{IsServed, lines_of}
 use Rattle.docket_entries.specs.Words.{StandsAt, answers, fault_in, leaves}
