@@ -278,7 +278,7 @@ def differs(chance, calendar, clerk, data):
     if status != 0:
         return None, 0
     head, rows = data.decode().split("%%", 1)
-    court = dict(re.findall(r'^\s*(zone|opens|closes|from|to)\s*=\s*"([^"]*)"', head, re.MULTILINE))
+    court = dict(re.findall(r'^\s*(zone|opens|closes|from|to)\s*=\s*["\']([^"\']*)["\']', head, re.MULTILINE))
     rows = [row for row in rows.splitlines()[1:] if row]
     lines = text.decode().splitlines()
     closing = max(at for at, line in enumerate(lines) if re.match(r"[0-9]+ 1 ", line)) + 1

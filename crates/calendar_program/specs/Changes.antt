@@ -1,5 +1,5 @@
 -- What rows change of hearings.
-use Rattle.std.specs.Prelude.{List, [], ◌∷◌, ◌++◌, Option, Some, None, option_to_list}
+use Rattle.std.specs.Prelude.{List, [], ◌∷◌, ◌++◌, Option, None, option_to_list}
 use Rattle.docket_rows.specs.Words.{CourtSetup, Rows}
 use Rattle.hearing_changes.specs.declared.change.HearingChange.{HearingChange}
 use Rattle.hearing_changes.specs.Words.{change_made}

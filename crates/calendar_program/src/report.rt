@@ -1,6 +1,6 @@
 //! The calendar, as what is written of a run.
 
-ghost use Rattle.std.specs.Prelude.{◌≡◌, ◌++◌, string_bytes, IfOk};
+ghost use Rattle.std.specs.Prelude.{◌≡◌, string_bytes, IfOk};
 ghost use Rattle.docket_rows.specs.Words.{Rows, setup_of};
 ghost use Rattle.office_run.specs.Words.{Holds};
 ghost use Rattle.calendar_program.specs.Calendar.{IsCalendar, IsListing, IsTextOf, changes_by, docketed_by, no_day, no_instant, no_judge, unknown_line, word_given};

@@ -1,6 +1,5 @@
 -- The subcommand has no argument.
-use Rattle.std.proofs.Common.{◌≡◌, ◌∙◌, [], rules, ap, codes, refl}
-use Rattle.clap.specs.Simple.{new_shape}
+use Rattle.std.proofs.Common.{◌≡◌, ◌∙◌, rules, ap, codes, refl}
 use Rattle.clap.specs.Words.{App, app_of, new_app, with_subcommand}
 use Rattle.calendar_program.proofs.command.with_sql.Goals as goal
 
