@@ -424,12 +424,14 @@ def khal_lines(data, zone):
         listed = subprocess.run(khal + ["list", "--notstarted", "--day-format", "", "--format",
                                         "{start-date}|{start-time}|{end-time}|{title}", "2024-01-01", "2027-12-31"],
                                 check=True, stdout=subprocess.PIPE).stdout.decode()
-    return sorted(khal_read(line) for line in listed.splitlines() if line)
+    # what goes on past midnight is listed on both days
+    return sorted({khal_read(line) for line in listed.splitlines() if line})
 
 
 def khal_read(line):
+    """A line of khal's list. It gives an hour to what has no end, as the end of a deadline in hours, so that isn't looked at."""
     day, begins, ends, title = line.split("|", 3)
-    return "{}|{}|{}".format(day, begins if begins == ends else begins + "-" + ends, title)
+    return "{}|{}|{}".format(day, begins if begins == ends or " deadline " in title else begins + "-" + ends, title)
 
 
 def main():

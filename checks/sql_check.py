@@ -296,7 +296,7 @@ def differs(chance, calendar, clerk, databases, data):
     found = ran([calendar, "sql"], data)
     if status != 0 or found[0] != 0:
         return None if (found[0], found[2].replace("court_calendar", "clerk_office")) == (status, errors) and not found[1] \
-            else "a fault told otherwise"
+            else "another fault"
     head, rows = data.decode().split("%%", 1)
     rows = [row for row in rows.splitlines()[1:] if row]
     whole_text = ran([clerk], data if data.endswith(b"\n") else data + b"\n")
