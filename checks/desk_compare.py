@@ -7,9 +7,11 @@ COUNT inputs (5,000 without it) are made from SEED, as office_compare.py makes t
 must be refused by both. The rows are entered in one session or two. A row that can't be read is answered with its fault,
 and the others must be answered as clerk_office answers them alone: the answers must be those in the journal, the rows in
 it with the court's file an input for which clerk_office begins with the same answers, and what `rows` writes that input.
-It needs Python 3.8 or later.
+The desk takes rows of 64 clerks, and clerk_office by itself those of clerk 1: it is given all of them as that clerk's. It
+needs Python 3.8 or later.
 """
 import random
+import re
 import sys
 import tempfile
 from collections import Counter
@@ -19,12 +21,25 @@ from lib.journal import rows_of
 from lib.made_inputs import INPUTS, made_input
 
 FAULT = b"row "
+# The number of another clerk than the first, at the beginning of a row, and after the number of the row in its answer.
+OTHER_CLERK = rb"(?:[2-9]|[1-5][0-9]|6[0-4])"
+ROW_OF_ANOTHER, ANSWER_TO_ANOTHER = re.compile(b'^("?)' + OTHER_CLERK + b'("?,)'), re.compile(b"^([0-9]+ )" + OTHER_CLERK + b" ")
 SAME, FAULTS, REFUSED_COURT = "answered the same", "with rows that can't be read", "with a court's file that both refuse"
 
 
 def is_fault(line):
     """Whether a line of the desk tells of a row that can't be read."""
     return line.startswith(FAULT) and b" fault " in line
+
+
+def of_first_clerk(row):
+    """The same row of clerk 1."""
+    return ROW_OF_ANOTHER.sub(rb"\g<1>1\g<2>", row)
+
+
+def to_first_clerk(kept):
+    """The answers to kept rows, as clerk 1 gets them."""
+    return b"".join(ANSWER_TO_ANOTHER.sub(rb"\g<1>1 ", answer) for _, answer in kept)
 
 
 def is_refused(programs, parent, court):
@@ -47,10 +62,9 @@ def check_rows(desk, rows, draw):
     answers = b"".join(line for line in lines if not is_fault(line))
     kept = rows_of(desk.read())
     assert answers == b"".join(answer for _, answer in kept), (answers, kept)
-    whole = desk.input_of(row for row, _ in kept)
-    assert desk.rows() == whole
-    together = desk.programs.whole(whole)
-    assert together.status == 0 and together.output.startswith(answers), (answers, together)
+    assert desk.rows() == desk.input_of(row for row, _ in kept)
+    together = desk.programs.whole(desk.input_of(of_first_clerk(row) for row, _ in kept))
+    assert together.status == 0 and together.output.startswith(to_first_clerk(kept)), (answers, together)
     return any(is_fault(line) for line in lines)
 
 
@@ -64,9 +78,8 @@ def check_input(programs, data, draw):
         desk = Desk(programs, parent, court)
         if check_rows(desk, rows, draw):
             return FAULTS
-        alone = programs.whole(court + b"%%\n" + b"".join(rows))
-        answers = b"".join(answer for _, answer in rows_of(desk.read()))
-        assert alone.status == 0 and alone.output.startswith(answers), alone
+        alone = programs.whole(court + b"%%\n" + b"".join(of_first_clerk(row) for row in rows))
+        assert alone.status == 0 and alone.output.startswith(to_first_clerk(rows_of(desk.read()))), alone
         return SAME
 
 

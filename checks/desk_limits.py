@@ -158,12 +158,21 @@ def day_of(draw, count):
     return opened + asked
 
 
+def give_day(session, rows, measured):
+    """Writes rows to a session, and closes the pipe once its memory was measured: after that it ends."""
+    for row in rows:
+        session.stdin.write(row)
+    session.stdin.flush()
+    measured.wait()
+    session.stdin.close()
+
+
 def check_day(programs, draw, count):
     """Many rows over a pipe, one after another."""
     with tempfile.TemporaryDirectory() as parent:
         desk, rows = Desk(programs, parent, SHORT_COURT), day_of(draw, count)
-        session = desk.session()
-        giver = threading.Thread(target=lambda: ([session.stdin.write(row) for row in rows], session.stdin.close()))
+        session, measured = desk.session(), threading.Event()
+        giver = threading.Thread(target=give_day, args=(session, rows, measured))
         began = time.monotonic()
         giver.start()
         answers, peaks = [], {}
@@ -172,6 +181,7 @@ def check_day(programs, draw, count):
             if number + 1 in (min(BEGUN, count // 2), count):
                 peaks[number + 1] = peak_of(session)
         seconds = time.monotonic() - began
+        measured.set()
         giver.join()
         assert session.wait() == 0 and not session.stdout.read()
         first, last = peaks.values()

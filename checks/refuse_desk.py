@@ -4,11 +4,12 @@
     refuse_desk.py DESK [STORED_DESK INPUT]
 
 DESK opens a folder, enters rows, one after another and together, tries some, asks, writes the rows out, and takes another
-court's file, each again and again until a run ends without a refusal. A run in which a growth is refused must end with status 5 and `out of memory` on standard
-error, or could do without that growth; what it wrote before is a beginning of what it writes with ample memory, what it
-answered is kept, and nothing else was. Where it is named, STORED_DESK fills the journals of INPUT with a growth refused,
-for growths at random: all is as it must be, or it ends with status 1 and says that there was no memory. The status is 0
-where all of that is so. It needs Linux, Python 3.8 or later and a C compiler, `cc` or the one that CC names.
+court's file, each again and again until a run ends without a refusal. A run in which a growth is refused must end with
+status 5 and `out of memory` on standard error, or could do without that growth. What it wrote before is a beginning of what
+it writes with ample memory, the rows that it answered are kept, and the journal has all that it was to get or nothing of
+it. Where it is named, STORED_DESK fills the journals of INPUT with a growth refused, for growths at random: all is as it
+must be, or it ends with status 1 and says that there was no memory. The status is 0 where all of that is so. It needs
+Linux, Python 3.8 or later and a C compiler, `cc` or the one that CC names.
 """
 import pathlib
 import random
@@ -67,7 +68,7 @@ class Task:
                 return DONE_WITHOUT
             if (status, errors) != REFUSED or not whole.output.startswith(output) or entries not in (first, last):
                 return None
-            return None if output and entries != last else ENDED
+            return None if output and entries != last and self.words[0] == "enter" else ENDED
 
         counts = swept(library, self.words[0], self.desk.words(*self.words), self.given, who_was_refused,
                        lambda ended: ended == wanted)

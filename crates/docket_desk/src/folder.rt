@@ -2,7 +2,7 @@
 ghost use Rattle.std.specs.Prelude.{◌<◌, ◌≤◌, length, IfOk};
 
 use desk_program::{Desk, DeskFault, file_fault, open_file};
-use durable_journal::entries_in;
+use durable_journal::{JournalFault, entries_in};
 use sqlite_disk::Memory;
 use sqlite_std_file::{FileFrom, Wary};
 use std::fs;
@@ -92,6 +92,16 @@ pub fn entries_beside(rt: &HostRuntime, folder: &str) -> Result<Vec<Vec<u8>>, De
     Ok(entries_in(rt.alloc(), &bytes)?)
 }
 
+// The fault of a desk on a disk in memory, which fails only for want of memory.
+fn fault_in_memory(fault: DeskFault) -> DeskFault {
+    match fault {
+        DeskFault::Journal(JournalFault::Read) => DeskFault::OutOfMemory,
+        DeskFault::Journal(JournalFault::Write) => DeskFault::OutOfMemory,
+        DeskFault::Journal(JournalFault::Sync) => DeskFault::OutOfMemory,
+        _ => fault,
+    }
+}
+
 /// Opens the docket of a folder on a copy of its journal in memory, beside a program that may append to it, as above.
 pub fn copied_beside(rt: &HostRuntime, folder: &str) -> Result<Desk<Memory>, DeskFault> {
     let name = journal_name(rt, folder)?;
@@ -100,11 +110,13 @@ pub fn copied_beside(rt: &HostRuntime, folder: &str) -> Result<Desk<Memory>, Des
     for _ in 0..TRIES {
         match Desk::copied(rt.alloc(), Memory::new(rt.alloc()), &bytes) {
             Ok(desk) => return Ok(desk),
-            Err((fault, _)) => read_again(rt, name.as_str(), &mut bytes, fault)?,
+            Err((fault, _)) => {
+                read_again(rt, name.as_str(), &mut bytes, fault_in_memory(fault))?
+            }
         }
     }
     match Desk::copied(rt.alloc(), Memory::new(rt.alloc()), &bytes) {
         Ok(desk) => Ok(desk),
-        Err((fault, _)) => Err(fault),
+        Err((fault, _)) => Err(fault_in_memory(fault)),
     }
 }
