@@ -17,8 +17,8 @@ use Rattle.page_markup.specs.declared.tag.Tag.TheVariants as tag
 use Rattle.page_markup.specs.Words.{IsMarkup, element, escaped, text_in}
 use Rattle.page_markup.specs.Elements.IsMarkup.{nothing, text, inside, after}
 use Rattle.calendar_texts.specs.Words.{is_day_of, whole_day}
-use Rattle.calendar_page.specs.declared.explained.ExplainedDeadline.{ExplainedDeadline}
-use Rattle.calendar_page.specs.declared.explained.ExplainedSheet.{ExplainedSheet}
+use Rattle.explained_sheets.specs.declared.explained.ExplainedDeadline.{ExplainedDeadline}
+use Rattle.explained_sheets.specs.declared.explained.ExplainedSheet.{ExplainedSheet}
 use Rattle.calendar_page.specs.Cases.{case_part, case_parts, cases_part, deadline_heads, deadline_row, deadline_rows, deadline_table, hearing_cell, motion_heads, motion_row, motion_table, period_cell, reasons_cell}
 use Rattle.calendar_page.specs.Due.{day_row_if_new, due_heads, due_part, due_row, due_rows, due_table}
 use Rattle.calendar_page.specs.Judges.{booking_heads, booking_row, booking_rows, is_week_of, judge_part, judge_parts, judges_part, week_name, week_row_if_new}
