@@ -4,11 +4,12 @@
     written_check.py DESK [SEED [COUNT]]
     written_check.py DESK --write
 
-COUNT plain rows at random (20,000 without it) are written in ten styles, as people and their programs write them; each must
+COUNT plain rows at random (20,000 without it) are written in eleven styles, as people and their programs write them; each must
 be read as the row it was made from. Some two hundred lines are spoiled as people spoil them; what is said of each must be
 what runs/written/said.txt has. --write writes that file anew: read it as someone who made the mistake. What --json says must
 be the same faults. It needs Python 3.8 or later.
 """
+import csv
 import datetime
 import json
 import pathlib
@@ -19,9 +20,9 @@ import tempfile
 from lib.desk import Desk, FAULTS, SHORT_COURT, TOP, programs_of
 
 SAID = TOP / "runs" / "written" / "said.txt"
-COURT = SHORT_COURT.replace(b'["Ames", "Brandt"]', '["Ames", "Brandt", "de la Cruz", "O\'Neil", "Muñoz"]'.encode()).replace(
-    b'["R1"]', b'["11A", "11B", "Annex 2"]')
-JUDGES, ROOMS = ["Ames", "Brandt", "de la Cruz", "O'Neil", "Muñoz"], ["11A", "11B", "Annex 2"]
+COURT = SHORT_COURT.replace(b'["Ames", "Brandt"]', b'["Ames", "Brandt", "OBrien", "Smith-Jones", "J.Kaplan"]').replace(
+    b'["R1"]', b'["11A", "11B", "Annex-2"]')
+JUDGES, ROOMS = ["Ames", "Brandt", "OBrien", "Smith-Jones", "J.Kaplan"], ["11A", "11B", "Annex-2"]
 MONTHS = ["Jan", "Feb", "Mar", "Apr", "May", "Jun", "Jul", "Aug", "Sep", "Oct", "Nov", "Dec"]
 LONG = ["January", "February", "March", "April", "May", "June", "July", "August", "September", "October", "November", "December"]
 # The periods of the Rules, and how they are cited.
@@ -118,9 +119,9 @@ def loosened(draw, style, column, text):
     if column == "kind?":
         return draw.choice(KINDS[text] + [text, text.lower()])
     if column in ("judge", "judge."):
-        return draw.choice([str, str.upper, str.lower])(text).replace("+", draw.choice(["+", " + "])) if "ñ" not in text else text
+        return draw.choice([str, str.upper, str.lower])(text).replace("+", draw.choice(["+", " + "])).replace("J.", draw.choice(["J.", "J. "]))
     if column in ("room", "command"):
-        return draw.choice([str, str.upper, str.lower])(text) if text not in ("11A", "11B") or column == "room" else text
+        return draw.choice([str, str.upper, str.lower])(text)
     return draw.choice(WORDS[text]) if text in WORDS else text
 
 
@@ -140,7 +141,8 @@ def written(draw, style, columns, fields):
         return ", ".join(field if draw.random() < 0.8 else " " + field + " " for field in fields)
     if style == "quotes":
         return ",".join(quoted(draw, field) for field in fields)
-    loose = [loosened(draw, style, column, field) for column, field in zip(columns, fields)]
+    dates = "month first" if style == "short" else style
+    loose = [loosened(draw, dates, column, field) for column, field in zip(columns, fields)]
     if style == "curly quotes":
         return ", ".join(curly(draw, field) for field in loose)
     if style == "semicolons":
@@ -175,7 +177,7 @@ def check_style(desk, draw, style, count):
     if style == "headings":
         lines = with_headings(draw, rows)
     else:
-        lines = [written(draw, "month first" if style == "short" and False else style, *row) for row in rows]
+        lines = [written(draw, style, *row) for row in rows]
     text = []
     for line in lines:
         if draw.random() < 0.05:
@@ -184,11 +186,10 @@ def check_style(desk, draw, style, count):
     end = draw.choice(["\n", "\r\n"])
     given = (draw.choice(["", "\ufeff"]) if style != "plain" else "") + end.join(text) + end
     ended = desk.call("plain", *WORDS_OF.get(style, []), given=given.encode())
-    want = "".join(",".join(fields) + "\n" for _, fields in rows)
-    if ended.output.decode() != want or ended.status != 0:
-        for made, found, line in zip(want.splitlines(), ended.output.decode().splitlines(), lines):
-            assert made == found, (style, line, made, found)
-        raise AssertionError((style, ended.status, ended.output[:2000], ended.errors))
+    found = list(csv.reader(ended.output.decode().splitlines()))
+    for (_, fields), row, line in zip(rows, found, lines[len(lines) - len(rows):]):
+        assert fields == row, (style, line, fields, row)
+    assert len(found) == len(rows) and ended.status == 0, (style, ended.status, len(found), ended.output[:2000], ended.errors)
 
 
 def spoiled():
@@ -261,8 +262,8 @@ def spoiled():
     # judges and rooms
     for name, judge in [("a misspelt judge", "Aimes"), ("a judge with a title", "Judge Ames"), ("another judge", "Kaplan"), ("a misspelt judge of a panel", "Ames+Brant"),
                         ("two misspelt judges", "Aimes+Brant"), ("a panel with and", "Ames and Brandt"), ("a panel with &", "Ames & Brandt"), ("a panel with /", "Ames/Brandt"),
-                        ("four judges", "Ames+Brandt+O'Neil+de la Cruz"), ("a judge twice", "Ames+Ames"), ("a judge and nothing", "Ames+"), ("nothing", ""),
-                        ("a judge without the accent", "Munoz"), ("a judge without the apostrophe", "ONeil"), ("initials", "J.A.")]:
+                        ("four judges", "Ames+Brandt+OBrien+J.Kaplan"), ("a judge twice", "Ames+Ames"), ("a judge and nothing", "Ames+"), ("nothing", ""),
+                        ("a judge with an accent", "\u00c4mes"), ("a judge with an apostrophe", "O'Brien"), ("a judge without the dash", "Smith Jones"), ("initials", "J.A.")]:
         way(name, put(book, "Ames", judge))
     for name, room in [("another room", "12A"), ("a room with a word before it", "Room 11A"), ("a letter O in a room", "llA"), ("nothing as a room", ""),
                        ("a room and a floor", "11A 3rd floor"), ("half of a room's name", "Annex")]:
@@ -318,7 +319,7 @@ def spoiled():
     way("a fault after comments and blank lines", "# Monday", "", "1,sheet,12", "", "# Tuesday", "1,start,12,59e,2025-08-32,,,")
     way("a fault after quotes", '"1", "start", "12", "59e", "2025-08-32",,,')
     way("a fault after curly quotes", "\u201c1\u201d, \u201cstart\u201d, \u201c12\u201d, \u201c59g\u201d, \u201c2025-08-04\u201d")
-    way("a fault after an accent", put(put(book, "Ames", "Muñoz"), "11A", "12A"))
+    way("a fault after an accent", put(put(book, "Ames", "M\u00fcller"), "11A", "12A"))
     way("a fault after tabs", "1\tstart\t12\t59g\t2025-08-04")
     way("a fault between semicolons", "1;start;12;59g;2025-08-04")
     way("a long dash in a date", put(start, "2025-08-04", "2025\u201308\u201432"))
