@@ -6,6 +6,9 @@ use anyhow::Result;
 use durable_journal::{JournalFault, entries_in};
 use std::alloc::Global;
 
+// A shut latch.
+const SHUT: u8 = 45;
+
 /// Changes each byte of a whole journal's file in turn, to a shut latch, and looks at what is read then. It must be a damaged
 /// entry but in one place: the latch before the last batch, without which the file is what a crash leaves before that batch
 /// is published. Only the first entries may be read then.
@@ -15,16 +18,22 @@ pub fn check_damage(
     file: &[u8],
     tally: &mut Tally,
 ) -> Result<()> {
-    let mut bytes = Vec::from_slice(alloc, file)?;
-    for place in 0..bytes.len() {
-        let byte = bytes[place];
-        if byte != 45 {
-            bytes[place] = 45;
+    for (place, byte) in file.iter().enumerate() {
+        if *byte != SHUT {
+            let bytes = changed(alloc, file, place)?;
             check_read(alloc, expected, &bytes, place, tally)?;
-            bytes[place] = byte;
         }
     }
     Ok(())
+}
+
+// The file with a shut latch at this place.
+fn changed(alloc: Global, file: &[u8], at: usize) -> Result<Vec<u8>> {
+    let mut bytes = Vec::new(alloc);
+    for (place, byte) in file.iter().enumerate() {
+        bytes.push(if place == at { SHUT } else { *byte })?;
+    }
+    Ok(bytes)
 }
 
 // Looks at what is read of a file whose byte at this place was changed.
