@@ -54,13 +54,14 @@ fn for_date(alloc: Global, order: Option<DateOrder>, found: &str) -> Result<Stri
         }
     }
     let bytes = found.as_bytes();
-    if has_year_first(bytes) && bytes.len() > 8 {
+    let is_year_first = has_year_first(bytes);
+    if is_year_first && bytes.len() > 8 && bytes.len() <= 10 {
         return String::from_str(
             alloc,
             "the calendar has no such day, or its year isn't one from 1900 to 2199",
         );
     }
-    if has_short_year(bytes) {
+    if has_short_year(bytes) && !is_year_first && bytes.len() <= 9 {
         return String::from_str(alloc, "write the year with four digits");
     }
     Ok(String::new(alloc))
