@@ -7,7 +7,7 @@ ghost use Rattle.clap.specs.Walk.{texts};
 ghost use Rattle.clap.specs.Words.{app_of, rule_of, subcommand_rows_of, takes, with_subcommand};
 ghost use Rattle.office_options.specs.Words.{IsAnswerFor};
 ghost use Rattle.calendar_program.specs.Asked.{IsAsked, IsAskedBy};
-ghost use Rattle.calendar_program.specs.CommandLine.{case_rule, choosing_shape, command_line, day_rule, ics_shape, judge_rule, stamp_rule, week_shape};
+ghost use Rattle.calendar_program.specs.CommandLine.{bare_command, case_rule, choosing_shape, command_line, day_rule, ics_shape, judge_rule, stamp_rule, week_shape};
 
 use crate::asked::{Asked, asked_by};
 use clap::{Arg, ArgAction, ArgMatches, Command};
@@ -171,17 +171,23 @@ fn with_sql<'a>(alloc: Global, command: Command<'a>) -> Result<Command<'a>, Allo
     Ok(whole)
 }
 
-/// The command line's definition, for one reading of words: a subcommand for each format.
-fn command<'a>(alloc: Global) -> Result<Command<'a>, AllocError>
-    ensures { IfOk result (λ command. app_of command ≡ command_line) }
+/// The command line without its subcommands.
+fn bare<'a>(alloc: Global) -> Command<'a>
+    ensures { app_of result ≡ bare_command }
 {
-    let bare = Command::new(alloc, "court_calendar")
+    Command::new(alloc, "court_calendar")
         .no_binary_name(true)
         .version("0.1.0")
         .about(ABOUT)
         .after_help(FORMATS)
-        .subcommand_required(true);
-    let due = with_choosing(alloc, bare, "due", ABOUT_DUE)?;
+        .subcommand_required(true)
+}
+
+/// The command line's definition, for one reading of words: a subcommand for each format.
+fn command<'a>(alloc: Global) -> Result<Command<'a>, AllocError>
+    ensures { IfOk result (λ command. app_of command ≡ command_line) }
+{
+    let due = with_choosing(alloc, bare(alloc), "due", ABOUT_DUE)?;
     let week = with_week(alloc, due)?;
     let page = with_choosing(alloc, week, "page", ABOUT_PAGE)?;
     let ics = with_ics(alloc, page)?;

@@ -1,4 +1,4 @@
-use Rattle.std.proofs.Common.{Result, subst}
+use Rattle.std.proofs.Common.{◌≡◌, Result, subst}
 use Rattle.std.specs.Prelude.{IfOk, MatchResult}
 use Rattle.calendar_program.specs.declared.chosen.Chosen.{Chosen}
 use Rattle.calendar_program.specs.declared.chosen.Unknown.{Unknown}
