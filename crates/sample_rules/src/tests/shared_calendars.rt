@@ -10,9 +10,10 @@ use std::test::Fail;
 /// How many bookings the larger calendar has: more than are held without blocks.
 const MANY: u32 = 200;
 
-/// The booking of a case on a day of some three years, on which it alone begins at its slot.
+/// The booking of a case, of which there are few, on a day of some three years.
 fn booking(rt: &impl Abort, case: u32) -> Booking {
     let first = day(rt, "2023-01-02").number();
+    assert!(rt; case < 1000);
     let on = Day::new(first + (case * 37 % 1000) as i32).expect(rt, "a day");
     Booking {
         case,
