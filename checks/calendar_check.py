@@ -262,7 +262,7 @@ def refuses_hostile_names(calendar, clerk):
         if found != other or found[0] != 2 or found[1]:
             return "the name {} isn't refused".format(name)
     for name in LONG:
-        found = ran(calendar, ["page", "--judge", name], court.format(name, name, name, name).encode())
+        found = ran(calendar, ["page", "--judge=" + name], court.format(name, name, name, name).encode())
         if found[0] != 0 or faults_of(found[1]) or parts_of(found[1]).judges[0][1][0][1][3].text() != name:
             return "the name {} isn't shown".format(name)
     return None

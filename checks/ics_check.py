@@ -64,7 +64,7 @@ class Clock:
         fixed = re.fullmatch(r"([+-])(\d\d):(\d\d)", zone)
         if fixed:
             sign, hours, minutes = fixed.groups()
-            zone = "<X>{}{}:{}".format("-" if sign == "+" else "+", hours, minutes)
+            zone = "<XXX>{}{}:{}".format("-" if sign == "+" else "+", hours, minutes)
         self.zone = zone
 
     def offset(self, instant):
