@@ -38,9 +38,9 @@ second_far_from today (Some event) = far_from today event
 second_far_from today None = []
 
 -- the same of both events, where a day counts as today and no act is recorded
-abbrev pub far_if_open : (today : Option ℤ) → (done : Option Filing) → DeadlineRowView → List ℕ
+abbrev pub far_if_open : (today : Option ℤ) → (act : Option Filing) → DeadlineRowView → List ℕ
 far_if_open (Some today) None row = far_from today row.event.day ++ second_far_from today row.second
-far_if_open today done row = []
+far_if_open today act row = []
 
 -- the period runs from a day before the one from which it is right as it is applied
 abbrev pub before_rule : (start right_from : ℤ) → List ℕ
@@ -72,10 +72,10 @@ abbrev pub end_notes : ClockView → DeadlineRowView → Shown → List ℕ
 end_notes clock row shown = after_event (direction_of row.period) row.event.day (end_day clock shown)
 
 -- an act before the day from which a period runs that is counted after its event
-abbrev pub early_act : Direction → (start : ℤ) → (done : Option Filing) → List ℕ
+abbrev pub early_act : Direction → (start : ℤ) → (act : Option Filing) → List ℕ
 early_act After start (Some filing) =
     if int_lt filing.day start then note (Some filing.day) (codes "the act was done before its event") else []
-early_act direction start done = []
+early_act direction start act = []
 
 abbrev pub act_notes : DeadlineRowView → List ℕ
 act_notes row = early_act (direction_of row.period) (runs_from row) row.filed
