@@ -12,8 +12,9 @@ half of the rows are bookings, each later than all before it, or anywhere betwee
 
 Then rows are dealt to 1, 2 and 4 clerks in turn; 'of one' is the time as a part of that which one clerk takes. With more
 than one clerk each works in a thread of its own, and each command copies what it changes. 'disjoint' has hearings in
-cases and before judges of each clerk's own, 'contended' the hearings of all before one judge, and 'mostly reading' asks
-for sheets and the ends of periods, with one command in 20 rows.
+cases and before judges of each clerk's own, 'contended' the hearings of all before one judge, where each hearing is
+cancelled again, 'growing' the hearings of all before one judge in one room, of which few are cancelled, and 'mostly
+reading' asks for sheets and the ends of periods, with one command in 20 rows.
 
 Each input is run once. Seconds are by the wall clock, with about a millisecond for the start of a shell; a megabyte is
 1,000,000 bytes. For a run that doesn't end with status 0, the first line that it wrote to standard error is shown and no
@@ -39,6 +40,9 @@ RUNS = (
 SIZES = (1000, 10000, MOST_ROWS)
 # How many clerks there are in turn.
 CLERKS = (1, 2, 4)
+# The same where calendars grow.
+GROWING_SIZES = (3000, 10000, 30000, MOST_ROWS)
+GROWING_CLERKS = (1, 4)
 
 LINE = "{:<14}{:<10}{:>9}{:>10}{:>13}{:>9}  {}"
 CLERKS_LINE = "{:<16}{:>7}{:>9}{:>10}{:>8}{:>13}{:>9}  {}"
@@ -107,9 +111,10 @@ def measure_clerks(program, folder):
     path, errors = os.path.join(folder, "rows"), os.path.join(folder, "errors")
     print(CLERKS_LINE.format("kind", "clerks", "rows", "seconds", "of one", "rows/second", "peak MB", "status"))
     for kind in CLERK_KINDS:
-        for count in SIZES:
+        sizes, numbers = (GROWING_SIZES, GROWING_CLERKS) if kind == "growing" else (SIZES, CLERKS)
+        for count in sizes:
             alone = None
-            for clerks in CLERKS:
+            for clerks in numbers:
                 write_input(path, court, of_clerks(kind, Draw(random.Random(SEED), court), clerks, count))
                 command = [program, "--clerks", str(clerks), "--journal", "1000000"]
                 status, seconds, peak = measure(command, path, errors)

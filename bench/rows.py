@@ -196,6 +196,19 @@ def contended(draw, part):
     return hearings_of(draw, part, draw.judges[0])
 
 
+def growing(draw, part):
+    """Hearings that are set before one judge, in one room, on random days, in a quarter of the cases: few are cancelled."""
+    source = draw.source
+    for case in range(part + 1, CASES + 1, PARTS):
+        yield "open,{},{}".format(case, FIRST_DAY)
+        for motion in range(1, 65):
+            yield "motion,{},{},exparte".format(case, FIRST_DAY)
+            place = draw.judges[0], draw.rooms[0], draw.day(), source.choice(HALF_HOURS), source.choice(("1", "2", "3q"))
+            yield "book,{},{},{},{},{},{},{},{}".format(case, motion, *place, FIRST_DAY)
+            if source.random() < 1 / 32:
+                yield "cancel,{},{}".format(case, motion)
+
+
 def mostly_reading(draw, part):
     """Sheets of a clerk's own cases and ends of periods, and a command in every 20 rows."""
     for number in itertools.count():
@@ -210,7 +223,7 @@ def mostly_reading(draw, part):
 
 # Of how many parts of the docket the rows of several clerks are.
 PARTS = 4
-CLERK_KINDS = {"disjoint": disjoint, "contended": contended, "mostly reading": mostly_reading}
+CLERK_KINDS = {"disjoint": disjoint, "contended": contended, "growing": growing, "mostly reading": mostly_reading}
 
 
 def names_in(court, key):

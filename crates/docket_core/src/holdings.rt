@@ -12,7 +12,7 @@ use crate::views::view_of;
 use court_days::{Court, Days};
 use docket_decisions::{DocketRules, Sight, has_case};
 use docket_rows::{CaseRecord, LAST_CASE, Query, View};
-use hearing_slots::Calendar;
+use hearing_slots::{Calendar, CalendarRef};
 use std::alloc::{AllocError, Global};
 use std::marker::Model;
 
@@ -96,12 +96,12 @@ impl Sight for Holdings {
         case_at(&self.cases, case as usize)
     }
 
-    fn judge(&self, judge: u8) -> Option<&Calendar> {
-        calendar_at(&self.judges, usize::from(judge))
+    fn judge(&self, judge: u8) -> CalendarRef<'_> {
+        CalendarRef::in_place(calendar_at(&self.judges, usize::from(judge)))
     }
 
-    fn room(&self, room: u8) -> Option<&Calendar> {
-        calendar_at(&self.rooms, usize::from(room))
+    fn room(&self, room: u8) -> CalendarRef<'_> {
+        CalendarRef::in_place(calendar_at(&self.rooms, usize::from(room)))
     }
 }
 

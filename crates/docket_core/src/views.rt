@@ -1,8 +1,7 @@
 //! What a query shows of a docket.
 mod sheet;
 
-ghost use Rattle.std.specs.Prelude.{◌≡◌, true, [], unwrap_or, option_copied, IfOk, IfErr};
-ghost use Rattle.hearing_slots.specs.Words.{on_day};
+ghost use Rattle.std.specs.Prelude.{◌≡◌, true, IfOk, IfErr};
 ghost use Rattle.docket_rows.specs.Words.{seen_by};
 ghost use Rattle.docket_rows.specs.declared.query.Query.TheVariants as query;
 ghost use Rattle.docket_core.specs.Memory.{view_takes_memory};
@@ -10,7 +9,6 @@ ghost use Rattle.docket_core.specs.Memory.{view_takes_memory};
 use court_clock::Day;
 use docket_decisions::{DocketRules, Sight, has_case, shown_at_start, start_refusal};
 use docket_rows::{Query, Refusal, View};
-use hearing_slots::{Bookings, Calendar};
 use rule_periods::{Event, Period};
 use rule6::ServiceKind;
 use sheet::sheet_of;
@@ -36,16 +34,6 @@ fn case_view<S: Sight>(
     }
 }
 
-/// The bookings of a calendar on the day. Where there is no calendar there are none.
-fn bookings_on(alloc: Global, calendar: Option<&Calendar>, day: Day) -> Result<Bookings, AllocError>
-    ensures { IfOk result (λ b. b ≡ on_day day (unwrap_or (option_copied calendar.entry) [])) }
-{
-    match calendar {
-        Some(calendar) => calendar.on_day(alloc, day),
-        None => Ok(Bookings::from_vec(Vec::new(alloc))),
-    }
-}
-
 /// The bookings of the judge on the day.
 #[tactic(auto, unfolding(docket_rows::specs::Words::seen_by, docket_rows::specs::Words::query_refusal))]
 fn day_view<S: Sight>(
@@ -64,7 +52,8 @@ fn day_view<S: Sight>(
     if !sight.days().covered(day) {
         return Ok(View::Refused(Refusal::BadDay));
     }
-    Ok(View::Bookings(bookings_on(alloc, sight.judge(judge), day)?))
+    let calendar = sight.judge(judge);
+    Ok(View::Bookings(calendar.on_day(alloc, day)?))
 }
 
 /// The end of the period.

@@ -3,7 +3,7 @@ mod calendars;
 mod cases;
 
 ghost use Rattle.std.specs.Prelude.{◌≡◌, true, None, IfOk, IfErr};
-ghost use Rattle.docket_rows.specs.Words.{refusal, outage_refusal, changed, days_written};
+ghost use Rattle.docket_rows.specs.Words.{refusal, outage_refusal, changed, days_written, parts_read};
 ghost use Rattle.court_days.specs.Words.{add_outage};
 ghost use Rattle.docket_decisions.specs.Words.{takes_memory};
 
@@ -11,7 +11,7 @@ use calendars::{judge_written, room_written};
 use cases::case_written;
 use court_clock::Day;
 use court_days::{Days, Outage};
-use docket_decisions::{DocketRules, Sight};
+use docket_decisions::{DocketRules, Seen, Sight};
 use docket_rows::{Command, PartId, PartValue, SharedCase};
 use std::alloc::{AllocError, Global};
 
@@ -55,30 +55,30 @@ pub(crate) fn days_written<S: Sight>(
 }
 
 /// What the command writes into the part, if it touches it.
-pub(crate) fn changed<S: Sight>(
+pub(crate) fn changed(
     alloc: Global,
     rules: &DocketRules,
-    sight: &S,
+    seen: &Seen<'_>,
     command: &Command,
     part: PartId,
 ) -> Result<Option<PartValue>, AllocError>
-    requires { refusal rules.now (S.parts sight.now) command.now ≡ None }
-    ensures { IfOk result (λ value. value ≡ changed (S.parts sight.now) command.now part) }
+    requires { refusal rules.now (parts_read seen.now.rules.now seen.now.reads.now) command.now ≡ None }
+    ensures { IfOk result (λ value. value ≡ changed (parts_read seen.now.rules.now seen.now.reads.now) command.now part) }
 {
     match part {
-        PartId::Court => match days_written(alloc, rules, sight, command)? {
+        PartId::Court => match days_written(alloc, rules, seen, command)? {
             Some(days) => Ok(Some(PartValue::Days(days))),
             None => Ok(None),
         },
-        PartId::Judge(judge) => match judge_written(alloc, sight, command, judge)? {
+        PartId::Judge(judge) => match judge_written(alloc, seen, command, judge)? {
             Some(calendar) => Ok(Some(PartValue::Calendar(calendar))),
             None => Ok(None),
         },
-        PartId::Room(room) => match room_written(alloc, sight, command, room)? {
+        PartId::Room(room) => match room_written(alloc, seen, command, room)? {
             Some(calendar) => Ok(Some(PartValue::Calendar(calendar))),
             None => Ok(None),
         },
-        PartId::Case(case) => match case_written(alloc, sight, command, case)? {
+        PartId::Case(case) => match case_written(alloc, seen, command, case)? {
             Some(record) => Ok(Some(PartValue::Case(Some(SharedCase::new(alloc, record)?)))),
             None => Ok(None),
         },

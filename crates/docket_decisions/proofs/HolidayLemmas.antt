@@ -1,15 +1,29 @@
 -- The least of some bookings.
-use Rattle.std.proofs.Common.{◌≡◌, ℕ, ◌+◌, ◌-◌, ◌<◌, ◌≤◌, Bool, List, [], ◌∷◌, ◌++◌, filter, flat_map, Option, Some, refl, ap, sym, ◌∙◌, arith, add-one}
+use Rattle.std.proofs.Common.{◌≡◌, ℕ, ◌+◌, ◌-◌, ◌<◌, ◌≤◌, Bool, List, [], ◌∷◌, ◌++◌, drop, filter, flat_map, get_or, length, take, Option, Some, refl, ap, sym, ◌∙◌, arith, add-one}
 use Rattle.std.specs.List.{range_with_len}
 use Rattle.std.specs.Option.{option_map_or}
+use Rattle.std.proofs.lemmas.List.{take_all}
 use Rattle.std.proofs.lemmas.List.Elements.{filter-append}
 use Rattle.hearing_slots.specs.declared.booking.Booking.{Booking}
+use Rattle.hearing_slots.specs.Words.{BlockView, all_in}
 use Rattle.docket_rows.specs.Words.{least, lesser}
 use Rattle.docket_decisions.specs.Holidays.{least_before}
 
 pub least_before-append : (xs ys : List Booking) (o : Option Booking) → least_before (xs ++ ys) o ≡ least_before xs (least_before ys o)
 least_before-append [] ys o = refl
 least_before-append (x ∷ xs) ys o = ap (λ r. Some (option_map_or (lesser x) r x)) (least_before-append xs ys o)
+
+-- the first of two lists of bookings that pass a test
+pub first_of_both : (p : Booking → Bool) (xs ys : List Booking) (o : Option Booking) → least_before (filter p (xs ++ ys)) o ≡ least_before (filter p xs) (least_before (filter p ys) o)
+first_of_both p xs ys o = ap (λ (bs : List Booking). least_before bs o) (filter-append p xs ys) ∙ least_before-append (filter p xs) (filter p ys) o
+
+-- the bookings of the first block, and those of the others
+pub first_block : (blocks : List BlockView) (b : BlockView) → 1 ≤ length blocks → b ≡ get_or blocks 0 b → b.bookings ++ all_in (take (length blocks - 1) (drop 1 blocks)) ≡ all_in blocks
+first_block [] b some here = absurd (omega (arith, some))
+first_block (x ∷ xs) b some here =
+    let rest : take (length (x ∷ xs) - 1) (drop 1 (x ∷ xs)) ≡ xs = take_all (length (x ∷ xs) - 1) xs (omega arith) in
+    ap (λ (y : BlockView). y.bookings ++ all_in (take (length (x ∷ xs) - 1) (drop 1 (x ∷ xs)))) here
+    ∙ ap (λ (bs : List BlockView). x.bookings ++ all_in bs) rest
 
 -- the least of some bookings and the least of the others
 pub least-append : (xs ys : List Booking) → least (xs ++ ys) ≡ least_before xs (least ys)

@@ -1,7 +1,8 @@
 //! Entering a holiday.
 
-ghost use Rattle.std.specs.Prelude.{◌≡◌, true, Some, [], filter, unwrap_or, option_copied, IfOk, IfErr};
+ghost use Rattle.std.specs.Prelude.{◌≡◌, true, Some, filter, IfOk, IfErr};
 ghost use Rattle.std.specs.Option.{option_map_or};
+ghost use Rattle.hearing_slots.specs.Words.{all_in, bookings_seen};
 ghost use Rattle.docket_rows.specs.Words.{lesser, comes_first, least, lacks_notice, all_booked, hearing_that_day, notice_lost, holiday_refusal};
 ghost use Rattle.docket_decisions.specs.Holidays.{least_before, sought_test};
 ghost use Rattle.docket_decisions.specs.Memory.{takes_memory};
@@ -13,7 +14,7 @@ use crate::sight::Sight;
 use court_clock::Day;
 use court_days::{Days, HolidayList};
 use docket_rows::{MOST_DATES, Refusal};
-use hearing_slots::{Booking, Calendar};
+use hearing_slots::{Block, Booking, CalendarRef, SharedCalendar};
 use std::alloc::{AllocError, Global};
 
 /// What hearings a holiday looks for.
@@ -79,13 +80,51 @@ fn least_in(
     least
 }
 
-/// The bookings of a calendar. Where there is no calendar there are none.
-fn bookings_of(calendar: Option<&Calendar>) -> &[Booking]
-    ensures { result.now ≡ unwrap_or (option_copied calendar.entry) [] }
+/// The same of the bookings of some blocks.
+fn least_in_blocks(
+    blocks: &[Block],
+    sought: &Sought,
+    days: &Days,
+    other: Option<Booking>,
+) -> Option<Booking>
+    ensures { result ≡ least_before (filter (sought_test sought.now days.now) (all_in blocks.now)) other }
+{
+    match blocks {
+        [] => other,
+        [block, rest @ ..] => {
+            let least = least_in_blocks(rest, sought, days, other);
+            least_in(block.bookings(), sought, days, least)
+        }
+    }
+}
+
+/// The same of the bookings of a shared calendar.
+fn least_in_shared(
+    calendar: &SharedCalendar,
+    sought: &Sought,
+    days: &Days,
+    other: Option<Booking>,
+) -> Option<Booking>
+    ensures { result ≡ least_before (filter (sought_test sought.now days.now) calendar.now) other }
+{
+    let (blocks, others) = calendar.parts();
+    let least = least_in(others, sought, days, other);
+    least_in_blocks(blocks, sought, days, least)
+}
+
+/// The same of the bookings of a calendar.
+fn least_in_calendar(
+    calendar: &CalendarRef<'_>,
+    sought: &Sought,
+    days: &Days,
+    other: Option<Booking>,
+) -> Option<Booking>
+    ensures { result ≡ least_before (filter (sought_test sought.now days.now) (bookings_seen calendar.now)) other }
 {
     match calendar {
-        Some(calendar) => calendar.all(),
-        None => &[],
+        CalendarRef::Absent => other,
+        CalendarRef::InPlace(calendar) => least_in(calendar.all(), sought, days, other),
+        CalendarRef::Shared(calendar) => least_in_shared(calendar, sought, days, other),
     }
 }
 
@@ -102,7 +141,8 @@ fn least_booked<S: Sight>(
     let mut judge = rules.judges();
     while judge > 0 {
         judge -= 1;
-        least = least_in(bookings_of(sight.judge(judge)), sought, days, least);
+        let calendar = sight.judge(judge);
+        least = least_in_calendar(&calendar, sought, days, least);
     }
     least
 }

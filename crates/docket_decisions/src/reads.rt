@@ -1,14 +1,14 @@
 //! The parts of a docket as they were read.
 
-ghost use Rattle.std.specs.Prelude.{◌≡◌, [], option_copied, option_and_then};
-ghost use Rattle.docket_rows.specs.Words.{same_part, read_of, days_in, calendar_in};
+ghost use Rattle.std.specs.Prelude.{◌≡◌, [], option_copied, option_and_then, unwrap_or};
+ghost use Rattle.docket_rows.specs.Words.{same_part, read_of, days_in, calendar_in, parts_read};
 
 use crate::rules::DocketRules;
 use crate::sight::Sight;
 use crate::values::{calendar_of, case_of, days_of};
 use court_days::Days;
 use docket_rows::{CaseRecord, PartId, PartValue};
-use hearing_slots::Calendar;
+use hearing_slots::{CalendarRef, SharedCalendar};
 
 /// What was read of a docket, in a court of these rules. Where the court's days weren't read, they are those of its
 /// file. A calendar that wasn't read has no bookings, and a case that wasn't read isn't open. A value that isn't of its
@@ -28,6 +28,22 @@ impl<'a> Seen<'a> {
         ensures reads { result.reads.now ≡ reads.now }
     {
         Seen { rules, reads }
+    }
+
+    /// The calendar of the judge of that number, as it was read; None has no bookings.
+    #[tactic(auto, unfolding(docket_rows::specs::Words::parts_read))]
+    pub fn calendar_of_judge(&self, judge: u8) -> Option<&SharedCalendar>
+        ensures { unwrap_or (option_copied result) [] ≡ (parts_read self.now.rules.now self.now.reads.now).judge judge }
+    {
+        calendar_read(self.reads, PartId::Judge(judge))
+    }
+
+    /// The calendar of the room of that number, as it was read; None has no bookings.
+    #[tactic(auto, unfolding(docket_rows::specs::Words::parts_read))]
+    pub fn calendar_of_room(&self, room: u8) -> Option<&SharedCalendar>
+        ensures { unwrap_or (option_copied result) [] ≡ (parts_read self.now.rules.now self.now.reads.now).room room }
+    {
+        calendar_read(self.reads, PartId::Room(room))
     }
 }
 
@@ -52,14 +68,12 @@ impl<'a> Sight for Seen<'a> {
         }
     }
 
-    #[tactic(auto, unfolding(docket_rows::specs::Words::parts_read))]
-    fn judge(&self, judge: u8) -> Option<&Calendar> {
-        calendar_read(self.reads, PartId::Judge(judge))
+    fn judge(&self, judge: u8) -> CalendarRef<'_> {
+        CalendarRef::shared(self.calendar_of_judge(judge))
     }
 
-    #[tactic(auto, unfolding(docket_rows::specs::Words::parts_read))]
-    fn room(&self, room: u8) -> Option<&Calendar> {
-        calendar_read(self.reads, PartId::Room(room))
+    fn room(&self, room: u8) -> CalendarRef<'_> {
+        CalendarRef::shared(self.calendar_of_room(room))
     }
 }
 
@@ -102,7 +116,7 @@ fn days_read(reads: &[(PartId, PartValue)]) -> Option<&Days>
 }
 
 /// The calendar of a judge or a room, if it was read.
-fn calendar_read(reads: &[(PartId, PartValue)], part: PartId) -> Option<&Calendar>
+fn calendar_read(reads: &[(PartId, PartValue)], part: PartId) -> Option<&SharedCalendar>
     ensures { option_copied result ≡ option_and_then calendar_in (read_of reads.now part) }
 {
     match value_read(reads, part) {

@@ -5,7 +5,7 @@ ghost use Rattle.docket_rows.specs.Words.{calendar_in, case_in, days_in};
 
 use court_days::Days;
 use docket_rows::{CaseRecord, PartValue};
-use hearing_slots::Calendar;
+use hearing_slots::SharedCalendar;
 
 /// The days that the value is; none where it is something else.
 pub fn days_of(value: &PartValue) -> Option<&Days>
@@ -19,7 +19,7 @@ pub fn days_of(value: &PartValue) -> Option<&Days>
 }
 
 /// The calendar that the value is; none where it is something else.
-pub fn calendar_of(value: &PartValue) -> Option<&Calendar>
+pub fn calendar_of(value: &PartValue) -> Option<&SharedCalendar>
     ensures { option_copied result ≡ calendar_in value.now }
 {
     match value {

@@ -4,8 +4,8 @@ ghost use Rattle.std.specs.Prelude.{◌≡◌, IfOk};
 
 use crate::cases::SharedCase;
 use court_days::Days;
-use hearing_slots::Calendar;
-use std::alloc::{AllocError, Global};
+use hearing_slots::SharedCalendar;
+use std::alloc::AllocError;
 
 /// The name of a part.
 #[derive(Clone, Copy, Debug, PartialEq, Eq, Hash)]
@@ -26,20 +26,19 @@ pub enum PartValue {
     /// The days of the court.
     Days(Days),
     /// The calendar of a judge or a room.
-    Calendar(Calendar),
+    Calendar(SharedCalendar),
     /// A case; none where it isn't open.
     Case(Option<SharedCase>),
 }
 
 impl PartValue {
-    /// The same value. A copy shares what it can: only a calendar that was changed in place copies its bookings. `Err`
-    /// says that memory ran out, or that there are as many copies as can be counted.
-    pub fn copy(&self, alloc: Global) -> Result<PartValue, AllocError>
+    /// The same value. A copy shares all that it holds. `Err` says that there are as many copies as can be counted.
+    pub fn copy(&self) -> Result<PartValue, AllocError>
         ensures { IfOk result (λ value. value ≡ self.now) }
     {
         match self {
             PartValue::Days(days) => Ok(PartValue::Days(days.copy()?)),
-            PartValue::Calendar(calendar) => Ok(PartValue::Calendar(calendar.copy(alloc)?)),
+            PartValue::Calendar(calendar) => Ok(PartValue::Calendar(calendar.copy()?)),
             PartValue::Case(Some(case)) => Ok(PartValue::Case(Some(case.copy()?))),
             PartValue::Case(None) => Ok(PartValue::Case(None)),
         }

@@ -1,64 +1,16 @@
 -- The entries of the days by day: where a day's entry is, and what a change of it leaves.
-use Rattle.std.proofs.Common.{◌≡◌, ℕ, suc, ◌+◌, ◌<◌, ◌≤◌, ℤ, ◌<ℤ◌, int_lt, true, false, List, ◌∷◌, ◌++◌, length, get_or, set, take, drop, refl, sym, ap, ◌∙◌, subst, arith, inl, inr, drop-cons, take-append-drop}
+use Rattle.std.proofs.Common.{◌≡◌, ℕ, suc, ◌+◌, ◌<◌, ◌≤◌, ℤ, ◌<ℤ◌, true, false, List, ◌∷◌, ◌++◌, length, get_or, set, take, drop, refl, sym, ap, ◌∙◌, subst, arith, inl, inr, drop-cons, take-append-drop}
 use Rattle.std.specs.List.{All, AllWithin, insert, remove}
-use Rattle.std.specs.List.Sorted.{IsPartitionPoint, IsPartitionedBy}
 use Rattle.std.proofs.lemmas.Int.{ints}
 use Rattle.std.proofs.lemmas.Bool.{cases_eq}
-use Rattle.std.proofs.lemmas.List.{get_or_default, get_or-set_same, get_or-set_other, length-set, set_split}
+use Rattle.std.proofs.lemmas.List.{get_or-set_same, get_or-set_other, length-set, set_split}
 use Rattle.std.proofs.lemmas.List.Elements.{All-append, All-set, All-take, All-drop}
 use Rattle.std.proofs.lemmas.List.Quantifiers.{all_pairs_remove}
 use Rattle.hearing_slots.specs.declared.day_slots.DaySlots.{DaySlots}
 use Rattle.hearing_slots.specs.Slots.{has_day, taken_in, marked, AreMasks, MarksOnly, IsDayAt, IsGapForDay}
-use Rattle.hearing_slots.proofs.Filters.{All-front, All-back, parted}
+use Rattle.hearing_slots.proofs.Filters.{All-front, All-back}
 use Rattle.hearing_slots.proofs.Inserts.{All-insert, AllPairs-insert}
 use Rattle.hearing_slots.proofs.Finds.{find_absent, find_here, find_other}
-
--- a search for the first entry that is not of an earlier day ends at the place
-abbrev pub EndsSearch : ℤ → List DaySlots → ℕ → Type 0
-EndsSearch day days place = IsPartitionPoint (λ (x : DaySlots). int_lt x.day day ≡ true) (λ (x : DaySlots). int_lt x.day day ≡ false) days place
-
--- what lies before an earlier day is an earlier day
-earlier_too : (day : ℤ) (a b : DaySlots) → a.day <ℤ b.day → int_lt b.day day ≡ true → int_lt a.day day ≡ true
-earlier_too day a b before earlier = grind (arith, ints)
-
--- a search for the first entry that is not of an earlier day can be made by halves
-pub searchable : (day : ℤ) (days : List DaySlots) → AreMasks days → IsPartitionedBy (λ (x : DaySlots). int_lt x.day day) days
-searchable day days masks = parted (λ (x y : DaySlots). x.day <ℤ y.day) (λ (x : DaySlots). int_lt x.day day) days masks.rising (earlier_too day)
-
--- the entry at the place is that of the day
-pub day_found : (days : List DaySlots) (day : ℤ) (place : ℕ) (e : DaySlots) → AreMasks days → place < length days → EndsSearch day days place → (get_or days place e).day ≡ day → IsDayAt days day place
-day_found days day place e masks within ends same =
-    let here : (d : DaySlots) → (get_or days place d).day ≡ day = λ d. ap (λ (x : DaySlots). x.day) (get_or_default days place d e within) ∙ same in
-    record {
-      in_range = within;
-      before = λ k d low high. let earlier = ends.0 k d low high in omega (arith, ints, earlier);
-      here = here;
-      behind = λ k d low high. let less = masks.rising place k d (omega arith) high in omega (arith, ints, less, here d);
-    }
-
--- the search came to the end
-pub day_absent_at_end : (days : List DaySlots) (day : ℤ) (place : ℕ) → place ≡ length days → EndsSearch day days place → IsGapForDay days day place
-day_absent_at_end days day place end ends = record {
-  in_range = omega arith;
-  before = λ k d low high. let earlier = ends.0 k d low high in omega (arith, ints, earlier);
-  behind = λ k d low high. absurd (omega arith);
-}
-
--- the entry at the place is that of another day
-pub day_absent : (days : List DaySlots) (day : ℤ) (place : ℕ) (e : DaySlots) → AreMasks days → place < length days → EndsSearch day days place → ((get_or days place e).day ≡ day → ⊥) → IsGapForDay days day place
-day_absent days day place e masks within ends other =
-    let low : place ≤ place = omega arith in
-    let not_earlier = ends.1 place e low within in
-    let later : day <ℤ (get_or days place e).day = omega (arith, ints, not_earlier, other) in
-    let here : (d : DaySlots) → day <ℤ (get_or days place d).day = λ d. subst (λ (x : DaySlots). day <ℤ x.day) (sym (get_or_default days place d e within)) later in
-    record {
-      in_range = omega arith;
-      before = λ k d low high. let earlier = ends.0 k d low high in omega (arith, ints, earlier);
-      behind = λ k d low high. elim (cases_eq place k) [
-        | inl same ↦ subst (λ (n : ℕ). day <ℤ (get_or days n d).day) same (here d)
-        | inr differ ↦ let less = masks.rising place k d (omega (arith, differ)) high in omega (arith, ints, less, here d)
-      ];
-    }
 
 -- entries of other days
 not_of : (day : ℤ) (x : DaySlots) → (x.day ≡ day → ⊥) → has_day day x ≡ false

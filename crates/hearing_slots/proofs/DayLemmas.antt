@@ -17,7 +17,7 @@ use Rattle.hearing_slots.proofs.Order.{conflicts-on_day}
 use Rattle.hearing_slots.proofs.Conflicts.{IsConflict-from_conflicts}
 use Rattle.hearing_slots.proofs.SlotBits.{slots_apart, spans_meet, slots_none, none_from_each}
 
-not_on : (day : ℤ) (b : Booking) → (b.day ≡ day → ⊥) → is_on day b ≡ false
+pub not_on : (day : ℤ) (b : Booking) → (b.day ≡ day → ⊥) → is_on day b ≡ false
 not_on day b other = grind (arith, ints)
 
 on_own_day : (b : Booking) → is_on b.day b ≡ true
@@ -54,7 +54,7 @@ same_motion : (case motion : ℕ) (a b : Booking) → is_of case motion a ≡ tr
 same_motion case motion a b h k = grind arith
 
 -- all of a case and motion lies on the day of the one that is found
-of_one_day : (case motion : ℕ) (bookings : List Booking) (gone : Booking) → IsCalendar bookings → find (is_of case motion) bookings ≡ Some gone → All (λ b. is_of case motion b ≡ true → b.day ≡ gone.day) bookings
+pub of_one_day : (case motion : ℕ) (bookings : List Booking) (gone : Booking) → IsCalendar bookings → find (is_of case motion) bookings ≡ Some gone → All (λ b. is_of case motion b ≡ true → b.day ≡ gone.day) bookings
 of_one_day case motion bookings gone calendar h k d within same =
     let found = find-Some (is_of case motion) bookings gone h in
     let stands : get_or bookings found.place d ≡ gone = get_or_default bookings found.place d gone found.within ∙ found.stands in

@@ -4,6 +4,7 @@ pub mod Order
 pub mod CalendarLemmas
 pub mod Conflicts
 pub mod Finds
+pub mod Places
 pub mod DayEntries
 pub mod SlotBits
 pub mod DayLemmas
@@ -13,3 +14,7 @@ pub mod SameBookings
 pub mod InOrderLemmas
 pub mod CallerLemmas
 pub mod Removals
+pub mod InTurn
+pub mod BlockDays
+pub mod BlockLemmas
+pub mod DayNoteLemmas

@@ -1,10 +1,10 @@
 -- The slots of a day that are taken, as the bits of a number: bit s stands for slot s.
-use Rattle.std.specs.Prelude.{◌≡◌, ℕ, ◌+◌, ◌-◌, ◌^◌, ◌<◌, ◌≤◌, ℤ, ◌<ℤ◌, Bool, Option, Some, None, List, length, bit_or, All, AllPairs, find, fold}
+use Rattle.std.specs.Prelude.{◌≡◌, ℕ, ◌+◌, ◌-◌, ◌^◌, ◌<◌, ℤ, ◌<ℤ◌, Bool, Option, Some, None, List, bit_or, All, AllPairs, find, fold}
 use Rattle.std.specs.Ordering.{int_eq}
-use Rattle.std.specs.List.{AllWithin, HoldsAt}
 use Rattle.hearing_slots.specs.declared.booking.Booking.{Booking}
 use Rattle.hearing_slots.specs.declared.day_slots.DaySlots.{DaySlots}
 use Rattle.hearing_slots.specs.Calendar.{on_day}
+use Rattle.hearing_slots.specs.Places.{IsAt, IsGapAt}
 
 -- `count` slots from the first on
 abbrev pub slots_from : (first count : ℕ) → ℕ
@@ -48,14 +48,9 @@ pub record MarksOnly (old new : List DaySlots) (day : ℤ) (taken : ℕ) : Type 
   pub other_days : (q : ℤ) → (q ≡ day → ⊥) → marked q new ≡ marked q old
 
 -- the day's entry is at this place
-pub record IsDayAt (days : List DaySlots) (day : ℤ) (place : ℕ) : Type 0 where
-  pub in_range : place < length days
-  pub before : AllWithin (λ x. x.day <ℤ day) days 0 place
-  pub here : HoldsAt (λ x. x.day ≡ day) days place
-  pub behind : AllWithin (λ x. day <ℤ x.day) days (place + 1) (length days)
+abbrev pub IsDayAt : (days : List DaySlots) (day : ℤ) (place : ℕ) → Type 0
+IsDayAt days day place = IsAt (λ (x : DaySlots). x.day) days day place
 
 -- the day has no entry, which would go to the place
-pub record IsGapForDay (days : List DaySlots) (day : ℤ) (place : ℕ) : Type 0 where
-  pub in_range : place ≤ length days
-  pub before : AllWithin (λ x. x.day <ℤ day) days 0 place
-  pub behind : AllWithin (λ x. day <ℤ x.day) days place (length days)
+abbrev pub IsGapForDay : (days : List DaySlots) (day : ℤ) (place : ℕ) → Type 0
+IsGapForDay days day place = IsGapAt (λ (x : DaySlots). x.day) days day place

@@ -76,7 +76,7 @@ fn copy_writes(
 {
     let mut copies = Vec::new(alloc);
     for write in writes {
-        let value = write.1.copy(alloc)?;
+        let value = write.1.copy()?;
         copies.push((write.0, value))?;
     }
     Ok(copies)

@@ -88,14 +88,14 @@ impl Board {
         self.cell(part).version
     }
 
-    /// A copy of the value of a part, which shares what it holds. `Err` says that memory ran out, or that there are as
-    /// many copies as can be counted.
-    pub(crate) fn value(&self, alloc: Global, part: PartId) -> Result<PartValue, AllocError>
+    /// A copy of the value of a part, which shares what it holds. `Err` says that there are as many copies as can be
+    /// counted.
+    pub(crate) fn value(&self, part: PartId) -> Result<PartValue, AllocError>
         requires shown { IsShown self.now }
         requires cell { HasCell part }
         ensures { IfOk result (λ value. value ≡ (cell_after self.now.parts self.now.trail.log part).value) }
     {
-        self.cell(part).value.copy(alloc)
+        self.cell(part).value.copy()
     }
 
     // Puts what the cell of that number now holds; past the last cell it changes nothing.
@@ -121,7 +121,7 @@ impl Absorb<BoardChange> for Board {
     fn absorb_first(&mut self, operation: &BoardChange, _other: &Board) -> Result<(), AllocError> {
         match operation {
             BoardChange::Put(number, version, value) => {
-                let value = value.copy(*self.cells.allocator())?;
+                let value = value.copy()?;
                 self.put(
                     *number,
                     Cell {

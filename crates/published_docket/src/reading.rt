@@ -29,7 +29,7 @@ pub fn read_all(
     let at = shown.trail().len();
     let mut draft = Draft::begin(alloc, clerk, command.copy()?);
     while let Some(part) = draft.next(parts) {
-        let value = shown.value(alloc, part)?;
+        let value = shown.value(part)?;
         draft.add(parts, part, shown.version(part), at, value)?;
     }
     draft.settle(alloc, parts)?;

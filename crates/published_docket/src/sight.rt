@@ -7,7 +7,7 @@ use crate::board::Board;
 use court_days::Days;
 use docket_decisions::{Sight, calendar_of, case_of, days_of};
 use docket_rows::{CaseRecord, PartId, PartValue};
-use hearing_slots::Calendar;
+use hearing_slots::{CalendarRef, SharedCalendar};
 
 // The value in the cell of the part, if there is such a cell.
 fn value_shown(shown: &Board, part: PartId) -> Option<&PartValue>
@@ -30,7 +30,7 @@ fn days_shown(shown: &Board) -> Option<&Days>
 }
 
 // The calendar in the cell of the part, if there is one.
-fn calendar_shown(shown: &Board, part: PartId) -> Option<&Calendar>
+fn calendar_shown(shown: &Board, part: PartId) -> Option<&SharedCalendar>
     ensures { option_copied result ≡ calendar_shown shown.now part }
 {
     match value_shown(shown, part) {
@@ -58,11 +58,11 @@ impl Sight for Board {
         }
     }
 
-    fn judge(&self, judge: u8) -> Option<&Calendar> {
-        calendar_shown(self, PartId::Judge(judge))
+    fn judge(&self, judge: u8) -> CalendarRef<'_> {
+        CalendarRef::shared(calendar_shown(self, PartId::Judge(judge)))
     }
 
-    fn room(&self, room: u8) -> Option<&Calendar> {
-        calendar_shown(self, PartId::Room(room))
+    fn room(&self, room: u8) -> CalendarRef<'_> {
+        CalendarRef::shared(calendar_shown(self, PartId::Room(room)))
     }
 }

@@ -4,6 +4,7 @@ mod calendars;
 mod clock;
 mod days;
 mod deadlines;
+mod shared_calendars;
 
 use court_clock::Day;
 use court_days::Court;

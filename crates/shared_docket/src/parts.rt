@@ -7,7 +7,7 @@ use court_days::{Court, Days};
 use docket_core::{decide, view_of};
 use docket_decisions::{DocketRules, Sight};
 use docket_rows::{Answer, Command, Decision, PartId, PartValue, Query, View};
-use hearing_slots::Calendar;
+use hearing_slots::SharedCalendar;
 use std::alloc::{AllocError, Global};
 use std::marker::Model;
 use versioned_steps::{Parted, PartsDecision};
@@ -90,8 +90,8 @@ impl Parted for DocketParts {
     fn opening(&self, _alloc: Global, part: &PartId) -> Result<PartValue, AllocError> {
         match part {
             PartId::Court => Ok(PartValue::Days(self.days.copy()?)),
-            PartId::Judge(_) => Ok(PartValue::Calendar(Calendar::empty())),
-            PartId::Room(_) => Ok(PartValue::Calendar(Calendar::empty())),
+            PartId::Judge(_) => Ok(PartValue::Calendar(SharedCalendar::empty())),
+            PartId::Room(_) => Ok(PartValue::Calendar(SharedCalendar::empty())),
             PartId::Case(_) => Ok(PartValue::Case(None)),
         }
     }
@@ -115,8 +115,8 @@ impl Parted for DocketParts {
         })
     }
 
-    fn copy_value(&self, alloc: Global, value: &PartValue) -> Result<PartValue, AllocError> {
-        value.copy(alloc)
+    fn copy_value(&self, _alloc: Global, value: &PartValue) -> Result<PartValue, AllocError> {
+        value.copy()
     }
 
     fn copy_command(&self, _alloc: Global, command: &Command) -> Result<Command, AllocError> {

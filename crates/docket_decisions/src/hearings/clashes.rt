@@ -1,12 +1,12 @@
 //! Bookings that a hearing clashes with.
 
-ghost use Rattle.std.specs.Prelude.{◌≡◌, ◌≤◌, ◌+◌, [], map, unwrap_or, option_copied};
+ghost use Rattle.std.specs.Prelude.{◌≡◌, ◌≤◌, ◌+◌, map};
 ghost use Rattle.rule_periods.specs.Words.{first_of};
 ghost use Rattle.hearing_slots.specs.Words.{first_conflict};
 
 use crate::sight::Sight;
 use court_clock::Day;
-use hearing_slots::{Booking, Calendar};
+use hearing_slots::Booking;
 
 /// When a hearing is held: some slots of a day.
 #[derive(Clone, Copy, Debug, PartialEq, Eq)]
@@ -14,23 +14,6 @@ pub(crate) struct Span {
     pub(crate) day: Day,
     pub(crate) first: u8,
     pub(crate) count: u8,
-}
-
-/// The first booking of a calendar that clashes. Where there is no calendar there is none.
-#[tactic(auto, unfolding(hearing_slots::specs::Words::first_conflict))]
-fn conflict_in(
-    calendar: Option<&Calendar>,
-    span: &Span,
-    except: Option<(u32, u32)>,
-) -> Option<Booking>
-    requires some_slot { 1 ≤ span.now.count }
-    requires ends { span.now.first + span.now.count ≤ 96 }
-    ensures { result ≡ first_conflict (unwrap_or (option_copied calendar.entry) []) span.now.day span.now.first span.now.count except }
-{
-    match calendar {
-        Some(calendar) => calendar.conflict(span.day, span.first, span.count, except),
-        None => None,
-    }
 }
 
 /// The first booking, of the first of these judges who has one, that clashes.
@@ -47,7 +30,8 @@ pub(crate) fn judge_clash<S: Sight>(
     match judges {
         [] => None,
         [judge, rest @ ..] => {
-            if let Some(booking) = conflict_in(sight.judge(*judge), span, except) {
+            let calendar = sight.judge(*judge);
+            if let Some(booking) = calendar.conflict(span.day, span.first, span.count, except) {
                 return Some(booking);
             }
             judge_clash(sight, except, rest, span)
@@ -66,5 +50,6 @@ pub(crate) fn room_clash<S: Sight>(
     requires ends { span.now.first + span.now.count ≤ 96 }
     ensures { result ≡ first_conflict ((S.parts sight.now).room room) span.now.day span.now.first span.now.count except }
 {
-    conflict_in(sight.room(room), span, except)
+    let calendar = sight.room(room);
+    calendar.conflict(span.day, span.first, span.count, except)
 }

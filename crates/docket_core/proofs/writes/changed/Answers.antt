@@ -3,10 +3,10 @@ use Rattle.docket_core.proofs.RebookingLemmas.{can_rebook}
 use Rattle.docket_core.proofs.writes.changed.Goals as goal
 
 pub judge_written-requires : goal.judge_written-requires
-judge_written-requires g c = can_rebook _ _ _ c.requires
+judge_written-requires c = can_rebook _ _ _ c.requires
 
 pub room_written-requires : goal.room_written-requires
-room_written-requires g c = can_rebook _ _ _ c.requires
+room_written-requires c = can_rebook _ _ _ c.requires
 
 pub case_written-requires : goal.case_written-requires
-case_written-requires g c = can_change_case _ _ _ c.requires
+case_written-requires c = can_change_case _ _ _ c.requires

@@ -1,9 +1,9 @@
-use Rattle.std.proofs.Common.{◌≡◌, IfOk, rules}
-use Rattle.hearing_slots.specs.Calendar.{with_booking}
-use Rattle.hearing_slots.proofs.Holdings.{held_with}
+use Rattle.std.proofs.Common.{◌≡◌, List, subst}
+use Rattle.hearing_slots.specs.declared.booking.Booking.{Booking}
+use Rattle.hearing_slots.specs.Calendar.{HoldsWith}
 use Rattle.hearing_slots.proofs.calendar.Calendar.with.Goals as goal
 
 pub returns-clause-holds : goal.returns-clause-holds
 returns-clause-holds c =
-    let value : IfOk c.share.result (λ new. new ≡ with_booking c.args.booking c.args.self.now) = search rules in
-    held_with c.args.booking c.args.self.now c.share.result value
+    let same : c.in_ok-opened.opened ≡ c.args.self.now = c.in_ok-opened.ensures in
+    subst (λ (old : List Booking). HoldsWith c.args.booking old c.put.result) same c.put.ensures.holds

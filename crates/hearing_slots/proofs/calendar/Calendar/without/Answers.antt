@@ -1,12 +1,9 @@
-use Rattle.std.proofs.Common.{◌≡◌, IfOk, rules, subst, sym}
-use Rattle.hearing_slots.specs.Calendar.{IsCalendar, without_motion}
-use Rattle.hearing_slots.proofs.Holdings.{held_without, removal_keeps}
+use Rattle.std.proofs.Common.{◌≡◌, List, subst}
+use Rattle.hearing_slots.specs.declared.booking.Booking.{Booking}
+use Rattle.hearing_slots.specs.Calendar.{HoldsWithout}
 use Rattle.hearing_slots.proofs.calendar.Calendar.without.Goals as goal
 
 pub returns-clause-holds : goal.returns-clause-holds
 returns-clause-holds c =
-    let value : IfOk c.share.result (λ new. new ≡ without_motion c.args.case c.args.motion c.args.self.now) = search rules in
-    held_without c.args.case c.args.motion c.args.self.now c.share.result value
-
-pub share-requires : goal.share-requires
-share-requires c = subst IsCalendar (sym c.remove.ensures.value) (removal_keeps c.args.case c.args.motion c.in_ok-timetable.timetable.bookings c.in_ok-timetable.ensures.calendar)
+    let same : c.in_ok-opened.opened ≡ c.args.self.now = c.in_ok-opened.ensures in
+    subst (λ (old : List Booking). HoldsWithout c.args.case c.args.motion old c.take_out.result) same c.take_out.ensures.holds
