@@ -31,7 +31,7 @@ text_style =
 unfoldable pub table_style : List ℕ
 table_style =
     codes "table { border-collapse: collapse; width: 100%; margin: 0.5rem 0 1rem }\n"
-    ++ codes "caption { padding: 0.25rem 0; text-align: left; font-weight: 600 }\n"
+    ++ codes "caption { padding: 0.25rem 0; text-align: left; font-weight: 600; overflow-wrap: anywhere }\n"
     ++ codes "th, td { padding: 0.3rem 0.5rem; border: 1px solid #8a8f98; text-align: left; vertical-align: top }\n"
     ++ codes "th[scope=row] { white-space: nowrap }\n"
     ++ codes "td:last-child { min-width: 5rem; overflow-wrap: anywhere }\n"

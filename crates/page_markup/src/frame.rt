@@ -107,7 +107,7 @@ fn push_table_style(page: &mut Page) -> Result<(), AllocError>
 {
     page.markup(
         "table { border-collapse: collapse; width: 100%; margin: 0.5rem 0 1rem }
-caption { padding: 0.25rem 0; text-align: left; font-weight: 600 }
+caption { padding: 0.25rem 0; text-align: left; font-weight: 600; overflow-wrap: anywhere }
 th, td { padding: 0.3rem 0.5rem; border: 1px solid #8a8f98; text-align: left; vertical-align: top }
 th[scope=row] { white-space: nowrap }
 td:last-child { min-width: 5rem; overflow-wrap: anywhere }
