@@ -1,6 +1,6 @@
 -- The words for the crates above, from one place.
 pub use Rattle.docket_entries.specs.Entries.{court_line, later_file, most_entries, next_number, row_entries, row_only, standing_file}
-pub use Rattle.docket_entries.specs.Rows.{entry_of, follows, most_clerks}
+pub use Rattle.docket_entries.specs.Rows.{entry_of, follows, most_clerks, within}
 unfoldable pub use Rattle.docket_entries.specs.Rows.{answer_to, answers, docketed_by, leaves, row_shown, rows_in}
 pub use Rattle.docket_entries.specs.History.{IsHistory, SaysCourt}
 pub use Rattle.docket_entries.specs.Register.{StandsAt}

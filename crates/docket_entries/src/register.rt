@@ -1,5 +1,5 @@
 //! The register of a court's rows.
-ghost use Rattle.std.specs.Prelude.{◌≡◌, ◌<◌, ◌≤◌, ◌+◌, ◌++◌, ◌∷◌, [], ℕ, List, length, None, IfOk, IsSome, MatchOption, OnOk, string_bytes};
+ghost use Rattle.std.specs.Prelude.{◌≡◌, ◌<◌, ◌≤◌, ◌+◌, ◌++◌, ◌∷◌, [], ℕ, List, length, None, IfOk, IsSome, MatchOption, OnOk, nat_lt, string_bytes};
 ghost use Rattle.csv.specs.Records.{fields_of};
 ghost use Rattle.office_rows.specs.Words.{names_of};
 ghost use Rattle.office_rows.specs.declared.row.Row.{Row as RowOf};
@@ -125,6 +125,20 @@ impl DocketRegister {
         ensures { (court : CourtView) (kept : List (List ℕ)) → StandsAt court self.now kept → result ≡ next_number kept }
     {
         self.number
+    }
+
+    /// The docket, with what the rows of all entries have docketed.
+    pub fn docket(&self) -> &Docket
+        ensures { (court : CourtView) (kept : List (List ℕ)) → StandsAt court self.now kept → Holds (setup_of court) result.now (docketed_by court kept) }
+    {
+        &self.docket
+    }
+
+    /// Whether the journal has room for another entry.
+    pub fn has_room(&self) -> bool
+        ensures { (court : CourtView) (kept : List (List ℕ)) → StandsAt court self.now kept → result ≡ nat_lt (length kept) most_entries }
+    {
+        self.count < MOST_ENTRIES
     }
 
     /// Passes over an entry that is a court's file.

@@ -38,9 +38,9 @@ pub fn push_deadline_notes(
 }
 
 /// Adds the notes on a deadline as it was started: on its events, its rule and its hours, and where the court's file lists no
-/// federal holiday from its end on.
+/// federal holiday from its end on. `Err` says that memory ran out.
 #[tactic(auto, unfolding(crate::specs::Notes::start_notes))]
-fn push_start_notes(
+pub fn push_start_notes(
     alloc: Global,
     text: &mut String,
     days: &Days,

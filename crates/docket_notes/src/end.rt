@@ -50,7 +50,9 @@ pub(crate) fn push_act_notes(text: &mut String, row: &DeadlineRow) -> Result<(),
     push_early_act(text, row.period().direction(), runs_from(row), row.filed())
 }
 
-fn push_early_act(
+/// Adds the note on an act, if there is one, that was done before the day from which its period runs, where that is counted after
+/// its event. `Err` says that memory ran out.
+pub fn push_early_act(
     text: &mut String,
     direction: Direction,
     start: Day,

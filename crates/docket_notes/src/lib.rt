@@ -8,6 +8,7 @@ mod extension;
 mod hearing;
 mod holidays;
 
-pub use deadline::push_deadline_notes;
+pub use deadline::{push_deadline_notes, push_start_notes};
+pub use end::push_early_act;
 pub use extension::push_extension_notes;
 pub use hearing::push_hearing_notes;

@@ -1,0 +1,76 @@
+-- What a clerk is warned of before a row is kept, by the docket before it. No deadline depends on a warning.
+use Rattle.std.specs.Prelude.{ℕ, ℤ, List, [], ◌∷◌, ◌++◌, length, Option, Some, None, codes}
+use Rattle.std.specs.List.{flat_map, range_with_len}
+use Rattle.std.specs.Option.{option_map_or}
+use Rattle.court_days.specs.Words.{CourtView}
+use Rattle.rule6.specs.declared.timeliness.Filing.{Filing}
+use Rattle.rule_periods.specs.declared.grant.Request.{Request}
+use Rattle.rule_periods.specs.Words.{DeadlineRowView, direction_of, runs_from, with_grant}
+use Rattle.hearing_slots.specs.declared.booking.Booking.{Booking}
+use Rattle.hearing_slots.specs.Words.{on_day}
+use Rattle.docket_rows.specs.declared.command.Command.{Command as CommandOf}
+use Rattle.docket_rows.specs.declared.command.Command.TheVariants as command
+use Rattle.docket_rows.specs.declared.refusal.Refusal.{Refusal}
+use Rattle.docket_rows.specs.declared.refusal.Refusal.TheVariants.{HearingThatDay}
+use Rattle.docket_rows.specs.Words.{CaseRecordView, Parts, deadline_in, refusal, setup_of, shown_now, started}
+use Rattle.docket_notes.specs.Words.{early_act, extension_notes, note, start_notes}
+use Rattle.office_rows.specs.declared.row.Work.{Work}
+use Rattle.office_rows.specs.declared.row.Work.TheVariants.{Command, Query}
+use Rattle.office_texts.specs.Words.{calendar_lines}
+
+-- on a deadline, as it would start in the case: the notes that the memo of the case would have on it
+abbrev pub at_start : CourtView → Parts → (today : Option ℤ) → Option CaseRecordView → DeadlineRowView → List ℕ
+at_start court parts today None row = []
+at_start court parts today (Some c) row =
+    start_notes parts.days court.clock c.filed today row (shown_now (setup_of court) parts row)
+
+-- on an act: it comes before the day from which its period runs, where that is counted after its event
+abbrev pub on_act : Option DeadlineRowView → Filing → List ℕ
+on_act None filing = []
+on_act (Some row) filing = early_act (direction_of row.period) (runs_from row) (Some filing)
+
+-- on an extension: the end that it gives is past when it is asked for, or lies after the event it counts back from
+abbrev pub on_request : CourtView → Parts → Option DeadlineRowView → Request → List ℕ
+on_request court parts None request = []
+on_request court parts (Some row) request =
+    extension_notes court.clock row (shown_now (setup_of court) parts (with_grant row request.grant)) request
+
+-- the hearings of a judge on a day, with the judge's name before them, where there are some
+abbrev pub hearings_before : CourtView → (judge : ℕ) → List Booking → List ℕ
+hearings_before court judge [] = []
+hearings_before court judge (b ∷ bs) = calendar_lines court judge (b ∷ bs)
+
+-- the hearings of all judges on a day
+unfoldable pub hearings_on : CourtView → Parts → (day : ℤ) → List ℕ
+hearings_on court parts day = flat_map (λ judge. hearings_before court judge (on_day day (parts.judge judge))) (range_with_len 0 (length court.judges))
+
+-- what is said of them, after a line of why they matter
+abbrev pub said_of : (day : ℤ) → (why hearings : List ℕ) → List ℕ
+said_of day why [] = []
+said_of day why (byte ∷ bytes) = note (Some day) why ++ (byte ∷ bytes)
+
+-- on a command that isn't refused
+abbrev pub if_made : CourtView → Parts → (today : Option ℤ) → CommandOf → List ℕ
+if_made court parts today (command.Start case period event second service) =
+    at_start court parts today (parts.case case) (started period event second service)
+if_made court parts today (command.FileAct case deadline filing) = on_act (deadline_in parts case deadline) filing
+if_made court parts today (command.Extend case deadline request) = on_request court parts (deadline_in parts case deadline) request
+if_made court parts today (command.Inaccessible day from to) =
+    said_of day (codes "these hearings stay set on this day") (hearings_on court parts day)
+if_made court parts today command = []
+
+-- on one that is: a holiday is refused where hearings are set that day, and its refusal names one of them
+abbrev pub if_refused : CourtView → Parts → CommandOf → Refusal → List ℕ
+if_refused court parts (command.Holiday day list) (HearingThatDay case motion) =
+    said_of day (codes "refused while these hearings are set on this day") (hearings_on court parts day)
+if_refused court parts command refusal = []
+
+-- what a clerk is warned of a command, where a day may count as today
+unfoldable pub warnings_of : CourtView → Parts → (today : Option ℤ) → CommandOf → List ℕ
+warnings_of court parts today command =
+    option_map_or (if_refused court parts command) (refusal (setup_of court) parts command) (if_made court parts today command)
+
+-- a question draws none
+abbrev pub warnings_on : CourtView → Parts → (today : Option ℤ) → Work → List ℕ
+warnings_on court parts today (Command command) = warnings_of court parts today command
+warnings_on court parts today (Query query) = []

@@ -1,0 +1,141 @@
+//! What a clerk is warned of a deadline before it starts.
+
+ghost use Rattle.std.specs.Prelude.{◌≡◌, ◌++◌, None, IfNone, IfSome, OnOk, is_none, is_some, string_bytes, true};
+ghost use Rattle.rule_periods.specs.Words.{has_length, start_refusal, suits};
+ghost use Rattle.docket_rows.specs.declared.command.Command.TheVariants as command;
+ghost use Rattle.docket_rows.specs.Words.{setup_of, started};
+ghost use Rattle.docket_core.specs.Words.{parts_held};
+ghost use Rattle.careful_rows.specs.Start.{on_sheet, on_view};
+ghost use Rattle.careful_rows.specs.Warnings.{warnings_of};
+
+use court_clock::Day;
+use court_days::{Court, Days};
+use docket_core::Docket;
+use docket_decisions::is_beyond;
+use docket_notes::push_start_notes;
+use docket_rows::{MOST_DEADLINES, Query, Sheet, View};
+use rule_periods::{DocketRow, Event, Period, check_start, shown};
+use rule6::ServiceKind;
+use std::alloc::{AllocError, Global};
+
+/// Adds what a clerk is warned of a deadline that would start in a case.
+pub(crate) fn push_start(
+    alloc: Global,
+    text: &mut String,
+    court: &Court,
+    docket: &Docket,
+    today: Option<Day>,
+    case: u32,
+    period: &Period,
+    event: &Event,
+    second: &Option<Day>,
+    service: &Option<ServiceKind>,
+) -> Result<(), AllocError>
+    requires court { docket.now.setup ≡ setup_of court.now }
+    ensures { OnOk result (string_bytes text.new ≡ string_bytes text.old ++ warnings_of court.now (parts_held docket.now) today (command.Start case period.now event.now second.now service.now)) }
+{
+    let view = docket.show(alloc, &Query::Sheet(case))?;
+    let days = docket.days();
+    let row = row_started(alloc, days, period, event, second, service);
+    push_on_view(alloc, text, court, days, today, &view, &row)
+}
+
+/// Adds the notes on a deadline that would start, by what is seen of its case.
+fn push_on_view(
+    alloc: Global,
+    text: &mut String,
+    court: &Court,
+    days: &Days,
+    today: Option<Day>,
+    view: &View,
+    row: &Option<DocketRow>,
+) -> Result<(), AllocError>
+    ensures { OnOk result (string_bytes text.new ≡ string_bytes text.old ++ on_view court.now days.now today view.now row.now) }
+{
+    match (view, row) {
+        (View::Sheet(sheet), Some(row)) => {
+            push_on_sheet(alloc, text, court, days, today, sheet, row)
+        }
+        _ => Ok(()),
+    }
+}
+
+/// Whether the period can start with the event.
+fn can_start(
+    days: &Days,
+    period: &Period,
+    event: &Event,
+    second: Option<Day>,
+    service: Option<ServiceKind>,
+) -> bool
+    ensures value { result ≡ is_none (start_refusal days.now period.now event.now second service) }
+    ensures suits { result ≡ true → suits period.now second service ≡ true }
+    ensures length { result ≡ true → has_length period.now ≡ true }
+{
+    check_start(days, period, *event, second, service).is_ok()
+}
+
+/// The deadline as it would start, where its period can.
+fn row_started(
+    alloc: Global,
+    days: &Days,
+    period: &Period,
+    event: &Event,
+    second: &Option<Day>,
+    service: &Option<ServiceKind>,
+) -> Option<DocketRow>
+    ensures some { IfSome result (λ row. (row ≡ started period.now event.now second.now service.now) × (start_refusal days.now period.now event.now second.now service.now ≡ None)) }
+    ensures none { IfNone result (is_some (start_refusal days.now period.now event.now second.now service.now) ≡ true) }
+{
+    if can_start(days, period, event, *second, *service) {
+        Some(started(alloc, period, event, *second, *service))
+    } else {
+        None
+    }
+}
+
+/// A deadline that starts.
+fn started(
+    alloc: Global,
+    period: &Period,
+    event: &Event,
+    second: Option<Day>,
+    service: Option<ServiceKind>,
+) -> DocketRow
+    requires suits { suits period.now second service ≡ true }
+    requires length { has_length period.now ≡ true }
+    ensures { result ≡ started period.now event.now second service }
+{
+    let period = *period;
+    let event = *event;
+    DocketRow::start(alloc, period, event, second, service)
+}
+
+/// Adds the notes on a deadline that would start in a case with that sheet, where the case has room for it and its time ends on
+/// a covered day.
+fn push_on_sheet(
+    alloc: Global,
+    text: &mut String,
+    court: &Court,
+    days: &Days,
+    today: Option<Day>,
+    sheet: &Sheet,
+    row: &DocketRow,
+) -> Result<(), AllocError>
+    ensures { OnOk result (string_bytes text.new ≡ string_bytes text.old ++ on_sheet court.now days.now today sheet.now row.now) }
+{
+    let shown = shown(days, court.clock(), row.row());
+    if sheet.deadlines.as_slice().len() >= MOST_DEADLINES || is_beyond(shown) {
+        return Ok(());
+    }
+    push_start_notes(
+        alloc,
+        text,
+        days,
+        court.clock(),
+        sheet.filed,
+        today,
+        row.row(),
+        &shown,
+    )
+}

@@ -1,0 +1,77 @@
+//! What a clerk is warned of a row before it is kept.
+
+ghost use Rattle.std.specs.Prelude.{◌≡◌, ◌++◌, IfOk, OnOk, string_bytes};
+ghost use Rattle.docket_rows.specs.Words.{Rows, parts_of, setup_of};
+ghost use Rattle.docket_core.specs.Words.{parts_held};
+ghost use Rattle.office_run.specs.Words.{Holds};
+ghost use Rattle.careful_rows.specs.Warnings.{warnings_of, warnings_on};
+
+use crate::deadline::{push_act, push_request};
+use crate::hearings::{push_holiday, push_outage};
+use crate::start::push_start;
+use court_clock::Day;
+use court_days::Court;
+use docket_core::Docket;
+use docket_rows::Command;
+use office_rows::Work;
+use std::alloc::{AllocError, Global};
+
+/// Adds what a clerk is warned of a command, by the docket as it is.
+#[tactic(auto, using(crate::proofs::WarningLemmas::none_warned), unfolding(crate::specs::Warnings::warnings_of))]
+fn push_warnings(
+    alloc: Global,
+    text: &mut String,
+    court: &Court,
+    docket: &Docket,
+    today: Option<Day>,
+    command: &Command,
+) -> Result<(), AllocError>
+    requires court { docket.now.setup ≡ setup_of court.now }
+    ensures { OnOk result (string_bytes text.new ≡ string_bytes text.old ++ warnings_of court.now (parts_held docket.now) today command.now) }
+{
+    match command {
+        Command::Start {
+            case,
+            period,
+            event,
+            second,
+            service,
+        } => push_start(
+            alloc, text, court, docket, today, *case, period, event, second, service,
+        ),
+        Command::FileAct {
+            case,
+            deadline,
+            filing,
+        } => push_act(text, court, docket, *case, *deadline, filing),
+        Command::Extend {
+            case,
+            deadline,
+            request,
+        } => push_request(text, court, docket, *case, *deadline, request),
+        Command::Holiday { day, list } => push_holiday(alloc, text, court, docket, *day, *list),
+        Command::Inaccessible { day, from, to } => {
+            push_outage(alloc, text, court, docket, *day, *from, *to)
+        }
+        _ => Ok(()),
+    }
+}
+
+/// What a clerk is warned of a row, a line each, by what is docketed: nothing where it asks a question. `Err` says that memory
+/// ran out.
+pub fn warnings_on(
+    alloc: Global,
+    court: &Court,
+    docket: &Docket,
+    today: Option<Day>,
+    work: &Work,
+) -> Result<String, AllocError>
+    ensures { (docketed : Rows) → Holds (setup_of court.now) docket.now docketed → IfOk result (λ text. string_bytes text ≡ warnings_on court.now (parts_of docketed) today work.now) }
+{
+    let mut text = String::new(alloc);
+    match work {
+        Work::Command(command) => push_warnings(alloc, &mut text, court, docket, today, command)?,
+        Work::Query(_) => {}
+    }
+    Ok(text)
+}
