@@ -1,3 +1,5 @@
+pub mod CallerLemmas
+mod CarefulLemmas
 mod HearingLemmas
 mod StartLemmas
 mod WarningLemmas

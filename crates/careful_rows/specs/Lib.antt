@@ -1,2 +1,5 @@
 pub mod Warnings
 pub mod Start
+pub mod Careful
+pub mod Laws
+pub mod Words

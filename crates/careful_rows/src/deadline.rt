@@ -28,8 +28,7 @@ pub(crate) fn push_act(
     deadline: u32,
     filing: &Filing,
 ) -> Result<(), AllocError>
-    requires court { docket.now.setup ≡ setup_of court.now }
-    ensures { (today : Option ℤ) → OnOk result (string_bytes text.new ≡ string_bytes text.old ++ warnings_of court.now (parts_held docket.now) today (command.FileAct case deadline filing.now)) }
+    ensures { (today : Option ℤ) → docket.now.setup ≡ setup_of court.now → OnOk result (string_bytes text.new ≡ string_bytes text.old ++ warnings_of court.now (parts_held docket.now) today (command.FileAct case deadline filing.now)) }
 {
     if !docket.is_open(case) {
         return Ok(());
@@ -47,7 +46,12 @@ pub(crate) fn push_act(
     if is_beyond(shown(docket.days(), court.clock(), row)) {
         return Ok(());
     }
-    push_early_act(text, row.period().direction(), runs_from(row), Some(*filing))
+    push_early_act(
+        text,
+        row.period().direction(),
+        runs_from(row),
+        Some(*filing),
+    )
 }
 
 /// Adds what a clerk is warned of an extension.
@@ -60,8 +64,7 @@ pub(crate) fn push_request(
     deadline: u32,
     request: &Request,
 ) -> Result<(), AllocError>
-    requires court { docket.now.setup ≡ setup_of court.now }
-    ensures { (today : Option ℤ) → OnOk result (string_bytes text.new ≡ string_bytes text.old ++ warnings_of court.now (parts_held docket.now) today (command.Extend case deadline request.now)) }
+    ensures { (today : Option ℤ) → docket.now.setup ≡ setup_of court.now → OnOk result (string_bytes text.new ≡ string_bytes text.old ++ warnings_of court.now (parts_held docket.now) today (command.Extend case deadline request.now)) }
 {
     if !docket.is_open(case) {
         return Ok(());

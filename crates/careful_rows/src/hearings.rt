@@ -27,8 +27,7 @@ pub(crate) fn push_outage(
     from: u16,
     to: u16,
 ) -> Result<(), AllocError>
-    requires court { docket.now.setup ≡ setup_of court.now }
-    ensures { (today : Option ℤ) → OnOk result (string_bytes text.new ≡ string_bytes text.old ++ warnings_of court.now (parts_held docket.now) today (command.Inaccessible day from to)) }
+    ensures { (today : Option ℤ) → docket.now.setup ≡ setup_of court.now → OnOk result (string_bytes text.new ≡ string_bytes text.old ++ warnings_of court.now (parts_held docket.now) today (command.Inaccessible day from to)) }
 {
     if !docket.days().covered(day) {
         return Ok(());
@@ -59,8 +58,7 @@ pub(crate) fn push_holiday(
     day: Day,
     list: HolidayList,
 ) -> Result<(), AllocError>
-    requires court { docket.now.setup ≡ setup_of court.now }
-    ensures { (today : Option ℤ) → OnOk result (string_bytes text.new ≡ string_bytes text.old ++ warnings_of court.now (parts_held docket.now) today (command.Holiday day list)) }
+    ensures { (today : Option ℤ) → docket.now.setup ≡ setup_of court.now → OnOk result (string_bytes text.new ≡ string_bytes text.old ++ warnings_of court.now (parts_held docket.now) today (command.Holiday day list)) }
 {
     let days = docket.days();
     if !days.covered(day) {
@@ -91,8 +89,7 @@ fn push_said(
     day: Day,
     why: &str,
 ) -> Result<(), AllocError>
-    requires court { docket.now.setup ≡ setup_of court.now }
-    ensures { OnOk result (string_bytes text.new ≡ string_bytes text.old ++ said_of day why.now (hearings_on court.now (parts_held docket.now) day)) }
+    ensures { docket.now.setup ≡ setup_of court.now → OnOk result (string_bytes text.new ≡ string_bytes text.old ++ said_of day why.now (hearings_on court.now (parts_held docket.now) day)) }
 {
     let hearings = hearings_on(alloc, court, docket, day)?;
     if hearings.is_empty() {
@@ -110,8 +107,7 @@ fn hearings_on(
     docket: &Docket,
     day: Day,
 ) -> Result<String, AllocError>
-    requires court { docket.now.setup ≡ setup_of court.now }
-    ensures { IfOk result (λ text. string_bytes text ≡ hearings_on court.now (parts_held docket.now) day) }
+    ensures { docket.now.setup ≡ setup_of court.now → IfOk result (λ text. string_bytes text ≡ hearings_on court.now (parts_held docket.now) day) }
 {
     let mut text = String::new(alloc);
     for judge in 0..court.judges() {
@@ -129,9 +125,8 @@ fn push_judge(
     judge: u8,
     day: Day,
 ) -> Result<(), AllocError>
-    requires court { docket.now.setup ≡ setup_of court.now }
     requires judge { judge < length court.now.judges }
-    ensures { OnOk result (string_bytes text.new ≡ string_bytes text.old ++ hearings_before court.now judge (on_day day ((parts_held docket.now).judge judge))) }
+    ensures { docket.now.setup ≡ setup_of court.now → OnOk result (string_bytes text.new ≡ string_bytes text.old ++ hearings_before court.now judge (on_day day ((parts_held docket.now).judge judge))) }
 {
     match docket.calendar(judge) {
         Some(calendar) => {

@@ -4,7 +4,11 @@
 
 mod deadline;
 mod hearings;
+mod laws;
+mod register;
 mod start;
 mod warnings;
 
+pub use laws::{careful_is_history, warnings_keep_nothing};
+pub use register::{CarefulCourt, CarefulRegister};
 pub use warnings::warnings_on;

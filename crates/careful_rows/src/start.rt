@@ -31,8 +31,7 @@ pub(crate) fn push_start(
     second: &Option<Day>,
     service: &Option<ServiceKind>,
 ) -> Result<(), AllocError>
-    requires court { docket.now.setup ≡ setup_of court.now }
-    ensures { OnOk result (string_bytes text.new ≡ string_bytes text.old ++ warnings_of court.now (parts_held docket.now) today (command.Start case period.now event.now second.now service.now)) }
+    ensures { docket.now.setup ≡ setup_of court.now → OnOk result (string_bytes text.new ≡ string_bytes text.old ++ warnings_of court.now (parts_held docket.now) today (command.Start case period.now event.now second.now service.now)) }
 {
     let view = docket.show(alloc, &Query::Sheet(case))?;
     let days = docket.days();

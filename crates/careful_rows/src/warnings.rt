@@ -17,7 +17,6 @@ use office_rows::Work;
 use std::alloc::{AllocError, Global};
 
 /// Adds what a clerk is warned of a command, by the docket as it is.
-#[tactic(auto, using(crate::proofs::WarningLemmas::none_warned), unfolding(crate::specs::Warnings::warnings_of))]
 fn push_warnings(
     alloc: Global,
     text: &mut String,
@@ -26,8 +25,7 @@ fn push_warnings(
     today: Option<Day>,
     command: &Command,
 ) -> Result<(), AllocError>
-    requires court { docket.now.setup ≡ setup_of court.now }
-    ensures { OnOk result (string_bytes text.new ≡ string_bytes text.old ++ warnings_of court.now (parts_held docket.now) today command.now) }
+    ensures { docket.now.setup ≡ setup_of court.now → OnOk result (string_bytes text.new ≡ string_bytes text.old ++ warnings_of court.now (parts_held docket.now) today command.now) }
 {
     match command {
         Command::Start {
@@ -57,6 +55,23 @@ fn push_warnings(
     }
 }
 
+/// Adds what a clerk is warned of a row: nothing where it asks a question.
+fn push_warnings_on(
+    alloc: Global,
+    text: &mut String,
+    court: &Court,
+    docket: &Docket,
+    today: Option<Day>,
+    work: &Work,
+) -> Result<(), AllocError>
+    ensures { docket.now.setup ≡ setup_of court.now → OnOk result (string_bytes text.new ≡ string_bytes text.old ++ warnings_on court.now (parts_held docket.now) today work.now) }
+{
+    match work {
+        Work::Command(command) => push_warnings(alloc, text, court, docket, today, command),
+        Work::Query(_) => Ok(()),
+    }
+}
+
 /// What a clerk is warned of a row, a line each, by what is docketed: nothing where it asks a question. `Err` says that memory
 /// ran out.
 pub fn warnings_on(
@@ -69,9 +84,6 @@ pub fn warnings_on(
     ensures { (docketed : Rows) → Holds (setup_of court.now) docket.now docketed → IfOk result (λ text. string_bytes text ≡ warnings_on court.now (parts_of docketed) today work.now) }
 {
     let mut text = String::new(alloc);
-    match work {
-        Work::Command(command) => push_warnings(alloc, &mut text, court, docket, today, command)?,
-        Work::Query(_) => {}
-    }
+    push_warnings_on(alloc, &mut text, court, docket, today, work)?;
     Ok(text)
 }

@@ -16,5 +16,5 @@ loop-judge-preserved c =
     let later = hearings_from court parts c.args.day (judge + 1) (end - (judge + 1)) in
     record {
       within = omega (arith, c.loop-judge-test.true, c.judges-judge-end.ensures.value);
-      so_far = rw c.in_ok-push_judge.ensures (append_assoc before lines later ∙ ap (λ s. before ++ s) (sym (hearings_more court parts c.args.day judge end (omega (arith, c.loop-judge-test.true, c.judges-judge-end.ensures.value)))) ∙ c.loop-judge.invariant.so_far);
+      so_far = λ setup. rw (c.in_ok-push_judge.ensures setup) (append_assoc before lines later ∙ ap (λ s. before ++ s) (sym (hearings_more court parts c.args.day judge end (omega (arith, c.loop-judge-test.true, c.judges-judge-end.ensures.value)))) ∙ c.loop-judge.invariant.so_far setup);
     }

@@ -8,7 +8,7 @@ use Rattle.careful_rows.proofs.HearingLemmas.{holiday_warned}
 use Rattle.careful_rows.proofs.hearings.push_holiday.Goals as goal
 
 pub returns : goal.returns
-returns c = λ today.
+returns c = λ today setup.
     let parts = parts_held c.args.docket.now in
     let days : c.days-days.result.now ≡ parts.days = c.days-days.ensures in
     let covered : is_covered parts.days c.args.day ≡ true = ap (λ (d : DaysView). is_covered d c.args.day) (sym days) ∙ sym c.covered.ensures.value ∙ c.if-not-covered.false in
@@ -18,4 +18,4 @@ returns c = λ today.
     let room : nat_le most_dates (length (dates_of parts.days c.args.list)) ≡ false = grind (arith, nat_tests) in
     on_ok_weaker c.push_said.result
     (λ told. told ∙ ap (λ (t : List ℕ). string_bytes c.args.text.now ++ t) (holiday_warned c.args.court.now parts today c.args.day c.args.list covered fresh room))
-    c.push_said.ensures
+    (c.push_said.ensures setup)

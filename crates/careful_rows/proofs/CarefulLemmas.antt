@@ -1,0 +1,71 @@
+-- What careful lines leave.
+use Rattle.std.proofs.Common.{◌≡◌, ◌∙◌, ℕ, ℤ, List, [], ◌∷◌, ◌++◌, Option, Some, None, refl, sym, ap, subst, append-nil}
+use Rattle.court_days.specs.Words.{CourtView}
+use Rattle.durable_session.specs.Words.{TakesLine, left_by}
+use Rattle.docket_entries.specs.Words.{IsHistory, SaysCourt, StandsAt, answers, leaves, next_number, standing_file}
+use Rattle.docket_entries.specs.declared.register.DocketRegister.{DocketRegister}
+use Rattle.docket_entries.proofs.CallerLemmas.{left_history}
+use Rattle.careful_rows.specs.Careful.{after_mark, careful_answers, careful_leaves, held_text, left_by_taken, line_taken, taken_at, told_of_taken, warnings_at}
+use Rattle.careful_rows.specs.Laws.{CarefulIsHistory, WarningsKeepNothing, lines_taken, with_taken}
+
+-- a line, by what is taken of it
+one_taken : (court : CourtView) (kept : List (List ℕ)) (taken : Option (List ℕ)) (later taken_later : List (List ℕ))
+    → later ≡ left_by (leaves court) (kept ++ left_by_taken court kept taken) taken_later
+    → left_by_taken court kept taken ++ later ≡ left_by (leaves court) kept (with_taken taken taken_later)
+unfolding left_by
+one_taken court kept None later taken_later is = is ∙ ap (λ (k : List (List ℕ)). left_by (leaves court) k taken_later) (append-nil kept)
+one_taken court kept (Some line) later taken_later is = ap (λ (l : List (List ℕ)). leaves court kept line ++ l) is
+
+pub keep_nothing : WarningsKeepNothing
+unfolding left_by lines_taken
+keep_nothing court today kept [] = refl
+keep_nothing court today kept (line ∷ lines) =
+    one_taken court kept (taken_at court today kept line) _ _ (keep_nothing court today (kept ++ careful_leaves court today kept line) lines)
+
+pub careful_history : CarefulIsHistory
+careful_history court today kept lines history says =
+    subst (λ (l : List (List ℕ)). IsHistory (kept ++ l) × SaysCourt (standing_file (kept ++ l)) court) (sym (keep_nothing court today kept lines))
+    (left_history court kept (lines_taken court today kept lines) history says)
+
+-- what a careful register makes of a line
+module _ (court : CourtView) (today : Option ℤ) (register : DocketRegister) (kept : List (List ℕ)) (line : List ℕ) (batch batch_after : List (List ℕ)) (text text_after : List ℕ) where
+  -- the line that is taken is taken as without warnings
+  pub as_taken : (taken : List ℕ) → taken_at court today kept line ≡ Some taken
+      → TakesLine (leaves court) (answers court) (StandsAt court register) kept taken batch batch_after text text_after
+      → TakesLine (careful_leaves court today) (careful_answers court today) (StandsAt court register) kept line batch batch_after text text_after
+  as_taken taken is takes =
+      let left : careful_leaves court today kept line ≡ leaves court kept taken = ap (left_by_taken court kept) is in
+      let told : careful_answers court today kept line ≡ answers court kept taken = ap (told_of_taken court kept (warnings_at court today kept line)) is in
+      record {
+        stands = subst (λ (l : List (List ℕ)). StandsAt court register (kept ++ l)) (sym left) takes.stands;
+        left = takes.left ∙ ap (λ (l : List (List ℕ)). batch ++ l) (sym left);
+        told = takes.told ∙ ap (λ (l : List ℕ). text ++ l) (sym told);
+      }
+
+  -- a line that is held back changes nothing
+  pub held_back : taken_at court today kept line ≡ None → StandsAt court register kept → batch_after ≡ batch → text_after ≡ text ++ held_text (next_number kept) (warnings_at court today kept line)
+      → TakesLine (careful_leaves court today) (careful_answers court today) (StandsAt court register) kept line batch batch_after text text_after
+  held_back is stands same added =
+      let left : careful_leaves court today kept line ≡ [] = ap (left_by_taken court kept) is in
+      record {
+        stands = subst (StandsAt court register) (sym (ap (λ (l : List (List ℕ)). kept ++ l) left ∙ append-nil kept)) stands;
+        left = same ∙ sym (append-nil batch) ∙ ap (λ (l : List (List ℕ)). batch ++ l) (sym left);
+        told = added ∙ ap (λ (t : Option (List ℕ)). text ++ told_of_taken court kept (warnings_at court today kept line) t) (sym is);
+      }
+
+-- which line is taken
+pub taken_marked : (court : CourtView) (today : Option ℤ) (kept : List (List ℕ)) (line rest : List ℕ) → after_mark line ≡ Some rest → taken_at court today kept line ≡ Some rest
+unfolding taken_at
+taken_marked court today kept line rest is = ap (λ (m : Option (List ℕ)). line_taken line m (warnings_at court today kept line)) is
+
+pub taken_plain : (court : CourtView) (today : Option ℤ) (kept : List (List ℕ)) (line : List ℕ) → after_mark line ≡ None → warnings_at court today kept line ≡ [] → taken_at court today kept line ≡ Some line
+unfolding taken_at
+taken_plain court today kept line is none = ap (λ (m : Option (List ℕ)). line_taken line m (warnings_at court today kept line)) is ∙ ap (line_taken line None) none
+
+some_held : (line warnings : List ℕ) → (warnings ≡ [] → ⊥) → line_taken line None warnings ≡ None
+some_held line [] some = absurd (some refl)
+some_held line (byte ∷ bytes) some = refl
+
+pub taken_none : (court : CourtView) (today : Option ℤ) (kept : List (List ℕ)) (line : List ℕ) → after_mark line ≡ None → (warnings_at court today kept line ≡ [] → ⊥) → taken_at court today kept line ≡ None
+unfolding taken_at
+taken_none court today kept line is some = ap (λ (m : Option (List ℕ)). line_taken line m (warnings_at court today kept line)) is ∙ some_held line (warnings_at court today kept line) some

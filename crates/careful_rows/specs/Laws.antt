@@ -1,0 +1,26 @@
+-- What these definitions come to.
+use Rattle.std.specs.Prelude.{◌≡◌, ℕ, ℤ, List, [], ◌∷◌, ◌++◌, Option, Some, None}
+use Rattle.court_days.specs.Words.{CourtView}
+use Rattle.durable_session.specs.Words.{left_by}
+use Rattle.docket_entries.specs.Words.{IsHistory, SaysCourt, leaves, standing_file}
+use Rattle.careful_rows.specs.Careful.{careful_leaves, taken_at}
+
+-- the lines that are taken, each after what those before it leave
+abbrev pub with_taken : Option (List ℕ) → List (List ℕ) → List (List ℕ)
+with_taken None lines = lines
+with_taken (Some line) lines = line ∷ lines
+
+unfoldable pub lines_taken : CourtView → (today : Option ℤ) → (kept : List (List ℕ)) → List (List ℕ) → List (List ℕ)
+lines_taken court today kept [] = []
+lines_taken court today kept (line ∷ lines) =
+    with_taken (taken_at court today kept line) (lines_taken court today (kept ++ careful_leaves court today kept line) lines)
+
+-- Lines leave what the lines that are taken of them would leave without warnings.
+abbrev pub WarningsKeepNothing : Type 0
+WarningsKeepNothing = (court : CourtView) (today : Option ℤ) (kept lines : List (List ℕ))
+    → left_by (careful_leaves court today) kept lines ≡ left_by (leaves court) kept (lines_taken court today kept lines)
+
+-- So what they leave after a history is a history with it, under the court that stands, and the same court stands after them.
+abbrev pub CarefulIsHistory : Type 0
+CarefulIsHistory = (court : CourtView) (today : Option ℤ) (kept lines : List (List ℕ)) → IsHistory kept → SaysCourt (standing_file kept) court
+    → IsHistory (kept ++ left_by (careful_leaves court today) kept lines) × SaysCourt (standing_file (kept ++ left_by (careful_leaves court today) kept lines)) court

@@ -1,0 +1,14 @@
+//! Laws of the definitions, the contracts of functions that do nothing.
+ghost use Rattle.careful_rows.specs.Laws.{CarefulIsHistory, WarningsKeepNothing};
+
+/// Lines leave what the lines that are taken of them would leave without warnings.
+#[tactic(auto, using(crate::proofs::CarefulLemmas::keep_nothing))]
+pub fn warnings_keep_nothing()
+    ensures { WarningsKeepNothing }
+{}
+
+/// What they leave after a history is a history with it, under the same court.
+#[tactic(auto, using(crate::proofs::CarefulLemmas::careful_history))]
+pub fn careful_is_history()
+    ensures { CarefulIsHistory }
+{}
