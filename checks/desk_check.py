@@ -5,7 +5,7 @@
 
 The examples of examples/ of one clerk are entered in two sessions, and answered as by clerk_office. What is said of an
 empty folder, of one that has a journal, and of a second program is looked at. A question is asked and rows are tried beside
-a program that enters rows, rows are kept together or not at all, and a court is given another file. Then COUNT times (300
+a program that enters rows, rows that draw warnings are held back, rows are kept together or not at all, and a court is given another file. Then COUNT times (300
 without it) a session is ended at a random moment, most of them killed, and COUNT / 3 times one that keeps its rows together,
 as desk_kill.py does it; COUNT / 10 inputs at random are compared, as desk_compare.py does it; and a short journal is damaged
 in its last COUNT / 2 bytes, as desk_damage.py does it. It needs Python 3.8 or later.
@@ -98,6 +98,57 @@ def check_trial(programs, draw):
     return "rows that are tried are answered as they are when they are entered, and none is kept"
 
 
+# Rows that are entered with --warn, and the answer to each.
+HELD_LAST = b"enter the row with '!' before it to keep it all the same\n"
+CAREFUL = [
+    (b"1,open,7,2025-03-03\n", b"1 1 opened\n"),
+    (b"1,start,7,59e,2025-02-03,,,\n", b"row 2 not kept:\n"
+     b"  Mon 2025-02-03  the event lies before the filing of the case        note\n" + HELD_LAST),
+    (b"1,start,7,59e,2025-03-03,,,\n", b"2 1 deadline 1 last 2025-03-31\n"),
+    (b"1,file,7,1,2025-02-28,10:00,electronic\n", b"row 3 not kept:\n"
+     b"  Fri 2025-02-28  the act was done before its event                   note\n" + HELD_LAST),
+    (b"!1,file,7,1,2025-02-28,10:00,electronic\n", b"3 1 filed timely\n"),
+    (b"1,file,7,1,2025-02-28,10:00,electronic\n", b"4 1 refused 9 AlreadyMet\n"),
+    (b"1,no,row\n!1,no,row\n!!1,open,8,2025-03-03\n\n",
+     b"row 5 fault 2 UnknownCommand\nrow 5 fault 2 UnknownCommand\nrow 5 fault 1 BadClerk\n"),
+    (b"1,motion,7,2025-03-03,14\n", b"5 1 motion 1\n"),
+    (b"1,book,7,1,Ames,R1,2025-04-01,10:00,2,2025-03-05\n", b"6 1 booked\n"),
+    (b"1,holiday,2025-04-01,state\n", b"row 7 not kept:\n"
+     b"  Tue 2025-04-01  refused while these hearings are set on this day    note\n"
+     b"judge Ames\n2025-04-01 10:00 2 case 7 motion 1 room R1\n" + HELD_LAST),
+    (b"1,inaccessible,2025-04-01,09:00,12:00\n", b"row 7 not kept:\n"
+     b"  Tue 2025-04-01  these hearings stay set on this day                 note\n"
+     b"judge Ames\n2025-04-01 10:00 2 case 7 motion 1 room R1\n" + HELD_LAST),
+    (b"!1,inaccessible,2025-04-01,09:00,12:00\n", b"7 1 outage entered\n"),
+    (b"1,start,7,3d/before/service/event/plain,2025-03-20,,,\n", b"8 1 deadline 2 last 2025-03-17\n"),
+    (b"1,extend,7,2,2025-03-21,2025-03-10,09:00,no,yes,no\n", b"row 9 not kept:\n"
+     b"  Fri 2025-03-21  the end lies after the event it counts back from    note\n" + HELD_LAST),
+]
+
+
+def check_warnings(programs):
+    """With --warn a row that draws a warning is answered with it and leaves the journal as it was; with '!' it is kept."""
+    with tempfile.TemporaryDirectory() as parent:
+        desk = Desk(programs, parent, SHORT_COURT)
+        tried = desk.call("try", "--warn", given=b"".join(given for given, answer in CAREFUL))
+        assert tried.status == 0 and tried.output == b"".join(answer for given, answer in CAREFUL), tried
+        for given, answer in CAREFUL:
+            whole = desk.journal.read_bytes()
+            ended = desk.call("enter", "--warn", given=given)
+            assert ended.status == 0 and not ended.errors and ended.output == answer, (given, ended)
+            assert (desk.journal.read_bytes() == whole) == answer.startswith(b"row "), given
+        ended = desk.call("try", "--warn", "--today", "2026-04-01", given=b"1,start,7,59e,2025-03-04,,,\n")
+        assert ended.output == (b"row 9 not kept:\n"
+            b"  Tue 2025-03-04  the event lies a year or more before 2026-04-01     note\n" + HELD_LAST), ended
+        ended = desk.call("enter", given=b"!1,sheet,7\n")
+        assert ended.status == 0 and ended.output == b"row 9 fault 1 BadClerk\n", ended
+        for words in (("enter", "--today", "2025-03-03"), ("ask", "--warn"), ("enter", "--warn", TOGETHER),
+                      ("try", "--warn", "--today", "3/3/2025")):
+            ended = desk.call(*words)
+            assert ended.status == 1 and not ended.output and ended.errors.startswith(b"error: "), (words, ended)
+    return "{} rows with --warn, answered as by hand".format(len(CAREFUL))
+
+
 def check_together(programs, draw):
     """Rows that are kept together: all faults are written, each with its line, and nothing is kept; or all rows, as `enter` does."""
     with tempfile.TemporaryDirectory() as parent:
@@ -160,7 +211,8 @@ def main(words):
     programs, draw = programs_of(words[:2]), random.Random(int(words[2]) if len(words) > 2 else 1)
     count = int(words[3]) if len(words) > 3 else 300
     for check in (lambda: check_examples(programs, draw), lambda: check_folder(programs), lambda: check_second(programs),
-                  lambda: check_trial(programs, draw), lambda: check_together(programs, draw), lambda: check_court(programs),
+                  lambda: check_trial(programs, draw), lambda: check_warnings(programs), lambda: check_together(programs, draw),
+                  lambda: check_court(programs),
                   lambda: compared(programs, draw, count // 10), lambda: damaged(programs, draw, 12, count // 2),
                   lambda: killed(programs, draw, count), lambda: killed_together(programs, draw, count // 3)):
         print(check(), flush=True)

@@ -1,3 +1,4 @@
+pub mod CarefulLemmas
 pub mod DeskLemmas
 pub mod FaultWordLemmas
 pub mod FileLemmas

@@ -1,4 +1,5 @@
 pub mod Ask
+pub mod Careful
 pub mod Change
 pub mod Desk
 pub mod FaultWords

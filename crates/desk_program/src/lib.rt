@@ -3,6 +3,7 @@
 #![tactic(auto)]
 
 mod asking;
+mod careful;
 mod change;
 mod copy;
 mod court;

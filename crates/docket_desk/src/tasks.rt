@@ -5,6 +5,7 @@ ghost use Rattle.office_streams.specs.Words.{has_failed};
 use crate::folder::{copied_beside, entries_beside, journal_name, make_folder, opened, read_file};
 use crate::words::Task;
 use crate::written::{enter_written, plain, try_written};
+use court_clock::Day;
 use desk_program::{Desk, DeskFault, ask, check_court, open_file, write_count, write_rows};
 use durable_session::SessionFault;
 use office_streams::{OfficeFault, Watched, read_all};
@@ -32,6 +33,26 @@ fn enter<W: Write>(rt: &HostRuntime, writer: &mut Watched<W>, folder: &str) -> R
     drop(entries);
     let mut reader = Watched::new(rt.stdin());
     let ended = desk.enter(rt.alloc(), &mut reader, writer);
+    drop(desk.into_disk());
+    match ended {
+        Ok(()) => Ok(()),
+        Err(fault) => Err(DeskFault::Session(fault)),
+    }
+}
+
+// Keeps the rows of standard input that draw no warning, and answers each.
+fn enter_carefully<W: Write>(
+    rt: &HostRuntime,
+    writer: &mut Watched<W>,
+    folder: &str,
+    today: Option<Day>,
+) -> Result<(), DeskFault>
+    requires { has_failed writer.old ≡ false }
+{
+    let (desk, entries) = opened(rt, folder)?;
+    drop(entries);
+    let mut reader = Watched::new(rt.stdin());
+    let (ended, desk) = desk.enter_carefully(rt.alloc(), today, &mut reader, writer);
     drop(desk.into_disk());
     match ended {
         Ok(()) => Ok(()),
@@ -82,6 +103,23 @@ fn try_folder<W: Write>(
     let desk = copied_beside(rt, folder)?;
     let mut reader = Watched::new(rt.stdin());
     match desk.try_rows(rt.alloc(), &mut reader, writer) {
+        (Ok(()), _) => Ok(()),
+        (Err(fault), _) => Err(DeskFault::Unkept(fault)),
+    }
+}
+
+// The same, where rows that draw a warning are answered with it.
+fn try_carefully<W: Write>(
+    rt: &HostRuntime,
+    writer: &mut Watched<W>,
+    folder: &str,
+    today: Option<Day>,
+) -> Result<(), DeskFault>
+    requires { has_failed writer.old ≡ false }
+{
+    let desk = copied_beside(rt, folder)?;
+    let mut reader = Watched::new(rt.stdin());
+    match desk.try_carefully(rt.alloc(), today, &mut reader, writer) {
         (Ok(()), _) => Ok(()),
         (Err(fault), _) => Err(DeskFault::Unkept(fault)),
     }
@@ -150,9 +188,11 @@ pub fn done<W: Write>(
     match task {
         Task::Open(court) => open_folder(rt, folder, court.as_str()),
         Task::Enter => enter(rt, writer, folder),
+        Task::EnterCarefully(today) => enter_carefully(rt, writer, folder, *today),
         Task::EnterTogether => enter_together(rt, writer, folder),
         Task::EnterWritten(style) => enter_written(rt, writer, folder, *style),
         Task::Try => try_folder(rt, writer, folder),
+        Task::TryCarefully(today) => try_carefully(rt, writer, folder, *today),
         Task::TryWritten(style) => try_written(rt, writer, folder, *style),
         Task::Plain(style) => plain(rt, writer, folder, *style),
         Task::Ask => ask_folder(rt, writer, folder),

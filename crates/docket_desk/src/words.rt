@@ -1,6 +1,7 @@
 //! What the words of the command line ask for.
 
 use clap::{Arg, ArgAction, ArgMatches, Command};
+use court_clock::Day;
 use office_options::{OptionsFault, argument_texts, fault_from};
 use std::alloc::{AllocError, Global};
 use written_fields::DateOrder;
@@ -15,7 +16,11 @@ const TASKS: &str = "Tasks:
                                   each
   enter FOLDER --all-or-nothing   read all of standard input first, and keep its
                                   rows only if no line has a fault
-  try FOLDER                      answer rows as 'enter' would, and keep none;
+  enter FOLDER --warn             keep no row that draws a warning, such as an
+                                  event before its case was filed: answer it
+                                  with its warnings. A row with '!' before it is
+                                  kept all the same
+  try FOLDER [--warn]             answer rows as 'enter' would, and keep none;
                                   also while another program enters rows
   plain FOLDER                    write the plain rows that the lines of
                                   standard input are, or what is wrong with
@@ -40,6 +45,9 @@ const WRITTEN_WORDS: &str =
 
 const DATES_WORDS: &str = "--dates is month-first or day-first";
 
+const WARN_WORDS: &str =
+    "--warn is for 'enter' and for 'try', without --all-or-nothing and --as-written; --today is for it";
+
 const COURT_WORDS: &str = "'court' needs another court's file: court FOLDER FILE [--accept]";
 
 /// What is asked for, of a folder.
@@ -49,12 +57,16 @@ pub enum Task {
     Open(String),
     /// Rows, which are kept and answered.
     Enter,
+    /// Rows, which are kept and answered, except those that draw a warning. The day counts as today, if there is one.
+    EnterCarefully(Option<Day>),
     /// Rows, which are kept together if no line has a fault, and then answered.
     EnterTogether,
     /// Rows as people write them, which are kept together if no line has a fault, and then answered.
     EnterWritten(Style),
     /// Rows, which are answered and not kept.
     Try,
+    /// Rows, which are answered as `EnterCarefully` answers them, and not kept.
+    TryCarefully(Option<Day>),
     /// Rows as people write them, which are answered and not kept.
     TryWritten(Style),
     /// Rows as people write them, which are written as plain rows.
@@ -88,12 +100,19 @@ struct Said {
     together: bool,
     written: bool,
     json: bool,
+    warn: bool,
+    today: Option<String>,
 }
 
 impl Said {
     // Whether it says how rows are written.
     fn has_style(&self) -> bool {
         self.dates.is_some() || self.written || self.json
+    }
+
+    // Whether it says that rows are held back, or by which day.
+    fn has_warnings(&self) -> bool {
+        self.warn || self.today.is_some()
     }
 
     // Whether it says what belongs to no task that takes rows.
@@ -130,6 +149,12 @@ fn command<'a>(alloc: Global) -> Result<Command<'a>, AllocError> {
         .long("json")
         .action(ArgAction::SetTrue)
         .help("Write their faults as JSON");
+    let warn = Arg::new(alloc, "warn")
+        .long("warn")
+        .action(ArgAction::SetTrue)
+        .help("Keep no row that draws a warning");
+    let today = text_argument(alloc, "today", "DAY", "The day that counts as today, for --warn")
+        .long("today");
     let dates = text_argument(
         alloc,
         "dates",
@@ -148,6 +173,8 @@ fn command<'a>(alloc: Global) -> Result<Command<'a>, AllocError> {
         .arg(text_argument(alloc, "court", "FILE", "The court's file, for 'open'").long("court"))?
         .arg(accept)?
         .arg(together)?
+        .arg(warn)?
+        .arg(today)?
         .arg(written)?
         .arg(dates)?
         .arg(json)
@@ -174,6 +201,9 @@ fn open_task(alloc: Global, said: Said) -> Result<Task, OptionsFault> {
     if said.file.is_some() || said.accept || said.together || said.has_style() {
         return Err(wrong(alloc, OPEN_WORDS));
     }
+    if said.has_warnings() {
+        return Err(wrong(alloc, WARN_WORDS));
+    }
     let Said { court, .. } = said;
     match court {
         Some(court) => Ok(Task::Open(court)),
@@ -185,6 +215,9 @@ fn open_task(alloc: Global, said: Said) -> Result<Task, OptionsFault> {
 fn court_task(alloc: Global, said: Said) -> Result<Task, OptionsFault> {
     if said.court.is_some() || said.together || said.has_style() {
         return Err(wrong(alloc, COURT_WORDS));
+    }
+    if said.has_warnings() {
+        return Err(wrong(alloc, WARN_WORDS));
     }
     let Said { file, accept, .. } = said;
     match file {
@@ -209,10 +242,40 @@ fn style_of(alloc: Global, said: &Said) -> Result<Style, OptionsFault> {
     })
 }
 
+// The text is no day.
+fn no_day(alloc: Global, text: &str) -> OptionsFault {
+    match format!(in alloc; "invalid value '{text}' for '--today <DAY>': write a day as 2025-09-15") {
+        Ok(what) => wrong(alloc, what.as_str()),
+        Err(_) => OptionsFault::OutOfMemory,
+    }
+}
+
+// The day that counts as today, if one does.
+fn today_of(alloc: Global, said: &Said) -> Result<Option<Day>, OptionsFault> {
+    let Some(text) = &said.today else {
+        return Ok(None);
+    };
+    match Day::from_text(text.as_str()) {
+        Some(day) => Ok(Some(day)),
+        None => Err(no_day(alloc, text.as_str())),
+    }
+}
+
+// Rows that are held back if they draw a warning.
+fn careful_day(alloc: Global, said: &Said) -> Result<Option<Day>, OptionsFault> {
+    if !said.warn || said.together || said.has_style() {
+        return Err(wrong(alloc, WARN_WORDS));
+    }
+    today_of(alloc, said)
+}
+
 // Rows that are kept, one after another or together.
 fn enter_task(alloc: Global, said: &Said) -> Result<Task, OptionsFault> {
     if said.has_file() {
         return Err(wrong(alloc, ENTER_WORDS));
+    }
+    if said.has_warnings() {
+        return Ok(Task::EnterCarefully(careful_day(alloc, said)?));
     }
     match (said.together, said.written) {
         (true, true) => Ok(Task::EnterWritten(style_of(alloc, said)?)),
@@ -226,6 +289,9 @@ fn enter_task(alloc: Global, said: &Said) -> Result<Task, OptionsFault> {
 fn trial_task(alloc: Global, said: &Said) -> Result<Task, OptionsFault> {
     if said.has_file() || said.together {
         return Err(wrong(alloc, "'try' takes a folder: rows come from standard input"));
+    }
+    if said.has_warnings() {
+        return Ok(Task::TryCarefully(careful_day(alloc, said)?));
     }
     if said.written {
         return Ok(Task::TryWritten(style_of(alloc, said)?));
@@ -241,6 +307,9 @@ fn reading_task(alloc: Global, said: &Said) -> Result<Task, OptionsFault> {
     if said.has_file() || said.together || said.written {
         return Err(wrong(alloc, "'plain' takes a folder, --dates and --json"));
     }
+    if said.has_warnings() {
+        return Err(wrong(alloc, WARN_WORDS));
+    }
     Ok(Task::Plain(style_of(alloc, said)?))
 }
 
@@ -248,6 +317,9 @@ fn reading_task(alloc: Global, said: &Said) -> Result<Task, OptionsFault> {
 fn plain_task(alloc: Global, name: &str, said: &Said) -> Result<Task, OptionsFault> {
     if said.has_file() || said.together || said.has_style() {
         return Err(wrong(alloc, "this task takes a folder alone"));
+    }
+    if said.has_warnings() {
+        return Err(wrong(alloc, WARN_WORDS));
     }
     match name {
         "ask" => Ok(Task::Ask),
@@ -279,6 +351,8 @@ fn asked(alloc: Global, matches: &ArgMatches<'_>) -> Result<(Task, String), Opti
         together: matches.get_flag("together"),
         written: matches.get_flag("written"),
         json: matches.get_flag("json"),
+        warn: matches.get_flag("warn"),
+        today: given(alloc, matches, "today")?,
     };
     let folder = given(alloc, matches, "folder")?;
     match (matches.get_str("task"), folder) {

@@ -1,0 +1,4 @@
+use Rattle.desk_program.proofs.desk.Desk.try_carefully.Goals as goal
+
+pub returns-clause-tried : goal.returns-clause-tried
+returns-clause-tried g c = λ kept keeps. c.answer-ended.ensures.answered kept keeps.docketed.stands
