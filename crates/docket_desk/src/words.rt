@@ -153,8 +153,13 @@ fn command<'a>(alloc: Global) -> Result<Command<'a>, AllocError> {
         .long("warn")
         .action(ArgAction::SetTrue)
         .help("Keep no row that draws a warning");
-    let today = text_argument(alloc, "today", "DAY", "The day that counts as today, for --warn")
-        .long("today");
+    let today = text_argument(
+        alloc,
+        "today",
+        "DAY",
+        "The day that counts as today, for --warn",
+    )
+    .long("today");
     let dates = text_argument(
         alloc,
         "dates",
@@ -244,7 +249,9 @@ fn style_of(alloc: Global, said: &Said) -> Result<Style, OptionsFault> {
 
 // The text is no day.
 fn no_day(alloc: Global, text: &str) -> OptionsFault {
-    match format!(in alloc; "invalid value '{text}' for '--today <DAY>': write a day as 2025-09-15") {
+    match format!(in alloc;
+        "invalid value '{text}' for '--today <DAY>': write a day as 2025-09-15"
+    ) {
         Ok(what) => wrong(alloc, what.as_str()),
         Err(_) => OptionsFault::OutOfMemory,
     }
