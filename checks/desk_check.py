@@ -5,10 +5,10 @@
 
 The examples of examples/ of one clerk are entered in two sessions, and answered as by clerk_office. What is said of an
 empty folder, of one that has a journal, and of a second program is looked at. A question is asked and rows are tried beside
-a program that enters rows, rows that draw warnings are held back, rows are kept together or not at all, and a court is given another file. Then COUNT times (300
-without it) a session is ended at a random moment, most of them killed, and COUNT / 3 times one that keeps its rows together,
-as desk_kill.py does it; COUNT / 10 inputs at random are compared, as desk_compare.py does it; and a short journal is damaged
-in its last COUNT / 2 bytes, as desk_damage.py does it. It needs Python 3.8 or later.
+a program that enters rows, rows that draw warnings are held back, rows are kept together or not at all, and a court is given
+another file. Then COUNT times (300 without it) a session is ended at a random moment, most of them killed, and COUNT / 3
+times one that keeps its rows together, as desk_kill.py does it; COUNT / 10 inputs at random are compared, as desk_compare.py
+does it; and a short journal is damaged in its last COUNT / 2 bytes, as desk_damage.py does it. It needs Python 3.8 or later.
 """
 import random
 import sys
