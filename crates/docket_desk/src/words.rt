@@ -128,11 +128,24 @@ fn text_argument<'a>(alloc: Global, name: &'a str, value: &'a str, help: &'a str
         .help(help)
 }
 
-fn command<'a>(alloc: Global) -> Result<Command<'a>, AllocError> {
+// The task, the folder and the files that a task takes.
+fn command_of_files<'a>(alloc: Global) -> Result<Command<'a>, AllocError> {
     let task = text_argument(alloc, "task", "TASK", "What is to be done").required(true);
     let folder = text_argument(alloc, "folder", "FOLDER", "The folder with the journal").required(
         true,
     );
+    Command::new(alloc, "docket_desk")
+        .no_binary_name(true)
+        .version("0.1.0")
+        .about(ABOUT)
+        .after_help(TASKS)
+        .arg(task)?
+        .arg(folder)?
+        .arg(text_argument(alloc, "file", "FILE", "Another court's file, for 'court'"))?
+        .arg(text_argument(alloc, "court", "FILE", "The court's file, for 'open'").long("court"))
+}
+
+fn command<'a>(alloc: Global) -> Result<Command<'a>, AllocError> {
     let accept = Arg::new(alloc, "accept")
         .long("accept")
         .action(ArgAction::SetTrue)
@@ -167,15 +180,7 @@ fn command<'a>(alloc: Global) -> Result<Command<'a>, AllocError> {
         "month-first or day-first, for 9/2/2025",
     )
     .long("dates");
-    Command::new(alloc, "docket_desk")
-        .no_binary_name(true)
-        .version("0.1.0")
-        .about(ABOUT)
-        .after_help(TASKS)
-        .arg(task)?
-        .arg(folder)?
-        .arg(text_argument(alloc, "file", "FILE", "Another court's file, for 'court'"))?
-        .arg(text_argument(alloc, "court", "FILE", "The court's file, for 'open'").long("court"))?
+    command_of_files(alloc)?
         .arg(accept)?
         .arg(together)?
         .arg(warn)?
