@@ -67,5 +67,6 @@ fn push_line(
     answered.write(&mut out, court)?;
     let line = out.into_text();
     text.extend_from_slice(&line)?;
-    text.push(b'\n')
+    text.push(b'\n')?;
+    Ok(())
 }

@@ -1,8 +1,8 @@
 use Rattle.std.proofs.Common.{◌≡◌, ◌≤◌, ◌+◌, ◌++◌, ◌∙◌, ◌∷◌, All, drop, take, length, append_assoc, append-nil, refl, sym, ap, subst, arith}
 use Rattle.std.proofs.lemmas.List.{at_drop_more, at_drop_all}
+use Rattle.std.proofs.lemmas.List.Elements.{All-cons, All-nil}
 use Rattle.std.specs.List.{flat_map}
 use Rattle.docket_rows.specs.Words.{Rows, setup_of, opening_rows}
-use Rattle.office_rows.specs.declared.row.Row.{Row}
 use Rattle.office_run.specs.declared.reply.Reply.{Reply}
 use Rattle.office_run.specs.Words.{Holds, docketed_after, docketed_then, reply_to}
 use Rattle.office_run.proofs.CallerLemmas.{docketed_at}
@@ -37,7 +37,7 @@ loop-row-preserved c =
       number = omega arith;
       holds = subst (Holds setup c.reply_to.new.docket) (sym more) replied.1;
       so_far = rw (c.in_ok-push_line.ensures.line, more, same) (append_assoc before (line_of (value (reply_to setup docketed row.work))) (flat_map line_of later) ∙ ap (λ l. before ++ flat_map line_of l) (sym step) ∙ c.loop-row.invariant.so_far);
-      read = λ left. c.loop-row.invariant.read (subst (All ReadsBack) (sym step) (subst ReadsBack same c.in_ok-push_line.ensures.read, rw more at left));
+      read = λ left. c.loop-row.invariant.read (subst (All ReadsBack) (sym step) (All-cons ReadsBack (value (reply_to setup docketed row.work)) later (subst ReadsBack same c.in_ok-push_line.ensures.read) (rw more at left)));
     }
 
 pub returns-clause-lines : goal.returns-clause-lines
@@ -56,4 +56,4 @@ returns-clause-read c =
     let setup = setup_of court in
     let past : length c.args.rows.now ≤ c.loop-row.row-index = omega (arith, c.loop-row-test.false) in
     let none = at_drop_all (λ rest. answers_from court (docketed_after setup (opening_rows setup) (take c.loop-row.row-index c.args.rows.now)) c.loop-row.number rest) c.args.rows.now c.loop-row.row-index past in
-    c.loop-row.invariant.read (subst (All ReadsBack) (sym none) tt)
+    c.loop-row.invariant.read (subst (All ReadsBack) (sym none) (All-nil ReadsBack))
