@@ -1,5 +1,5 @@
 -- What the words of the command line ask for.
-use Rattle.std.specs.Prelude.{◌≡◌, ℕ, List, Some, codes, option_map, string_bytes, IfSome, if◌then◌else◌}
+use Rattle.std.specs.Prelude.{◌≡◌, ℕ, Bool, true, false, List, Option, Some, None, codes, option_map, string_bytes, IfSome, if◌then◌else◌}
 use Rattle.std.specs.Str.{bytes_eq}
 use Rattle.std.specs.Str.Parse.{digits_value, without_leading_plus}
 use Rattle.clap.specs.Words.{Row, Text, first_of, one_of, subcommand_of}
@@ -22,8 +22,13 @@ task_of name =
 abbrev pub number_written : Text → ℕ
 number_written text = digits_value 10 (without_leading_plus text)
 
--- a subcommand with what it was given asks for that: each text is that of its option, and a case is the
--- number that its option writes
+-- whether a flag is given: its text says so, and it isn't where it has none
+abbrev pub IsFlag : Option Text → Bool → Type 0
+IsFlag None given = given ≡ false
+IsFlag (Some text) given = (text ≡ codes "true" → given ≡ true) × (text ≡ codes "false" → given ≡ false)
+
+-- a subcommand with what it was given asks for that: each text is that of its option, a case is the number that its option
+-- writes, and answers are to be lines where that flag is given
 pub record IsAskedBy (name : Text) (given : List Row) (asked : Asked) : Type 0 where
   pub task : asked.task ≡ task_of name
   pub judge : option_map string_bytes asked.judge ≡ first_of (codes "judge") given
@@ -32,6 +37,7 @@ pub record IsAskedBy (name : Text) (given : List Row) (asked : Asked) : Type 0 w
   pub to : option_map string_bytes asked.to ≡ first_of (codes "to") given
   pub of : option_map string_bytes asked.of ≡ first_of (codes "of") given
   pub stamp : option_map string_bytes asked.stamp ≡ first_of (codes "stamp") given
+  pub lines : IsFlag (one_of (codes "lines") given) asked.lines
 
 -- the words have a subcommand, and it asks for that
 abbrev pub IsAsked : List Text → Asked → Type 0

@@ -16,12 +16,12 @@ use Rattle.explained_sheets.specs.Words.{AreExplained}
 use Rattle.calendar_page.specs.Words.{page_text}
 use Rattle.office_rows.specs.declared.row.Row.{Row}
 use Rattle.office_run.specs.Words.{docketed_after}
-use Rattle.calendar_json.specs.Words.{IsDocketJson}
+use Rattle.calendar_json.specs.Words.{AreAnswerLines, IsDocketJson}
 use Rattle.calendar_sql.specs.Words.{script_text}
 use Rattle.office_streams.specs.Words.{Input}
 use Rattle.calendar_program.specs.declared.asked.Asked.{Asked}
 use Rattle.calendar_program.specs.declared.chosen.Chosen.{Chosen}
-use Rattle.calendar_program.specs.declared.chosen.Chosen.TheVariants.{Json, Listed, Sql}
+use Rattle.calendar_program.specs.declared.chosen.Chosen.TheVariants.{Json, Lines, Listed, Sql}
 use Rattle.calendar_program.specs.declared.chosen.Listing.{Listing}
 use Rattle.calendar_program.specs.declared.chosen.Listing.TheVariants.{Due, Ics, Page, Week}
 use Rattle.calendar_program.specs.declared.chosen.Unknown.{Unknown}
@@ -74,6 +74,7 @@ changes_by court rows = changes_made (setup_of court) (opening_rows (setup_of co
 abbrev pub IsTextOf : CourtView → List Row → Chosen → List ℕ → Type 0
 IsTextOf court rows (Listed listing) text = IsListing court (docketed_by court rows) (changes_by court rows) listing text
 IsTextOf court rows (Json choice) text = IsDocketJson court choice rows text
+IsTextOf court rows Lines text = AreAnswerLines court rows text
 IsTextOf court rows Sql text = text ≡ script_text court rows
 
 -- the text of a word, where it was given

@@ -1,5 +1,5 @@
 -- What is chosen of a court by what was asked for.
-use Rattle.std.specs.Prelude.{ℕ, ℤ, pos, Bool, true, false, List, Option, Some, None, Result, Ok, Err, option_map, string_bytes}
+use Rattle.std.specs.Prelude.{ℕ, ℤ, pos, Bool, true, false, List, Option, Some, None, Result, Ok, Err, option_map, string_bytes, if◌then◌else◌}
 use Rattle.std.specs.Option.{ok_or, option_map_or}
 use Rattle.court_clock.specs.Words.{day_of_text}
 use Rattle.court_days.specs.Words.{CourtView}
@@ -10,7 +10,7 @@ use Rattle.calendar_program.specs.declared.asked.Asked.{Asked}
 use Rattle.calendar_program.specs.declared.asked.Task.TheVariants as task
 use Rattle.calendar_program.specs.declared.asked.Task.{Task}
 use Rattle.calendar_program.specs.declared.chosen.Chosen.{Chosen}
-use Rattle.calendar_program.specs.declared.chosen.Chosen.TheVariants.{Json, Listed, Sql}
+use Rattle.calendar_program.specs.declared.chosen.Chosen.TheVariants.{Json, Lines, Listed, Sql}
 use Rattle.calendar_program.specs.declared.chosen.Listing.TheVariants.{Due, Ics, Page, Week}
 use Rattle.calendar_program.specs.declared.chosen.Unknown.{Unknown}
 use Rattle.calendar_program.specs.declared.chosen.Unknown.TheVariants.{Judge, From, To, Of, Stamp}
@@ -75,11 +75,11 @@ week_chosen court asked = do
   day ← day_asked (option_map string_bytes asked.of) court.days.from Of
   Ok (Listed (Week judge day))
 
--- the JSON of that
+-- the JSON of that, or the answers alone as lines
 abbrev pub json_chosen : CourtView → Asked → Result Chosen Unknown
 json_chosen court asked = do
   choice ← choice_asked court asked true
-  Ok (Json choice)
+  Ok (if asked.lines then Lines else Json choice)
 
 abbrev pub chosen_by : Task → CourtView → Asked → Result Chosen Unknown
 chosen_by task.Due court asked = due_chosen court asked

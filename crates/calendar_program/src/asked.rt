@@ -42,6 +42,8 @@ pub struct Asked {
     pub of: Option<String>,
     /// The instant at which a calendar is written.
     pub stamp: Option<String>,
+    /// Whether answers are to be lines.
+    pub lines: bool,
 }
 
 /// What a subcommand of that name asks for with what it was given. `Err` says that memory ran out.
@@ -60,6 +62,7 @@ pub(crate) fn asked_by(
         to: text_given(alloc, given, "to")?,
         of: text_given(alloc, given, "of")?,
         stamp: text_given(alloc, given, "stamp")?,
+        lines: given.get_flag("lines"),
     })
 }
 

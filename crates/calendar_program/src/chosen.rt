@@ -29,6 +29,8 @@ pub enum Chosen {
     Listed(Listing),
     /// What rows were answered, and of the docket the chosen cases and calendars, as JSON.
     Json(Choice),
+    /// What rows were answered, as lines of JSON.
+    Lines,
     /// What rows were answered, and all of the docket, as SQL.
     Sql,
 }
@@ -90,6 +92,9 @@ fn json_chosen(court: &Court, asked: &Asked) -> Result<Chosen, Unknown>
     ensures { result ≡ json_chosen court.now asked.now }
 {
     let choice = choice_asked(court, asked, true)?;
+    if asked.lines {
+        return Ok(Chosen::Lines);
+    }
     Ok(Chosen::Json(choice))
 }
 

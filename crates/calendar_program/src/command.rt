@@ -7,7 +7,7 @@ ghost use Rattle.clap.specs.Walk.{texts};
 ghost use Rattle.clap.specs.Words.{app_of, rule_of, subcommand_rows_of, takes, with_subcommand};
 ghost use Rattle.office_options.specs.Words.{IsAnswerFor};
 ghost use Rattle.calendar_program.specs.Asked.{IsAsked, IsAskedBy};
-ghost use Rattle.calendar_program.specs.CommandLine.{bare_command, case_rule, choosing_shape, command_line, day_rule, ics_shape, judge_rule, stamp_rule, week_shape};
+ghost use Rattle.calendar_program.specs.CommandLine.{bare_command, case_rule, choosing_shape, command_line, day_rule, ics_shape, json_shape, judge_rule, lines_rule, stamp_rule, week_shape};
 
 use crate::asked::{Asked, asked_by};
 use clap::{Arg, ArgAction, ArgMatches, Command};
@@ -47,6 +47,8 @@ const ABOUT_PAGE: &str = "One HTML page: what is due, each judge's hearings, and
 const ABOUT_ICS: &str = "Deadlines and hearings for calendar programs, as iCalendar (RFC 5545)";
 
 const STAMP: &str = "When it is written, as 20250915T120000Z; else 19700101T000000Z";
+
+const LINES: &str = "The answers of all rows alone, an object a line";
 
 const FROM: &str = "The first day, as 2025-09-15; else the first of the court's file";
 
@@ -91,6 +93,16 @@ fn stamp_argument<'a>(alloc: Global) -> Arg<'a>
         .action(ArgAction::Set)
         .value_name("INSTANT")
         .help(STAMP)
+}
+
+fn lines_argument<'a>(alloc: Global) -> Arg<'a>
+    ensures rule { rule_of result ≡ lines_rule }
+    ensures local { result.global ≡ false }
+{
+    Arg::new(alloc, "lines")
+        .long("lines")
+        .action(ArgAction::SetTrue)
+        .help(LINES)
 }
 
 fn case_argument<'a>(alloc: Global) -> Arg<'a>
@@ -162,6 +174,26 @@ fn with_ics<'a>(alloc: Global, command: Command<'a>) -> Result<Command<'a>, Allo
     Ok(whole)
 }
 
+/// The command with the subcommand for JSON, which also takes that answers are to be lines.
+fn with_json<'a>(alloc: Global, command: Command<'a>) -> Result<Command<'a>, AllocError>
+    ensures { IfOk result (λ whole. app_of whole ≡ with_subcommand (app_of command.entry) json_shape) }
+{
+    let from = day_argument(alloc, "from", false, FROM);
+    let to = day_argument(alloc, "to", false, TO);
+    let judge = judge_argument(alloc, false, ANY_JUDGE);
+    let case = case_argument(alloc);
+    let lines = lines_argument(alloc);
+    let json = Command::new(alloc, "json")
+        .about(ABOUT_JSON)
+        .arg(from)?
+        .arg(to)?
+        .arg(judge)?
+        .arg(case)?
+        .arg(lines)?;
+    let whole = command.subcommand(json)?;
+    Ok(whole)
+}
+
 /// The command with the subcommand for a database, which takes nothing.
 fn with_sql<'a>(alloc: Global, command: Command<'a>) -> Result<Command<'a>, AllocError>
     ensures { IfOk result (λ whole. app_of whole ≡ with_subcommand (app_of command.entry) (new_shape (codes "sql"))) }
@@ -191,7 +223,7 @@ fn command<'a>(alloc: Global) -> Result<Command<'a>, AllocError>
     let week = with_week(alloc, due)?;
     let page = with_choosing(alloc, week, "page", ABOUT_PAGE)?;
     let ics = with_ics(alloc, page)?;
-    let json = with_choosing(alloc, ics, "json", ABOUT_JSON)?;
+    let json = with_json(alloc, ics)?;
     let sql = with_sql(alloc, json)?;
     Ok(sql)
 }

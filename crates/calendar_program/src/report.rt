@@ -12,7 +12,7 @@ use crate::due::due_text;
 use crate::ics::ics_text;
 use crate::page::page_text;
 use crate::week::week_text;
-use calendar_json::json_text;
+use calendar_json::{answer_lines, json_text};
 use calendar_sql::sql_text;
 use court_days::Court;
 use docket_core::Docket;
@@ -74,6 +74,7 @@ fn text_of(
     match chosen {
         Chosen::Listed(listing) => listed(alloc, court, rows, listing),
         Chosen::Json(choice) => json_text(alloc, court, rows, choice),
+        Chosen::Lines => answer_lines(alloc, court, rows),
         Chosen::Sql => sql_text(alloc, court, rows),
     }
 }

@@ -1,7 +1,7 @@
 use Rattle.std.proofs.Common.{◌∙◌, codes}
 use Rattle.clap.specs.Words.{found_of, one_of, rows_of}
 use Rattle.clap.proofs.WalkLemmas.{first_value-rows, one_text-rows}
-use Rattle.calendar_program.proofs.CaseLemmas.{case_held}
+use Rattle.calendar_program.proofs.CaseLemmas.{case_held, flag_held}
 use Rattle.calendar_program.proofs.asked.asked_by.Goals as goal
 
 pub returns : goal.returns
@@ -15,4 +15,5 @@ returns c =
       to = c.in_ok-text_given-3.ensures ∙ first_value-rows given (codes "to");
       of = c.in_ok-text_given-4.ensures ∙ first_value-rows given (codes "of");
       stamp = c.in_ok-text_given-5.ensures ∙ first_value-rows given (codes "stamp");
+      lines = flag_held (one_of (codes "lines") (rows_of given)) c.get_flag.result (λ none. c.get_flag.ensures.none (one_text-rows given (codes "lines") ∙ none)) (λ some. c.get_flag.ensures.value (one_text-rows given (codes "lines") ∙ some)) (λ some. c.get_flag.ensures.other (one_text-rows given (codes "lines") ∙ some));
     }
