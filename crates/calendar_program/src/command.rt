@@ -2,11 +2,10 @@
 
 ghost use Rattle.std.specs.Prelude.{◌≡◌, false, true, codes, IfErr, IfOk, IfSome};
 ghost use Rattle.clap.specs.Simple.{new_shape};
-ghost use Rattle.clap.specs.Faults.{fault_of};
 ghost use Rattle.clap.specs.Walk.{texts};
-ghost use Rattle.clap.specs.Words.{app_of, rule_of, subcommand_rows_of, takes, with_subcommand};
+ghost use Rattle.clap.specs.Words.{app_of, rule_of, subcommand_rows_of, with_subcommand};
 ghost use Rattle.office_options.specs.Words.{IsAnswerFor};
-ghost use Rattle.calendar_program.specs.Asked.{IsAsked, IsAskedBy};
+ghost use Rattle.calendar_program.specs.Asked.{IsAsked, IsAskedBy, are_met_taken, are_taken, faults_met, faults_of};
 ghost use Rattle.calendar_program.specs.CommandLine.{bare_command, case_rule, choosing_shape, command_line, day_rule, ics_shape, json_shape, judge_rule, lines_rule, stamp_rule, week_shape};
 
 use crate::asked::{Asked, asked_by};
@@ -228,12 +227,13 @@ fn command<'a>(alloc: Global) -> Result<Command<'a>, AllocError>
     Ok(sql)
 }
 
-/// What the words ask for, which are those after the program's name. BadWords where `clap` refuses the words, Help where
-/// they ask for the help or the version first, and OutOfMemory where memory runs out.
+/// What the words ask for, which are those after the program's name. BadWords where `clap` refuses the words or a text
+/// writes no day or no instant, Help where they ask for the help or the version first, and OutOfMemory where memory runs
+/// out.
 pub(crate) fn asked_of(alloc: Global, words: &[&str]) -> Result<Asked, OptionsFault>
     ensures asked { IfOk result (λ asked. IsAsked (texts words.now) asked) }
-    ensures faults { IsAnswerFor (fault_of command_line (texts words.now)) result }
-    ensures taken { takes command_line (texts words.now) ≡ true → IfErr result (λ fault. fault ≡ OptionsFault.OutOfMemory) }
+    ensures faults { IsAnswerFor (faults_of (texts words.now)) result }
+    ensures taken { are_taken (texts words.now) ≡ true → IfErr result (λ fault. fault ≡ OptionsFault.OutOfMemory) }
 {
     let command = command(alloc)?;
     match command.try_get_matches_from(words) {
@@ -242,16 +242,15 @@ pub(crate) fn asked_of(alloc: Global, words: &[&str]) -> Result<Asked, OptionsFa
     }
 }
 
-/// What the matches of words ask for. The error is that memory ran out.
+/// What the matches of words ask for. BadWords where a text writes no day or no instant, and OutOfMemory where memory runs
+/// out.
 fn asked_in(alloc: Global, matches: &ArgMatches<'_>) -> Result<Asked, OptionsFault>
     ensures asked { IfOk result (λ asked. IfSome (subcommand_rows_of matches.now) (λ met. IsAskedBy met.0 met.1 asked)) }
-    ensures memory { IfErr result (λ fault. fault ≡ OptionsFault.OutOfMemory) }
+    ensures faults { IsAnswerFor (faults_met (subcommand_rows_of matches.now)) result }
+    ensures taken { are_met_taken (subcommand_rows_of matches.now) ≡ true → IfErr result (λ fault. fault ≡ OptionsFault.OutOfMemory) }
 {
     match matches.subcommand() {
-        Some((name, given)) => {
-            let asked = asked_by(alloc, name, given)?;
-            Ok(asked)
-        }
+        Some((name, given)) => asked_by(alloc, name, given),
         // `clap` has refused words without a subcommand.
         None => Err(OptionsFault::OutOfMemory),
     }
