@@ -22,5 +22,5 @@ case_held (Some n) (Some t) none value = let read = value t refl in ap Some (sym
 
 -- a flag that is read is the one that its text says
 pub flag_held : (held : Option Text) (given : Bool) → (held ≡ None → given ≡ false) → (held ≡ Some (codes "true") → given ≡ true) → (held ≡ Some (codes "false") → given ≡ false) → IsFlag held given
-flag_held None given none yes no = none refl
-flag_held (Some text) given none yes no = ((λ is. yes (ap Some is)), (λ is. no (ap Some is)))
+flag_held None given none told denied = none refl
+flag_held (Some text) given none told denied = ((λ is. told (ap Some is)), (λ is. denied (ap Some is)))

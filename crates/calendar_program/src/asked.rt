@@ -66,10 +66,22 @@ pub(crate) fn asked_by(
     ensures taken { are_given_taken (rows_of (found_of given.now)) ≡ true → IfErr result (λ fault. fault ≡ OptionsFault.OutOfMemory) }
 {
     let judge = text_given(alloc, given, "judge")?;
-    let from = day_read(alloc, "from", given.get_str("from"))?;
-    let to = day_read(alloc, "to", given.get_str("to"))?;
-    let of = day_read(alloc, "of", given.get_str("of"))?;
-    let stamp = stamp_read(alloc, given.get_str("stamp"))?;
+    let from = match day_read(alloc, "from", given.get_str("from")) {
+        Ok(day) => day,
+        Err(fault) => return Err(fault),
+    };
+    let to = match day_read(alloc, "to", given.get_str("to")) {
+        Ok(day) => day,
+        Err(fault) => return Err(fault),
+    };
+    let of = match day_read(alloc, "of", given.get_str("of")) {
+        Ok(day) => day,
+        Err(fault) => return Err(fault),
+    };
+    let stamp = match stamp_read(alloc, given.get_str("stamp")) {
+        Ok(stamp) => stamp,
+        Err(fault) => return Err(fault),
+    };
     Ok(Asked {
         task: task_of(name),
         judge,
@@ -107,11 +119,7 @@ fn text_given(alloc: Global, given: &ArgMatches<'_>, id: &str) -> Result<Option<
 }
 
 /// The day that the text of an option writes, if it is given.
-fn day_read(
-    alloc: Global,
-    option: &str,
-    text: Option<&str>,
-) -> Result<Option<Day>, OptionsFault>
+fn day_read(alloc: Global, option: &str, text: Option<&str>) -> Result<Option<Day>, OptionsFault>
     ensures day { IfOk result (λ day. day ≡ option_and_then day_of_text (option_map (λ text. text.now) text.entry)) }
     ensures read { IfOk result (λ day. is_day_taken (option_map (λ text. text.now) text.entry) ≡ true) }
     ensures fault { IfErr result (λ fault. IsFaultAmong (ErrorKind.ValueValidation ∷ []) fault) }
