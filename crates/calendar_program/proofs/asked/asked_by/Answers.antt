@@ -1,5 +1,5 @@
 -- Where a text writes no day or no instant, not all are taken; else each is.
-use Rattle.std.proofs.Common.{◌≡◌, ◌∙◌, codes, ap}
+use Rattle.std.proofs.Common.{◌∙◌, codes, ap}
 use Rattle.clap.specs.Words.{found_of, first_of, one_of, rows_of}
 use Rattle.clap.proofs.WalkLemmas.{first_value-rows, one_text-rows}
 use Rattle.calendar_program.specs.Asked.{are_given_taken, faults_unless, is_day_taken, is_instant_taken}
