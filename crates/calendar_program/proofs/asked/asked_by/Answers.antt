@@ -1,10 +1,11 @@
 -- Where a text writes no day or no instant, not all are taken; else each is.
 use Rattle.std.proofs.Common.{◌∙◌, codes, ap}
+use Rattle.std.proofs.lemmas.Bool.{and_from, and_parts}
 use Rattle.clap.specs.Words.{found_of, first_of, one_of, rows_of}
 use Rattle.clap.proofs.WalkLemmas.{first_value-rows, one_text-rows}
 use Rattle.calendar_program.specs.Asked.{are_given_taken, faults_unless, is_day_taken, is_instant_taken}
 use Rattle.calendar_program.proofs.CaseLemmas.{case_held, flag_held}
-use Rattle.calendar_program.proofs.WordLemmas.{all_four, fault_unless, four_all}
+use Rattle.calendar_program.proofs.WordLemmas.{fault_unless}
 use Rattle.calendar_program.proofs.asked.asked_by.Goals as goal
 
 pub returns-in-Err-clause-faults : goal.returns-in-Err-clause-faults
@@ -12,56 +13,56 @@ returns-in-Err-clause-faults c =
     let found = found_of c.args.given.now in
     let given = rows_of found in
     let memory = rw (c.get_str.ensures ∙ first_value-rows found (codes "from")) at c.in-Err.ensures.taken in
-    fault_unless (are_given_taken given) c.in-Err.fault c.in-Err.ensures.fault (λ all. memory (all_four (is_day_taken (first_of (codes "from") given)) (is_day_taken (first_of (codes "to") given)) (is_day_taken (first_of (codes "of") given)) (is_instant_taken (first_of (codes "stamp") given)) all).0)
+    fault_unless (are_given_taken given) c.in-Err.fault c.in-Err.ensures.fault (λ all. memory (and_parts (is_day_taken (first_of (codes "from") given)) _ all).0)
 
 pub returns-in-Err-clause-taken : goal.returns-in-Err-clause-taken
 returns-in-Err-clause-taken c all =
     let found = found_of c.args.given.now in
     let given = rows_of found in
     let memory = rw (c.get_str.ensures ∙ first_value-rows found (codes "from")) at c.in-Err.ensures.taken in
-    memory (all_four (is_day_taken (first_of (codes "from") given)) (is_day_taken (first_of (codes "to") given)) (is_day_taken (first_of (codes "of") given)) (is_instant_taken (first_of (codes "stamp") given)) all).0
+    memory (and_parts (is_day_taken (first_of (codes "from") given)) _ all).0
 
 pub returns-in-Err-day_read-clause-faults : goal.returns-in-Err-day_read-clause-faults
 returns-in-Err-day_read-clause-faults c =
     let found = found_of c.args.given.now in
     let given = rows_of found in
     let memory = rw (c.get_str-2.ensures ∙ first_value-rows found (codes "to")) at c.in-Err-day_read.ensures.taken in
-    fault_unless (are_given_taken given) c.in-Err-day_read.fault c.in-Err-day_read.ensures.fault (λ all. memory (all_four (is_day_taken (first_of (codes "from") given)) (is_day_taken (first_of (codes "to") given)) (is_day_taken (first_of (codes "of") given)) (is_instant_taken (first_of (codes "stamp") given)) all).1.0)
+    fault_unless (are_given_taken given) c.in-Err-day_read.fault c.in-Err-day_read.ensures.fault (λ all. memory (and_parts (is_day_taken (first_of (codes "to") given)) _ (and_parts (is_day_taken (first_of (codes "from") given)) _ all).1).0)
 
 pub returns-in-Err-day_read-clause-taken : goal.returns-in-Err-day_read-clause-taken
 returns-in-Err-day_read-clause-taken c all =
     let found = found_of c.args.given.now in
     let given = rows_of found in
     let memory = rw (c.get_str-2.ensures ∙ first_value-rows found (codes "to")) at c.in-Err-day_read.ensures.taken in
-    memory (all_four (is_day_taken (first_of (codes "from") given)) (is_day_taken (first_of (codes "to") given)) (is_day_taken (first_of (codes "of") given)) (is_instant_taken (first_of (codes "stamp") given)) all).1.0
+    memory (and_parts (is_day_taken (first_of (codes "to") given)) _ (and_parts (is_day_taken (first_of (codes "from") given)) _ all).1).0
 
 pub returns-in-Err-day_read-2-clause-faults : goal.returns-in-Err-day_read-2-clause-faults
 returns-in-Err-day_read-2-clause-faults c =
     let found = found_of c.args.given.now in
     let given = rows_of found in
     let memory = rw (c.get_str-3.ensures ∙ first_value-rows found (codes "of")) at c.in-Err-day_read-2.ensures.taken in
-    fault_unless (are_given_taken given) c.in-Err-day_read-2.fault c.in-Err-day_read-2.ensures.fault (λ all. memory (all_four (is_day_taken (first_of (codes "from") given)) (is_day_taken (first_of (codes "to") given)) (is_day_taken (first_of (codes "of") given)) (is_instant_taken (first_of (codes "stamp") given)) all).1.1.0)
+    fault_unless (are_given_taken given) c.in-Err-day_read-2.fault c.in-Err-day_read-2.ensures.fault (λ all. memory (and_parts (is_day_taken (first_of (codes "of") given)) (is_instant_taken (first_of (codes "stamp") given)) (and_parts (is_day_taken (first_of (codes "to") given)) _ (and_parts (is_day_taken (first_of (codes "from") given)) _ all).1).1).0)
 
 pub returns-in-Err-day_read-2-clause-taken : goal.returns-in-Err-day_read-2-clause-taken
 returns-in-Err-day_read-2-clause-taken c all =
     let found = found_of c.args.given.now in
     let given = rows_of found in
     let memory = rw (c.get_str-3.ensures ∙ first_value-rows found (codes "of")) at c.in-Err-day_read-2.ensures.taken in
-    memory (all_four (is_day_taken (first_of (codes "from") given)) (is_day_taken (first_of (codes "to") given)) (is_day_taken (first_of (codes "of") given)) (is_instant_taken (first_of (codes "stamp") given)) all).1.1.0
+    memory (and_parts (is_day_taken (first_of (codes "of") given)) (is_instant_taken (first_of (codes "stamp") given)) (and_parts (is_day_taken (first_of (codes "to") given)) _ (and_parts (is_day_taken (first_of (codes "from") given)) _ all).1).1).0
 
 pub returns-in-Err-stamp_read-clause-faults : goal.returns-in-Err-stamp_read-clause-faults
 returns-in-Err-stamp_read-clause-faults c =
     let found = found_of c.args.given.now in
     let given = rows_of found in
     let memory = rw (c.get_str-4.ensures ∙ first_value-rows found (codes "stamp")) at c.in-Err-stamp_read.ensures.taken in
-    fault_unless (are_given_taken given) c.in-Err-stamp_read.fault c.in-Err-stamp_read.ensures.fault (λ all. memory (all_four (is_day_taken (first_of (codes "from") given)) (is_day_taken (first_of (codes "to") given)) (is_day_taken (first_of (codes "of") given)) (is_instant_taken (first_of (codes "stamp") given)) all).1.1.1)
+    fault_unless (are_given_taken given) c.in-Err-stamp_read.fault c.in-Err-stamp_read.ensures.fault (λ all. memory (and_parts (is_day_taken (first_of (codes "of") given)) (is_instant_taken (first_of (codes "stamp") given)) (and_parts (is_day_taken (first_of (codes "to") given)) _ (and_parts (is_day_taken (first_of (codes "from") given)) _ all).1).1).1)
 
 pub returns-in-Err-stamp_read-clause-taken : goal.returns-in-Err-stamp_read-clause-taken
 returns-in-Err-stamp_read-clause-taken c all =
     let found = found_of c.args.given.now in
     let given = rows_of found in
     let memory = rw (c.get_str-4.ensures ∙ first_value-rows found (codes "stamp")) at c.in-Err-stamp_read.ensures.taken in
-    memory (all_four (is_day_taken (first_of (codes "from") given)) (is_day_taken (first_of (codes "to") given)) (is_day_taken (first_of (codes "of") given)) (is_instant_taken (first_of (codes "stamp") given)) all).1.1.1
+    memory (and_parts (is_day_taken (first_of (codes "of") given)) (is_instant_taken (first_of (codes "stamp") given)) (and_parts (is_day_taken (first_of (codes "to") given)) _ (and_parts (is_day_taken (first_of (codes "from") given)) _ all).1).1).1
 
 pub returns-clause-asked : goal.returns-clause-asked
 returns-clause-asked c =
@@ -85,4 +86,4 @@ returns-clause-faults c =
     let to = rw (c.get_str-2.ensures ∙ first_value-rows found (codes "to")) at c.in-Ok-day_read.ensures.read in
     let of = rw (c.get_str-3.ensures ∙ first_value-rows found (codes "of")) at c.in-Ok-day_read-2.ensures.read in
     let stamp = rw (c.get_str-4.ensures ∙ first_value-rows found (codes "stamp")) at c.in-Ok-stamp_read.ensures.read in
-    ap faults_unless (four_all (is_day_taken (first_of (codes "from") given)) (is_day_taken (first_of (codes "to") given)) (is_day_taken (first_of (codes "of") given)) (is_instant_taken (first_of (codes "stamp") given)) from to of stamp)
+    ap faults_unless (and_from (is_day_taken (first_of (codes "from") given)) _ from (and_from (is_day_taken (first_of (codes "to") given)) _ to (and_from (is_day_taken (first_of (codes "of") given)) (is_instant_taken (first_of (codes "stamp") given)) of stamp)))
