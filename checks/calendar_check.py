@@ -7,8 +7,8 @@ Inputs are made at random. clerk_office answers each; from the sheets and calend
 makes the list of what is due, a judge's week and what a page says by itself, and court_calendar must write just that: for
 any days, any judge, any case, and words that say nothing of the court. A page is read by Python's own reader of HTML; its
 markup is looked at too (lib/pages.py). What it says of the reasons of a deadline must be the lines of deadline_memo. A
-faulty input must end both programs alike, and so must names that no court's file may have, such as `<b>`. It needs Python
-3.8 or later; the status is 0 where all is alike.
+faulty input must end both programs alike, and so must names that no court's file may have, such as `<b>`. Words that write
+no day or no instant must be refused. It needs Python 3.8 or later; the status is 0 where all is alike.
 """
 import datetime
 import random
@@ -28,6 +28,15 @@ ACTS = {"filing": "to file", "service": "to serve"}
 HOSTILE = ["<b>", "&amp;", "&", '\\"', "'", "a>b", "<script>alert(1)</script>", "x" * 33, "x" * 64, ""]
 # Names that a file may have, of the greatest length and of all characters.
 LONG = ["Calloway-Montgomery_von.Humboldt", "-_.-_.-_.-_.-_.-_.-_.-_.-_.-_.-_"]
+# Words that write no day or no instant, the option that is wrong, and what it says is wanted.
+A_DAY = "write a day as 2025-09-15"
+NO_TIMES = [
+    (["due", "--from", "2025-13-45"], "from <DAY>", A_DAY),
+    (["page", "--to", "2025-02-29"], "to <DAY>", A_DAY),
+    (["week", "--judge", "Ames", "--of", "9/2/2025"], "of <DAY>", A_DAY),
+    (["json", "--from", "2025-09-15", "--to", ""], "to <DAY>", A_DAY),
+    (["ics", "--stamp", "2025-09-15"], "stamp <INSTANT>", "write it as 20250915T120000Z, in UTC"),
+]
 
 Sheet = namedtuple("Sheet", "case filed deadlines motions")
 Item = namedtuple("Item", "day second case kind number line panel")
@@ -268,6 +277,16 @@ def refuses_hostile_names(calendar, clerk):
     return None
 
 
+def refuses_no_times(calendar):
+    """What is wrong with words that write no day or no instant: the first is named, and nothing is read."""
+    for words, option, wanted in NO_TIMES:
+        found = ran(calendar, words, b"")
+        said = "error: invalid value '{}' for '--{}': {}\n\nFor more information, try '--help'.\n".format(words[-1], option, wanted)
+        if found != (1, "", said):
+            return "{}: {}".format(" ".join(words), found)
+    return None
+
+
 def ran(program, words, data):
     done = subprocess.run([program, *words], input=data, stdout=subprocess.PIPE, stderr=subprocess.PIPE, check=False)
     return done.returncode, done.stdout.decode(), done.stderr.decode()
@@ -285,9 +304,7 @@ def made_words(chance, court, docket, sheets, reasons):
         return ["week", "--judge", judge, "--of", str(of)], is_text(week_text(court, docket, judge, of))
     if chance.random() < 0.1:
         format_asked = chance.choice(["due", "page"])
-        return ([format_asked, "--judge", "Nobody"], is_text(["court_calendar: no judge is named 'Nobody' in the court's file"])) \
-            if chance.random() < 0.5 else \
-            ([format_asked, "--to", "2025-02-29"], is_text(["court_calendar: '2025-02-29' is no day: write one as 2025-09-15"]))
+        return [format_asked, "--judge", "Nobody"], is_text(["court_calendar: no judge is named 'Nobody' in the court's file"])
     words, first, last, judge, case = [chance.choice(["due", "page"])], day_of(court["from"]), day_of(court["to"]), None, None
     if chance.random() < 0.6:
         first = chance.choice(days)
@@ -338,7 +355,7 @@ def main():
     seed = int(sys.argv[4]) if len(sys.argv) > 4 else 1
     count = int(sys.argv[5]) if len(sys.argv) > 5 else 200
     compared = 0
-    wrong = refuses_hostile_names(calendar, clerk)
+    wrong = refuses_hostile_names(calendar, clerk) or refuses_no_times(calendar)
     if wrong:
         print(wrong)
         sys.exit(1)

@@ -7,8 +7,8 @@
 Inputs are made at random. From the JSON alone this script writes the text of clerk_office again: each answer, each sheet and
 each calendar, and the two texts must be the same. Each instant must be that of the day and the time beside it, by a reading
 of the court's zone of its own (reference/civil.py). Each reason of a deadline must be a line of deadline_memo below it, in
-the same order. With a judge, a case or days the JSON must be that part of the whole. A
-faulty input must end both programs alike. It needs Python 3.8 or later; the status is 0 where all is alike.
+the same order. With a judge, a case or days the JSON must be that part of the whole, and with --lines its answers, a line
+each. A faulty input must end both programs alike. It needs Python 3.8 or later; the status is 0 where all is alike.
 
 With --schema each text is also held to docs/court_calendar.schema.json, which needs Debian's python3-jsonschema.
 """
@@ -248,6 +248,9 @@ def differs(chance, calendar, clerk, memo, data, valid):
         return "another text of the same value"
     if office_text(whole) != text.decode():
         return "another docket"
+    lines = ran(calendar, ["json", "--lines"], data)[1].splitlines(keepends=True)
+    if [read(line) for line in lines] != whole["answers"]:
+        return "other answers line by line"
     zone = re.search(r'^\s*zone\s*=\s*"([^"]*)"', data.decode(), re.MULTILINE)
     fault = times_fault(zone_of_text(zone.group(1)), whole) if zone else None
     fault = fault or reasons_fault(whole, ran(memo, [], data)[1].decode())

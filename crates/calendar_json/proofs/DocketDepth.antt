@@ -202,6 +202,9 @@ answered_within : (court : CourtView) (r : AnsweredRow) → depth (answered_valu
 unfolding answered_value
 answered_within court r = object_within 5 _ (append_within 5 (row_fields r.number r.clerk) (reply_fields court r.reply) (row_within r.number r.clerk) (reply_within court r.reply))
 
+pub answered_reads_within : (court : CourtView) (r : AnsweredRow) → depth (answered_value court r) ≤ max_depth
+answered_reads_within court r = let h = answered_within court r in omega arith
+
 answers_within : (court : CourtView) (docketed : Rows) (number : ℕ) (rows : List Row) → AllWithin 6 (answers_from court docketed number rows)
 unfolding answers_from
 answers_within court docketed number [] = tt

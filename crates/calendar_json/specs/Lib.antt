@@ -2,6 +2,7 @@ pub mod Answers
 pub mod Bookings
 pub mod Deadlines
 pub mod Document
+pub mod Lines
 pub mod Motions
 pub mod Names
 pub mod Periods

@@ -5,6 +5,7 @@ mod answers;
 mod bookings;
 mod deadlines;
 mod document;
+mod lines;
 mod motions;
 mod names;
 mod periods;
@@ -16,3 +17,4 @@ mod to_json;
 mod writer;
 
 pub use document::json_text;
+pub use lines::answer_lines;

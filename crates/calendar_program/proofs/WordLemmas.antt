@@ -1,20 +1,12 @@
--- What is answered for words that have no fault.
-use Rattle.std.proofs.Common.{◌≡◌, Result, Ok, Err, []}
-use Rattle.std.specs.Prelude.{IfErr}
-use Rattle.clap.specs.Words.{Kinds}
+-- The fault of a text that writes no day or no instant.
+use Rattle.std.proofs.Common.{◌≡◌, Bool, true, false, [], ◌∷◌, refl, subst, sym}
+use Rattle.clap.specs.declared.error.kind.ErrorKind.TheVariants.{ValueValidation}
 use Rattle.office_options.specs.declared.fault.OptionsFault.{OptionsFault}
-use Rattle.office_options.specs.declared.fault.OptionsFault.TheVariants.{BadWords, Help, OutOfMemory}
-use Rattle.office_options.specs.Words.{IsAnswerFor}
+use Rattle.office_options.specs.declared.fault.OptionsFault.TheVariants.{OutOfMemory}
+use Rattle.office_options.specs.Words.{IsFaultAmong}
+use Rattle.calendar_program.specs.Asked.{faults_unless}
 
--- want of memory is an answer for any words, and else they have no fault
-pub answer_for : {T : Type 0} (kinds : Kinds) (r : Result T OptionsFault) → kinds ≡ [] → IfErr r (λ fault. fault ≡ OutOfMemory) → IsAnswerFor kinds r
-answer_for kinds (Ok x) none memory = none
-answer_for kinds (Err OutOfMemory) none memory = tt
-answer_for kinds (Err (BadWords text)) none memory = absurd (bad text memory)
-  where
-    bad : (text : _) → BadWords text ≡ OutOfMemory → ⊥
-    bad text e = cc
-answer_for kinds (Err (Help text)) none memory = absurd (bad text memory)
-  where
-    bad : (text : _) → Help text ≡ OutOfMemory → ⊥
-    bad text e = cc
+-- a fault that comes for want of memory alone where all is taken is one of those that words have
+pub fault_unless : (taken : Bool) (fault : OptionsFault) → IsFaultAmong (ValueValidation ∷ []) fault → (taken ≡ true → fault ≡ OutOfMemory) → IsFaultAmong (faults_unless taken) fault
+fault_unless true fault among memory = subst (λ (f : OptionsFault). IsFaultAmong [] f) (sym (memory refl)) tt
+fault_unless false fault among memory = among

@@ -1,8 +1,13 @@
 -- What the words of the command line ask for.
-use Rattle.std.specs.Prelude.{◌≡◌, ℕ, List, Some, codes, option_map, string_bytes, IfSome, if◌then◌else◌}
+use Rattle.std.specs.Prelude.{◌≡◌, ◌&&◌, ℕ, Bool, true, false, List, [], ◌∷◌, Option, Some, None, codes, is_some, option_map, string_bytes, IfSome, if◌then◌else◌}
+use Rattle.std.specs.Option.{option_and_then}
 use Rattle.std.specs.Str.{bytes_eq}
 use Rattle.std.specs.Str.Parse.{digits_value, without_leading_plus}
-use Rattle.clap.specs.Words.{Row, Text, first_of, one_of, subcommand_of}
+use Rattle.clap.specs.Kinds.{or_else}
+use Rattle.clap.specs.Words.{Kinds, Row, Text, fault_of, first_of, one_of, subcommand_of, takes}
+use Rattle.clap.specs.declared.error.kind.ErrorKind.TheVariants.{ValueValidation}
+use Rattle.content_lines.specs.Words.{stamp_of_text}
+use Rattle.court_clock.specs.Words.{day_of_text}
 use Rattle.calendar_program.specs.declared.asked.Asked.{Asked}
 use Rattle.calendar_program.specs.declared.asked.Task.{Task}
 use Rattle.calendar_program.specs.declared.asked.Task.TheVariants.{Due, Ics, Json, Page, Sql, Week}
@@ -22,17 +27,66 @@ task_of name =
 abbrev pub number_written : Text → ℕ
 number_written text = digits_value 10 (without_leading_plus text)
 
--- a subcommand with what it was given asks for that: each text is that of its option, and a case is the
--- number that its option writes
+-- whether a flag is given: its text says so, and it isn't where it has none
+abbrev pub IsFlag : Option Text → Bool → Type 0
+IsFlag None given = given ≡ false
+IsFlag (Some text) given = (text ≡ codes "true" → given ≡ true) × (text ≡ codes "false" → given ≡ false)
+
+-- a subcommand with what it was given asks for that: the name is the text of its option, a case is the number that its
+-- option writes, a day and the instant are those that the texts of their options write, and answers are to be lines where
+-- that flag is given
 pub record IsAskedBy (name : Text) (given : List Row) (asked : Asked) : Type 0 where
   pub task : asked.task ≡ task_of name
   pub judge : option_map string_bytes asked.judge ≡ first_of (codes "judge") given
   pub case : IfSome asked.case (λ case. option_map number_written (one_of (codes "case") given) ≡ Some case)
-  pub from : option_map string_bytes asked.from ≡ first_of (codes "from") given
-  pub to : option_map string_bytes asked.to ≡ first_of (codes "to") given
-  pub of : option_map string_bytes asked.of ≡ first_of (codes "of") given
-  pub stamp : option_map string_bytes asked.stamp ≡ first_of (codes "stamp") given
+  pub from : asked.from ≡ option_and_then day_of_text (first_of (codes "from") given)
+  pub to : asked.to ≡ option_and_then day_of_text (first_of (codes "to") given)
+  pub of : asked.of ≡ option_and_then day_of_text (first_of (codes "of") given)
+  pub stamp : asked.stamp ≡ option_and_then stamp_of_text (first_of (codes "stamp") given)
+  pub lines : IsFlag (one_of (codes "lines") given) asked.lines
 
 -- the words have a subcommand, and it asks for that
 abbrev pub IsAsked : List Text → Asked → Type 0
 IsAsked words asked = IfSome (subcommand_of command_line words) (λ met. IsAskedBy met.0 met.1 asked)
+
+-- the text of an option writes a day, or none is given
+abbrev pub is_day_taken : (text : Option Text) → Bool
+is_day_taken None = true
+is_day_taken (Some text) = is_some (day_of_text text)
+
+-- it writes an instant, or none is given
+abbrev pub is_instant_taken : (text : Option Text) → Bool
+is_instant_taken None = true
+is_instant_taken (Some text) = is_some (stamp_of_text text)
+
+-- each text that has to write a day or an instant does
+abbrev pub are_given_taken : List Row → Bool
+are_given_taken given =
+    is_day_taken (first_of (codes "from") given)
+    && (is_day_taken (first_of (codes "to") given)
+    && (is_day_taken (first_of (codes "of") given)
+    && is_instant_taken (first_of (codes "stamp") given)))
+
+-- the fault of a text that writes none
+abbrev pub faults_unless : (taken : Bool) → Kinds
+faults_unless taken = if taken then [] else ValueValidation ∷ []
+
+abbrev pub faults_given : List Row → Kinds
+faults_given given = faults_unless (are_given_taken given)
+
+-- the same of a subcommand with what it was given, where there is one
+abbrev pub faults_met : Option (Text × List Row) → Kinds
+faults_met None = []
+faults_met (Some met) = faults_given met.1
+
+abbrev pub are_met_taken : Option (Text × List Row) → Bool
+are_met_taken None = true
+are_met_taken (Some met) = are_given_taken met.1
+
+-- the faults that words have: of the command line, or else of a day or the instant
+abbrev pub faults_of : List Text → Kinds
+faults_of words = or_else (fault_of command_line words) (faults_met (subcommand_of command_line words))
+
+-- the program takes the words: the command line does, and each day and the instant are written
+abbrev pub are_taken : List Text → Bool
+are_taken words = takes command_line words && are_met_taken (subcommand_of command_line words)

@@ -1,5 +1,5 @@
 -- What is written of a docket after all its rows.
-use Rattle.std.specs.Prelude.{◌≡◌, ℕ, ℤ, List, [], ◌++◌, Option, Some, None, codes, map, string_bytes, MatchResult}
+use Rattle.std.specs.Prelude.{◌≡◌, ℕ, ℤ, List, [], ◌++◌, Option, Some, None, codes, map, string_bytes, MatchOption}
 use Rattle.std.specs.declared.alloc.Global.{Global}
 use Rattle.std.specs.Prelude.{String}
 use Rattle.court_days.specs.Words.{CourtView, file_of}
@@ -16,16 +16,14 @@ use Rattle.explained_sheets.specs.Words.{AreExplained}
 use Rattle.calendar_page.specs.Words.{page_text}
 use Rattle.office_rows.specs.declared.row.Row.{Row}
 use Rattle.office_run.specs.Words.{docketed_after}
-use Rattle.calendar_json.specs.Words.{IsDocketJson}
+use Rattle.calendar_json.specs.Words.{AreAnswerLines, IsDocketJson}
 use Rattle.calendar_sql.specs.Words.{script_text}
 use Rattle.office_streams.specs.Words.{Input}
 use Rattle.calendar_program.specs.declared.asked.Asked.{Asked}
 use Rattle.calendar_program.specs.declared.chosen.Chosen.{Chosen}
-use Rattle.calendar_program.specs.declared.chosen.Chosen.TheVariants.{Json, Listed, Sql}
+use Rattle.calendar_program.specs.declared.chosen.Chosen.TheVariants.{Json, Lines, Listed, Sql}
 use Rattle.calendar_program.specs.declared.chosen.Listing.{Listing}
 use Rattle.calendar_program.specs.declared.chosen.Listing.TheVariants.{Due, Ics, Page, Week}
-use Rattle.calendar_program.specs.declared.chosen.Unknown.{Unknown}
-use Rattle.calendar_program.specs.declared.chosen.Unknown.TheVariants.{Judge, From, To, Of, Stamp}
 use Rattle.calendar_program.specs.Changes.{changes_made}
 use Rattle.calendar_program.specs.Chosen.{chosen_of}
 
@@ -74,6 +72,7 @@ changes_by court rows = changes_made (setup_of court) (opening_rows (setup_of co
 abbrev pub IsTextOf : CourtView → List Row → Chosen → List ℕ → Type 0
 IsTextOf court rows (Listed listing) text = IsListing court (docketed_by court rows) (changes_by court rows) listing text
 IsTextOf court rows (Json choice) text = IsDocketJson court choice rows text
+IsTextOf court rows Lines text = AreAnswerLines court rows text
 IsTextOf court rows Sql text = text ≡ script_text court rows
 
 -- the text of a word, where it was given
@@ -81,27 +80,13 @@ abbrev pub word_given : Option (String Global) → List ℕ
 word_given (Some word) = string_bytes word
 word_given None = []
 
--- the line that names a text which says nothing of the court
+-- the line of a judge that the court's file doesn't name
 abbrev pub no_judge : Option (String Global) → List ℕ
 no_judge word = codes "court_calendar: no judge is named '" ++ word_given word ++ codes "' in the court's file\n"
 
-abbrev pub no_day : Option (String Global) → List ℕ
-no_day word = codes "court_calendar: '" ++ word_given word ++ codes "' is no day: write one as 2025-09-15\n"
-
-abbrev pub no_instant : Option (String Global) → List ℕ
-no_instant word = codes "court_calendar: '" ++ word_given word ++ codes "' is no instant: write one as 20250915T120000Z, in UTC\n"
-
-abbrev pub unknown_line : Asked → Unknown → List ℕ
-unknown_line asked Judge = no_judge asked.judge
-unknown_line asked From = no_day asked.from
-unknown_line asked To = no_day asked.to
-unknown_line asked Of = no_day asked.of
-unknown_line asked Stamp = no_instant asked.stamp
-
--- the text of what is chosen, or the line of what says nothing of the court
+-- the text of what is chosen, or the line of a judge that the court's file doesn't name
 abbrev pub IsCalendar : Asked → CourtView → List Row → List ℕ → Type 0
-IsCalendar asked court rows text =
-    MatchResult (chosen_of court asked) (λ chosen. IsTextOf court rows chosen text) (λ unknown. text ≡ unknown_line asked unknown)
+IsCalendar asked court rows text = MatchOption (chosen_of court asked) (text ≡ no_judge asked.judge) (λ chosen. IsTextOf court rows chosen text)
 
 -- the text of an input, in the court whose file it has
 pub record IsCalendarOf (asked : Asked) (input : Input) (text : List ℕ) : Type 0 where

@@ -2,7 +2,7 @@
 use Rattle.std.specs.Prelude.{pos, Bool, Some, true, false, [], ◌∷◌, ◌++◌, codes}
 use Rattle.clap.specs.Words.{App, Rule, Shape, Text, new_rule, with_subcommand}
 use Rattle.clap.specs.Simple.{new_shape}
-use Rattle.clap.specs.declared.builder.action.ArgAction.TheVariants.{Set}
+use Rattle.clap.specs.declared.builder.action.ArgAction.TheVariants.{Set, SetTrue}
 use Rattle.clap.specs.declared.builder.value_parser.ValueParser.TheVariants.{Signed}
 
 -- `--NAME DAY`, once at most, and once where it has to be given
@@ -26,6 +26,10 @@ case_rule = record (new_rule (codes "case")) {
 abbrev pub stamp_rule : Rule
 stamp_rule = record (new_rule (codes "stamp")) { long = Some (codes "stamp"); action = Some Set; value_names = 1 }
 
+-- `--lines`, once at most
+abbrev pub lines_rule : Rule
+lines_rule = record (new_rule (codes "lines")) { long = Some (codes "lines"); action = Some SetTrue }
+
 -- a subcommand that takes the days, the judge and the case that are chosen
 abbrev pub choosing_shape : (name : Text) → Shape
 choosing_shape name = record (new_shape name) { rules = day_rule (codes "from") false ∷ day_rule (codes "to") false ∷ judge_rule false ∷ case_rule ∷ [] }
@@ -33,6 +37,10 @@ choosing_shape name = record (new_shape name) { rules = day_rule (codes "from") 
 -- the one of calendars, which also takes the instant at which one is written
 abbrev pub ics_shape : Shape
 ics_shape = record (choosing_shape (codes "ics")) { rules = (choosing_shape (codes "ics")).rules ++ stamp_rule ∷ [] }
+
+-- the one of JSON, which also takes that answers are to be lines
+abbrev pub json_shape : Shape
+json_shape = record (choosing_shape (codes "json")) { rules = (choosing_shape (codes "json")).rules ++ lines_rule ∷ [] }
 
 abbrev pub week_shape : Shape
 week_shape = record (new_shape (codes "week")) { rules = judge_rule true ∷ day_rule (codes "of") true ∷ [] }
@@ -48,4 +56,4 @@ bare_command = record {
 abbrev pub command_line : App
 command_line =
     with_subcommand (with_subcommand (with_subcommand (with_subcommand (with_subcommand (with_subcommand bare_command (choosing_shape (codes "due"))) week_shape) (choosing_shape (codes "page"))) ics_shape)
-    (choosing_shape (codes "json"))) (new_shape (codes "sql"))
+    json_shape) (new_shape (codes "sql"))

@@ -1,11 +1,19 @@
 //! What the words of the command line ask for.
 
-ghost use Rattle.std.specs.Prelude.{◌≡◌, option_map, string_bytes, IfOk};
+ghost use Rattle.std.specs.Prelude.{◌≡◌, ◌∷◌, [], true, option_map, string_bytes, IfErr, IfOk};
+ghost use Rattle.std.specs.Option.{option_and_then};
+ghost use Rattle.clap.specs.declared.error.kind.ErrorKind.{ErrorKind};
 ghost use Rattle.clap.specs.Matches.{first_value};
 ghost use Rattle.clap.specs.Words.{found_of, rows_of};
-ghost use Rattle.calendar_program.specs.Asked.{IsAskedBy, task_of};
+ghost use Rattle.content_lines.specs.Words.{stamp_of_text};
+ghost use Rattle.court_clock.specs.Words.{day_of_text};
+ghost use Rattle.office_options.specs.Words.{IsAnswerFor, IsFaultAmong};
+ghost use Rattle.calendar_program.specs.Asked.{IsAskedBy, are_given_taken, faults_given, is_day_taken, is_instant_taken, task_of};
 
 use clap::ArgMatches;
+use content_lines::stamp_of_text;
+use court_clock::{Day, Instant};
+use office_options::OptionsFault;
 use std::alloc::{AllocError, Global};
 
 /// What is written.
@@ -25,7 +33,7 @@ pub enum Task {
     Sql,
 }
 
-/// What the words ask for: what is written, and of what. The texts are as the words have them.
+/// What the words ask for: what is written, and of what. The name is as the words have it.
 #[derive(Debug, Drop)]
 pub struct Asked {
     /// What is written.
@@ -35,31 +43,54 @@ pub struct Asked {
     /// The number of a case.
     pub case: Option<u32>,
     /// The first day.
-    pub from: Option<String>,
+    pub from: Option<Day>,
     /// The last day.
-    pub to: Option<String>,
+    pub to: Option<Day>,
     /// A day of the week.
-    pub of: Option<String>,
+    pub of: Option<Day>,
     /// The instant at which a calendar is written.
-    pub stamp: Option<String>,
+    pub stamp: Option<Instant>,
+    /// Whether answers are to be lines.
+    pub lines: bool,
 }
 
-/// What a subcommand of that name asks for with what it was given. `Err` says that memory ran out.
+/// What a subcommand of that name asks for with what it was given. BadWords where a text writes no day or no instant, and
+/// OutOfMemory where memory runs out.
 pub(crate) fn asked_by(
     alloc: Global,
     name: &str,
     given: &ArgMatches<'_>,
-) -> Result<Asked, AllocError>
-    ensures { IfOk result (λ asked. IsAskedBy name.now (rows_of (found_of given.now)) asked) }
+) -> Result<Asked, OptionsFault>
+    ensures asked { IfOk result (λ asked. IsAskedBy name.now (rows_of (found_of given.now)) asked) }
+    ensures faults { IsAnswerFor (faults_given (rows_of (found_of given.now))) result }
+    ensures taken { are_given_taken (rows_of (found_of given.now)) ≡ true → IfErr result (λ fault. fault ≡ OptionsFault.OutOfMemory) }
 {
+    let judge = text_given(alloc, given, "judge")?;
+    let from = match day_read(alloc, "from", given.get_str("from")) {
+        Ok(day) => day,
+        Err(fault) => return Err(fault),
+    };
+    let to = match day_read(alloc, "to", given.get_str("to")) {
+        Ok(day) => day,
+        Err(fault) => return Err(fault),
+    };
+    let of = match day_read(alloc, "of", given.get_str("of")) {
+        Ok(day) => day,
+        Err(fault) => return Err(fault),
+    };
+    let stamp = match stamp_read(alloc, given.get_str("stamp")) {
+        Ok(stamp) => stamp,
+        Err(fault) => return Err(fault),
+    };
     Ok(Asked {
         task: task_of(name),
-        judge: text_given(alloc, given, "judge")?,
+        judge,
         case: given.get_one::<u32>("case"),
-        from: text_given(alloc, given, "from")?,
-        to: text_given(alloc, given, "to")?,
-        of: text_given(alloc, given, "of")?,
-        stamp: text_given(alloc, given, "stamp")?,
+        from,
+        to,
+        of,
+        stamp,
+        lines: given.get_flag("lines"),
     })
 }
 
@@ -84,5 +115,61 @@ fn text_given(alloc: Global, given: &ArgMatches<'_>, id: &str) -> Result<Option<
     match given.get_str(id) {
         Some(text) => Ok(Some(String::from_str(alloc, text)?)),
         None => Ok(None),
+    }
+}
+
+/// The day that the text of an option writes, if it is given.
+fn day_read(alloc: Global, option: &str, text: Option<&str>) -> Result<Option<Day>, OptionsFault>
+    ensures day { IfOk result (λ day. day ≡ option_and_then day_of_text (option_map (λ text. text.now) text.entry)) }
+    ensures read { IfOk result (λ day. is_day_taken (option_map (λ text. text.now) text.entry) ≡ true) }
+    ensures fault { IfErr result (λ fault. IsFaultAmong (ErrorKind.ValueValidation ∷ []) fault) }
+    ensures taken { is_day_taken (option_map (λ text. text.now) text.entry) ≡ true → IfErr result (λ fault. fault ≡ OptionsFault.OutOfMemory) }
+{
+    match text {
+        None => Ok(None),
+        Some(text) => match Day::from_text(text) {
+            Some(day) => Ok(Some(day)),
+            None => Err(no_day(alloc, option, text)),
+        },
+    }
+}
+
+/// The instant that the text of its option writes, if it is given.
+fn stamp_read(alloc: Global, text: Option<&str>) -> Result<Option<Instant>, OptionsFault>
+    ensures stamp { IfOk result (λ stamp. stamp ≡ option_and_then stamp_of_text (option_map (λ text. text.now) text.entry)) }
+    ensures read { IfOk result (λ stamp. is_instant_taken (option_map (λ text. text.now) text.entry) ≡ true) }
+    ensures fault { IfErr result (λ fault. IsFaultAmong (ErrorKind.ValueValidation ∷ []) fault) }
+    ensures taken { is_instant_taken (option_map (λ text. text.now) text.entry) ≡ true → IfErr result (λ fault. fault ≡ OptionsFault.OutOfMemory) }
+{
+    match text {
+        None => Ok(None),
+        Some(text) => match stamp_of_text(text) {
+            Some(stamp) => Ok(Some(stamp)),
+            None => Err(no_instant(alloc, text)),
+        },
+    }
+}
+
+/// The text of the option is no day.
+fn no_day(alloc: Global, option: &str, text: &str) -> OptionsFault
+    ensures { IsFaultAmong (ErrorKind.ValueValidation ∷ []) result }
+{
+    match format!(in alloc;
+        "error: invalid value '{text}' for '--{option} <DAY>': write a day as 2025-09-15\n\nFor more information, try '--help'.\n"
+    ) {
+        Ok(text) => OptionsFault::BadWords(text),
+        Err(_) => OptionsFault::OutOfMemory,
+    }
+}
+
+/// The text is no instant.
+fn no_instant(alloc: Global, text: &str) -> OptionsFault
+    ensures { IsFaultAmong (ErrorKind.ValueValidation ∷ []) result }
+{
+    match format!(in alloc;
+        "error: invalid value '{text}' for '--stamp <INSTANT>': write it as 20250915T120000Z, in UTC\n\nFor more information, try '--help'.\n"
+    ) {
+        Ok(text) => OptionsFault::BadWords(text),
+        Err(_) => OptionsFault::OutOfMemory,
     }
 }

@@ -1,10 +1,9 @@
 //! What is chosen of a court by what was asked for.
 
-ghost use Rattle.std.specs.Prelude.{◌≡◌, Some, Ok, pos, option_map, string_bytes};
-ghost use Rattle.calendar_program.specs.Chosen.{choice_asked, chosen_of, day_asked, due_chosen, ics_chosen, json_chosen, judge_asked, judge_given, page_chosen, stamp_asked, week_chosen};
+ghost use Rattle.std.specs.Prelude.{◌≡◌, pos, option_map, string_bytes};
+ghost use Rattle.calendar_program.specs.Chosen.{choice_asked, choice_of, chosen_of, due_chosen, ics_chosen, json_chosen, judge_given, page_chosen, week_chosen};
 
 use crate::asked::{Asked, Task};
-use content_lines::stamp_of_text;
 use court_clock::{Day, Instant};
 use court_days::Court;
 use docket_selection::Choice;
@@ -29,29 +28,15 @@ pub enum Chosen {
     Listed(Listing),
     /// What rows were answered, and of the docket the chosen cases and calendars, as JSON.
     Json(Choice),
+    /// What rows were answered, as lines of JSON.
+    Lines,
     /// What rows were answered, and all of the docket, as SQL.
     Sql,
 }
 
-/// Which text says nothing of this court.
-#[derive(Clone, Copy, Debug, PartialEq, Eq)]
-pub enum Unknown {
-    /// No judge has that name.
-    Judge,
-    /// The first day isn't one that can be written.
-    From,
-    /// The last day isn't.
-    To,
-    /// The day of the week isn't.
-    Of,
-    /// The text is no instant.
-    Stamp,
-}
-
-/// What is chosen of the court, or which text says nothing of it, the first in the order judge, first day, last day,
-/// instant.
+/// What is chosen of the court. None where the court's file names no such judge.
 #[tactic(auto, unfolding(crate::specs::Chosen::chosen_of))]
-pub(crate) fn chosen_of(court: &Court, asked: &Asked) -> Result<Chosen, Unknown>
+pub(crate) fn chosen_of(court: &Court, asked: &Asked) -> Option<Chosen>
     ensures { result ≡ chosen_of court.now asked.now }
 {
     match asked.task {
@@ -60,118 +45,92 @@ pub(crate) fn chosen_of(court: &Court, asked: &Asked) -> Result<Chosen, Unknown>
         Task::Page => page_chosen(court, asked),
         Task::Ics => ics_chosen(court, asked),
         Task::Json => json_chosen(court, asked),
-        Task::Sql => Ok(Chosen::Sql),
+        Task::Sql => Some(Chosen::Sql),
     }
 }
 
-fn due_chosen(court: &Court, asked: &Asked) -> Result<Chosen, Unknown>
+fn due_chosen(court: &Court, asked: &Asked) -> Option<Chosen>
     ensures { result ≡ due_chosen court.now asked.now }
 {
     let choice = choice_asked(court, asked, false)?;
-    Ok(Chosen::Listed(Listing::Due(choice)))
+    Some(Chosen::Listed(Listing::Due(choice)))
 }
 
-fn page_chosen(court: &Court, asked: &Asked) -> Result<Chosen, Unknown>
+fn page_chosen(court: &Court, asked: &Asked) -> Option<Chosen>
     ensures { result ≡ page_chosen court.now asked.now }
 {
     let choice = choice_asked(court, asked, false)?;
-    Ok(Chosen::Listed(Listing::Page(choice)))
+    Some(Chosen::Listed(Listing::Page(choice)))
 }
 
-fn ics_chosen(court: &Court, asked: &Asked) -> Result<Chosen, Unknown>
+fn ics_chosen(court: &Court, asked: &Asked) -> Option<Chosen>
     ensures { result ≡ ics_chosen court.now asked.now }
 {
     let choice = choice_asked(court, asked, true)?;
-    let stamp = stamp_asked(&asked.stamp)?;
-    Ok(Chosen::Listed(Listing::Ics(choice, stamp)))
+    let stamp = asked.stamp.unwrap_or(first_stamp());
+    Some(Chosen::Listed(Listing::Ics(choice, stamp)))
 }
 
-fn json_chosen(court: &Court, asked: &Asked) -> Result<Chosen, Unknown>
+fn json_chosen(court: &Court, asked: &Asked) -> Option<Chosen>
     ensures { result ≡ json_chosen court.now asked.now }
 {
     let choice = choice_asked(court, asked, true)?;
-    Ok(Chosen::Json(choice))
+    if asked.lines {
+        return Some(Chosen::Lines);
+    }
+    Some(Chosen::Json(choice))
 }
 
-/// The judge, the case and the days that are asked for. `met` says whether deadlines with a timely act are chosen too.
-fn choice_asked(court: &Court, asked: &Asked, met: bool) -> Result<Choice, Unknown>
-    ensures { result ≡ choice_asked court.now asked.now met }
-{
-    let judge = judge_asked(court, &asked.judge)?;
-    let from = day_asked(&asked.from, court.days().from(), Unknown::From)?;
-    let to = day_asked(&asked.to, court.days().to(), Unknown::To)?;
-    Ok(Choice {
-        judge,
-        case: asked.case,
-        from,
-        to,
-        met,
-    })
-}
-
-fn week_chosen(court: &Court, asked: &Asked) -> Result<Chosen, Unknown>
+fn week_chosen(court: &Court, asked: &Asked) -> Option<Chosen>
     ensures { result ≡ week_chosen court.now asked.now }
 {
     let judge = judge_given(court, &asked.judge)?;
-    let day = day_asked(&asked.of, court.days().from(), Unknown::Of)?;
-    Ok(Chosen::Listed(Listing::Week(judge, day)))
+    let day = asked.of.unwrap_or(court.days().from());
+    Some(Chosen::Listed(Listing::Week(judge, day)))
 }
 
-/// The number of the judge that is asked for, if one is.
-fn judge_asked(court: &Court, name: &Option<String>) -> Result<Option<u8>, Unknown>
-    ensures { result ≡ judge_asked court.now (option_map string_bytes name.now) }
+/// The judge, the case and the days that are asked for. `met` says whether deadlines with a timely act are chosen too.
+fn choice_asked(court: &Court, asked: &Asked, met: bool) -> Option<Choice>
+    ensures { result ≡ choice_asked court.now asked.now met }
 {
-    match name {
-        Some(name) => match court.judge(name.as_str()) {
-            Some(judge) => Ok(Some(judge)),
-            None => Err(Unknown::Judge),
-        },
-        None => Ok(None),
+    match &asked.judge {
+        Some(name) => {
+            let judge = court.judge(name.as_str())?;
+            Some(choice_of(court, asked, met, Some(judge)))
+        }
+        None => Some(choice_of(court, asked, met, None)),
     }
 }
 
-/// The number of the judge that has to be given.
-fn judge_given(court: &Court, name: &Option<String>) -> Result<u8, Unknown>
+/// The case and the days that are asked for, and that judge, or any.
+fn choice_of(court: &Court, asked: &Asked, met: bool, judge: Option<u8>) -> Choice
+    ensures { result ≡ choice_of court.now asked.now met judge }
+{
+    Choice {
+        judge,
+        case: asked.case,
+        from: asked.from.unwrap_or(court.days().from()),
+        to: asked.to.unwrap_or(court.days().to()),
+        met,
+    }
+}
+
+/// The number of the judge, whose name has to be given.
+fn judge_given(court: &Court, name: &Option<String>) -> Option<u8>
     ensures { result ≡ judge_given court.now (option_map string_bytes name.now) }
 {
-    match judge_asked(court, name)? {
-        Some(judge) => Ok(judge),
-        None => Err(Unknown::Judge),
-    }
-}
-
-/// The day that is asked for, and else another.
-fn day_asked(text: &Option<String>, other: Day, unknown: Unknown) -> Result<Day, Unknown>
-    ensures { result ≡ day_asked (option_map string_bytes text.now) other unknown }
-{
-    match text {
-        Some(text) => match Day::from_text(text.as_str()) {
-            Some(day) => Ok(day),
-            None => Err(unknown),
-        },
-        None => Ok(other),
-    }
-}
-
-/// The instant that is asked for, and else the first one of 1970.
-fn stamp_asked(text: &Option<String>) -> Result<Instant, Unknown>
-    ensures { result ≡ stamp_asked (option_map string_bytes text.now) }
-{
-    match text {
-        Some(text) => match stamp_of_text(text.as_str()) {
-            Some(stamp) => Ok(stamp),
-            None => Err(Unknown::Stamp),
-        },
-        None => first_stamp(),
+    match name {
+        Some(name) => court.judge(name.as_str()),
+        None => None,
     }
 }
 
 /// The first instant of 1970, in UTC.
-fn first_stamp() -> Result<Instant, Unknown>
-    ensures { result ≡ Ok (pos 0) }
+fn first_stamp() -> Instant
+    ensures { result ≡ pos 0 }
 {
     match Instant::new(0) {
-        Some(stamp) => Ok(stamp),
+        Some(stamp) => stamp,
         None => unreachable!(),
     }
 }

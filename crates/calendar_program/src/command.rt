@@ -2,12 +2,11 @@
 
 ghost use Rattle.std.specs.Prelude.{◌≡◌, false, true, codes, IfErr, IfOk, IfSome};
 ghost use Rattle.clap.specs.Simple.{new_shape};
-ghost use Rattle.clap.specs.Faults.{fault_of};
 ghost use Rattle.clap.specs.Walk.{texts};
-ghost use Rattle.clap.specs.Words.{app_of, rule_of, subcommand_rows_of, takes, with_subcommand};
+ghost use Rattle.clap.specs.Words.{app_of, rule_of, subcommand_rows_of, with_subcommand};
 ghost use Rattle.office_options.specs.Words.{IsAnswerFor};
-ghost use Rattle.calendar_program.specs.Asked.{IsAsked, IsAskedBy};
-ghost use Rattle.calendar_program.specs.CommandLine.{bare_command, case_rule, choosing_shape, command_line, day_rule, ics_shape, judge_rule, stamp_rule, week_shape};
+ghost use Rattle.calendar_program.specs.Asked.{IsAsked, IsAskedBy, are_met_taken, are_taken, faults_met, faults_of};
+ghost use Rattle.calendar_program.specs.CommandLine.{bare_command, case_rule, choosing_shape, command_line, day_rule, ics_shape, json_shape, judge_rule, lines_rule, stamp_rule, week_shape};
 
 use crate::asked::{Asked, asked_by};
 use clap::{Arg, ArgAction, ArgMatches, Command};
@@ -47,6 +46,8 @@ const ABOUT_PAGE: &str = "One HTML page: what is due, each judge's hearings, and
 const ABOUT_ICS: &str = "Deadlines and hearings for calendar programs, as iCalendar (RFC 5545)";
 
 const STAMP: &str = "When it is written, as 20250915T120000Z; else 19700101T000000Z";
+
+const LINES: &str = "The answers of all rows alone, an object a line";
 
 const FROM: &str = "The first day, as 2025-09-15; else the first of the court's file";
 
@@ -91,6 +92,16 @@ fn stamp_argument<'a>(alloc: Global) -> Arg<'a>
         .action(ArgAction::Set)
         .value_name("INSTANT")
         .help(STAMP)
+}
+
+fn lines_argument<'a>(alloc: Global) -> Arg<'a>
+    ensures rule { rule_of result ≡ lines_rule }
+    ensures local { result.global ≡ false }
+{
+    Arg::new(alloc, "lines")
+        .long("lines")
+        .action(ArgAction::SetTrue)
+        .help(LINES)
 }
 
 fn case_argument<'a>(alloc: Global) -> Arg<'a>
@@ -162,6 +173,26 @@ fn with_ics<'a>(alloc: Global, command: Command<'a>) -> Result<Command<'a>, Allo
     Ok(whole)
 }
 
+/// The command with the subcommand for JSON, which also takes that answers are to be lines.
+fn with_json<'a>(alloc: Global, command: Command<'a>) -> Result<Command<'a>, AllocError>
+    ensures { IfOk result (λ whole. app_of whole ≡ with_subcommand (app_of command.entry) json_shape) }
+{
+    let from = day_argument(alloc, "from", false, FROM);
+    let to = day_argument(alloc, "to", false, TO);
+    let judge = judge_argument(alloc, false, ANY_JUDGE);
+    let case = case_argument(alloc);
+    let lines = lines_argument(alloc);
+    let json = Command::new(alloc, "json")
+        .about(ABOUT_JSON)
+        .arg(from)?
+        .arg(to)?
+        .arg(judge)?
+        .arg(case)?
+        .arg(lines)?;
+    let whole = command.subcommand(json)?;
+    Ok(whole)
+}
+
 /// The command with the subcommand for a database, which takes nothing.
 fn with_sql<'a>(alloc: Global, command: Command<'a>) -> Result<Command<'a>, AllocError>
     ensures { IfOk result (λ whole. app_of whole ≡ with_subcommand (app_of command.entry) (new_shape (codes "sql"))) }
@@ -191,17 +222,18 @@ fn command<'a>(alloc: Global) -> Result<Command<'a>, AllocError>
     let week = with_week(alloc, due)?;
     let page = with_choosing(alloc, week, "page", ABOUT_PAGE)?;
     let ics = with_ics(alloc, page)?;
-    let json = with_choosing(alloc, ics, "json", ABOUT_JSON)?;
+    let json = with_json(alloc, ics)?;
     let sql = with_sql(alloc, json)?;
     Ok(sql)
 }
 
-/// What the words ask for, which are those after the program's name. BadWords where `clap` refuses the words, Help where
-/// they ask for the help or the version first, and OutOfMemory where memory runs out.
+/// What the words ask for, which are those after the program's name. BadWords where `clap` refuses the words or a text
+/// writes no day or no instant, Help where they ask for the help or the version first, and OutOfMemory where memory runs
+/// out.
 pub(crate) fn asked_of(alloc: Global, words: &[&str]) -> Result<Asked, OptionsFault>
     ensures asked { IfOk result (λ asked. IsAsked (texts words.now) asked) }
-    ensures faults { IsAnswerFor (fault_of command_line (texts words.now)) result }
-    ensures taken { takes command_line (texts words.now) ≡ true → IfErr result (λ fault. fault ≡ OptionsFault.OutOfMemory) }
+    ensures faults { IsAnswerFor (faults_of (texts words.now)) result }
+    ensures taken { are_taken (texts words.now) ≡ true → IfErr result (λ fault. fault ≡ OptionsFault.OutOfMemory) }
 {
     let command = command(alloc)?;
     match command.try_get_matches_from(words) {
@@ -210,16 +242,15 @@ pub(crate) fn asked_of(alloc: Global, words: &[&str]) -> Result<Asked, OptionsFa
     }
 }
 
-/// What the matches of words ask for. The error is that memory ran out.
+/// What the matches of words ask for. BadWords where a text writes no day or no instant, and OutOfMemory where memory runs
+/// out.
 fn asked_in(alloc: Global, matches: &ArgMatches<'_>) -> Result<Asked, OptionsFault>
     ensures asked { IfOk result (λ asked. IfSome (subcommand_rows_of matches.now) (λ met. IsAskedBy met.0 met.1 asked)) }
-    ensures memory { IfErr result (λ fault. fault ≡ OptionsFault.OutOfMemory) }
+    ensures faults { IsAnswerFor (faults_met (subcommand_rows_of matches.now)) result }
+    ensures taken { are_met_taken (subcommand_rows_of matches.now) ≡ true → IfErr result (λ fault. fault ≡ OptionsFault.OutOfMemory) }
 {
     match matches.subcommand() {
-        Some((name, given)) => {
-            let asked = asked_by(alloc, name, given)?;
-            Ok(asked)
-        }
+        Some((name, given)) => asked_by(alloc, name, given),
         // `clap` has refused words without a subcommand.
         None => Err(OptionsFault::OutOfMemory),
     }

@@ -11,15 +11,13 @@ use std::alloc::Global;
 pub struct CourtCalendar;
 
 impl Program for CourtCalendar {
-    ghost use Rattle.clap.specs.Words.{fault_of, takes};
-    ghost use Rattle.calendar_program.specs.Asked.{IsAsked};
-    ghost use Rattle.calendar_program.specs.CommandLine.{command_line};
+    ghost use Rattle.calendar_program.specs.Asked.{IsAsked, are_taken, faults_of};
 
     type Report = Asked;
 
-    ghost faults = { fault_of command_line };
+    ghost faults = { faults_of };
 
-    ghost takes = { takes command_line };
+    ghost takes = { are_taken };
 
     ghost is_chosen = { IsAsked };
 

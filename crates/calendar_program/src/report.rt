@@ -3,16 +3,16 @@
 ghost use Rattle.std.specs.Prelude.{◌≡◌, string_bytes, IfOk};
 ghost use Rattle.docket_rows.specs.Words.{Rows, setup_of};
 ghost use Rattle.office_run.specs.Words.{Holds};
-ghost use Rattle.calendar_program.specs.Calendar.{IsCalendar, IsListing, IsTextOf, changes_by, docketed_by, no_day, no_instant, no_judge, unknown_line, word_given};
+ghost use Rattle.calendar_program.specs.Calendar.{IsCalendar, IsListing, IsTextOf, changes_by, docketed_by, no_judge, word_given};
 
 use crate::asked::Asked;
-use crate::chosen::{Chosen, Listing, Unknown, chosen_of};
+use crate::chosen::{Chosen, Listing, chosen_of};
 use crate::docket::docket_after;
 use crate::due::due_text;
 use crate::ics::ics_text;
 use crate::page::page_text;
 use crate::week::week_text;
-use calendar_json::json_text;
+use calendar_json::{answer_lines, json_text};
 use calendar_sql::sql_text;
 use court_days::Court;
 use docket_core::Docket;
@@ -46,7 +46,7 @@ impl Report for Asked {
     }
 }
 
-/// What was asked for of the court's docket after all rows, or a line that says which text says nothing of the court.
+/// What was asked for of the court's docket after all rows, or a line that says which judge the court's file doesn't name.
 /// `Err` says that memory ran out.
 fn calendar_of(
     alloc: Global,
@@ -57,8 +57,8 @@ fn calendar_of(
     ensures { IfOk result (λ text. IsCalendar asked.now court.now rows.now text.items) }
 {
     match chosen_of(court, asked) {
-        Ok(chosen) => text_of(alloc, court, rows, &chosen),
-        Err(unknown) => Ok(unknown_line(alloc, asked, unknown)?.into_bytes()),
+        Some(chosen) => text_of(alloc, court, rows, &chosen),
+        None => Ok(no_judge(alloc, &asked.judge)?.into_bytes()),
     }
 }
 
@@ -74,6 +74,7 @@ fn text_of(
     match chosen {
         Chosen::Listed(listing) => listed(alloc, court, rows, listing),
         Chosen::Json(choice) => json_text(alloc, court, rows, choice),
+        Chosen::Lines => answer_lines(alloc, court, rows),
         Chosen::Sql => sql_text(alloc, court, rows),
     }
 }
@@ -111,40 +112,12 @@ fn listing_of(
     }
 }
 
-/// The line of a text that says nothing of the court.
-fn unknown_line(alloc: Global, asked: &Asked, unknown: Unknown) -> Result<String, AllocError>
-    ensures { IfOk result (λ line. string_bytes line ≡ unknown_line asked.now unknown) }
-{
-    match unknown {
-        Unknown::Judge => no_judge(alloc, &asked.judge),
-        Unknown::From => no_day(alloc, &asked.from),
-        Unknown::To => no_day(alloc, &asked.to),
-        Unknown::Of => no_day(alloc, &asked.of),
-        Unknown::Stamp => no_instant(alloc, &asked.stamp),
-    }
-}
-
+/// The line of a judge that the court's file doesn't name.
 fn no_judge(alloc: Global, word: &Option<String>) -> Result<String, AllocError>
     ensures { IfOk result (λ line. string_bytes line ≡ no_judge word.now) }
 {
     let word = word_given(word);
     format!(in alloc; "court_calendar: no judge is named '{word}' in the court's file\n")
-}
-
-fn no_day(alloc: Global, word: &Option<String>) -> Result<String, AllocError>
-    ensures { IfOk result (λ line. string_bytes line ≡ no_day word.now) }
-{
-    let word = word_given(word);
-    format!(in alloc; "court_calendar: '{word}' is no day: write one as 2025-09-15\n")
-}
-
-fn no_instant(alloc: Global, word: &Option<String>) -> Result<String, AllocError>
-    ensures { IfOk result (λ line. string_bytes line ≡ no_instant word.now) }
-{
-    let word = word_given(word);
-    format!(in alloc;
-        "court_calendar: '{word}' is no instant: write one as 20250915T120000Z, in UTC\n"
-    )
 }
 
 /// The text of a word, where it was given.

@@ -1,11 +1,10 @@
-use Rattle.std.proofs.Common.{◌≡◌, Result, subst}
-use Rattle.std.specs.Prelude.{IfOk, MatchResult}
+use Rattle.std.proofs.Common.{◌≡◌, Option, subst}
+use Rattle.std.specs.Prelude.{IfOk, MatchOption}
 use Rattle.calendar_program.specs.declared.chosen.Chosen.{Chosen}
-use Rattle.calendar_program.specs.declared.chosen.Unknown.{Unknown}
-use Rattle.calendar_program.specs.Calendar.{IsTextOf, unknown_line}
+use Rattle.calendar_program.specs.Calendar.{IsTextOf, no_judge}
 use Rattle.calendar_program.proofs.report.calendar_of.Goals as goal
 
-pub returns-in-Ok : goal.returns-in-Ok
-returns-in-Ok c =
-    subst (λ (r : Result Chosen Unknown). IfOk c.text_of.result (λ text. MatchResult r (λ chosen. IsTextOf c.args.court.now c.args.rows.now chosen text.items) (λ unknown. text.items ≡ unknown_line c.args.asked.now unknown)))
-    c.in-Ok.ensures c.text_of.ensures
+pub returns-in-Some : goal.returns-in-Some
+returns-in-Some c =
+    subst (λ (r : Option Chosen). IfOk c.text_of.result (λ text. MatchOption r (text.items ≡ no_judge c.args.asked.now.judge) (λ chosen. IsTextOf c.args.court.now c.args.rows.now chosen text.items)))
+    c.in-Some.ensures c.text_of.ensures

@@ -1,0 +1,72 @@
+//! What each row is answered, as a line of JSON, for a reader that takes them one by one.
+
+ghost use Rattle.std.specs.Prelude.{◌≡◌, ◌++◌, All, IfOk, OnOk};
+ghost use Rattle.std.specs.List.{flat_map};
+ghost use Rattle.docket_rows.specs.Words.{opening_rows, setup_of};
+ghost use Rattle.office_run.specs.Words.{Holds};
+ghost use Rattle.calendar_json.specs.Answers.{answered_value};
+ghost use Rattle.calendar_json.specs.Lines.{AreAnswerLines, ReadsBack, answers_of, line_of};
+
+use crate::answers::AnsweredRow;
+use crate::to_json::ToJson;
+use crate::writer::JsonWriter;
+use court_days::Court;
+use docket_core::Docket;
+use office_rows::Row;
+use office_run::reply_to;
+use std::alloc::{AllocError, Global};
+
+/// A line of JSON for each row, in their order: an object that says what the row is answered, as among the answers of
+/// `json_text`. `Err` says that memory ran out.
+pub fn answer_lines(alloc: Global, court: &Court, rows: &[Row]) -> Result<Vec<u8>, AllocError>
+    ensures { IfOk result (λ text. AreAnswerLines court.now rows.now text.items) }
+{
+    let mut docket = Docket::new(alloc, court)?;
+    let mut text = Vec::new(alloc);
+    push_lines(alloc, &mut text, court, &mut docket, rows)?;
+    Ok(text)
+}
+
+/// Carries out each row in turn, and adds the line of what it is answered.
+fn push_lines(
+    alloc: Global,
+    text: &mut Vec<u8>,
+    court: &Court,
+    docket: &mut Docket,
+    rows: &[Row],
+) -> Result<(), AllocError>
+    requires { Holds (setup_of court.now) docket.old (opening_rows (setup_of court.now)) }
+    ensures lines { OnOk result (text.new.items ≡ text.old.items ++ flat_map line_of (answers_of court.now rows.now)) }
+    ensures read { OnOk result (All ReadsBack (answers_of court.now rows.now)) }
+{
+    let mut number = 1u64;
+    for row in rows {
+        let reply = reply_to(alloc, docket, &row.work)?;
+        let answered = AnsweredRow {
+            number,
+            clerk: row.clerk,
+            reply,
+        };
+        push_line(alloc, text, court, &answered)?;
+        number += 1;
+    }
+    Ok(())
+}
+
+/// Adds the line of what a row is answered.
+fn push_line(
+    alloc: Global,
+    text: &mut Vec<u8>,
+    court: &Court,
+    answered: &AnsweredRow,
+) -> Result<(), AllocError>
+    ensures line { OnOk result (text.new.items ≡ text.old.items ++ line_of (answered_value court.now answered.now)) }
+    ensures read { OnOk result (ReadsBack (answered_value court.now answered.now)) }
+{
+    let mut out = JsonWriter::new(alloc);
+    answered.write(&mut out, court)?;
+    let line = out.into_text();
+    text.extend_from_slice(&line)?;
+    text.push(b'\n')?;
+    Ok(())
+}
