@@ -1,5 +1,5 @@
 -- What a clerk is warned of a deadline before it starts, by the sheet of its case.
-use Rattle.std.proofs.Common.{◌≡◌, ◌∙◌, ℕ, ℤ, Bool, true, false, ◌&&◌, ◌||◌, nat_le, List, [], length, map, Option, Some, None, IfNone, IfSome, is_some, refl, ap, subst, if◌then◌else◌}
+use Rattle.std.proofs.Common.{◌≡◌, ◌∙◌, ℕ, ℤ, Bool, true, false, ◌&&◌, nat_le, length, Option, Some, None, IfNone, IfSome, is_some, refl, ap, subst}
 use Rattle.std.proofs.lemmas.List.{length-map}
 use Rattle.court_days.specs.Words.{CourtView, DaysView}
 use Rattle.rule6.specs.declared.service.ServiceKind.{ServiceKind}

@@ -15,7 +15,7 @@ use Rattle.docket_rows.specs.declared.part.PartId.{PartId}
 use Rattle.docket_rows.specs.declared.refusal.Refusal.{Refusal}
 use Rattle.docket_rows.specs.declared.refusal.Refusal.TheVariants as refused
 use Rattle.docket_rows.specs.Words.{Parts, part_value, refusal, setup_of}
-use Rattle.docket_laws.proofs.CallerLemmas.{HoldSame, hold_same, same_refusal}
+use Rattle.docket_laws.proofs.CallerLemmas.{hold_same, same_refusal}
 use Rattle.office_rows.specs.declared.row.Work.{Work}
 use Rattle.office_rows.specs.declared.row.Work.TheVariants.{Command, Query}
 use Rattle.careful_rows.specs.Warnings.{hearings_before, hearings_on, if_made, if_refused, warnings_of, warnings_on}

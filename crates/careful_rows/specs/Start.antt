@@ -1,5 +1,5 @@
 -- What is said of a deadline by the sheet of the case in which it would start.
-use Rattle.std.specs.Prelude.{ℕ, ℤ, nat_le, ◌||◌, List, [], length, Option, Some, None, if◌then◌else◌}
+use Rattle.std.specs.Prelude.{ℕ, ℤ, nat_le, ◌||◌, List, [], length, Option, Some, if◌then◌else◌}
 use Rattle.court_days.specs.Words.{CourtView, DaysView}
 use Rattle.rule_periods.specs.Words.{DeadlineRowView, is_beyond, shown_of}
 use Rattle.docket_rows.specs.declared.sheet.Sheet.{Sheet}

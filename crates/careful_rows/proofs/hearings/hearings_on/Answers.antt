@@ -1,4 +1,4 @@
-use Rattle.std.proofs.Common.{◌≡◌, ◌∙◌, ◌+◌, ◌-◌, ◌++◌, length, string_bytes, append_assoc, sym, ap, arith}
+use Rattle.std.proofs.Common.{◌∙◌, ◌+◌, ◌-◌, ◌++◌, length, string_bytes, append_assoc, sym, ap, arith}
 use Rattle.docket_core.specs.Words.{parts_held}
 use Rattle.hearing_slots.specs.Words.{on_day}
 use Rattle.careful_rows.specs.Warnings.{hearings_before}
