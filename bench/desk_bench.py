@@ -89,7 +89,7 @@ class Bench:
         return taken[len(taken) // 10:]
 
     def bare(self, syncs):
-        """The microseconds that a write at the end of a file and so many syncs take; each sync after a write."""
+        """The microseconds that a write at the end of a file and this many syncs take, each sync after a write."""
         file = os.open(self.parent / "bare", os.O_RDWR | os.O_CREAT | os.O_TRUNC)
         taken, at = [], 0
         for _ in range(ALONE):
@@ -105,7 +105,7 @@ class Bench:
         return taken[len(taken) // 10:]
 
     def sqlite(self, rows, each):
-        """Rows per second into a table of SQLite, with so many in a commit."""
+        """Rows per second into a table of SQLite, with this many in a commit."""
         self.made += 1
         base = sqlite3.connect(str(self.parent / "base{}".format(self.made)), isolation_level=None)
         base.execute("PRAGMA journal_mode=WAL")
@@ -122,7 +122,7 @@ class Bench:
         return len(rows) / seconds
 
     def opening(self, rows, count):
-        """The seconds that `check` takes on a journal of so many entries."""
+        """The seconds that `check` takes on a journal of this many entries."""
         path = self.parent / "many"
         path.write_text("".join(rows[at % len(rows)] + "\n" for at in range(count - 1)))
         folder = self.opened()

@@ -84,7 +84,7 @@ def check_input(programs, data, draw):
 
 
 def compared(programs, draw, count):
-    """Compares so many inputs, and says how many of each kind there were."""
+    """Compares this many inputs, and says how many of each kind there were."""
     counts = Counter(check_input(programs, made_input(draw, INPUTS[number % len(INPUTS)]), draw) for number in range(count))
     return "{} inputs: {}".format(count, ", ".join("{} {}".format(number, kind) for kind, number in sorted(counts.items())))
 

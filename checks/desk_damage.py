@@ -25,7 +25,7 @@ REFUSES, WHOLE, FEWER = "refused with their number", "opened with all rows", "op
 
 
 def fill(desk, draw, count):
-    """Enters rows until the journal has so many entries, in batches of different sizes."""
+    """Enters rows until the journal has this many entries, in batches of different sizes."""
     rows = drawn_rows(draw, count - 1)
     at = 0
     while at < len(rows):
@@ -35,7 +35,7 @@ def fill(desk, draw, count):
 
 
 def files_of(data, draw, last):
-    """Each cut file, and each with a byte changed, with the place; the last so many bytes of it."""
+    """Each cut file, and each with a byte changed, with the place, for this many of its last bytes."""
     for at in range(len(data) - last, len(data)):
         yield "cut at", at, data[:at]
     for at in range(len(data) - last, len(data)):
@@ -81,7 +81,7 @@ def check_part(programs, court, data, files):
 
 
 def damaged(programs, draw, count, last=None):
-    """Damages a journal of so many entries, in its last bytes or in all, and says what came of it."""
+    """Damages a journal of this many entries, in its last bytes or in all, and says what came of it."""
     with tempfile.TemporaryDirectory() as parent:
         desk = Desk(programs, parent, SHORT_COURT)
         fill(desk, draw, count)

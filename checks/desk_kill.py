@@ -128,7 +128,7 @@ def check_folder(programs, draw, count):
 
 
 def killed(programs, draw, count):
-    """Ends so many sessions, and says what came of them."""
+    """Ends this many sessions, and says what came of them."""
     counts = Counter()
     for first in range(0, count, SESSIONS):
         counts += check_folder(programs, draw, min(SESSIONS, count - first))

@@ -70,7 +70,7 @@ def check_short_file(programs, draw):
 
 @contextlib.contextmanager
 def small_disk(size):
-    """A disk of so many kilobytes, for as long as it is used; None where it can't be had."""
+    """A disk of this many kilobytes, for as long as it is used; None where it can't be had."""
     with tempfile.TemporaryDirectory() as place:
         words = ["mount", "-t", "tmpfs", "-o", "size={}k".format(size), "tmpfs", place]
         try:

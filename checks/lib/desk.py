@@ -62,7 +62,7 @@ def divided(text):
 
 
 def drawn_rows(draw, count, cases=4):
-    """Rows of one clerk about so many cases, of which some are refused."""
+    """Rows of one clerk about this many cases, of which some are refused."""
     rows = []
     for _ in range(count):
         case, day = draw.randint(1, cases), "2025-{:02}-{:02}".format(draw.randint(1, 12), draw.randint(1, 28))
