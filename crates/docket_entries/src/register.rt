@@ -196,7 +196,7 @@ impl DocketRegister {
     }
 }
 
-// What a line says after so many entries: where there is no room for another, a row is one too many.
+// What a line says after this many entries: where there is no room for another, a row is one too many.
 pub(crate) fn within(said: Line, count: u32) -> Line
     ensures said { (kept : List (List ℕ)) → count ≡ length kept → result ≡ within kept said }
     ensures row { (row : RowOf) → result ≡ says.Row row → said ≡ says.Row row }
