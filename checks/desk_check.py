@@ -108,26 +108,64 @@ CAREFUL = [
     (b"1,file,7,1,2025-02-28,10:00,electronic\n", b"row 3 not kept:\n"
      b"  Fri 2025-02-28  the act was done before its event                   note\n" + HELD_LAST),
     (b"!1,file,7,1,2025-02-28,10:00,electronic\n", b"3 1 filed timely\n"),
-    (b"1,file,7,1,2025-02-28,10:00,electronic\n", b"4 1 refused 9 AlreadyMet\n"),
+    (b"1,file,7,1,2025-02-28,10:00,electronic\n", b"row 4 not kept:\n"
+     b"  would be refused 9 AlreadyMet\n"
+     b"  Fri 2025-02-28  done at 10:00, electronically                       docketed\n"
+     b"  Mon 2025-03-31  timely, 31 days before this last day                6(a)(4)\n"
+     b"  Mon 2025-03-03  other reading: no act, done before its event        ours\n" + HELD_LAST),
+    (b"!1,file,7,1,2025-02-28,10:00,electronic\n", b"4 1 refused 9 AlreadyMet\n"),
     (b"1,no,row\n!1,no,row\n!!1,open,8,2025-03-03\n\n",
      b"row 5 fault 2 UnknownCommand\nrow 5 fault 2 UnknownCommand\nrow 5 fault 1 BadClerk\n"),
     (b"1,motion,7,2025-03-03,14\n", b"5 1 motion 1\n"),
+    (b"1,book,7,1,Ames,R1,2025-03-28,10:00,2,2025-03-05\n", b"row 6 not kept:\n"
+     b"  would be refused 17 NotACourtDay\n"
+     b"  Fri 2025-03-28  legal holiday of the state                          ours\n"
+     b"  Fri 2025-03-28  other reading: the court may sit on it              ours\n"
+     b"  Mon 2025-03-31  next day on which the court sits                    ours\n" + HELD_LAST),
+    (b"1,book,7,1,Ames,R1,2025-03-21,10:00,2,2025-03-14\n", b"row 6 not kept:\n"
+     b"  would be refused 19 ShortNotice 2025-03-07\n"
+     b"  Fri 2025-03-07  day 14 before the hearing, every day counted        6(c)(1), 6(a)(1)(B)\n"
+     b"  Fri 2025-03-07  the last day to serve motion and notice             6(a)(1)(C), 6(a)(5)\n"
+     b"  Fri 2025-03-14  served on this day, too late                        6(c)(1)\n"
+     b"  Mon 2025-03-31  first hearing that can be noticed                   6(c)(1)\n" + HELD_LAST),
+    # No later day of the court's file would do.
+    (b"1,book,7,1,Ames,R1,2026-12-29,10:00,2,2026-12-28\n", b"row 6 not kept:\n"
+     b"  would be refused 19 ShortNotice 2026-12-15\n"
+     b"  Tue 2026-12-15  day 14 before the hearing, every day counted        6(c)(1), 6(a)(1)(B)\n"
+     b"  Tue 2026-12-15  the last day to serve motion and notice             6(a)(1)(C), 6(a)(5)\n"
+     b"  Mon 2026-12-28  served on this day, too late                        6(c)(1)\n" + HELD_LAST),
     (b"1,book,7,1,Ames,R1,2025-04-01,10:00,2,2025-03-05\n", b"6 1 booked\n"),
-    (b"1,holiday,2025-04-01,state\n", b"row 7 not kept:\n"
+    (b"1,motion,7,2025-03-03,14\n", b"7 1 motion 2\n"),
+    (b"1,book,7,2,Ames,R1,2025-04-01,09:45,2,2025-03-05\n", b"row 8 not kept:\n"
+     b"  would be refused 20 JudgeBusy 7 1\n"
+     b"  Tue 2025-04-01  case 7 motion 1 has the judge, 10:00 to 11:00       ours\n"
+     b"  Tue 2025-04-01  judges and room are free from 11:00                 ours\n" + HELD_LAST),
+    # No later time of the day is left for so long a hearing.
+    (b"1,book,7,2,Brandt,R1,2025-04-01,10:30,13,2025-03-05\n", b"row 8 not kept:\n"
+     b"  would be refused 21 RoomBusy 7 1\n"
+     b"  Tue 2025-04-01  case 7 motion 1 has the room, 10:00 to 11:00        ours\n" + HELD_LAST),
+    (b"1,move,7,2,Brandt,R1,2025-04-02,10:00,2,2025-03-05\n", b"row 8 not kept:\n"
+     b"  would be refused 16 NotSet\n"
+     b"                  the motion has no hearing; `book` sets one          ours\n" + HELD_LAST),
+    (b"1,sheet,8\n", b"8 1 refused 1 NoSuchCase\n"),
+    (b"1,holiday,2025-04-01,state\n", b"row 9 not kept:\n"
+     b"  would be refused 23 HearingThatDay 7 1\n"
+     b"  Tue 2025-04-01  case 7 motion 1 is heard, 10:00 to 11:00            ours\n"
      b"  Tue 2025-04-01  refused while these hearings are set on this day    note\n"
      b"judge Ames\n2025-04-01 10:00 2 case 7 motion 1 room R1\n" + HELD_LAST),
-    (b"1,inaccessible,2025-04-01,09:00,12:00\n", b"row 7 not kept:\n"
+    (b"1,inaccessible,2025-04-01,09:00,12:00\n", b"row 9 not kept:\n"
      b"  Tue 2025-04-01  these hearings stay set on this day                 note\n"
      b"judge Ames\n2025-04-01 10:00 2 case 7 motion 1 room R1\n" + HELD_LAST),
-    (b"!1,inaccessible,2025-04-01,09:00,12:00\n", b"7 1 outage entered\n"),
-    (b"1,start,7,3d/before/service/event/plain,2025-03-20,,,\n", b"8 1 deadline 2 last 2025-03-17\n"),
-    (b"1,extend,7,2,2025-03-21,2025-03-10,09:00,no,yes,no\n", b"row 9 not kept:\n"
+    (b"!1,inaccessible,2025-04-01,09:00,12:00\n", b"9 1 outage entered\n"),
+    (b"1,start,7,3d/before/service/event/plain,2025-03-20,,,\n", b"10 1 deadline 2 last 2025-03-17\n"),
+    (b"1,extend,7,2,2025-03-21,2025-03-10,09:00,no,yes,no\n", b"row 11 not kept:\n"
      b"  Fri 2025-03-21  the end lies after the event it counts back from    note\n" + HELD_LAST),
 ]
 
 
 def check_warnings(programs):
-    """With --warn a row that draws a warning is answered with it and leaves the journal as it was; with '!' it is kept."""
+    """With --warn a row that draws a warning, or would be refused, is answered with why and leaves the journal as it was; with '!'
+    it is kept."""
     with tempfile.TemporaryDirectory() as parent:
         desk = Desk(programs, parent, SHORT_COURT)
         tried = desk.call("try", "--warn", given=b"".join(given for given, answer in CAREFUL))
@@ -138,10 +176,10 @@ def check_warnings(programs):
             assert ended.status == 0 and not ended.errors and ended.output == answer, (given, ended)
             assert (desk.journal.read_bytes() == whole) == answer.startswith(b"row "), given
         ended = desk.call("try", "--warn", "--today", "2026-04-01", given=b"1,start,7,59e,2025-03-04,,,\n")
-        assert ended.output == (b"row 9 not kept:\n"
+        assert ended.output == (b"row 11 not kept:\n"
             b"  Tue 2025-03-04  the event lies a year or more before 2026-04-01     note\n" + HELD_LAST), ended
         ended = desk.call("enter", given=b"!1,sheet,7\n")
-        assert ended.status == 0 and ended.output == b"row 9 fault 1 BadClerk\n", ended
+        assert ended.status == 0 and ended.output == b"row 11 fault 1 BadClerk\n", ended
         for words in (("enter", "--today", "2025-03-03"), ("ask", "--warn"), ("enter", "--warn", TOGETHER),
                       ("try", "--warn", "--today", "3/3/2025")):
             ended = desk.call(*words)

@@ -2,21 +2,25 @@
 use Rattle.std.specs.Prelude.{ℕ, ℤ, List, [], ◌∷◌, ◌++◌, length, Option, Some, None, codes}
 use Rattle.std.specs.List.{flat_map, range_with_len}
 use Rattle.std.specs.Option.{option_map_or}
+use Rattle.court_clock.specs.Words.{ClockView}
 use Rattle.court_days.specs.Words.{CourtView}
 use Rattle.rule6.specs.declared.timeliness.Filing.{Filing}
 use Rattle.rule_periods.specs.declared.grant.Request.{Request}
 use Rattle.rule_periods.specs.Words.{DeadlineRowView, direction_of, runs_from, with_grant}
 use Rattle.hearing_slots.specs.declared.booking.Booking.{Booking}
 use Rattle.hearing_slots.specs.Words.{on_day}
+use Rattle.docket_rows.specs.declared.answer.Answer.TheVariants as answer
 use Rattle.docket_rows.specs.declared.command.Command.{Command as CommandOf}
 use Rattle.docket_rows.specs.declared.command.Command.TheVariants as command
 use Rattle.docket_rows.specs.declared.refusal.Refusal.{Refusal}
 use Rattle.docket_rows.specs.declared.refusal.Refusal.TheVariants.{HearingThatDay}
 use Rattle.docket_rows.specs.Words.{CaseRecordView, Parts, deadline_in, refusal, setup_of, shown_now, started}
 use Rattle.docket_notes.specs.Words.{early_act, extension_notes, note, start_notes}
+use Rattle.refused_commands.specs.Words.{why_refused}
 use Rattle.office_rows.specs.declared.row.Work.{Work}
 use Rattle.office_rows.specs.declared.row.Work.TheVariants.{Command, Query}
-use Rattle.office_texts.specs.Words.{calendar_lines}
+use Rattle.office_texts.specs.Words.{answer_text, calendar_lines}
+use Rattle.careful_rows.specs.Instead.{instead}
 
 -- on a deadline, as it would start in the case: the notes that the memo of the case would have on it
 abbrev pub at_start : CourtView → Parts → (today : Option ℤ) → Option CaseRecordView → DeadlineRowView → List ℕ
@@ -59,11 +63,20 @@ if_made court parts today (command.Inaccessible day from to) =
     said_of day (codes "these hearings stay set on this day") (hearings_on court parts day)
 if_made court parts today command = []
 
--- on one that is: a holiday is refused where hearings are set that day, and its refusal names one of them
-abbrev pub if_refused : CourtView → Parts → CommandOf → Refusal → List ℕ
-if_refused court parts (command.Holiday day list) (HearingThatDay case motion) =
+-- `  would be refused 17 NotACourtDay`: the words that it would be answered
+abbrev pub refused_line : ClockView → Refusal → List ℕ
+refused_line clock refusal = codes "  would be " ++ answer_text clock (answer.Refused refusal) ++ 10 ∷ []
+
+-- a holiday is refused where hearings are set that day, and its refusal names one of them: here are all
+abbrev pub hearings_kept : CourtView → Parts → CommandOf → Refusal → List ℕ
+hearings_kept court parts (command.Holiday day list) (HearingThatDay case motion) =
     said_of day (codes "refused while these hearings are set on this day") (hearings_on court parts day)
-if_refused court parts command refusal = []
+hearings_kept court parts command refusal = []
+
+-- on a command that is refused: that it is, why, and what would do instead
+unfoldable pub if_refused : CourtView → Parts → CommandOf → Refusal → List ℕ
+if_refused court parts command refusal =
+    refused_line court.clock refusal ++ why_refused court parts command refusal ++ hearings_kept court parts command refusal ++ instead (setup_of court) parts command refusal
 
 -- what a clerk is warned of a command, where a day may count as today
 unfoldable pub warnings_of : CourtView → Parts → (today : Option ℤ) → CommandOf → List ℕ

@@ -29,7 +29,7 @@ fn last_service(days: &Days, hearing: Day, n: u32) -> Option<Day>
 }
 
 /// Whether no covered day qualifies as that day, where one has to.
-pub(crate) fn lacks_last_service(days: &Days, hearing: Day, need: Need) -> bool
+pub fn lacks_last_service(days: &Days, hearing: Day, need: Need) -> bool
     ensures { result ≡ lacks_last_service days.now hearing need }
 {
     match need {
@@ -39,7 +39,7 @@ pub(crate) fn lacks_last_service(days: &Days, hearing: Day, need: Need) -> bool
 }
 
 /// That day, where the motion or the notice was served after it.
-pub(crate) fn missed_service(days: &Days, hearing: Day, need: Need, served: Day) -> Option<Day>
+pub fn missed_service(days: &Days, hearing: Day, need: Need, served: Day) -> Option<Day>
     ensures { result ≡ missed_service days.now hearing need served }
 {
     let Need::Days(n) = need else {
