@@ -36,7 +36,7 @@ no_place test xs h = by (ltb (position_or_len test xs) (length xs)) refl h
 found : {X Y : Type 0} (f : X → Y) (test : Y → Bool) (xs : List X) (i : ℕ) → position test (map f xs) ≡ Some i → find (λ x. test (f x)) xs ≡ slice_get xs i
 found f test xs i h = find_at (λ x. test (f x)) xs ∙ ap (slice_get xs) (place_is (λ x. test (f x)) xs i (sym (position-map f test xs) ∙ h))
 
-there_at : {X : Type 0} (xs : List X) (i : ℕ) (x : X) → i < length xs → x ≡ get_or xs i x → slice_get xs i ≡ Some x
+pub there_at : {X : Type 0} (xs : List X) (i : ℕ) (x : X) → i < length xs → x ≡ get_or xs i x → slice_get xs i ≡ Some x
 there_at [] i x there is = absurd (omega (arith, there))
 there_at (y ∷ xs) zero x there is = ap Some (sym is)
 there_at (y ∷ xs) (suc i) x there is = there_at xs i x (omega (arith, there)) is

@@ -1,6 +1,7 @@
 //! The cases that were opened, and the names of those that have one.
-ghost use Rattle.std.specs.Prelude.{◌≡◌, option_map, OnErr, OnOk};
+ghost use Rattle.std.specs.Prelude.{◌≡◌, option_map, IfOk, OnErr, OnOk};
 ghost use Rattle.case_numbers.specs.Cases.{CasesView, fresh, name_of, no_cases, number_of, with_case};
+ghost use Rattle.case_numbers.specs.Laws.{AreApart};
 
 use crate::name::CaseName;
 use crate::names::{NamedCase, Names};
@@ -32,6 +33,16 @@ impl Cases {
         }
     }
 
+    /// Others of the same cases. `Err` says that memory ran out.
+    pub fn copy(&self, alloc: Global) -> Result<Cases, AllocError>
+        ensures { IfOk result (λ cases. cases ≡ self.now) }
+    {
+        Ok(Cases {
+            opened: self.opened.clone()?,
+            names: self.names.copy(alloc)?,
+        })
+    }
+
     /// The number of the case with that key.
     pub fn number_of(&self, key: &[u8]) -> Option<u32>
         ensures { result ≡ number_of self.now.named key.now }
@@ -48,7 +59,8 @@ impl Cases {
 
     /// The cases that have names, in the order in which they were named.
     pub fn named(&self) -> &[NamedCase]
-        ensures { result.now ≡ self.now.named }
+        ensures named { result.now ≡ self.now.named }
+        ensures apart { AreApart self.now.named }
     {
         self.names.cases()
     }

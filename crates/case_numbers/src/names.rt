@@ -1,6 +1,7 @@
 //! The cases that have names.
 ghost use Rattle.std.specs.Prelude.{◌≡◌, ◌||◌, ◌++◌, ◌∷◌, [], false, is_some, option_map, Some, IfOk, OnErr, OnOk};
 ghost use Rattle.case_numbers.specs.Cases.{name_of, number_of, with_name};
+ghost use Rattle.case_numbers.specs.Laws.{AreApart};
 
 use crate::name::CaseName;
 use indexmap::IndexSet;
@@ -27,12 +28,13 @@ pub(crate) struct Names {
 impl Model for Names {
     ghost use Rattle.std.specs.Prelude.{◌≡◌, List, map};
     ghost use Rattle.case_numbers.specs.declared.names.NamedCase.{NamedCase};
+    ghost use Rattle.case_numbers.specs.Laws.{AreApart};
 
     ghost Value = { List NamedCase };
 
     ghost view = { λ n. n.cases.items };
 
-    ghost invariant = { λ n. (n.numbers.keys ≡ map (λ c. c.number) n.cases.items) × (map (λ k. k.items) n.keys.keys ≡ map (λ c. c.name.key) n.cases.items) };
+    ghost invariant = { λ n. (n.numbers.keys ≡ map (λ c. c.number) n.cases.items) × (map (λ k. k.items) n.keys.keys ≡ map (λ c. c.name.key) n.cases.items) × AreApart n.cases.items };
 }
 
 impl Names {
@@ -49,7 +51,8 @@ impl Names {
 
     // The cases, in the order in which they were named.
     pub(crate) fn cases(&self) -> &[NamedCase]
-        ensures { result.now ≡ self.now }
+        ensures cases { result.now ≡ self.now }
+        ensures apart { AreApart self.now }
     {
         self.cases.as_slice()
     }
@@ -114,5 +117,17 @@ impl Names {
         } else {
             self.push(alloc, number, name)
         }
+    }
+
+    // Others of the same names.
+    pub(crate) fn copy(&self, alloc: Global) -> Result<Names, AllocError>
+        ensures { IfOk result (λ names. names ≡ self.now) }
+    {
+        let mut names = Names::new(alloc);
+        let cases = self.cases();
+        for case in cases {
+            names.add(alloc, case.number, case.name.copy(alloc)?)?;
+        }
+        Ok(names)
     }
 }
