@@ -1,5 +1,6 @@
 pub mod CallerLemmas
 pub mod ChangeLemmas
+pub mod CaseLemmas
 pub mod EntryLemmas
 pub mod HistoryLemmas
 pub mod LineFaultLemmas
