@@ -1,5 +1,5 @@
 -- The cases that entries opened, after one more; and how lines are read.
-use Rattle.std.proofs.Common.{◌≡◌, ◌∙◌, ◌<◌, ℕ, false, List, [], ◌∷◌, ◌++◌, Option, Some, None, length, map, refl, sym, ap}
+use Rattle.std.proofs.Common.{◌≡◌, ◌∙◌, ◌<◌, ℕ, false, List, [], ◌∷◌, ◌++◌, Option, Some, None, length, map, refl, ap}
 use Rattle.std.specs.Prelude.{IsSome}
 use Rattle.std.proofs.lemmas.List.{map_push}
 use Rattle.case_numbers.specs.Words.{AreApart, CasesView, NameView, after_name, name_before, no_cases}
@@ -9,12 +9,11 @@ use Rattle.office_rows.specs.Words.{CourtNames, names_of}
 use Rattle.row_line.specs.declared.line.Line.{Line}
 use Rattle.row_line.specs.declared.line.Line.TheVariants as line
 use Rattle.row_line.specs.Words.{line_read}
-use Rattle.docket_entries.specs.CaseLines.{Reading, as_it_is, named_if, case_in, lacks_third, reading_of}
-use Rattle.row_line.specs.Words.{fields_read}
+use Rattle.docket_entries.specs.CaseLines.{as_it_is, lacks_third, reading_of}
 use Rattle.docket_entries.specs.Cases.{cases_after, cases_of, opened_in, rows_of, with_opened}
 use Rattle.docket_entries.specs.Entries.{later_file, most_clerks, row_entries}
 use Rattle.docket_entries.specs.Laws.{ACaseNumberIsOneCase, OtherLinesAreReadAsTheyAre}
-use Rattle.docket_entries.specs.Rows.{reading_at, row_in}
+use Rattle.docket_entries.specs.Rows.{row_in}
 use Rattle.docket_entries.proofs.ListLemmas.{row_entries-file, row_entries-row}
 
 cases_after-append : (names : CourtNames) (cases : CasesView) (some more : List (List ℕ)) → cases_after names cases (some ++ more) ≡ cases_after names (cases_after names cases some) more

@@ -24,7 +24,7 @@ use Rattle.office_rows.specs.Columns.{◌>>=◌}
 use Rattle.office_rows.specs.Words.{CourtNames, clerk_of, column, is_number, names_of, number_of, row_of, work_of}
 use Rattle.row_line.specs.Words.{fields_read, line_read}
 use Rattle.row_line.proofs.CallerLemmas.{has_fields, says_first, says_row}
-use Rattle.case_numbers.specs.Words.{CasesView, NameView, after_name, case_read, name_before, name_line, number_of}
+use Rattle.case_numbers.specs.Words.{CasesView, NameView, after_name, case_read, name_before, name_line, number_of as number_by}
 use Rattle.case_numbers.proofs.CallerLemmas.{name_of_line, no_name_line, no_name_past, rest_of_line}
 use Rattle.docket_entries.specs.Cases.{cases_of}
 use Rattle.docket_entries.specs.CaseLines.{case_in, fresh_for, lacks_third, named, named_if, newly, reading_of}
@@ -230,7 +230,7 @@ module _ (cases : CasesView) (line : List ℕ) (fields : List (List ℕ)) where
 
   named_if_read : (name : Option NameView) → WasRead name → WasRead (named_if cases line fields name).name
   named_if_read None was = tt
-  named_if_read (Some name) was = named_read name was (number_of cases.named name.key)
+  named_if_read (Some name) was = named_read name was (number_by cases.named name.key)
 
 read_somewhere : (text : List ℕ) (name : Option NameView) → case_read text ≡ name → WasRead name
 read_somewhere text None is = tt

@@ -2,6 +2,7 @@ pub mod CallerLemmas
 pub mod ChangeLemmas
 pub mod CaseLemmas
 pub mod EntryLemmas
+pub mod FieldLemmas
 pub mod HistoryLemmas
 pub mod LineFaultLemmas
 pub mod ListLemmas

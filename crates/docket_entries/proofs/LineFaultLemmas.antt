@@ -11,6 +11,7 @@ use Rattle.durable_session.proofs.CallerLemmas.{numbered_from-first, numbered_fr
 use Rattle.docket_entries.specs.LineFaults.{CountsAs, FaultyLine, fault_as, faults_of}
 use Rattle.docket_entries.specs.Laws.{AllSayRows, FaultlessLinesSayRows}
 use Rattle.case_numbers.specs.Words.{CasesView, NameView, after_name, name_before, name_line}
+use Rattle.docket_entries.specs.CaseLines.{reading_of}
 use Rattle.docket_entries.specs.Cases.{cases_of, opened_as, opened_in, with_opened}
 use Rattle.docket_entries.specs.Entries.{most_clerks}
 use Rattle.docket_entries.specs.Rows.{answer_to, entry_of, leaves, left_of, plain_leaves, reading_at, row_in, with_name, within}
@@ -19,6 +20,11 @@ use Rattle.docket_entries.proofs.EntryLemmas.{WasRead, is_no_file_named, its_nam
 use Rattle.docket_entries.proofs.RegisterLemmas.{none_left}
 use Rattle.row_line.proofs.CallerLemmas.{says_row}
 use Rattle.office_rows.specs.declared.row.Row.{Row}
+
+-- what a line says after entries, by what was read of it
+pub said_at : (court : CourtView) (kept : List (List ℕ)) (bytes : List ℕ) (cases : CasesView) (said : Line) → cases ≡ cases_of court kept → said ≡ line_read most_clerks (names_of court) (reading_of (names_of court) cases bytes).text
+    → within kept said ≡ within kept (line_read most_clerks (names_of court) (reading_at court kept bytes).text)
+said_at court kept bytes cases said cases_are is = ap (within kept) (is ∙ ap (λ (k : CasesView). line_read most_clerks (names_of court) (reading_of (names_of court) k bytes).text) cases_are)
 
 -- the entries that there are after a line that says no row
 pub counts_same : (court : CourtView) (kept : List (List ℕ)) (bytes : List ℕ) (said : Line) (count : ℕ) (cases : CasesView) → within kept (line_read most_clerks (names_of court) (reading_at court kept bytes).text) ≡ said → row_in said ≡ []

@@ -207,12 +207,12 @@ module _ (court : CourtView) (register : DocketRegister) (kept : List (List ℕ)
 -- an entry that says a row is the next one where the row leaves it
 module _ (court : CourtView) (register : DocketRegister) (kept : List (List ℕ)) (entry : List ℕ) where
   -- what an entry leaves that says a row
-  pub leaves_made : (row : Row) → within kept (line_read most_clerks (names_of court) (after_name entry)) ≡ line.Row row → (fields : List (List ℕ)) → fields ≡ fields_read (after_name entry) → (made : String Global × Vec ℕ Global)
-      → IsDone court kept fields row (name_before entry) register made → left_again court kept entry ≡ made.1.items ∷ []
+  pub leaves_made : (row : Row) → within kept (line_read most_clerks (names_of court) (after_name entry)) ≡ line.Row row → (fields : List (List ℕ)) → fields ≡ fields_read (after_name entry) → (name : Option NameView) → name ≡ name_before entry
+      → (made : String Global × Vec ℕ Global) → IsDone court kept fields row name register made → left_again court kept entry ≡ made.1.items ∷ []
   unfolding plain_leaves
-  leaves_made row is fields fields_are made done =
+  leaves_made row is fields fields_are name name_is made done =
       ap (λ (l : Line). with_name (name_before entry) (left_of court kept (fields_read (after_name entry)) l)) is
-      ∙ ap (λ (e : List ℕ). e ∷ []) (sym (done.entry ∙ ap (λ (f : List (List ℕ)). name_line (name_before entry) ++ entry_of court kept f row) fields_are))
+      ∙ ap (λ (e : List ℕ). e ∷ []) (sym (done.entry ∙ ap (λ (f : List (List ℕ)). name_line name ++ entry_of court kept f row) fields_are ∙ ap (λ (n : Option NameView). name_line n ++ entry_of court kept (fields_read (after_name entry)) row) name_is))
 
   -- an entry that says no row leaves nothing
   pub follows_as_row : follows court kept entry → (row : Row) × (within kept (line_read most_clerks (names_of court) (after_name entry)) ≡ line.Row row)

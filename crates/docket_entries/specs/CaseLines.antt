@@ -1,5 +1,5 @@
 -- Lines in which a case has its number as the court writes it, and the plain lines that stand for them.
-use Rattle.std.specs.Prelude.{◌≡◌, ℕ, Bool, false, List, [], ◌∷◌, ◌++◌, Option, Some, None, codes, drop, nat_eq, take, if◌then◌else◌}
+use Rattle.std.specs.Prelude.{◌≡◌, ℕ, Bool, false, List, ◌∷◌, ◌++◌, Option, Some, None, codes, drop, nat_eq, take, if◌then◌else◌}
 use Rattle.std.specs.Fmt.{decimal}
 use Rattle.std.specs.Str.{bytes_eq}
 use Rattle.csv.specs.Writing.{default_writer, row_text}
@@ -72,7 +72,7 @@ read_as line None = as_it_is line
 read_as line (Some c) = record { text = c.text.items; name = c.name }
 
 -- a line is read: this is what its plain line says and its new name, and where it says a row these are its fields
-pub record IsRead (names : CourtNames) (cases : CasesView) (line : List ℕ) (fields : List (List ℕ)) (read : Line × Option NameView) : Type 0 where
-  pub said : read.0 ≡ line_read most_clerks names (reading_of names cases line).text
-  pub name : read.1 ≡ (reading_of names cases line).name
-  pub fields_are : (row : Row) → read.0 ≡ line.Row row → fields ≡ fields_read (reading_of names cases line).text
+pub record IsRead (names : CourtNames) (cases : CasesView) (bytes : List ℕ) (fields : List (List ℕ)) (read : Line × Option NameView) : Type 0 where
+  pub said : read.0 ≡ line_read most_clerks names (reading_of names cases bytes).text
+  pub name : read.1 ≡ (reading_of names cases bytes).name
+  pub fields_are : (row : Row) → read.0 ≡ line.Row row → fields ≡ fields_read (reading_of names cases bytes).text

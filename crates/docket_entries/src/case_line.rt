@@ -171,8 +171,9 @@ fn push_fields(
     ensures { OnOk result (fields_of row.new ≡ fields_of row.old ++ drop from (take to (fields_of fields.now))) }
 {
     for place in from..to {
-        if let Some(field) = fields.get(place) {
-            row.push_field(field)?;
+        match fields.get(place) {
+            Some(field) => row.push_field(field)?,
+            None => {}
         }
     }
     Ok(())

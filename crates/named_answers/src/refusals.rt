@@ -51,12 +51,7 @@ fn push_detail(text: &mut String, cases: &Cases, refusal: &Refusal) -> Result<()
 }
 
 // Adds a case and one of its motions.
-fn push_motion(
-    text: &mut String,
-    cases: &Cases,
-    case: u32,
-    motion: u32,
-) -> Result<(), AllocError>
+fn push_motion(text: &mut String, cases: &Cases, case: u32, motion: u32) -> Result<(), AllocError>
     ensures { OnOk result (AddsText text.old text.new (named_motion cases.now.named case motion)) }
 {
     text.push_str(" ")?;

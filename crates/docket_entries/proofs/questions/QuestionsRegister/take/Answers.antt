@@ -16,14 +16,14 @@ use Rattle.docket_entries.proofs.questions.QuestionsRegister.take.Goals as goal
 
 pub returns-in-Blank : goal.returns-in-Blank
 returns-in-Blank c = λ kept stands.
-    line_asked c.args.court.now (record { register = c.heard.new.self }) kept c.args.line.now (batch_of c.args._batch.now.items) c.args.text.now.items says.Blank (sym (c.in_ok-heard.ensures.said kept stands).said ∙ c.in-Blank.is)
+    line_asked c.args.court.now (record { register = c.heard.new.self }) kept c.args.line.now (batch_of c.args._batch.now.items) c.args.text.now.items says.Blank (sym (c.in_ok-said.ensures.said kept stands).said ∙ c.in-Blank.is)
     (as_it_was c.args.court.now c.args.self.now.register c.heard.new.self kept stands c.heard.ensures.docket c.heard.ensures.cases c.heard.ensures.number c.heard.ensures.count) c.args.text.now.items (sym (append-nil c.args.text.now.items))
 
 pub returns-in-Fault : goal.returns-in-Fault
 returns-in-Fault c = λ kept stands.
     let before = as_it_was c.args.court.now c.args.self.now.register c.heard.new.self kept stands c.heard.ensures.docket c.heard.ensures.cases c.heard.ensures.number c.heard.ensures.count in
     on_ok_weaker c.push_fault.result
-    (λ told. line_asked c.args.court.now (record { register = c.heard.new.self }) kept c.args.line.now (batch_of c.args._batch.now.items) c.args.text.now.items (says.Fault c.in-Fault.cause) (sym (c.in_ok-heard.ensures.said kept stands).said ∙ c.in-Fault.is)
+    (λ told. line_asked c.args.court.now (record { register = c.heard.new.self }) kept c.args.line.now (batch_of c.args._batch.now.items) c.args.text.now.items (says.Fault c.in-Fault.cause) (sym (c.in_ok-said.ensures.said kept stands).said ∙ c.in-Fault.is)
     before c.push_fault.new.text.items
     (told ∙ ap (λ (n : ℕ). c.args.text.now.items ++ told_line (RowFault n c.in-Fault.cause)) (c.next_number.ensures c.args.court.now kept before)))
     c.push_fault.ensures
@@ -32,7 +32,7 @@ pub returns-in-Command : goal.returns-in-Command
 returns-in-Command c = λ kept stands.
     let before = as_it_was c.args.court.now c.args.self.now.register c.heard.new.self kept stands c.heard.ensures.docket c.heard.ensures.cases c.heard.ensures.number c.heard.ensures.count in
     on_ok_weaker c.push_command.result
-    (λ told. line_asked c.args.court.now (record { register = c.heard.new.self }) kept c.args.line.now (batch_of c.args._batch.now.items) c.args.text.now.items (says.Row c.in-Row.row) (sym (c.in_ok-heard.ensures.said kept stands).said ∙ c.in-Row.is)
+    (λ told. line_asked c.args.court.now (record { register = c.heard.new.self }) kept c.args.line.now (batch_of c.args._batch.now.items) c.args.text.now.items (says.Row c.in-Row.row) (sym (c.in_ok-said.ensures.said kept stands).said ∙ c.in-Row.is)
     before c.push_command.new.text.items
     (told ∙ ap (λ (n : ℕ). c.args.text.now.items ++ command_text n) (c.next_number-in-Command.ensures c.args.court.now kept before)
     ∙ ap (λ (w : Work). c.args.text.now.items ++ shown_for c.args.court.now kept c.in-Row.row w) (sym c.in-Command.is)))
@@ -50,7 +50,7 @@ returns-in_ok-extend_from_slice-in-Query c = λ kept stands.
       begun = before.begun;
       few = before.few;
     } in
-    line_asked c.args.court.now (record { register = c.answered.new.self }) kept c.args.line.now (batch_of c.args._batch.now.items) c.args.text.now.items (says.Row c.in-Row.row) (sym (c.in_ok-heard.ensures.said kept stands).said ∙ c.in-Row.is)
+    line_asked c.args.court.now (record { register = c.answered.new.self }) kept c.args.line.now (batch_of c.args._batch.now.items) c.args.text.now.items (says.Row c.in-Row.row) (sym (c.in_ok-said.ensures.said kept stands).said ∙ c.in-Row.is)
     after c.extend_from_slice.new.self.items
     (c.in_ok-extend_from_slice-in-Query.ensures.items ∙ ap (λ (l : List ℕ). c.args.text.now.items ++ l) (c.as_bytes.ensures.value ∙ c.in_ok-answer-in-Query.ensures.answer kept before)
     ∙ ap (λ (w : Work). c.args.text.now.items ++ shown_for c.args.court.now kept c.in-Row.row w) (sym c.in-Query.is))

@@ -11,7 +11,7 @@ pub returns-clause-stands : goal.returns-clause-stands
 unfolding docketed_by rows_in docketed_after rows_among cases_of cases_after
 returns-clause-stands c = λ file. record {
   docket = record { setup_is = c.in_ok-new.ensures.setup; sound = sound_opening (setup_of c.args.court.now); stands = c.in_ok-new.ensures.rows };
-  cases = ?;
+  cases = c.new-2.ensures;
   number = refl;
   count = refl;
   begun = omega arith;
