@@ -5,8 +5,8 @@
 
 The examples of examples/ of one clerk are entered in two sessions, and answered as by clerk_office. What is said of an
 empty folder, of one that has a journal, and of a second program is looked at. A question is asked and rows are tried beside
-a program that enters rows, rows that draw warnings are held back, rows are kept together or not at all, and a court is given
-another file. Then COUNT times (300 without it) a session is ended at a random moment, most of them killed, and COUNT / 3
+a program that enters rows, rows that draw warnings are held back, rows are kept together or not at all, cases have their numbers
+as courts write them, and a court is given another file. Then COUNT times (300 without it) a session is ended at a random moment, most of them killed, and COUNT / 3
 times one that keeps its rows together, as desk_kill.py does it; COUNT / 10 inputs at random are compared, as desk_compare.py
 does it; and a short journal is damaged in its last COUNT / 2 bytes, as desk_damage.py does it. It needs Python 3.8 or later.
 """
@@ -18,7 +18,7 @@ from desk_compare import check_rows, compared
 from desk_damage import damaged
 from desk_kill import killed, killed_together
 from lib.desk import Desk, FAULTS, REFUSED, SHORT_COURT, TOGETHER, TOP, divided, drawn_rows, programs_of, run
-from lib.journal import courts_of, read_journal, rows_of
+from lib.journal import courts_of, names_of, read_journal, rows_of
 
 EXAMPLES = ["smallest", "days", "deadlines", "a_day"]
 DIFFERS = 7
@@ -204,7 +204,7 @@ def check_together(programs, draw):
                  b'line 2 fault 1 BadClerk: found "65", expected a clerk\'s number, 1 to 64\n'
                  b'line 3 fault 4 BadField 4: expected what FORMATS.md has under Rows\n'
                  b'line 4 fault 4 BadField 8: found "G", expected a kind of service, A to F, or nothing\n'
-                 b'line 5 fault 4 BadField 3: found nothing, expected a number, as 7\n'
+                 b'line 5 fault 4 BadField 3: found nothing, expected a number, as 7, or the number of a case that was opened, as 1:25-cv-01234\n'
                  b'line 6 fault 5 NotText: expected text in UTF-8\n', b"6 lines have faults", FAULTS),
                 (b"1,open,1,2025-03-03\n1,sheet,1", b"", b"no end", REFUSED),
                 (b"\n" * (LONGEST_INPUT + 1), b"", b"more than 16777216 bytes", UNREAD)):
@@ -222,6 +222,26 @@ def check_together(programs, draw):
         ended = desk.call("enter", TOGETHER)
         assert ended.status == 0 and not ended.output and desk.read() == journal, ended
     return "rows that are kept together, or not at all where a line has a fault"
+
+
+def check_numbers(programs):
+    """Cases by their numbers as the court writes them, over a restart: initials and leading zeros tell no cases apart."""
+    with tempfile.TemporaryDirectory() as parent:
+        desk = Desk(programs, parent, SHORT_COURT)
+        rows = [b"1,open,1,2025-03-03\n", b"1,open,1:25-CV-1234-abc,2025-03-03\n", b"1,open,25-cv-1234,2025-03-04\n", b"1,sheet,1:25-cv-01234-XY\n"]
+        answers = [b"1 1 opened\n", b"2 1 opened\n", b"3 1 opened\n", b"4 1 sheet\ncase 1:25-cv-01234-ABC filed 2025-03-03\n"]
+        assert desk.enter(rows) == b"".join(answers)
+        again = [b"1,open,1:25-cv-01234,2025-03-05\n", b"1,sheet,25-cv-01234\n", b"1,sheet,2\n", b"1,sheet,1:25-cr-01234\n", b"1,sheet,1\n"]
+        told = [b"5 1 refused 2 CaseIsOpen\n", b"6 1 sheet\ncase 25-cv-01234 filed 2025-03-04\n", b"7 1 sheet\ncase 1:25-cv-01234-ABC filed 2025-03-03\n",
+                b"row 8 fault 4 BadField 3\n", b"8 1 sheet\ncase 1 filed 2025-03-03\n"]
+        assert desk.call("enter", given=b"".join(again)).output == b"".join(told)
+        journal = desk.read()
+        assert names_of(journal) == [b"1:25-cv-01234-ABC", b"25-cv-01234"], names_of(journal)
+        assert [row for row, _ in rows_of(journal)] == [
+            b"1,open,1,2025-03-03\n", b"1,open,2,2025-03-03\n", b"1,open,3,2025-03-04\n", b"1,sheet,2\n",
+            b"1,open,2,2025-03-05\n", b"1,sheet,3\n", b"1,sheet,2\n", b"1,sheet,1\n"], rows_of(journal)
+        assert b"rows kept: 8" in desk.call("check").output
+    return "cases by their numbers as the court writes them"
 
 
 def check_court(programs):
@@ -250,7 +270,7 @@ def main(words):
     count = int(words[3]) if len(words) > 3 else 300
     for check in (lambda: check_examples(programs, draw), lambda: check_folder(programs), lambda: check_second(programs),
                   lambda: check_trial(programs, draw), lambda: check_warnings(programs), lambda: check_together(programs, draw),
-                  lambda: check_court(programs),
+                  lambda: check_numbers(programs), lambda: check_court(programs),
                   lambda: compared(programs, draw, count // 10), lambda: damaged(programs, draw, 12, count // 2),
                   lambda: killed(programs, draw, count), lambda: killed_together(programs, draw, count // 3)):
         print(check(), flush=True)

@@ -35,7 +35,7 @@ form_text command =
 -- what is expected in a field of this name
 unfoldable pub expected : List ℕ → List ℕ
 expected name =
-    if bytes_eq name (codes "CASE") then codes "a number, as 7"
+    if bytes_eq name (codes "CASE") then codes "a number, as 7, or the number of a case that was opened, as 1:25-cv-01234"
     else if bytes_eq name (codes "DEADLINE") then codes "a number, as 7"
     else if bytes_eq name (codes "MOTION") then codes "a number, as 7"
     else if bytes_eq name (codes "DATE") then codes "a date, as 2025-09-02"

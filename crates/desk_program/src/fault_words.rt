@@ -71,7 +71,7 @@ fn expected(name: &str) -> &'static str
     ensures { result.now ≡ expected name.now }
 {
     match name {
-        "CASE" => "a number, as 7",
+        "CASE" => "a number, as 7, or the number of a case that was opened, as 1:25-cv-01234",
         "DEADLINE" => "a number, as 7",
         "MOTION" => "a number, as 7",
         "DATE" => "a date, as 2025-09-02",
