@@ -10,7 +10,7 @@ use Rattle.office_rows.specs.Words.{names_of}
 use Rattle.row_line.specs.declared.line.Line.TheVariants as says
 use Rattle.row_line.specs.Words.{line_read}
 use Rattle.durable_session.specs.Words.{left_by}
-use Rattle.docket_entries.specs.Words.{IsHistory, SaysCourt, docketed_by, leaves, most_clerks, standing_file, within}
+use Rattle.docket_entries.specs.Words.{IsHistory, SaysCourt, docketed_by, leaves, most_clerks, reading_at, standing_file, within}
 use Rattle.careful_rows.specs.Careful.{after_mark, careful_leaves, taken_at}
 
 -- the lines that are taken, each after what those before it leave
@@ -36,6 +36,6 @@ CarefulIsHistory = (court : CourtView) (today : Option ℤ) (kept lines : List (
 -- A command that would be refused by what is docketed before it is taken with a '!' before it alone.
 abbrev pub RefusedAreHeld : Type 0
 RefusedAreHeld = (court : CourtView) (today : Option ℤ) (kept : List (List ℕ)) (line : List ℕ) (row : Row) (command : CommandOf) (refused : Refusal)
-    → within kept (line_read most_clerks (names_of court) line) ≡ says.Row row → row.work ≡ Command command
+    → within kept (line_read most_clerks (names_of court) (reading_at court kept line).text) ≡ says.Row row → row.work ≡ Command command
     → refusal (setup_of court) (parts_of (docketed_by court kept)) command ≡ Some refused
     → after_mark line ≡ None → taken_at court today kept line ≡ None
