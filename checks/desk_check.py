@@ -5,8 +5,8 @@
 
 The examples of examples/ of one clerk are entered in two sessions, and answered as by clerk_office. What is said of an
 empty folder, of one that has a journal, and of a second program is looked at. A question is asked and rows are tried beside
-a program that enters rows, rows that draw warnings are held back, rows are kept together or not at all, and a court is given
-another file. Then COUNT times (300 without it) a session is ended at a random moment, most of them killed, and COUNT / 3
+a program that enters rows, rows that draw warnings are held back, rows are kept together or not at all, cases have their numbers
+as courts write them, and a court is given another file. Then COUNT times (300 without it) a session is ended at a random moment, most of them killed, and COUNT / 3
 times one that keeps its rows together, as desk_kill.py does it; COUNT / 10 inputs at random are compared, as desk_compare.py
 does it; and a short journal is damaged in its last COUNT / 2 bytes, as desk_damage.py does it. It needs Python 3.8 or later.
 """
@@ -18,7 +18,7 @@ from desk_compare import check_rows, compared
 from desk_damage import damaged
 from desk_kill import killed, killed_together
 from lib.desk import Desk, FAULTS, REFUSED, SHORT_COURT, TOGETHER, TOP, divided, drawn_rows, programs_of, run
-from lib.journal import courts_of, read_journal, rows_of
+from lib.journal import courts_of, names_of, read_journal, rows_of
 
 EXAMPLES = ["smallest", "days", "deadlines", "a_day"]
 DIFFERS = 7
@@ -108,26 +108,64 @@ CAREFUL = [
     (b"1,file,7,1,2025-02-28,10:00,electronic\n", b"row 3 not kept:\n"
      b"  Fri 2025-02-28  the act was done before its event                   note\n" + HELD_LAST),
     (b"!1,file,7,1,2025-02-28,10:00,electronic\n", b"3 1 filed timely\n"),
-    (b"1,file,7,1,2025-02-28,10:00,electronic\n", b"4 1 refused 9 AlreadyMet\n"),
+    (b"1,file,7,1,2025-02-28,10:00,electronic\n", b"row 4 not kept:\n"
+     b"  would be refused 9 AlreadyMet\n"
+     b"  Fri 2025-02-28  done at 10:00, electronically                       docketed\n"
+     b"  Mon 2025-03-31  timely, 31 days before this last day                6(a)(4)\n"
+     b"  Mon 2025-03-03  other reading: no act, done before its event        ours\n" + HELD_LAST),
+    (b"!1,file,7,1,2025-02-28,10:00,electronic\n", b"4 1 refused 9 AlreadyMet\n"),
     (b"1,no,row\n!1,no,row\n!!1,open,8,2025-03-03\n\n",
      b"row 5 fault 2 UnknownCommand\nrow 5 fault 2 UnknownCommand\nrow 5 fault 1 BadClerk\n"),
     (b"1,motion,7,2025-03-03,14\n", b"5 1 motion 1\n"),
+    (b"1,book,7,1,Ames,R1,2025-03-28,10:00,2,2025-03-05\n", b"row 6 not kept:\n"
+     b"  would be refused 17 NotACourtDay\n"
+     b"  Fri 2025-03-28  legal holiday of the state                          ours\n"
+     b"  Fri 2025-03-28  other reading: the court may sit on it              ours\n"
+     b"  Mon 2025-03-31  next day on which the court sits                    ours\n" + HELD_LAST),
+    (b"1,book,7,1,Ames,R1,2025-03-21,10:00,2,2025-03-14\n", b"row 6 not kept:\n"
+     b"  would be refused 19 ShortNotice 2025-03-07\n"
+     b"  Fri 2025-03-07  day 14 before the hearing, every day counted        6(c)(1), 6(a)(1)(B)\n"
+     b"  Fri 2025-03-07  the last day to serve motion and notice             6(a)(1)(C), 6(a)(5)\n"
+     b"  Fri 2025-03-14  served on this day, too late                        6(c)(1)\n"
+     b"  Mon 2025-03-31  first hearing that can be noticed                   6(c)(1)\n" + HELD_LAST),
+    # No later day of the court's file would do.
+    (b"1,book,7,1,Ames,R1,2026-12-29,10:00,2,2026-12-28\n", b"row 6 not kept:\n"
+     b"  would be refused 19 ShortNotice 2026-12-15\n"
+     b"  Tue 2026-12-15  day 14 before the hearing, every day counted        6(c)(1), 6(a)(1)(B)\n"
+     b"  Tue 2026-12-15  the last day to serve motion and notice             6(a)(1)(C), 6(a)(5)\n"
+     b"  Mon 2026-12-28  served on this day, too late                        6(c)(1)\n" + HELD_LAST),
     (b"1,book,7,1,Ames,R1,2025-04-01,10:00,2,2025-03-05\n", b"6 1 booked\n"),
-    (b"1,holiday,2025-04-01,state\n", b"row 7 not kept:\n"
+    (b"1,motion,7,2025-03-03,14\n", b"7 1 motion 2\n"),
+    (b"1,book,7,2,Ames,R1,2025-04-01,09:45,2,2025-03-05\n", b"row 8 not kept:\n"
+     b"  would be refused 20 JudgeBusy 7 1\n"
+     b"  Tue 2025-04-01  case 7 motion 1 has the judge, 10:00 to 11:00       ours\n"
+     b"  Tue 2025-04-01  judges and room are free from 11:00                 ours\n" + HELD_LAST),
+    # No later time of the day is left for so long a hearing.
+    (b"1,book,7,2,Brandt,R1,2025-04-01,10:30,13,2025-03-05\n", b"row 8 not kept:\n"
+     b"  would be refused 21 RoomBusy 7 1\n"
+     b"  Tue 2025-04-01  case 7 motion 1 has the room, 10:00 to 11:00        ours\n" + HELD_LAST),
+    (b"1,move,7,2,Brandt,R1,2025-04-02,10:00,2,2025-03-05\n", b"row 8 not kept:\n"
+     b"  would be refused 16 NotSet\n"
+     b"                  the motion has no hearing; `book` sets one          ours\n" + HELD_LAST),
+    (b"1,sheet,8\n", b"8 1 refused 1 NoSuchCase\n"),
+    (b"1,holiday,2025-04-01,state\n", b"row 9 not kept:\n"
+     b"  would be refused 23 HearingThatDay 7 1\n"
+     b"  Tue 2025-04-01  case 7 motion 1 is heard, 10:00 to 11:00            ours\n"
      b"  Tue 2025-04-01  refused while these hearings are set on this day    note\n"
      b"judge Ames\n2025-04-01 10:00 2 case 7 motion 1 room R1\n" + HELD_LAST),
-    (b"1,inaccessible,2025-04-01,09:00,12:00\n", b"row 7 not kept:\n"
+    (b"1,inaccessible,2025-04-01,09:00,12:00\n", b"row 9 not kept:\n"
      b"  Tue 2025-04-01  these hearings stay set on this day                 note\n"
      b"judge Ames\n2025-04-01 10:00 2 case 7 motion 1 room R1\n" + HELD_LAST),
-    (b"!1,inaccessible,2025-04-01,09:00,12:00\n", b"7 1 outage entered\n"),
-    (b"1,start,7,3d/before/service/event/plain,2025-03-20,,,\n", b"8 1 deadline 2 last 2025-03-17\n"),
-    (b"1,extend,7,2,2025-03-21,2025-03-10,09:00,no,yes,no\n", b"row 9 not kept:\n"
+    (b"!1,inaccessible,2025-04-01,09:00,12:00\n", b"9 1 outage entered\n"),
+    (b"1,start,7,3d/before/service/event/plain,2025-03-20,,,\n", b"10 1 deadline 2 last 2025-03-17\n"),
+    (b"1,extend,7,2,2025-03-21,2025-03-10,09:00,no,yes,no\n", b"row 11 not kept:\n"
      b"  Fri 2025-03-21  the end lies after the event it counts back from    note\n" + HELD_LAST),
 ]
 
 
 def check_warnings(programs):
-    """With --warn a row that draws a warning is answered with it and leaves the journal as it was; with '!' it is kept."""
+    """With --warn a row that draws a warning, or would be refused, is answered with why and leaves the journal as it was; with '!'
+    it is kept."""
     with tempfile.TemporaryDirectory() as parent:
         desk = Desk(programs, parent, SHORT_COURT)
         tried = desk.call("try", "--warn", given=b"".join(given for given, answer in CAREFUL))
@@ -138,10 +176,10 @@ def check_warnings(programs):
             assert ended.status == 0 and not ended.errors and ended.output == answer, (given, ended)
             assert (desk.journal.read_bytes() == whole) == answer.startswith(b"row "), given
         ended = desk.call("try", "--warn", "--today", "2026-04-01", given=b"1,start,7,59e,2025-03-04,,,\n")
-        assert ended.output == (b"row 9 not kept:\n"
+        assert ended.output == (b"row 11 not kept:\n"
             b"  Tue 2025-03-04  the event lies a year or more before 2026-04-01     note\n" + HELD_LAST), ended
         ended = desk.call("enter", given=b"!1,sheet,7\n")
-        assert ended.status == 0 and ended.output == b"row 9 fault 1 BadClerk\n", ended
+        assert ended.status == 0 and ended.output == b"row 11 fault 1 BadClerk\n", ended
         for words in (("enter", "--today", "2025-03-03"), ("ask", "--warn"), ("enter", "--warn", TOGETHER),
                       ("try", "--warn", "--today", "3/3/2025")):
             ended = desk.call(*words)
@@ -166,7 +204,7 @@ def check_together(programs, draw):
                  b'line 2 fault 1 BadClerk: found "65", expected a clerk\'s number, 1 to 64\n'
                  b'line 3 fault 4 BadField 4: expected what FORMATS.md has under Rows\n'
                  b'line 4 fault 4 BadField 8: found "G", expected a kind of service, A to F, or nothing\n'
-                 b'line 5 fault 4 BadField 3: found nothing, expected a number, as 7\n'
+                 b'line 5 fault 4 BadField 3: found nothing, expected a number, as 7, or the number of a case that was opened, as 1:25-cv-01234\n'
                  b'line 6 fault 5 NotText: expected text in UTF-8\n', b"6 lines have faults", FAULTS),
                 (b"1,open,1,2025-03-03\n1,sheet,1", b"", b"no end", REFUSED),
                 (b"\n" * (LONGEST_INPUT + 1), b"", b"more than 16777216 bytes", UNREAD)):
@@ -184,6 +222,33 @@ def check_together(programs, draw):
         ended = desk.call("enter", TOGETHER)
         assert ended.status == 0 and not ended.output and desk.read() == journal, ended
     return "rows that are kept together, or not at all where a line has a fault"
+
+
+def check_numbers(programs):
+    """Cases by their numbers as the court writes them, over a restart: initials and leading zeros tell no cases apart."""
+    with tempfile.TemporaryDirectory() as parent:
+        desk = Desk(programs, parent, SHORT_COURT)
+        rows = [b"1,open,1,2025-03-03\n", b"1,open,1:25-CV-1234-abc,2025-03-03\n", b"1,open,25-cv-1234,2025-03-04\n", b"1,sheet,1:25-cv-01234-XY\n"]
+        answers = [b"1 1 opened\n", b"2 1 opened\n", b"3 1 opened\n", b"4 1 sheet\ncase 1:25-cv-01234-ABC filed 2025-03-03\n"]
+        assert desk.enter(rows) == b"".join(answers)
+        again = [b"1,open,1:25-cv-01234,2025-03-05\n", b"1,sheet,25-cv-01234\n", b"1,sheet,2\n", b"1,sheet,1:25-cr-01234\n", b"1,sheet,1\n"]
+        told = [b"5 1 refused 2 CaseIsOpen\n", b"6 1 sheet\ncase 25-cv-01234 filed 2025-03-04\n", b"7 1 sheet\ncase 1:25-cv-01234-ABC filed 2025-03-03\n",
+                b"row 8 fault 4 BadField 3\n", b"8 1 sheet\ncase 1 filed 2025-03-03\n"]
+        assert desk.call("enter", given=b"".join(again)).output == b"".join(told)
+        journal = desk.read()
+        assert names_of(journal) == [b"1:25-cv-01234-ABC", b"25-cv-01234"], names_of(journal)
+        assert [row for row, _ in rows_of(journal)] == [
+            b"1,open,1,2025-03-03\n", b"1,open,2,2025-03-03\n", b"1,open,3,2025-03-04\n", b"1,sheet,2\n",
+            b"1,open,2,2025-03-05\n", b"1,sheet,3\n", b"1,sheet,2\n", b"1,sheet,1\n"], rows_of(journal)
+        assert b"rows kept: 8" in desk.call("check").output
+        assert desk.call("cases").output == b"2 1:25-cv-01234-ABC\n3 25-cv-01234\n", desk.call("cases")
+        # Warnings call a case by its name too.
+        rows = [b"1,motion,2,2025-04-01,14\n", b"1,book,1:25-cv-01234,1,Ames,R1,2025-05-05,10:00,1,2025-04-01\n",
+                b"1,motion,3,2025-04-01,14\n", b"1,book,25-cv-01234,1,Ames,R1,2025-05-05,10:00,1,2025-04-01\n", b"1,holiday,2025-05-05,federal\n"]
+        told = desk.call("enter", "--warn", given=b"".join(rows)).output
+        assert b"  would be refused 20 JudgeBusy 1:25-cv-01234-ABC 1\n  Mon 2025-05-05  case 1:25-cv-01234-ABC motion 1 has the judge, " in told, told
+        assert b"\njudge Ames\n2025-05-05 10:00 1 case 1:25-cv-01234-ABC motion 1 room R1\n" in told, told
+    return "cases by their numbers as the court writes them"
 
 
 def check_court(programs):
@@ -212,7 +277,7 @@ def main(words):
     count = int(words[3]) if len(words) > 3 else 300
     for check in (lambda: check_examples(programs, draw), lambda: check_folder(programs), lambda: check_second(programs),
                   lambda: check_trial(programs, draw), lambda: check_warnings(programs), lambda: check_together(programs, draw),
-                  lambda: check_court(programs),
+                  lambda: check_numbers(programs), lambda: check_court(programs),
                   lambda: compared(programs, draw, count // 10), lambda: damaged(programs, draw, 12, count // 2),
                   lambda: killed(programs, draw, count), lambda: killed_together(programs, draw, count // 3)):
         print(check(), flush=True)

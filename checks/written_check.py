@@ -60,13 +60,21 @@ def a_date(draw, clear=False):
             return date.isoformat()
 
 
+def a_case(draw):
+    """A case: its number, or its number as the court writes it."""
+    if draw.random() < 0.6:
+        return str(draw.randint(1, 4096))
+    return "{}{:02}-{}-{:05}{}".format(draw.choice(["", "1:", "4:"]), draw.randint(0, 99), draw.choice(["cv", "cr", "mc"]),
+                                       draw.choice([draw.randint(1, 99), draw.randint(1, 99999)]), draw.choice(["", "-ABC", "-JPG-RL"]))
+
+
 def drawn(draw, column, clear):
     """A plain field of a column."""
     if column.endswith("?") and draw.random() < 0.5:
         return ""
     time = "{:02}:{:02}".format(draw.randint(0, 23), draw.choice([0, 15, 30, 45]))
     return {
-        "clerk": lambda: str(draw.randint(1, 64)), "case": lambda: str(draw.randint(1, 4096)),
+        "clerk": lambda: str(draw.randint(1, 64)), "case": lambda: a_case(draw),
         "deadline": lambda: str(draw.randint(1, 99)), "motion": lambda: str(draw.randint(1, 99)),
         "period": lambda: draw.choice(sorted(RULES) + ENTERED), "date": lambda: a_date(draw, clear), "notice": lambda: a_date(draw, clear),
         "second?": lambda: a_date(draw, clear), "time": lambda: time, "time?": lambda: time, "from": lambda: time,
@@ -106,6 +114,14 @@ def time_in(draw, text):
     return "{}{}{}".format(hour % 12 or 12, "" if minute == "00" and draw.random() < 0.5 else ":" + minute, half)
 
 
+def case_in(draw, text):
+    """A case number in any capitals, perhaps without zeros, with blanks, or with dashes at which a line doesn't break."""
+    parts = text.split("-")
+    if len(parts) > 1 and draw.random() < 0.5:
+        parts[2] = str(int(parts[2]))
+    return draw.choice([str, str.upper, str.lower])(draw.choice(["-", "-", " - ", "\u2011"]).join(parts))
+
+
 def loosened(draw, style, column, text):
     """A field as people write it."""
     if not text:
@@ -114,6 +130,8 @@ def loosened(draw, style, column, text):
         return date_in(style, draw, text)
     if column in ("time", "time?", "from", "to"):
         return time_in(draw, text)
+    if column == "case":
+        return case_in(draw, text)
     if column == "period" and text in RULES:
         return draw.choice([RULES[text], "FRCP " + RULES[text], "Rule " + RULES[text], "Fed. R. Civ. P. " + RULES[text], text.upper(), text])
     if column == "kind?":
@@ -252,8 +270,21 @@ def spoiled():
         way(name + " as means", put(file, "electronic", means))
     # numbers
     for name, case in [("a real case number", "1:25-cv-01234-ABC"), ("a leading zero", "012"), ("a hash before it", "#12"), ("a word before it", "case 12"),
-                       ("a comma in it", '"1,200"'), ("nothing", ""), ("a sign", "-12"), ("a letter O", "1O"), ("ten digits", "1234567890"), ("a fraction", "12.5x")]:
+                       ("a comma in it", '"1,200"'), ("nothing", ""), ("a sign", "-12"), ("a letter O", "1O"), ("ten digits", "1234567890"), ("a fraction", "12.5x"),
+                       ("a case number in capitals", "1:25-CV-1234-abc"), ("a case number with blanks and dots", "1:25 - cv - 01234 - A.B.C."),
+                       ("a case number with no office", "25-cv-1234"), ("a word before a case number", "No. 1:25-cv-01234"),
+                       ("a case number with a year of four digits", "1:2025-cv-01234"), ("a case number with no year", "1:cv-01234"),
+                       ("a case number with no kind", "1:25-01234"), ("a case number with a kind of three letters", "1:25-civ-01234"),
+                       ("a case number with no sequence", "1:25-cv"), ("a case number with six digits", "1:25-cv-012345"),
+                       ("a case number with a letter O", "1:25-cv-O1234"), ("a case number with no dashes", "1:25cv01234"),
+                       ("a case number with initials in brackets", "1:25-cv-01234 (ABC)"), ("a case number with no dash before the initials", "1:25-cv-01234 ABC"),
+                       ("a case number with a digit in the initials", "1:25-cv-01234-AB1"), ("a docket number of another form", "25 Civ. 1234")]:
         way(name + " as a case", put(file, "1,file,12", "1,file," + case))
+    way("a fault after a case number", put(put(book, "12", "1:25-CV-1234-abc"), "Ames", "Aimes"))
+    way("a grant that is none after a case number", put(put(extend, "12", "1:25-cv-01234"), "+14d", "+14"))
+    way("a case number in place of a judge", "1,calendar,1:25-cv-01234,2025-10-07")
+    way("a case number in place of a deadline", put(file, ",3,", ",1:25-cv-01234,"))
+    way("rows by case numbers", "clerk,command,case,date,rule", "1,open,1:25-CV-1234-abc,2025-09-02,", "1,start,1:25-cv-01234,2025-09-02,59(e)", "1,sheet,1:25-cv-1234,,")
     for name, clerk in [("0", "0"), ("65", "65"), ("a name", "Jo"), ("nothing", ""), ("a leading zero", "01")]:
         way(name + " as a clerk", put(start, "1,start", clerk + ",start"))
     way("a deadline that is no number", put(file, ",3,", ",three,"))
@@ -369,6 +400,8 @@ def check_entering(desk):
     ended = desk.call("enter", "--all-or-nothing", "--as-written", given=given)
     assert ended.status == 0 and ended.output == tried.output and ended.output.startswith(b"1 1 opened\n2 1 deadline 1 last 2025-10-2"), ended
     assert desk.rows().endswith(b"%%\n1,open,7,2025-09-02\n1,start,7,12a1B,2025-09-25,,,C\n"), desk.rows()
+    ended = desk.call("enter", "--all-or-nothing", "--as-written", given=b'1,Open,1:25-CV-1234-abc,"Sep 2, 2025"\n1,sheet,1:25-cv-1234\n')
+    assert ended.status == 0 and ended.output.endswith(b"case 1:25-cv-01234-ABC filed 2025-09-02\n"), ended
     assert desk.call("plain", given=b"1,open,7,2025-09-02").status not in (0, FAULTS)
 
 

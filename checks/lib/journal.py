@@ -9,6 +9,8 @@ HEAD = 4 + 4 + 32
 MOST_ENTRIES = 1_000_000
 # The line with which the entry of a later court's file begins.
 COURT_LINE = b"%%\n"
+# With what the line begins in which a row's entry has the new name of its case, before the row.
+NAME_MARK = b"%%case "
 
 
 class Damaged(Exception):
@@ -92,6 +94,16 @@ def read_journal(data):
     return Journal(frames, at)
 
 
+def after_name(entry):
+    """The row of an entry and its answer, without the line of a new name before them."""
+    return entry.partition(b"\n")[2] if entry.startswith(NAME_MARK) else entry
+
+
+def names_of(journal):
+    """The names that a journal's rows gave to cases, in their order."""
+    return [entry[len(NAME_MARK):].partition(b"\n")[0] for entry in journal.entries[1:] if entry.startswith(NAME_MARK)]
+
+
 class Kept(NamedTuple):
     """A row and its answer, each with the ends of its lines."""
     row: bytes
@@ -99,8 +111,8 @@ class Kept(NamedTuple):
 
 
 def rows_of(journal):
-    """The rows of a journal with their answers. The first entry is a court's file, and so is each that begins with `%%`."""
-    rows = [entry.partition(b"\n") for entry in journal.entries[1:] if not entry.startswith(COURT_LINE)]
+    """The rows of a journal with their answers. The first entry is a court's file, and so is each that begins with a line `%%`."""
+    rows = [after_name(entry).partition(b"\n") for entry in journal.entries[1:] if not entry.startswith(COURT_LINE)]
     return [Kept(row + end, answer) for row, end, answer in rows]
 
 

@@ -7,13 +7,13 @@ ghost use Rattle.office_texts.specs.Words.{AddsText};
 ghost use Rattle.calendar_ics.specs.Events.{affidavits_back, affidavits_front, affidavits_words, closing_words, deadline_name, deadline_words, described, description, end_words, hearing_words, midnight_words, name_words, notice_front, off_words, paper_words, place_lines, rule_front, rule_period_words, state_words, summary, until_back, until_front, what_words, word_lines};
 
 use crate::appointment::Appointment;
-use calendar_texts::{push_matter, push_minute, push_period, push_second, room_name};
+use calendar_texts::{push_matter, push_minute, push_period, push_second};
 use content_lines::push_property;
 use court_clock::{Clock, Day};
 use court_days::Court;
 use docket_rows::{SheetHearing, State};
 use docket_selection::{DueDeadline, Matter};
-use office_texts::push_number;
+use office_texts::{push_number, room_name};
 use period_texts::{event_words, rule_section, rule_words};
 use rule_periods::{Period, RulePeriod};
 use rule6::{Act, Shown};

@@ -8,11 +8,12 @@ ghost use Rattle.calendar_page.specs.Judges.{booking_heads, booking_row, booking
 
 use crate::phrases::set_day;
 use crate::tables::{push_four_heads, push_motion_cell};
-use calendar_texts::{judge_name, push_span, push_whole_day, room_name};
+use calendar_texts::{push_span, push_whole_day};
 use court_clock::Day;
 use court_days::Court;
 use docket_selection::{JudgeCalendar, week_start};
 use hearing_slots::Booking;
+use office_texts::{judge_name, room_name};
 use page_markup::{Page, Tag};
 use std::alloc::AllocError;
 

@@ -1,4 +1,4 @@
-//! The command line, as `clap` is told of it.
+//! The command line, as `clap` takes it.
 
 ghost use Rattle.std.specs.Prelude.{◌≡◌, false, true, codes, IfErr, IfOk, IfSome};
 ghost use Rattle.clap.specs.Simple.{new_shape};

@@ -5,10 +5,10 @@ ghost use Rattle.calendar_sql.specs.Hearings.{hearing_row, hearing_rows, hearing
 ghost use Rattle.calendar_sql.specs.Rows.{AddsValues, numbered};
 
 use crate::script::Script;
-use calendar_texts::{judge_name, room_name};
 use court_days::Court;
 use docket_rows::{SheetHearing, SheetMotion};
 use hearing_slots::Need;
+use office_texts::{judge_name, room_name};
 use std::alloc::AllocError;
 
 /// Adds a motion of the case, and its hearing. `Err` says that memory ran out.

@@ -7,12 +7,11 @@ ghost use Rattle.calendar_texts.specs.Due.{case_words, chosen_words, closing_bac
 
 use crate::days::push_whole_day;
 use crate::items::push_item;
-use crate::judges::judge_name;
 use crate::numbers::push_minute;
 use court_clock::{Clock, Day};
 use court_days::Court;
 use docket_selection::{Choice, DueItem};
-use office_texts::push_number;
+use office_texts::{judge_name, push_number};
 use std::alloc::AllocError;
 
 /// Adds what was chosen, and the items by day, a line each. `Err` says that memory ran out.

@@ -4,13 +4,13 @@ ghost use Rattle.std.specs.Prelude.{◌≡◌, OnOk};
 ghost use Rattle.office_texts.specs.Words.{AddsText};
 ghost use Rattle.calendar_texts.specs.Items.{deadline_words, end_words, hearing_front, hearing_words, item_line, late_words, matter_words, room_words, span_words, time_words};
 
-use crate::judges::{push_panel, room_name};
+use crate::judges::push_panel;
 use crate::numbers::{push_minute, push_second};
 use crate::periods::push_period;
 use court_days::Court;
 use docket_rows::{Hearing, State};
 use docket_selection::{DueDeadline, DueItem, Matter};
-use office_texts::push_number;
+use office_texts::{push_number, room_name};
 use rule6::Shown;
 use std::alloc::AllocError;
 

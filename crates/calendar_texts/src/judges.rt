@@ -1,12 +1,13 @@
-//! The names of judges and rooms.
+//! The names of a panel's judges.
 
-ghost use Rattle.std.specs.Prelude.{◌≡◌, codes, ◌++◌, OnOk};
+ghost use Rattle.std.specs.Prelude.{OnOk};
 ghost use Rattle.std.specs.List.{flat_map};
-ghost use Rattle.office_texts.specs.Words.{AddsText, name_of};
+ghost use Rattle.office_texts.specs.Words.{AddsText};
 ghost use Rattle.calendar_texts.specs.Names.{joined_name, panel_names};
 
 use court_days::Court;
 use hearing_slots::Panel;
+use office_texts::judge_name;
 use std::alloc::AllocError;
 
 /// Adds the names of a panel's judges, in its order. `Err` says that memory ran out.
@@ -39,24 +40,4 @@ fn push_joined_name(text: &mut String, court: &Court, judge: u8) -> Result<(), A
 {
     text.push_str("+")?;
     text.push_str(judge_name(court, judge))
-}
-
-/// The name of the judge, if the court has one of that number.
-pub fn judge_name(court: &Court, number: u8) -> &str
-    ensures { result.now ≡ name_of court.now.judges number }
-{
-    match court.judge_name(number) {
-        Some(name) => name,
-        None => "",
-    }
-}
-
-/// The name of the room, if the court has one of that number.
-pub fn room_name(court: &Court, number: u8) -> &str
-    ensures { result.now ≡ name_of court.now.rooms number }
-{
-    match court.room_name(number) {
-        Some(name) => name,
-        None => "",
-    }
 }

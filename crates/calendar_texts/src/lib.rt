@@ -14,7 +14,7 @@ mod week;
 pub use days::push_whole_day;
 pub use due::{is_day_of, push_chosen, push_closing, push_due};
 pub use items::{push_matter, push_room, push_span, push_time};
-pub use judges::{judge_name, push_panel, room_name};
+pub use judges::push_panel;
 pub use numbers::{push_minute, push_second};
 pub use periods::{push_period, unit_words};
 pub use week::push_week;

@@ -8,11 +8,10 @@ ghost use Rattle.calendar_texts.specs.Week.{booked_line, booked_words, day_lines
 use crate::days::push_whole_day;
 use crate::grid::push_grid;
 use crate::items::{push_room, push_span};
-use crate::judges::judge_name;
 use court_days::Court;
 use docket_selection::DayBookings;
 use hearing_slots::Booking;
-use office_texts::push_number;
+use office_texts::{judge_name, push_number};
 use std::alloc::{AllocError, Global};
 
 /// Adds the week of a judge. `Err` says that memory ran out.

@@ -1,12 +1,17 @@
 -- What careful lines leave.
 use Rattle.std.proofs.Common.{◌≡◌, ◌∙◌, ℕ, ℤ, List, [], ◌∷◌, ◌++◌, Option, Some, None, refl, sym, ap, subst, append-nil}
+use Rattle.case_numbers.specs.declared.names.NamedCase.{NamedCase}
 use Rattle.court_days.specs.Words.{CourtView}
+use Rattle.docket_rows.specs.declared.command.Command.{Command as CommandOf}
+use Rattle.docket_rows.specs.declared.refusal.Refusal.{Refusal}
+use Rattle.docket_rows.specs.Words.{Parts, parts_of, refusal, setup_of}
 use Rattle.durable_session.specs.Words.{TakesLine, left_by}
-use Rattle.docket_entries.specs.Words.{IsHistory, SaysCourt, StandsAt, answers, leaves, next_number, standing_file}
+use Rattle.docket_entries.specs.Words.{IsHistory, SaysCourt, StandsAt, answers, cases_of, docketed_by, leaves, next_number, standing_file}
 use Rattle.docket_entries.specs.declared.register.DocketRegister.{DocketRegister}
 use Rattle.docket_entries.proofs.CallerLemmas.{left_history}
 use Rattle.careful_rows.specs.Careful.{after_mark, careful_answers, careful_leaves, held_text, left_by_taken, line_taken, taken_at, told_of_taken, warnings_at}
-use Rattle.careful_rows.specs.Laws.{CarefulIsHistory, WarningsKeepNothing, lines_taken, with_taken}
+use Rattle.careful_rows.specs.Laws.{CarefulIsHistory, RefusedAreHeld, WarningsKeepNothing, lines_taken, with_taken}
+use Rattle.careful_rows.specs.Warnings.{if_refused, warnings_of}
 
 -- a line, by what is taken of it
 one_taken : (court : CourtView) (kept : List (List ℕ)) (taken : Option (List ℕ)) (later taken_later : List (List ℕ))
@@ -69,3 +74,14 @@ some_held line (byte ∷ bytes) some = refl
 pub taken_none : (court : CourtView) (today : Option ℤ) (kept : List (List ℕ)) (line : List ℕ) → after_mark line ≡ None → (warnings_at court today kept line ≡ [] → ⊥) → taken_at court today kept line ≡ None
 unfolding taken_at
 taken_none court today kept line is some = ap (λ (m : Option (List ℕ)). line_taken line m (warnings_at court today kept line)) is ∙ some_held line (warnings_at court today kept line) some
+
+-- a command that is refused draws a warning
+refused_warned : (court : CourtView) (named : List NamedCase) (parts : Parts) (today : Option ℤ) (command : CommandOf) (refused : Refusal) → refusal (setup_of court) parts command ≡ Some refused → warnings_of court named parts today command ≡ [] → ⊥
+unfolding warnings_of if_refused
+refused_warned court named parts today command refused is none = absurd cc (rw is at none)
+
+pub refused_held : RefusedAreHeld
+unfolding warnings_at
+refused_held court today kept line row command refused says work is unmarked =
+    taken_none court today kept line unmarked
+    (λ none. refused_warned court (cases_of court kept).named (parts_of (docketed_by court kept)) today command refused is (rw (says, work) at none))

@@ -1,5 +1,6 @@
 pub mod CallerLemmas
 mod CarefulLemmas
 mod HearingLemmas
+mod InsteadLemmas
 mod StartLemmas
 mod WarningLemmas

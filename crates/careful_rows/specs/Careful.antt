@@ -8,7 +8,7 @@ use Rattle.row_line.specs.declared.line.Line.{Line}
 use Rattle.row_line.specs.declared.line.Line.TheVariants as says
 use Rattle.row_line.specs.Words.{line_read}
 use Rattle.office_rows.specs.Words.{names_of}
-use Rattle.docket_entries.specs.Words.{answers, docketed_by, leaves, most_clerks, next_number, within}
+use Rattle.docket_entries.specs.Words.{answers, cases_of, docketed_by, leaves, most_clerks, next_number, reading_at, within}
 use Rattle.careful_rows.specs.Warnings.{warnings_on}
 
 -- what comes after the '!' with which a line begins, if it does: that is taken without warnings
@@ -19,10 +19,10 @@ after_mark line = if starts_with nat_eq line (codes "!") then Some (drop 1 line)
 abbrev pub warnings_said : CourtView → (today : Option ℤ) → (kept : List (List ℕ)) → Line → List ℕ
 warnings_said court today kept says.Blank = []
 warnings_said court today kept (says.Fault cause) = []
-warnings_said court today kept (says.Row row) = warnings_on court (parts_of (docketed_by court kept)) today row.work
+warnings_said court today kept (says.Row row) = warnings_on court (cases_of court kept).named (parts_of (docketed_by court kept)) today row.work
 
 unfoldable pub warnings_at : CourtView → (today : Option ℤ) → (kept : List (List ℕ)) → (line : List ℕ) → List ℕ
-warnings_at court today kept line = warnings_said court today kept (within kept (line_read most_clerks (names_of court) line))
+warnings_at court today kept line = warnings_said court today kept (within kept (line_read most_clerks (names_of court) (reading_at court kept line).text))
 
 -- what is answered where there are warnings, and the next row has this number
 unfoldable pub held_first : (number : ℕ) → List ℕ

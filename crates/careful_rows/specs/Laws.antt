@@ -1,9 +1,17 @@
 -- What these definitions come to.
 use Rattle.std.specs.Prelude.{◌≡◌, ℕ, ℤ, List, [], ◌∷◌, ◌++◌, Option, Some, None}
 use Rattle.court_days.specs.Words.{CourtView}
+use Rattle.docket_rows.specs.declared.command.Command.{Command as CommandOf}
+use Rattle.docket_rows.specs.declared.refusal.Refusal.{Refusal}
+use Rattle.docket_rows.specs.Words.{parts_of, refusal, setup_of}
+use Rattle.office_rows.specs.declared.row.Row.{Row}
+use Rattle.office_rows.specs.declared.row.Work.TheVariants.{Command}
+use Rattle.office_rows.specs.Words.{names_of}
+use Rattle.row_line.specs.declared.line.Line.TheVariants as says
+use Rattle.row_line.specs.Words.{line_read}
 use Rattle.durable_session.specs.Words.{left_by}
-use Rattle.docket_entries.specs.Words.{IsHistory, SaysCourt, leaves, standing_file}
-use Rattle.careful_rows.specs.Careful.{careful_leaves, taken_at}
+use Rattle.docket_entries.specs.Words.{IsHistory, SaysCourt, docketed_by, leaves, most_clerks, reading_at, standing_file, within}
+use Rattle.careful_rows.specs.Careful.{after_mark, careful_leaves, taken_at}
 
 -- the lines that are taken, each after what those before it leave
 abbrev pub with_taken : Option (List ℕ) → List (List ℕ) → List (List ℕ)
@@ -24,3 +32,10 @@ WarningsKeepNothing = (court : CourtView) (today : Option ℤ) (kept lines : Lis
 abbrev pub CarefulIsHistory : Type 0
 CarefulIsHistory = (court : CourtView) (today : Option ℤ) (kept lines : List (List ℕ)) → IsHistory kept → SaysCourt (standing_file kept) court
     → IsHistory (kept ++ left_by (careful_leaves court today) kept lines) × SaysCourt (standing_file (kept ++ left_by (careful_leaves court today) kept lines)) court
+
+-- A command that would be refused by what is docketed before it is taken with a '!' before it alone.
+abbrev pub RefusedAreHeld : Type 0
+RefusedAreHeld = (court : CourtView) (today : Option ℤ) (kept : List (List ℕ)) (line : List ℕ) (row : Row) (command : CommandOf) (refused : Refusal)
+    → within kept (line_read most_clerks (names_of court) (reading_at court kept line).text) ≡ says.Row row → row.work ≡ Command command
+    → refusal (setup_of court) (parts_of (docketed_by court kept)) command ≡ Some refused
+    → after_mark line ≡ None → taken_at court today kept line ≡ None

@@ -1,3 +1,4 @@
+pub mod Instead
 pub mod Warnings
 pub mod Start
 pub mod Careful

@@ -1,22 +1,29 @@
--- What a clerk is warned of before a row is kept, by the docket before it. No deadline depends on a warning.
+-- What a clerk is warned of before a row is kept, by the docket before it, in which these cases have names. No deadline depends
+-- on a warning.
 use Rattle.std.specs.Prelude.{ℕ, ℤ, List, [], ◌∷◌, ◌++◌, length, Option, Some, None, codes}
 use Rattle.std.specs.List.{flat_map, range_with_len}
 use Rattle.std.specs.Option.{option_map_or}
+use Rattle.court_clock.specs.Words.{ClockView}
 use Rattle.court_days.specs.Words.{CourtView}
 use Rattle.rule6.specs.declared.timeliness.Filing.{Filing}
 use Rattle.rule_periods.specs.declared.grant.Request.{Request}
 use Rattle.rule_periods.specs.Words.{DeadlineRowView, direction_of, runs_from, with_grant}
 use Rattle.hearing_slots.specs.declared.booking.Booking.{Booking}
 use Rattle.hearing_slots.specs.Words.{on_day}
+use Rattle.docket_rows.specs.declared.answer.Answer.TheVariants as answer
 use Rattle.docket_rows.specs.declared.command.Command.{Command as CommandOf}
 use Rattle.docket_rows.specs.declared.command.Command.TheVariants as command
 use Rattle.docket_rows.specs.declared.refusal.Refusal.{Refusal}
 use Rattle.docket_rows.specs.declared.refusal.Refusal.TheVariants.{HearingThatDay}
 use Rattle.docket_rows.specs.Words.{CaseRecordView, Parts, deadline_in, refusal, setup_of, shown_now, started}
+use Rattle.case_numbers.specs.declared.names.NamedCase.{NamedCase}
 use Rattle.docket_notes.specs.Words.{early_act, extension_notes, note, start_notes}
+use Rattle.refusal_texts.specs.Words.{motion_of_refusal}
+use Rattle.refused_commands.specs.Words.{why_refused}
 use Rattle.office_rows.specs.declared.row.Work.{Work}
 use Rattle.office_rows.specs.declared.row.Work.TheVariants.{Command, Query}
-use Rattle.office_texts.specs.Words.{calendar_lines}
+use Rattle.named_answers.specs.Words.{motion_called, named_answer, named_calendar}
+use Rattle.careful_rows.specs.Instead.{instead}
 
 -- on a deadline, as it would start in the case: the notes that the memo of the case would have on it
 abbrev pub at_start : CourtView → Parts → (today : Option ℤ) → Option CaseRecordView → DeadlineRowView → List ℕ
@@ -36,13 +43,13 @@ on_request court parts (Some row) request =
     extension_notes court.clock row (shown_now (setup_of court) parts (with_grant row request.grant)) request
 
 -- the hearings of a judge on a day, with the judge's name before them, where there are some
-abbrev pub hearings_before : CourtView → (judge : ℕ) → List Booking → List ℕ
-hearings_before court judge [] = []
-hearings_before court judge (b ∷ bs) = calendar_lines court judge (b ∷ bs)
+abbrev pub hearings_before : CourtView → List NamedCase → (judge : ℕ) → List Booking → List ℕ
+hearings_before court named judge [] = []
+hearings_before court named judge (b ∷ bs) = named_calendar court named judge (b ∷ bs)
 
 -- the hearings of all judges on a day
-unfoldable pub hearings_on : CourtView → Parts → (day : ℤ) → List ℕ
-hearings_on court parts day = flat_map (λ judge. hearings_before court judge (on_day day (parts.judge judge))) (range_with_len 0 (length court.judges))
+unfoldable pub hearings_on : CourtView → List NamedCase → Parts → (day : ℤ) → List ℕ
+hearings_on court named parts day = flat_map (λ judge. hearings_before court named judge (on_day day (parts.judge judge))) (range_with_len 0 (length court.judges))
 
 -- what is said of them, after a line of why they matter
 abbrev pub said_of : (day : ℤ) → (why hearings : List ℕ) → List ℕ
@@ -50,27 +57,36 @@ said_of day why [] = []
 said_of day why (byte ∷ bytes) = note (Some day) why ++ (byte ∷ bytes)
 
 -- on a command that isn't refused
-abbrev pub if_made : CourtView → Parts → (today : Option ℤ) → CommandOf → List ℕ
-if_made court parts today (command.Start case period event second service) =
+abbrev pub if_made : CourtView → List NamedCase → Parts → (today : Option ℤ) → CommandOf → List ℕ
+if_made court named parts today (command.Start case period event second service) =
     at_start court parts today (parts.case case) (started period event second service)
-if_made court parts today (command.FileAct case deadline filing) = on_act (deadline_in parts case deadline) filing
-if_made court parts today (command.Extend case deadline request) = on_request court parts (deadline_in parts case deadline) request
-if_made court parts today (command.Inaccessible day from to) =
-    said_of day (codes "these hearings stay set on this day") (hearings_on court parts day)
-if_made court parts today command = []
+if_made court named parts today (command.FileAct case deadline filing) = on_act (deadline_in parts case deadline) filing
+if_made court named parts today (command.Extend case deadline request) = on_request court parts (deadline_in parts case deadline) request
+if_made court named parts today (command.Inaccessible day from to) =
+    said_of day (codes "these hearings stay set on this day") (hearings_on court named parts day)
+if_made court named parts today command = []
 
--- on one that is: a holiday is refused where hearings are set that day, and its refusal names one of them
-abbrev pub if_refused : CourtView → Parts → CommandOf → Refusal → List ℕ
-if_refused court parts (command.Holiday day list) (HearingThatDay case motion) =
-    said_of day (codes "refused while these hearings are set on this day") (hearings_on court parts day)
-if_refused court parts command refusal = []
+-- `  would be refused 17 NotACourtDay`: the words that it would be answered
+abbrev pub refused_line : ClockView → List NamedCase → Refusal → List ℕ
+refused_line clock named refusal = codes "  would be " ++ named_answer clock named (answer.Refused refusal) ++ 10 ∷ []
+
+-- a holiday is refused where hearings are set that day, and its refusal names one of them: here are all
+abbrev pub hearings_kept : CourtView → List NamedCase → Parts → CommandOf → Refusal → List ℕ
+hearings_kept court named parts (command.Holiday day list) (HearingThatDay case motion) =
+    said_of day (codes "refused while these hearings are set on this day") (hearings_on court named parts day)
+hearings_kept court named parts command refusal = []
+
+-- on a command that is refused: that it is, why, and what would do instead
+unfoldable pub if_refused : CourtView → List NamedCase → Parts → CommandOf → Refusal → List ℕ
+if_refused court named parts command refusal =
+    refused_line court.clock named refusal ++ why_refused court parts command (motion_called named (motion_of_refusal command refusal)) refusal ++ hearings_kept court named parts command refusal ++ instead (setup_of court) parts command refusal
 
 -- what a clerk is warned of a command, where a day may count as today
-unfoldable pub warnings_of : CourtView → Parts → (today : Option ℤ) → CommandOf → List ℕ
-warnings_of court parts today command =
-    option_map_or (if_refused court parts command) (refusal (setup_of court) parts command) (if_made court parts today command)
+unfoldable pub warnings_of : CourtView → List NamedCase → Parts → (today : Option ℤ) → CommandOf → List ℕ
+warnings_of court named parts today command =
+    option_map_or (if_refused court named parts command) (refusal (setup_of court) parts command) (if_made court named parts today command)
 
 -- a question draws none
-abbrev pub warnings_on : CourtView → Parts → (today : Option ℤ) → Work → List ℕ
-warnings_on court parts today (Command command) = warnings_of court parts today command
-warnings_on court parts today (Query query) = []
+abbrev pub warnings_on : CourtView → List NamedCase → Parts → (today : Option ℤ) → Work → List ℕ
+warnings_on court named parts today (Command command) = warnings_of court named parts today command
+warnings_on court named parts today (Query query) = []

@@ -3,5 +3,5 @@ unfoldable pub use Rattle.careful_rows.specs.Warnings.{warnings_of}
 pub use Rattle.careful_rows.specs.Warnings.{warnings_on}
 pub use Rattle.careful_rows.specs.Careful.{after_mark, careful_answers, careful_leaves}
 unfoldable pub use Rattle.careful_rows.specs.Careful.{taken_at, warnings_at}
-pub use Rattle.careful_rows.specs.Laws.{CarefulIsHistory, WarningsKeepNothing}
+pub use Rattle.careful_rows.specs.Laws.{CarefulIsHistory, RefusedAreHeld, WarningsKeepNothing}
 unfoldable pub use Rattle.careful_rows.specs.Laws.{lines_taken}

@@ -1,51 +1,34 @@
 //! What a clerk is warned of an act, and of an extension, before it is recorded.
 
-ghost use Rattle.std.specs.Prelude.{◌≡◌, ◌++◌, ℤ, Option, OnOk, string_bytes, true};
+ghost use Rattle.std.specs.Prelude.{◌≡◌, ◌++◌, None, OnOk, string_bytes, true};
 ghost use Rattle.rule_periods.specs.Words.{is_grant_length, shown_of, with_grant};
-ghost use Rattle.docket_rows.specs.declared.command.Command.TheVariants as command;
-ghost use Rattle.docket_rows.specs.Words.{setup_of};
+ghost use Rattle.docket_rows.specs.Words.{deadline_in, extend_refusal, setup_of};
 ghost use Rattle.docket_notes.specs.Words.{extension_notes};
 ghost use Rattle.docket_core.specs.Words.{parts_held};
-ghost use Rattle.careful_rows.specs.Warnings.{warnings_of};
+ghost use Rattle.careful_rows.specs.Warnings.{on_act, on_request};
 
 use court_clock::Clock;
 use court_days::{Court, Days};
 use docket_core::Docket;
-use docket_decisions::is_beyond;
 use docket_notes::{push_early_act, push_extension_notes};
-use docket_rows::MOST_GRANTS;
-use rule_periods::{DeadlineRow, Request, may_extend, runs_from, shown, shown_with};
+use rule_periods::{DeadlineRow, Request, may_extend, runs_from, shown_with};
 use rule6::Filing;
 use std::alloc::AllocError;
 
-/// Adds what a clerk is warned of an act.
-#[tactic(auto, unfolding(crate::specs::Warnings::warnings_of, docket_rows::specs::Words::file_act_refusal))]
+/// Adds what a clerk is warned of an act of a deadline that the docket has.
 pub(crate) fn push_act(
     text: &mut String,
-    court: &Court,
     docket: &Docket,
     case: u32,
     deadline: u32,
     filing: &Filing,
 ) -> Result<(), AllocError>
-    ensures { (today : Option ℤ) → docket.now.setup ≡ setup_of court.now → OnOk result (string_bytes text.new ≡ string_bytes text.old ++ warnings_of court.now (parts_held docket.now) today (command.FileAct case deadline filing.now)) }
+    ensures { OnOk result (string_bytes text.new ≡ string_bytes text.old ++ on_act (deadline_in (parts_held docket.now) case deadline) filing.now) }
 {
-    if !docket.is_open(case) {
-        return Ok(());
-    }
     let Some(row) = docket.deadline(case, deadline) else {
         return Ok(());
     };
     let row = row.row();
-    if !docket.days().covered(filing.day) {
-        return Ok(());
-    }
-    if row.filed().is_some() {
-        return Ok(());
-    }
-    if is_beyond(shown(docket.days(), court.clock(), row)) {
-        return Ok(());
-    }
     push_early_act(
         text,
         row.period().direction(),
@@ -54,8 +37,8 @@ pub(crate) fn push_act(
     )
 }
 
-/// Adds what a clerk is warned of an extension.
-#[tactic(auto, unfolding(crate::specs::Warnings::warnings_of, docket_rows::specs::Words::extend_refusal))]
+/// Adds what a clerk is warned of an extension that isn't refused.
+#[tactic(auto, unfolding(docket_rows::specs::Words::extend_refusal))]
 pub(crate) fn push_request(
     text: &mut String,
     court: &Court,
@@ -64,22 +47,13 @@ pub(crate) fn push_request(
     deadline: u32,
     request: &Request,
 ) -> Result<(), AllocError>
-    ensures { (today : Option ℤ) → docket.now.setup ≡ setup_of court.now → OnOk result (string_bytes text.new ≡ string_bytes text.old ++ warnings_of court.now (parts_held docket.now) today (command.Extend case deadline request.now)) }
+    ensures { docket.now.setup ≡ setup_of court.now → extend_refusal (setup_of court.now) (parts_held docket.now) case deadline request.now ≡ None → OnOk result (string_bytes text.new ≡ string_bytes text.old ++ on_request court.now (parts_held docket.now) (deadline_in (parts_held docket.now) case deadline) request.now) }
 {
-    if !docket.is_open(case) {
-        return Ok(());
-    }
     let Some(row) = docket.deadline(case, deadline) else {
         return Ok(());
     };
     let row = row.row();
-    if row.filed().is_some() {
-        return Ok(());
-    }
     if may_extend(docket.days(), court.clock(), row, request).is_err() {
-        return Ok(());
-    }
-    if row.grants().len() >= MOST_GRANTS {
         return Ok(());
     }
     push_granted(text, docket.days(), court.clock(), row, request)

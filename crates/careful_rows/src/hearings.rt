@@ -1,83 +1,67 @@
 //! The hearings that are set on a day.
 
-ghost use Rattle.std.specs.Prelude.{◌≡◌, ◌++◌, ◌<◌, ℤ, IfOk, Option, OnOk, length, string_bytes};
+ghost use Rattle.std.specs.Prelude.{◌≡◌, ◌++◌, ◌<◌, IfOk, OnOk, codes, length, string_bytes};
 ghost use Rattle.hearing_slots.specs.Words.{on_day};
-ghost use Rattle.docket_rows.specs.declared.command.Command.TheVariants as command;
 ghost use Rattle.docket_rows.specs.Words.{setup_of};
 ghost use Rattle.docket_core.specs.Words.{parts_held};
-ghost use Rattle.careful_rows.specs.Warnings.{hearings_before, hearings_on, said_of, warnings_of};
+ghost use Rattle.careful_rows.specs.Warnings.{hearings_before, hearings_kept, hearings_on, said_of};
 
+use case_numbers::Cases;
 use court_clock::Day;
-use court_days::{Court, HolidayList};
+use court_days::Court;
 use docket_core::Docket;
-use docket_rows::{MOST_DATES, MOST_OUTAGES};
+use docket_rows::{Command, Refusal};
 use hearing_slots::Booking;
-use office_texts::push_calendar;
+use named_answers::push_named_calendar;
 use reason_texts::push_note;
 use std::alloc::{AllocError, Global};
 
-/// Adds what a clerk is warned of an outage of the clerk's office.
-#[tactic(auto, unfolding(crate::specs::Warnings::warnings_of, docket_rows::specs::Words::outage_refusal))]
+/// Adds the hearings that stay set on the day of an outage of the clerk's office.
 pub(crate) fn push_outage(
     alloc: Global,
     text: &mut String,
     court: &Court,
+    cases: &Cases,
     docket: &Docket,
     day: Day,
-    from: u16,
-    to: u16,
 ) -> Result<(), AllocError>
-    ensures { (today : Option ℤ) → docket.now.setup ≡ setup_of court.now → OnOk result (string_bytes text.new ≡ string_bytes text.old ++ warnings_of court.now (parts_held docket.now) today (command.Inaccessible day from to)) }
+    ensures { docket.now.setup ≡ setup_of court.now → OnOk result (string_bytes text.new ≡ string_bytes text.old ++ said_of day (codes "these hearings stay set on this day") (hearings_on court.now cases.now.named (parts_held docket.now) day)) }
 {
-    if !docket.days().covered(day) {
-        return Ok(());
-    }
-    if !(from < to && to <= 1_440) {
-        return Ok(());
-    }
-    if docket.days().outages().len() >= MOST_OUTAGES {
-        return Ok(());
-    }
     push_said(
         alloc,
         text,
         court,
+        cases,
         docket,
         day,
         "these hearings stay set on this day",
     )
 }
 
-/// Adds what a clerk is warned of a holiday: the hearings of its day, for which it is refused.
-#[tactic(auto, unfolding(crate::specs::Warnings::warnings_of, docket_rows::specs::Words::holiday_refusal))]
-pub(crate) fn push_holiday(
+/// Adds the hearings for which a holiday is refused, where it is refused for those of its day.
+pub(crate) fn push_kept(
     alloc: Global,
     text: &mut String,
     court: &Court,
+    cases: &Cases,
     docket: &Docket,
-    day: Day,
-    list: HolidayList,
+    command: &Command,
+    refusal: &Refusal,
 ) -> Result<(), AllocError>
-    ensures { (today : Option ℤ) → docket.now.setup ≡ setup_of court.now → OnOk result (string_bytes text.new ≡ string_bytes text.old ++ warnings_of court.now (parts_held docket.now) today (command.Holiday day list)) }
+    ensures { docket.now.setup ≡ setup_of court.now → OnOk result (string_bytes text.new ≡ string_bytes text.old ++ hearings_kept court.now cases.now.named (parts_held docket.now) command.now refusal.now) }
 {
-    let days = docket.days();
-    if !days.covered(day) {
-        return Ok(());
+    match (command, refusal) {
+        (Command::Holiday { day, .. }, Refusal::HearingThatDay(_, _)) => push_said(
+            alloc,
+            text,
+            court,
+            cases,
+            docket,
+            *day,
+            "refused while these hearings are set on this day",
+        ),
+        _ => Ok(()),
     }
-    if days.in_list(list, day) {
-        return Ok(());
-    }
-    if days.dates(list) >= MOST_DATES {
-        return Ok(());
-    }
-    push_said(
-        alloc,
-        text,
-        court,
-        docket,
-        day,
-        "refused while these hearings are set on this day",
-    )
 }
 
 /// Adds why the hearings on a day matter, and their lines, if there are some.
@@ -85,13 +69,14 @@ fn push_said(
     alloc: Global,
     text: &mut String,
     court: &Court,
+    cases: &Cases,
     docket: &Docket,
     day: Day,
     why: &str,
 ) -> Result<(), AllocError>
-    ensures { docket.now.setup ≡ setup_of court.now → OnOk result (string_bytes text.new ≡ string_bytes text.old ++ said_of day why.now (hearings_on court.now (parts_held docket.now) day)) }
+    ensures { docket.now.setup ≡ setup_of court.now → OnOk result (string_bytes text.new ≡ string_bytes text.old ++ said_of day why.now (hearings_on court.now cases.now.named (parts_held docket.now) day)) }
 {
-    let hearings = hearings_on(alloc, court, docket, day)?;
+    let hearings = hearings_on(alloc, court, cases, docket, day)?;
     if hearings.is_empty() {
         return Ok(());
     }
@@ -104,14 +89,15 @@ fn push_said(
 fn hearings_on(
     alloc: Global,
     court: &Court,
+    cases: &Cases,
     docket: &Docket,
     day: Day,
 ) -> Result<String, AllocError>
-    ensures { docket.now.setup ≡ setup_of court.now → IfOk result (λ text. string_bytes text ≡ hearings_on court.now (parts_held docket.now) day) }
+    ensures { docket.now.setup ≡ setup_of court.now → IfOk result (λ text. string_bytes text ≡ hearings_on court.now cases.now.named (parts_held docket.now) day) }
 {
     let mut text = String::new(alloc);
     for judge in 0..court.judges() {
-        push_judge(alloc, &mut text, court, docket, judge, day)?;
+        push_judge(alloc, &mut text, court, cases, docket, judge, day)?;
     }
     Ok(text)
 }
@@ -121,17 +107,18 @@ fn push_judge(
     alloc: Global,
     text: &mut String,
     court: &Court,
+    cases: &Cases,
     docket: &Docket,
     judge: u8,
     day: Day,
 ) -> Result<(), AllocError>
     requires judge { judge < length court.now.judges }
-    ensures { docket.now.setup ≡ setup_of court.now → OnOk result (string_bytes text.new ≡ string_bytes text.old ++ hearings_before court.now judge (on_day day ((parts_held docket.now).judge judge))) }
+    ensures { docket.now.setup ≡ setup_of court.now → OnOk result (string_bytes text.new ≡ string_bytes text.old ++ hearings_before court.now cases.now.named judge (on_day day ((parts_held docket.now).judge judge))) }
 {
     match docket.calendar(judge) {
         Some(calendar) => {
             let bookings = calendar.on_day(alloc, day)?;
-            push_if_some(text, court, judge, bookings.as_slice())
+            push_if_some(text, court, cases, judge, bookings.as_slice())
         }
         None => Ok(()),
     }
@@ -141,13 +128,14 @@ fn push_judge(
 fn push_if_some(
     text: &mut String,
     court: &Court,
+    cases: &Cases,
     judge: u8,
     bookings: &[Booking],
 ) -> Result<(), AllocError>
-    ensures { OnOk result (string_bytes text.new ≡ string_bytes text.old ++ hearings_before court.now judge bookings.now) }
+    ensures { OnOk result (string_bytes text.new ≡ string_bytes text.old ++ hearings_before court.now cases.now.named judge bookings.now) }
 {
     match bookings {
         [] => Ok(()),
-        _ => push_calendar(text, court, judge, bookings),
+        _ => push_named_calendar(text, court, cases, judge, bookings),
     }
 }

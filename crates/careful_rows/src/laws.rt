@@ -1,5 +1,5 @@
 //! Laws of the definitions, the contracts of functions that do nothing.
-ghost use Rattle.careful_rows.specs.Laws.{CarefulIsHistory, WarningsKeepNothing};
+ghost use Rattle.careful_rows.specs.Laws.{CarefulIsHistory, RefusedAreHeld, WarningsKeepNothing};
 
 /// Lines leave what the lines that are taken of them would leave without warnings.
 #[tactic(auto, using(crate::proofs::CarefulLemmas::keep_nothing))]
@@ -11,4 +11,10 @@ pub fn warnings_keep_nothing()
 #[tactic(auto, using(crate::proofs::CarefulLemmas::careful_history))]
 pub fn careful_is_history()
     ensures { CarefulIsHistory }
+{}
+
+/// A command that would be refused is taken with a `!` before it alone.
+#[tactic(auto, using(crate::proofs::CarefulLemmas::refused_held))]
+pub fn refused_are_held()
+    ensures { RefusedAreHeld }
 {}

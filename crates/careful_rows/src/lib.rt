@@ -4,11 +4,13 @@
 
 mod deadline;
 mod hearings;
+mod instead;
 mod laws;
+mod refused;
 mod register;
 mod start;
 mod warnings;
 
-pub use laws::{careful_is_history, warnings_keep_nothing};
+pub use laws::{careful_is_history, refused_are_held, warnings_keep_nothing};
 pub use register::{CarefulCourt, CarefulRegister};
 pub use warnings::warnings_on;

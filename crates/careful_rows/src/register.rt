@@ -7,11 +7,11 @@ use crate::warnings::warnings_on;
 use court_clock::Day;
 use court_days::Court;
 use csv::StringRecord;
-use docket_entries::{DocketRegister, MOST_CLERKS};
+use docket_entries::{DocketRegister, read_named};
 use docket_rows::{Command, Query};
 use durable_session::Register;
 use office_rows::{Row, RowCause, Work};
-use row_line::{Line, read_line};
+use row_line::Line;
 use rule_periods::{Grant, Request};
 use std::alloc::{AllocError, Global};
 
@@ -65,10 +65,13 @@ impl CarefulRegister {
     {
         let _types: RowTypes = None;
         let mut fields = StringRecord::new(alloc);
-        match read_line(alloc, line, MOST_CLERKS, &setup.court, &mut fields)? {
+        let cases = self.register.cases();
+        let (said, _) = read_named(alloc, &setup.court, cases, line, &mut fields)?;
+        match said {
             Line::Row(row) if self.register.has_room() => warnings_on(
                 alloc,
                 &setup.court,
+                cases,
                 self.register.docket(),
                 setup.today,
                 &row.work,

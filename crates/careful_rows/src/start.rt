@@ -2,23 +2,21 @@
 
 ghost use Rattle.std.specs.Prelude.{◌≡◌, ◌++◌, None, IfNone, IfSome, OnOk, is_none, is_some, string_bytes, true};
 ghost use Rattle.rule_periods.specs.Words.{has_length, start_refusal, suits};
-ghost use Rattle.docket_rows.specs.declared.command.Command.TheVariants as command;
-ghost use Rattle.docket_rows.specs.Words.{setup_of, started};
+ghost use Rattle.docket_rows.specs.Words.{setup_of, start_deadline_refusal, started};
 ghost use Rattle.docket_core.specs.Words.{parts_held};
-ghost use Rattle.careful_rows.specs.Start.{on_sheet, on_view};
-ghost use Rattle.careful_rows.specs.Warnings.{warnings_of};
+ghost use Rattle.careful_rows.specs.Start.{on_view};
+ghost use Rattle.careful_rows.specs.Warnings.{at_start};
 
 use court_clock::Day;
 use court_days::{Court, Days};
 use docket_core::Docket;
-use docket_decisions::is_beyond;
 use docket_notes::push_start_notes;
-use docket_rows::{MOST_DEADLINES, Query, Sheet, View};
+use docket_rows::{Query, View};
 use rule_periods::{DocketRow, Event, Period, check_start, shown};
 use rule6::ServiceKind;
 use std::alloc::{AllocError, Global};
 
-/// Adds what a clerk is warned of a deadline that would start in a case.
+/// Adds what a clerk is warned of a deadline that would start in a case, and isn't refused.
 pub(crate) fn push_start(
     alloc: Global,
     text: &mut String,
@@ -31,7 +29,7 @@ pub(crate) fn push_start(
     second: &Option<Day>,
     service: &Option<ServiceKind>,
 ) -> Result<(), AllocError>
-    ensures { docket.now.setup ≡ setup_of court.now → OnOk result (string_bytes text.new ≡ string_bytes text.old ++ warnings_of court.now (parts_held docket.now) today (command.Start case period.now event.now second.now service.now)) }
+    ensures { docket.now.setup ≡ setup_of court.now → start_deadline_refusal (setup_of court.now) (parts_held docket.now) case period.now event.now second.now service.now ≡ None → OnOk result (string_bytes text.new ≡ string_bytes text.old ++ at_start court.now (parts_held docket.now) today ((parts_held docket.now).case case) (started period.now event.now second.now service.now)) }
 {
     let view = docket.show(alloc, &Query::Sheet(case))?;
     let days = docket.days();
@@ -53,7 +51,18 @@ fn push_on_view(
 {
     match (view, row) {
         (View::Sheet(sheet), Some(row)) => {
-            push_on_sheet(alloc, text, court, days, today, sheet, row)
+            let row = row.row();
+            let shown = shown(days, court.clock(), row);
+            push_start_notes(
+                alloc,
+                text,
+                days,
+                court.clock(),
+                sheet.filed,
+                today,
+                row,
+                &shown,
+            )
         }
         _ => Ok(()),
     }
@@ -108,33 +117,4 @@ fn started(
     let period = *period;
     let event = *event;
     DocketRow::start(alloc, period, event, second, service)
-}
-
-/// Adds the notes on a deadline that would start in a case with that sheet, where the case has room for it and its time ends on
-/// a covered day.
-fn push_on_sheet(
-    alloc: Global,
-    text: &mut String,
-    court: &Court,
-    days: &Days,
-    today: Option<Day>,
-    sheet: &Sheet,
-    row: &DocketRow,
-) -> Result<(), AllocError>
-    ensures { OnOk result (string_bytes text.new ≡ string_bytes text.old ++ on_sheet court.now days.now today sheet.now row.now) }
-{
-    let shown = shown(days, court.clock(), row.row());
-    if sheet.deadlines.as_slice().len() >= MOST_DEADLINES || is_beyond(shown) {
-        return Ok(());
-    }
-    push_start_notes(
-        alloc,
-        text,
-        days,
-        court.clock(),
-        sheet.filed,
-        today,
-        row.row(),
-        &shown,
-    )
 }

@@ -1,14 +1,16 @@
 //! What a clerk is warned of a row before it is kept.
 
-ghost use Rattle.std.specs.Prelude.{◌≡◌, ◌++◌, IfOk, OnOk, string_bytes};
-ghost use Rattle.docket_rows.specs.Words.{Rows, parts_of, setup_of};
+ghost use Rattle.std.specs.Prelude.{◌≡◌, ◌++◌, None, IfOk, OnOk, string_bytes};
+ghost use Rattle.docket_rows.specs.Words.{Rows, parts_of, refusal, setup_of};
 ghost use Rattle.docket_core.specs.Words.{parts_held};
 ghost use Rattle.office_run.specs.Words.{Holds};
-ghost use Rattle.careful_rows.specs.Warnings.{warnings_of, warnings_on};
+ghost use Rattle.careful_rows.specs.Warnings.{if_made, warnings_of, warnings_on};
 
 use crate::deadline::{push_act, push_request};
-use crate::hearings::{push_holiday, push_outage};
+use crate::hearings::push_outage;
+use crate::refused::push_refused;
 use crate::start::push_start;
+use case_numbers::Cases;
 use court_clock::Day;
 use court_days::Court;
 use docket_core::Docket;
@@ -17,15 +19,36 @@ use office_rows::Work;
 use std::alloc::{AllocError, Global};
 
 /// Adds what a clerk is warned of a command, by the docket as it is.
+#[tactic(auto, unfolding(crate::specs::Warnings::warnings_of))]
 fn push_warnings(
     alloc: Global,
     text: &mut String,
     court: &Court,
+    cases: &Cases,
     docket: &Docket,
     today: Option<Day>,
     command: &Command,
 ) -> Result<(), AllocError>
-    ensures { docket.now.setup ≡ setup_of court.now → OnOk result (string_bytes text.new ≡ string_bytes text.old ++ warnings_of court.now (parts_held docket.now) today command.now) }
+    ensures { docket.now.setup ≡ setup_of court.now → OnOk result (string_bytes text.new ≡ string_bytes text.old ++ warnings_of court.now cases.now.named (parts_held docket.now) today command.now) }
+{
+    let refused = docket.refusal(alloc, command)?;
+    match refused {
+        Some(refusal) => push_refused(alloc, text, court, cases, docket, command, &refusal),
+        None => push_if_made(alloc, text, court, cases, docket, today, command),
+    }
+}
+
+/// Adds what a clerk is warned of a command that isn't refused.
+fn push_if_made(
+    alloc: Global,
+    text: &mut String,
+    court: &Court,
+    cases: &Cases,
+    docket: &Docket,
+    today: Option<Day>,
+    command: &Command,
+) -> Result<(), AllocError>
+    ensures { docket.now.setup ≡ setup_of court.now → refusal (setup_of court.now) (parts_held docket.now) command.now ≡ None → OnOk result (string_bytes text.new ≡ string_bytes text.old ++ if_made court.now cases.now.named (parts_held docket.now) today command.now) }
 {
     match command {
         Command::Start {
@@ -41,16 +64,13 @@ fn push_warnings(
             case,
             deadline,
             filing,
-        } => push_act(text, court, docket, *case, *deadline, filing),
+        } => push_act(text, docket, *case, *deadline, filing),
         Command::Extend {
             case,
             deadline,
             request,
         } => push_request(text, court, docket, *case, *deadline, request),
-        Command::Holiday { day, list } => push_holiday(alloc, text, court, docket, *day, *list),
-        Command::Inaccessible { day, from, to } => {
-            push_outage(alloc, text, court, docket, *day, *from, *to)
-        }
+        Command::Inaccessible { day, .. } => push_outage(alloc, text, court, cases, docket, *day),
         _ => Ok(()),
     }
 }
@@ -60,30 +80,32 @@ fn push_warnings_on(
     alloc: Global,
     text: &mut String,
     court: &Court,
+    cases: &Cases,
     docket: &Docket,
     today: Option<Day>,
     work: &Work,
 ) -> Result<(), AllocError>
-    ensures { docket.now.setup ≡ setup_of court.now → OnOk result (string_bytes text.new ≡ string_bytes text.old ++ warnings_on court.now (parts_held docket.now) today work.now) }
+    ensures { docket.now.setup ≡ setup_of court.now → OnOk result (string_bytes text.new ≡ string_bytes text.old ++ warnings_on court.now cases.now.named (parts_held docket.now) today work.now) }
 {
     match work {
-        Work::Command(command) => push_warnings(alloc, text, court, docket, today, command),
+        Work::Command(command) => push_warnings(alloc, text, court, cases, docket, today, command),
         Work::Query(_) => Ok(()),
     }
 }
 
-/// What a clerk is warned of a row, a line each, by what is docketed: nothing where it asks a question. `Err` says that memory
-/// ran out.
+/// What a clerk is warned of a row, a line each, by what is docketed, with the names of cases that have one: nothing where it
+/// asks a question. `Err` says that memory ran out.
 pub fn warnings_on(
     alloc: Global,
     court: &Court,
+    cases: &Cases,
     docket: &Docket,
     today: Option<Day>,
     work: &Work,
 ) -> Result<String, AllocError>
-    ensures { (docketed : Rows) → Holds (setup_of court.now) docket.now docketed → IfOk result (λ text. string_bytes text ≡ warnings_on court.now (parts_of docketed) today work.now) }
+    ensures { (docketed : Rows) → Holds (setup_of court.now) docket.now docketed → IfOk result (λ text. string_bytes text ≡ warnings_on court.now cases.now.named (parts_of docketed) today work.now) }
 {
     let mut text = String::new(alloc);
-    push_warnings_on(alloc, &mut text, court, docket, today, work)?;
+    push_warnings_on(alloc, &mut text, court, cases, docket, today, work)?;
     Ok(text)
 }

@@ -14,7 +14,7 @@ use std::sync::Wait;
 use std::thread::Threads;
 
 /// Reads a court's file, a line `%%` and rows, and writes the answer to each row, then the sheets of all open cases and
-/// the calendars of all judges. One clerk does all rows in the order in which they stand; several share one docket, and
+/// the calendars of all judges. One clerk does all rows in the order in which they come; several share one docket, and
 /// each does its own rows in that order, in a thread of its own. All input is read and all rows are checked before the
 /// first is done, and the output is made whole before it is written: after `WriteFault` a beginning of it is out, after
 /// any other fault nothing is. A read or a write that fails is the fault, and the last one.

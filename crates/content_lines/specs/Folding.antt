@@ -7,7 +7,7 @@ use Rattle.std.specs.List.{list_all}
 abbrev pub width : ℕ → ℕ
 width b = if nat_lt b 128 then 1 else if nat_lt b 192 then 0 else if nat_lt b 224 then 2 else if nat_lt b 240 then 3 else 4
 
--- the rest of a content line, where the line that is sent has room for so many bytes more: a character for which there is no
+-- the rest of a content line, where the line that is sent has room for this many bytes more: a character for which there is no
 -- room comes after a fold
 unfoldable pub folded : (room : ℕ) → List ℕ → List ℕ
 folded room [] = []

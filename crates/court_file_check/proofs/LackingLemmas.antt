@@ -1,4 +1,4 @@
--- What is told as lacking: what the review has, but for Saturdays and Sundays.
+-- What is said to be lacking: what the review has, but for Saturdays and Sundays.
 use Rattle.std.proofs.Common.{◌≡◌, ◌⊎◌, inl, inr, ℕ, zero, suc, ◌<◌, ℤ, ◌<ℤ◌, Bool, true, false, not, List, [], ◌∷◌, length, get_or, filter, cond, refl, sym, ap, ◌∙◌, arith}
 use Rattle.std.specs.List.{Contains}
 use Rattle.std.proofs.lemmas.List.Kept.{AllPairs-filter}

@@ -1,4 +1,4 @@
--- All that is told of what may be wrong with a court's file.
+-- All that is said of what may be wrong with a court's file.
 use Rattle.std.specs.Prelude.{◌≡◌, ℕ, List, [], None, Result, Ok, Err}
 use Rattle.toml.specs.Data.{Items, Members}
 use Rattle.court_file_text.specs.declared.key.Key.TheVariants.{Federal, State}
@@ -17,7 +17,7 @@ abbrev pub slips_in : DaysView → Result Items CourtFault → List (ℕ × Slip
 slips_in c (Ok items) = slips_from c 0 None items
 slips_in c (Err e) = []
 
--- What is told of a file, which says this of its court. What is told of the zone and of names that are alike isn't defined here.
+-- What is said of a file, which says this of its court. What is said of the zone and of names that are alike isn't defined here.
 pub record AreWarnings (asked : Asked) (document : Members) (file : CourtFile) (w : Warnings) : Type 0 where
   pub closes_early : w.closes_early ≡ closes_early file.closes
   pub long_day : w.long_day ≡ is_long_day file.opens file.closes

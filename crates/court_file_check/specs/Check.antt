@@ -20,7 +20,7 @@ pub record AreAllFaults (document : Members) (faults : List FaultView) : Type 0 
   pub are : faults ≡ first ∷ rest
   pub of_court : court_of document ≡ Err first.fault
 
--- the court's program takes the document, and this is what is told of it
+-- the court's program takes the document, and this is what is said of it
 pub record IsTaken (asked : Asked) (document : Members) (IsTold : CourtFile → Type 0) : Type 0 where
   pub file : CourtFile
   pub taken : court_of document ≡ Ok file

@@ -19,7 +19,7 @@ faulty k i (Err e) = record { key = k; item = i; fault = e } ∷ []
 unfoldable pub zone_faults : Members → List FaultView
 zone_faults file = faulty key.Zone None (zone_at file)
 
--- that the office doesn't open before it closes is told at `closes`, where both can be read
+-- that the office doesn't open before it closes is said at `closes`, where both can be read
 abbrev pub order_faults : Option ℕ → Option ℕ → List FaultView
 order_faults (Some opens) (Some closes) = faulty key.Closes None (must (nat_lt opens closes) BadHours)
 order_faults (Some opens) None = []
@@ -30,7 +30,7 @@ hours_faults file =
     faulty key.Opens None (minute_at key.Opens file)
     ++ (faulty key.Closes None (minute_at key.Closes file) ++ order_faults (result_ok (minute_at key.Opens file)) (result_ok (minute_at key.Closes file)))
 
--- that the span ends before it begins, or is too long, is told at `to`, where both dates can be read
+-- that the span ends before it begins, or is too long, is said at `to`, where both dates can be read
 abbrev pub extent_faults : Option ℤ → Option ℤ → List FaultView
 extent_faults (Some from) (Some to) = faulty key.To None (must (is_span from to) BadSpan)
 extent_faults (Some from) None = []

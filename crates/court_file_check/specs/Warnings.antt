@@ -15,7 +15,7 @@ use Rattle.court_file_check.specs.declared.warnings.days.DayTest.TheVariants.{Fe
 use Rattle.court_file_check.specs.declared.warnings.slips.Slip.{Slip}
 use Rattle.court_file_check.specs.declared.warnings.slips.Slip.TheVariants.{Outside, Twice, Early}
 
--- A day that the law sets or that is observed in its place, and that the list lacks, is told if it's no Saturday and no Sunday:
+-- A day that the law sets or that is observed in its place, and that the list lacks, is said to be lacking if it's no Saturday and no Sunday:
 -- there a holiday changes no period.
 abbrev pub lacking_told : DaysView → Bool → List (ℤ × Due)
 lacking_told c capital = filter (λ told. not (is_weekend told.0)) (lacking c capital)

@@ -9,13 +9,13 @@ pub fn faults_begin_with_the_courts()
     ensures { FaultsBeginWithTheCourts }
 {}
 
-/// A day is told as lacking exactly where it's one of the span, is due, is no Saturday or Sunday, and isn't in the federal
+/// A day is said to be lacking exactly where it's one of the span, is due, is no Saturday or Sunday, and isn't in the federal
 /// list.
 pub fn lacking_is_told()
     ensures { LackingIsTold }
 {}
 
-/// Each is told once, in the order of the days.
+/// Each is said once, in the order of the days.
 pub fn lacking_is_told_once()
     ensures { LackingIsToldOnce }
 {}

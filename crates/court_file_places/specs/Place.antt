@@ -16,7 +16,7 @@ abbrev pub last_line : List ℕ → List ℕ
 last_line [] = []
 last_line (b ∷ bs) = if list_any is_line_end (b ∷ bs) then last_line bs else (b ∷ bs)
 
--- the line of the place before which there are so many bytes: one more than the ends of lines before it
+-- the line of the place before which there are this many bytes: one more than the ends of lines before it
 abbrev pub line_of : List ℕ → ℕ → ℕ
 line_of text at = 1 + count_by is_line_end (take at text)
 

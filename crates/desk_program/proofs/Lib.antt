@@ -1,5 +1,6 @@
 pub mod CarefulLemmas
 pub mod DeskLemmas
+pub mod FaultLemmas
 pub mod FaultWordLemmas
 pub mod FileLemmas
 pub mod RowsLemmas

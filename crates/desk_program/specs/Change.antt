@@ -15,7 +15,7 @@ pub record TakesFile (entries : List (List ℕ)) (file : List ℕ) (accept : Boo
   pub is_file : later_file entry ≡ Some file
   pub keeps : Keeps (entries ++ entry ∷ [])
 
--- The file isn't taken, since it answers so many rows otherwise, which are written.
+-- The file isn't taken, since it answers this many rows otherwise, which are written.
 pub record RefusesFile (entries : List (List ℕ)) (file : List ℕ) (count : ℕ) (before after : Option (List ℕ)) : Type 0 where
   pub court : CourtView
   pub says : SaysCourt file court

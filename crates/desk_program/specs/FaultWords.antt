@@ -5,7 +5,7 @@ use Rattle.std.specs.Str.{bytes_eq, is_utf8}
 use Rattle.office_rows.specs.declared.fault.RowCause.{RowCause}
 use Rattle.office_rows.specs.declared.fault.RowCause.TheVariants.{BadClerk, BadField, NotText, TooManyRows, UnknownCommand, WrongCount}
 
--- the part of a line after so many commas, up to the next one
+-- the part of a line after this many commas, up to the next one
 abbrev pub part : (commas : ℕ) → List ℕ → List ℕ
 part zero line = before_first (λ b. b == 44) line
 part (suc commas) line = part commas (after_first (λ b. b == 44) line)
@@ -35,7 +35,7 @@ form_text command =
 -- what is expected in a field of this name
 unfoldable pub expected : List ℕ → List ℕ
 expected name =
-    if bytes_eq name (codes "CASE") then codes "a number, as 7"
+    if bytes_eq name (codes "CASE") then codes "a number, as 7, or the number of a case that was opened, as 1:25-cv-01234"
     else if bytes_eq name (codes "DEADLINE") then codes "a number, as 7"
     else if bytes_eq name (codes "MOTION") then codes "a number, as 7"
     else if bytes_eq name (codes "DATE") then codes "a date, as 2025-09-02"
@@ -64,7 +64,7 @@ abbrev pub found : List ℕ → List ℕ
 found [] = codes "found nothing, "
 found (b ∷ field) = codes "found \"" ++ (b ∷ field) ++ codes "\", "
 
--- what was found after so many commas; of a line with quotes nothing is said, since a comma in quotes ends no field
+-- what was found after this many commas; of a line with quotes nothing is said, since a comma in quotes ends no field
 abbrev pub found_text : (commas : ℕ) → List ℕ → List ℕ
 found_text commas line = if has_quote line then [] else found (part commas line)
 

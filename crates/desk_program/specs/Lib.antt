@@ -1,5 +1,6 @@
 pub mod Ask
 pub mod Careful
+pub mod Cases
 pub mod Change
 pub mod Desk
 pub mod FaultWords

@@ -24,7 +24,7 @@ pub record KeepsTogether (court : CourtView) (kept : List (List ℕ)) (input : L
   pub keeps : Keeps (kept ++ left_by (leaves court) kept (lines_of input))
   pub told : Appends before after (told_to (leaves court) (answers court) kept (lines_of input))
 
--- Nothing is kept, since so many lines have a fault, which are written.
+-- Nothing is kept, since this many lines have a fault, which are written.
 pub record RefusesLines (court : CourtView) (kept : List (List ℕ)) (input : List ℕ) (count : ℕ) (before after : Option (List ℕ)) : Type 0 where
   pub listed : Appends before after (line_faults_text (faults_of court kept (numbered_lines input)))
   pub count_is : count ≡ length (faults_of court kept (numbered_lines input))

@@ -1,6 +1,7 @@
 -- The words for the crates above, from one place.
 pub use Rattle.desk_program.specs.Ask.{AnswersQuestions}
 pub use Rattle.desk_program.specs.Careful.{IsPromisedCarefully, IsTriedCarefully, IsTriedCarefullyInPart}
+pub use Rattle.desk_program.specs.Cases.{cases_text}
 pub use Rattle.desk_program.specs.Change.{RefusesFile, TakesFile}
 pub use Rattle.desk_program.specs.Desk.{IsPromisedDocket, KeepsDocket, court_at, disk_under}
 pub use Rattle.desk_program.specs.Faults.{desk_status}

@@ -2,11 +2,12 @@
 ghost use Rattle.std.specs.Prelude.{◌≡◌, ◌⊎◌, ◌<◌, ◌≤◌, ◌∷◌, [], ℕ, List, length, false, IsTrue, IfErr, IfOk, IfSome, OnOk};
 ghost use Rattle.durable_journal.specs.Words.{IsDurable, IsKept, StandsFor, batch_of, disk_of};
 ghost use Rattle.durable_session.specs.Words.{AfterBytes, IsServed, lines_of, unfinished_of};
-ghost use Rattle.docket_entries.specs.Words.{IsHistory, answers, leaves, row_entries};
+ghost use Rattle.docket_entries.specs.Words.{IsHistory, answers, cases_of, leaves, row_entries};
 ghost use Rattle.office_streams.specs.Words.{has_failed, watched};
 
 use crate::court::check_court;
 use crate::fault::DeskFault;
+use case_numbers::Cases;
 use court_days::Court;
 use docket_entries::{DocketRegister, Docketed};
 use durable_journal::Journal;
@@ -122,6 +123,13 @@ impl<D: Disk> Desk<D> {
         ensures { result.now ≡ court_at self.now }
     {
         &self.court
+    }
+
+    /// The cases that were opened, with their names.
+    pub fn cases(&self) -> &Cases
+        ensures { (kept : List (List ℕ)) → KeepsDocket D.Disk.seen D.Disk.may_leave D.Disk.is_usable kept self.now → result.now ≡ cases_of (court_at self.now) kept }
+    {
+        self.register.cases()
     }
 
     /// How many rows are kept.

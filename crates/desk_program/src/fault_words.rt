@@ -28,7 +28,7 @@ fn after_comma(text: &str) -> &str
     }
 }
 
-// The part of a line after so many commas, up to the next one.
+// The part of a line after this many commas, up to the next one.
 #[tactic(auto, using(crate::proofs::FaultWordLemmas::one_comma_less))]
 fn part(line: &str, commas: u8) -> &str
     ensures { result.now ≡ part commas line.now }
@@ -71,7 +71,7 @@ fn expected(name: &str) -> &'static str
     ensures { result.now ≡ expected name.now }
 {
     match name {
-        "CASE" => "a number, as 7",
+        "CASE" => "a number, as 7, or the number of a case that was opened, as 1:25-cv-01234",
         "DEADLINE" => "a number, as 7",
         "MOTION" => "a number, as 7",
         "DATE" => "a date, as 2025-09-02",
@@ -97,7 +97,7 @@ fn expected(name: &str) -> &'static str
     }
 }
 
-// Adds what was found in the part of a line after so many commas. Of a line with quotes nothing is said, since a comma in
+// Adds what was found in the part of a line after this many commas. Of a line with quotes nothing is said, since a comma in
 // quotes ends no field.
 fn push_found(alloc: Global, text: &mut Vec<u8>, line: &str, commas: u8) -> Result<(), AllocError>
     ensures { OnOk result (text.new.items ≡ text.old.items ++ found_text commas line.now) }

@@ -4,6 +4,7 @@
 
 mod asking;
 mod careful;
+mod cases;
 mod change;
 mod copy;
 mod court;
@@ -17,6 +18,7 @@ mod together;
 mod trial;
 
 pub use asking::ask;
+pub use cases::write_cases;
 pub use court::{check_court, court_of};
 pub use desk::Desk;
 pub use fault::DeskFault;

@@ -72,7 +72,7 @@ fn push_entry(
 }
 
 /// Writes a docket's entries as clerk_office reads them: the court's file that stands, a line `%%` and the rows as CSV. Where
-/// it has had one court's file only, clerk_office gives the answers that were given.
+/// it has had one court's file only, clerk_office gives the answers that were given, with numbers in place of names.
 pub fn write_rows<W: Write>(
     alloc: Global,
     court: &Court,

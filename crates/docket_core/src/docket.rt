@@ -9,7 +9,7 @@ ghost use Rattle.docket_core.specs.Memory.{view_takes_memory};
 use crate::holdings::Holdings;
 use court_days::{Court, Days};
 use docket_decisions::{Sight, deadline_in};
-use docket_rows::{Answer, Command, Query, View};
+use docket_rows::{Answer, Command, Query, Refusal, View};
 use hearing_slots::Calendar;
 use rule_periods::DocketRow;
 use std::alloc::{AllocError, Global};
@@ -68,6 +68,15 @@ impl Docket {
         ensures memory { IfErr result (λ e. view_takes_memory (seen_by self.now.setup (parts_held self.now) query.now) ≡ true) }
     {
         self.holdings.show(alloc, query)
+    }
+
+    /// Why the docket as it is refuses the command, if it does; the docket doesn't change. `Err` says that memory ran out.
+    /// Only the judgement of a holiday takes memory.
+    pub fn refusal(&self, alloc: Global, command: &Command) -> Result<Option<Refusal>, AllocError>
+        ensures value { IfOk result (λ r. r ≡ refusal self.now.setup (parts_held self.now) command.now) }
+        ensures memory { IfErr result (λ e. takes_memory (refusal self.now.setup (parts_held self.now) command.now) command.now ≡ true) }
+    {
+        self.holdings.refusal(alloc, command)
     }
 
     /// Whether the case is open. It takes no memory.

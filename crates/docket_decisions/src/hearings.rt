@@ -14,11 +14,11 @@ use crate::sight::Sight;
 use clashes::{Span, judge_clash, room_clash};
 use docket_rows::{Hearing, Refusal, Setting};
 pub(crate) use notice::lacks_notice;
-pub use notice::later;
-use notice::{lacks_last_service, missed_service};
+pub use notice::{lacks_last_service, later, missed_service};
 pub use panel::sits;
 use panel::{has_judges, is_panel};
-use slots::{fits_day, is_court_day, is_within_hours};
+pub use slots::is_court_day;
+use slots::{fits_day, is_within_hours};
 
 /// The hearing that is asked for.
 pub fn hearing_asked(s: &Setting) -> Hearing

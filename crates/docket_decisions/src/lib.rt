@@ -18,7 +18,7 @@ mod values;
 
 pub use commands::{answer_if_made, case_of_command, change_case, refusal};
 pub use deadlines::{shown_at_start, start_refusal};
-pub use hearings::{hearing_asked, later, sits};
+pub use hearings::{hearing_asked, is_court_day, lacks_last_service, later, missed_service, sits};
 pub use reads::Seen;
 pub use rules::DocketRules;
 pub use seen::{deadline_in, has_case, hearing_in, is_beyond, motion_in, shown_now};

@@ -6,7 +6,9 @@ use crate::folder::{copied_beside, entries_beside, journal_name, make_folder, op
 use crate::words::Task;
 use crate::written::{enter_written, plain, try_written};
 use court_clock::Day;
-use desk_program::{Desk, DeskFault, ask, check_court, open_file, write_count, write_rows};
+use desk_program::{
+    Desk, DeskFault, ask, check_court, open_file, write_cases, write_count, write_rows,
+};
 use durable_session::SessionFault;
 use office_streams::{OfficeFault, Watched, read_all};
 use sqlite_std_file::Wary;
@@ -148,6 +150,14 @@ fn rows<W: Write>(rt: &HostRuntime, writer: &mut Watched<W>, folder: &str) -> Re
     ended
 }
 
+// Writes the cases that have names, beside a program that may enter rows.
+fn cases<W: Write>(rt: &HostRuntime, writer: &mut Watched<W>, folder: &str) -> Result<(), DeskFault>
+    requires { has_failed writer.old ≡ false }
+{
+    let desk = copied_beside(rt, folder)?;
+    write_cases(rt.alloc(), desk.cases(), writer)
+}
+
 // Says how many rows the journal has.
 fn check<W: Write>(rt: &HostRuntime, writer: &mut Watched<W>, folder: &str) -> Result<(), DeskFault>
     requires { has_failed writer.old ≡ false }
@@ -197,6 +207,7 @@ pub fn done<W: Write>(
         Task::Plain(style) => plain(rt, writer, folder, *style),
         Task::Ask => ask_folder(rt, writer, folder),
         Task::Rows => rows(rt, writer, folder),
+        Task::Cases => cases(rt, writer, folder),
         Task::Check => check(rt, writer, folder),
         Task::Court(court, accept) => change(rt, writer, folder, court.as_str(), *accept),
     }

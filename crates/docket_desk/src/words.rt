@@ -29,6 +29,10 @@ const TASKS: &str = "Tasks:
                                   program enters rows
   rows FOLDER                     write the court's file, %% and all rows, as
                                   clerk_office reads them
+  cases FOLDER                    write the number and the name of each case
+                                  that was opened by a case number, as
+                                  1:25-cv-01234; also while another program
+                                  enters rows
   check FOLDER                    decide all rows again, and say how many there
                                   are
   court FOLDER FILE [--accept]    list the answers that another court's file
@@ -75,6 +79,8 @@ pub enum Task {
     Ask,
     /// The court's file and all rows, as clerk_office reads them.
     Rows,
+    /// The cases that have names.
+    Cases,
     /// How many rows are kept, or what is damaged.
     Check,
     /// Another court's file, of this name, and whether it is taken though answers differ.
@@ -336,6 +342,7 @@ fn plain_task(alloc: Global, name: &str, said: &Said) -> Result<Task, OptionsFau
     match name {
         "ask" => Ok(Task::Ask),
         "rows" => Ok(Task::Rows),
+        "cases" => Ok(Task::Cases),
         "check" => Ok(Task::Check),
         _ => Err(wrong(alloc, "there is no such task")),
     }

@@ -2,11 +2,12 @@
 use Rattle.std.proofs.Common.{◌≡◌, ◌∙◌, ◌<◌, ℕ, Bool, true, false, cond, List, [], ◌∷◌, ◌++◌, Option, None, length, refl, sym, ap, append_assoc, append-nil, arith}
 use Rattle.std.specs.Str.{bytes_eq}
 use Rattle.std.proofs.lemmas.Slice.Eq.{bytes_eq-Decides}
+use Rattle.case_numbers.specs.Words.{after_name}
 use Rattle.court_days.specs.Words.{CourtView}
 use Rattle.docket_entries.specs.Differences.{Change, IsOtherwise, change_as, changes_after, changes_by, is_left}
 use Rattle.docket_entries.specs.Entries.{later_file, next_number}
-use Rattle.docket_entries.specs.Rows.{answers, follows, leaves}
-use Rattle.docket_entries.proofs.HistoryLemmas.{one_at_most}
+use Rattle.docket_entries.specs.Rows.{follows, left_again, plain_answers}
+use Rattle.docket_entries.proofs.HistoryLemmas.{one_again}
 
 changes_after-append : (court : CourtView) (kept some more : List (List ℕ)) → changes_after court kept (some ++ more) ≡ changes_after court kept some ++ changes_after court (kept ++ some) more
 unfolding changes_after
@@ -32,17 +33,17 @@ unfolding changes_after
 none_first court file = refl
 
 -- an entry that isn't the next isn't what is left
-not_left : (court : CourtView) (kept : List (List ℕ)) (entry : List ℕ) → (follows court kept entry → ⊥) → is_left (leaves court kept entry) entry ≡ false
-not_left court kept entry other = by (leaves court kept entry) refl
+not_left : (court : CourtView) (kept : List (List ℕ)) (entry : List ℕ) → (follows court kept entry → ⊥) → is_left (left_again court kept entry) entry ≡ false
+not_left court kept entry other = by (left_again court kept entry) refl
   where
-    same : (made : List ℕ) → leaves court kept entry ≡ made ∷ [] → (b : Bool) → bytes_eq made entry ≡ b → b ≡ false
+    same : (made : List ℕ) → left_again court kept entry ≡ made ∷ [] → (b : Bool) → bytes_eq made entry ≡ b → b ≡ false
     same made is true e = absurd (other (is ∙ ap (λ (l : List ℕ). l ∷ []) ((bytes_eq-Decides made entry).0 e)))
     same made is false e = refl
 
-    by : (left : List (List ℕ)) → leaves court kept entry ≡ left → is_left left entry ≡ false
+    by : (left : List (List ℕ)) → left_again court kept entry ≡ left → is_left left entry ≡ false
     by [] is = refl
     by (made ∷ []) is = same made is (bytes_eq made entry) refl
-    by (made ∷ other_one ∷ more) is = absurd (one_at_most court kept entry made other_one more is)
+    by (made ∷ other_one ∷ more) is = absurd (one_again court kept entry made other_one more is)
 
 -- a row with another answer is a change
 pub change_otherwise : (court : CourtView) (kept : List (List ℕ)) (entry answer : List ℕ) → later_file entry ≡ None → IsOtherwise court kept entry answer
@@ -50,12 +51,12 @@ pub change_otherwise : (court : CourtView) (kept : List (List ℕ)) (entry answe
 change_otherwise court kept entry answer none is =
     let whole : List ℕ → List Change = λ (a : List ℕ). record { number = next_number kept; entry = entry; answer = a } ∷ [] in
     ap (λ (f : Option (List ℕ)). change_as f court kept entry) none
-    ∙ ap (λ (b : Bool). cond b [] (whole (answers court kept entry))) (not_left court kept entry is.other)
+    ∙ ap (λ (b : Bool). cond b [] (whole (plain_answers court kept (after_name entry)))) (not_left court kept entry is.other)
     ∙ ap whole (sym is.answer_is)
 
 -- one with its own is none
 pub change_same : (court : CourtView) (kept : List (List ℕ)) (entry : List ℕ) → later_file entry ≡ None → follows court kept entry → change_as (later_file entry) court kept entry ≡ []
 change_same court kept entry none may =
-    let whole : List Change = record { number = next_number kept; entry = entry; answer = answers court kept entry } ∷ [] in
+    let whole : List Change = record { number = next_number kept; entry = entry; answer = plain_answers court kept (after_name entry) } ∷ [] in
     ap (λ (f : Option (List ℕ)). change_as f court kept entry) none
     ∙ ap (λ (b : Bool). cond b [] whole) (ap (λ (l : List (List ℕ)). is_left l entry) may ∙ (bytes_eq-Decides entry entry).1 refl)

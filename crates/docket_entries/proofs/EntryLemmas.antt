@@ -1,11 +1,11 @@
 -- An entry is read again as the row that it was made of.
 use Rattle.std.proofs.Common.{◌≡◌, ◌∙◌, ◌+◌, ◌≤◌, ◌==◌, ◌&&◌, ℕ, suc, Bool, cond, List, [], ◌∷◌, ◌++◌, Option, Some, None, Result, Ok, Err, true, false, not, leb, ltb, length, refl, sym, ap, subst, append_assoc, arith}
 use Rattle.std.proofs.lemmas.Grind.{common_steps}
-use Rattle.std.specs.Prelude.{nat_eq}
+use Rattle.std.specs.Prelude.{codes, nat_eq}
 use Rattle.std.specs.Char.{is_ascii_digit}
 use Rattle.std.specs.List.{list_all, list_any}
 use Rattle.std.specs.Option.{ok_or, option_and_then}
-use Rattle.std.specs.Str.{is_utf8}
+use Rattle.std.specs.Str.{bytes_eq, is_utf8}
 use Rattle.std.specs.Str.Parse.{digits_value}
 use Rattle.std.proofs.lemmas.Bool.Decides.{nat_tests}
 use Rattle.csv.specs.Reading.{default_config, records, records_from, records_next, strip_bom}
@@ -24,8 +24,12 @@ use Rattle.office_rows.specs.Columns.{◌>>=◌}
 use Rattle.office_rows.specs.Words.{CourtNames, clerk_of, column, is_number, names_of, number_of, row_of, work_of}
 use Rattle.row_line.specs.Words.{fields_read, line_read}
 use Rattle.row_line.proofs.CallerLemmas.{has_fields, says_first, says_row}
-use Rattle.docket_entries.specs.Entries.{later_file, most_entries}
-use Rattle.docket_entries.specs.Rows.{answer_to, entry_of, follows, leaves, left_of, most_clerks, within}
+use Rattle.case_numbers.specs.Words.{CasesView, NameView, after_name, case_read, name_before, name_line, number_of as number_by}
+use Rattle.case_numbers.proofs.CallerLemmas.{name_of_line, no_name_line, no_name_past, rest_of_line}
+use Rattle.docket_entries.specs.Cases.{cases_of}
+use Rattle.docket_entries.specs.CaseLines.{case_in, fresh_for, lacks_third, named, named_if, newly, reading_of}
+use Rattle.docket_entries.specs.Entries.{later_file, most_clerks, most_entries}
+use Rattle.docket_entries.specs.Rows.{answer_to, entry_of, follows, leaves, left_of, plain_leaves, reading_at, with_name, within}
 use Rattle.docket_entries.specs.Laws.{WhatIsLeftFollows}
 use Rattle.docket_entries.proofs.ListLemmas.{no_file}
 
@@ -75,6 +79,29 @@ number_no_file (b ∷ x) more number = by (list_any (needs_byte default_writer) 
     by true = no_file 34 ((escaped default_writer (b ∷ x) ++ 34 ∷ []) ++ more) refl
     by false = no_file b (x ++ more) (digit_is_no_mark b digit)
 
+-- nor does it have the line of a name
+number_no_name : (x more : List ℕ) → is_number x ≡ true → name_before (field_text default_writer x ++ more) ≡ None
+number_no_name [] more number = cc number
+number_no_name (b ∷ x) more number = by (list_any (needs_byte default_writer) (b ∷ x))
+  where
+    digit : is_ascii_digit b ≡ true
+    digit = grind (arith, common_steps)
+
+    by : (needs : Bool) → name_before (cond needs (34 ∷ (escaped default_writer (b ∷ x) ++ 34 ∷ [])) (b ∷ x) ++ more) ≡ None
+    by true = no_name_line 34 ((escaped default_writer (b ∷ x) ++ 34 ∷ []) ++ more) refl
+    by false = no_name_line b (x ++ more) (digit_is_no_mark b digit)
+
+number_past_name : (x more : List ℕ) → is_number x ≡ true → after_name (field_text default_writer x ++ more) ≡ field_text default_writer x ++ more
+number_past_name [] more number = cc number
+number_past_name (b ∷ x) more number = by (list_any (needs_byte default_writer) (b ∷ x))
+  where
+    digit : is_ascii_digit b ≡ true
+    digit = grind (arith, common_steps)
+
+    by : (needs : Bool) → after_name (cond needs (34 ∷ (escaped default_writer (b ∷ x) ++ 34 ∷ [])) (b ∷ x) ++ more) ≡ cond needs (34 ∷ (escaped default_writer (b ∷ x) ++ 34 ∷ [])) (b ∷ x) ++ more
+    by true = no_name_past 34 ((escaped default_writer (b ∷ x) ++ 34 ∷ []) ++ more) refl
+    by false = no_name_past b (x ++ more) (digit_is_no_mark b digit)
+
 -- a clerk's number is a number
 clerk_is_number : (x : List ℕ) (clerk : ℕ) → clerk_of most_clerks x ≡ Some clerk → is_number x ≡ true
 unfolding clerk_of number_of
@@ -117,6 +144,23 @@ row_is_no_file (x ∷ rest) tail many number =
     let parts : row_text default_writer (x ∷ rest) ++ tail ≡ field_text default_writer x ++ (fields_text default_writer rest ++ (ending ++ tail)) = simp append_assoc in
     ap later_file parts ∙ number_no_file x (fields_text default_writer rest ++ (ending ++ tail)) number
 
+-- nor does it begin with the line of a name
+row_has_no_name : (fields : List (List ℕ)) (tail : List ℕ) → 2 ≤ length fields → is_number (column fields 1) ≡ true → name_before (row_text default_writer fields ++ tail) ≡ None
+unfolding field_at
+row_has_no_name [] tail many number = absurd (omega (arith, many))
+row_has_no_name (x ∷ rest) tail many number =
+    let ending = cond (is_blank default_writer (x ∷ rest)) (34 ∷ 34 ∷ []) [] ++ 10 ∷ [] in
+    let parts : row_text default_writer (x ∷ rest) ++ tail ≡ field_text default_writer x ++ (fields_text default_writer rest ++ (ending ++ tail)) = simp append_assoc in
+    ap name_before parts ∙ number_no_name x (fields_text default_writer rest ++ (ending ++ tail)) number
+
+row_past_name : (fields : List (List ℕ)) (tail : List ℕ) → 2 ≤ length fields → is_number (column fields 1) ≡ true → after_name (row_text default_writer fields ++ tail) ≡ row_text default_writer fields ++ tail
+unfolding field_at
+row_past_name [] tail many number = absurd (omega (arith, many))
+row_past_name (x ∷ rest) tail many number =
+    let ending = cond (is_blank default_writer (x ∷ rest)) (34 ∷ 34 ∷ []) [] ++ 10 ∷ [] in
+    let parts : row_text default_writer (x ∷ rest) ++ tail ≡ field_text default_writer x ++ (fields_text default_writer rest ++ (ending ++ tail)) = simp append_assoc in
+    ap after_name parts ∙ number_past_name x (fields_text default_writer rest ++ (ending ++ tail)) number ∙ sym parts
+
 one_more : (n : ℕ) → n + 1 ≡ suc n
 one_more n = omega arith
 
@@ -152,6 +196,61 @@ module _ (names : CourtNames) (fields : List (List ℕ)) (row : Row) (tail : Lis
   pub is_no_file : later_file (row_text default_writer fields ++ tail) ≡ None
   is_no_file = let (many, number) = spells_row names fields row spelled in row_is_no_file fields tail many number
 
+-- a name is one that was read
+abbrev pub WasRead : Option NameView → Type 0
+WasRead None = Unit {0}
+WasRead (Some name) = (text : List ℕ) × (case_read text ≡ Some name)
+
+-- the name in the line before an entry that is made of a row, and the rest of it
+module _ (names : CourtNames) (fields : List (List ℕ)) (row : Row) (tail : List ℕ) (spelled : row_of most_clerks names fields ≡ Ok row) where
+  in_parts : (name : NameView) → name_line (Some name) ++ (row_text default_writer fields ++ tail) ≡ codes "%%case " ++ name.shown ++ 10 ∷ (row_text default_writer fields ++ tail)
+  in_parts name = ap (λ (l : List ℕ). codes "%%case " ++ l) (append_assoc name.shown (10 ∷ []) (row_text default_writer fields ++ tail))
+
+  pub its_name : (name : Option NameView) → WasRead name → name_before (name_line name ++ (row_text default_writer fields ++ tail)) ≡ name
+  its_name None was = let (many, number) = spells_row names fields row spelled in row_has_no_name fields tail many number
+  its_name (Some name) was = ap name_before (in_parts name) ∙ name_of_line was.0 name was.1 (row_text default_writer fields ++ tail)
+
+  pub past_its_name : (name : Option NameView) → WasRead name → after_name (name_line name ++ (row_text default_writer fields ++ tail)) ≡ row_text default_writer fields ++ tail
+  past_its_name None was = let (many, number) = spells_row names fields row spelled in row_past_name fields tail many number
+  past_its_name (Some name) was = ap after_name (in_parts name) ∙ rest_of_line was.0 name was.1 (row_text default_writer fields ++ tail)
+
+  pub is_no_file_named : (name : Option NameView) → later_file (name_line name ++ (row_text default_writer fields ++ tail)) ≡ None
+  is_no_file_named None = is_no_file names fields row tail spelled
+  is_no_file_named (Some name) = refl
+
+-- the new name of a line was read
+module _ (cases : CasesView) (line : List ℕ) (fields : List (List ℕ)) where
+  newly_read : (name : NameView) → WasRead (Some name) → (number : Option ℕ) → WasRead (newly line fields name number).name
+  newly_read name was None = tt
+  newly_read name was (Some number) = was
+
+  named_read : (name : NameView) → WasRead (Some name) → (number : Option ℕ) → WasRead (named cases line fields name number).name
+  named_read name was (Some number) = tt
+  named_read name was None = newly_read name was (fresh_for cases fields)
+
+  named_if_read : (name : Option NameView) → WasRead name → WasRead (named_if cases line fields name).name
+  named_if_read None was = tt
+  named_if_read (Some name) was = named_read name was (number_by cases.named name.key)
+
+read_somewhere : (text : List ℕ) (name : Option NameView) → case_read text ≡ name → WasRead name
+read_somewhere text None is = tt
+read_somewhere text (Some name) is = (text, is)
+
+case_in_read : (fields : List (List ℕ)) → WasRead (case_in fields)
+case_in_read fields = by (bytes_eq (column fields 2) (codes "calendar"))
+  where
+    by : (calendar : Bool) → WasRead (cond calendar None (case_read (column fields 3)))
+    by true = tt
+    by false = read_somewhere (column fields 3) (case_read (column fields 3)) refl
+
+pub reading_read : (names : CourtNames) (cases : CasesView) (line : List ℕ) → WasRead (reading_of names cases line).name
+unfolding reading_of
+reading_read names cases line = by (lacks_third (line_read most_clerks names line))
+  where
+    by : (third : Bool) → WasRead (cond third (named_if cases line (fields_read line) (case_in (fields_read line))) (record { text = line; name = None })).name
+    by true = named_if_read cases line (fields_read line) (case_in (fields_read line)) (case_in_read (fields_read line))
+    by false = tt
+
 -- a line that says a row within the limit says that row, and there is room for it
 pub within_row : (kept : List (List ℕ)) (said : Line) (row : Row) → within kept said ≡ line.Row row → (said ≡ line.Row row) × (ltb (length kept) most_entries ≡ true)
 within_row kept line.Blank row h = cc h
@@ -164,25 +263,37 @@ within_row kept (line.Row r) row h = by (ltb (length kept) most_entries) refl h
 
 -- what is made of a row leaves itself
 pub leaves_itself : (court : CourtView) (kept : List (List ℕ)) (fields : List (List ℕ)) (row : Row) → row_of most_clerks (names_of court) fields ≡ Ok row → ltb (length kept) most_entries ≡ true
-    → leaves court kept (entry_of court kept fields row) ≡ entry_of court kept fields row ∷ []
-unfolding leaves
+    → plain_leaves court kept (entry_of court kept fields row) ≡ entry_of court kept fields row ∷ []
+unfolding plain_leaves
 leaves_itself court kept fields row spelled room =
     ap (λ (l : Line). left_of court kept (fields_read (entry_of court kept fields row)) (within kept l)) (says_its_row (names_of court) fields row (answer_to court kept row) spelled)
     ∙ ap (λ (f : List (List ℕ)). left_of court kept f (within kept (line.Row row))) (has_its_fields (names_of court) fields row (answer_to court kept row) spelled)
     ∙ ap (λ (b : Bool). left_of court kept fields (cond b (line.Row row) (line.Fault TooManyRows))) room
 
+-- and with a name it follows
+follows_named : (court : CourtView) (kept : List (List ℕ)) (fields : List (List ℕ)) (row : Row) (name : Option NameView) → WasRead name → row_of most_clerks (names_of court) fields ≡ Ok row → ltb (length kept) most_entries ≡ true
+    → follows court kept (name_line name ++ entry_of court kept fields row)
+follows_named court kept fields row name was spelled room =
+    let whole = name_line name ++ entry_of court kept fields row in
+    ap (λ (n : Option NameView). with_name n (plain_leaves court kept (after_name whole))) (its_name (names_of court) fields row (answer_to court kept row) spelled name was)
+    ∙ ap (λ (e : List ℕ). with_name name (plain_leaves court kept e)) (past_its_name (names_of court) fields row (answer_to court kept row) spelled name was)
+    ∙ ap (with_name name) (leaves_itself court kept fields row spelled room)
+
 -- the law
 pub left_follows : WhatIsLeftFollows
-unfolding leaves
-left_follows court kept bytes entry h = by (within kept (line_read most_clerks (names_of court) bytes)) refl h
+unfolding leaves plain_leaves
+left_follows court kept bytes entry h = by (within kept (line_read most_clerks (names_of court) (reading_at court kept bytes).text)) refl h
   where
-    by : (l : Line) → within kept (line_read most_clerks (names_of court) bytes) ≡ l → left_of court kept (fields_read bytes) l ≡ entry ∷ [] → (later_file entry ≡ None) × follows court kept entry
+    by : (l : Line) → within kept (line_read most_clerks (names_of court) (reading_at court kept bytes).text) ≡ l
+        → with_name (reading_at court kept bytes).name (left_of court kept (fields_read (reading_at court kept bytes).text) l) ≡ entry ∷ [] → (later_file entry ≡ None) × follows court kept entry
     by line.Blank same h = cc h
     by (line.Fault cause) same h = cc h
     by (line.Row row) same h =
-        let (said, room) = within_row kept (line_read most_clerks (names_of court) bytes) row same in
-        let is_entry : entry_of court kept (fields_read bytes) row ≡ entry = cc h in
-        let spelled = says_row most_clerks (names_of court) bytes row said in (
-          ap later_file (sym is_entry) ∙ is_no_file (names_of court) (fields_read bytes) row (answer_to court kept row) spelled,
-          subst (λ (e : List ℕ). leaves court kept e ≡ e ∷ []) is_entry (leaves_itself court kept (fields_read bytes) row spelled room),
+        let text = (reading_at court kept bytes).text in
+        let name = (reading_at court kept bytes).name in
+        let (said, room) = within_row kept (line_read most_clerks (names_of court) text) row same in
+        let is_entry : name_line name ++ entry_of court kept (fields_read text) row ≡ entry = cc h in
+        let spelled = says_row most_clerks (names_of court) text row said in (
+          ap later_file (sym is_entry) ∙ is_no_file_named (names_of court) (fields_read text) row (answer_to court kept row) spelled name,
+          subst (follows court kept) is_entry (follows_named court kept (fields_read text) row name (reading_read (names_of court) (cases_of court kept) bytes) spelled room),
         )

@@ -13,11 +13,12 @@ use Rattle.docket_entries.specs.declared.fault.HistoryFault.{HistoryFault}
 use Rattle.docket_entries.specs.declared.fault.HistoryFault.TheVariants.{Court, NoCourt, Other, OutOfMemory}
 use Rattle.docket_entries.specs.Docketed.{HasHistoryFault, IsBadFile, IsDocketed}
 use Rattle.docket_entries.specs.declared.docketed.Docketed.{Docketed}
-use Rattle.docket_entries.specs.Entries.{file_after, later_file, next_number, standing_file}
+use Rattle.docket_entries.specs.Entries.{file_after, later_file, most_clerks, next_number, standing_file}
 use Rattle.docket_entries.specs.History.{AllFollow, FollowsAs, IsHistory, MayFollow, SaysCourt}
 use Rattle.docket_entries.specs.Laws.{WhatIsLeftIsHistory}
 use Rattle.docket_entries.specs.Register.{StandsAt}
-use Rattle.docket_entries.specs.Rows.{follows, leaves, left_of, most_clerks, within}
+use Rattle.case_numbers.specs.Words.{NameView, after_name, name_before}
+use Rattle.docket_entries.specs.Rows.{follows, leaves, left_again, left_of, plain_leaves, reading_at, with_name, within}
 use Rattle.docket_entries.proofs.EntryLemmas.{left_follows}
 use Rattle.docket_entries.proofs.ListLemmas.{standing_file-file, standing_file-row}
 
@@ -52,14 +53,20 @@ file_follows : (court : CourtView) (kept : List (List ℕ)) (entry file : List �
 file_follows court kept entry file some says = subst (λ (f : Option (List ℕ)). FollowsAs f kept entry) (sym some) (court, says)
 
 -- a line leaves one entry at most
-pub one_at_most : (court : CourtView) (kept : List (List ℕ)) (bytes entry other : List ℕ) (more : List (List ℕ)) → leaves court kept bytes ≡ entry ∷ other ∷ more → ⊥
-unfolding leaves
-one_at_most court kept bytes entry other more h = by (within kept (line_read most_clerks (names_of court) bytes)) h
-  where
-    by : (l : Line) → left_of court kept (fields_read bytes) l ≡ entry ∷ other ∷ more → ⊥
-    by line.Blank h = cc h
-    by (line.Fault cause) h = cc h
-    by (line.Row row) h = cc h
+one_of : (court : CourtView) (kept : List (List ℕ)) (name : Option NameView) (fields : List (List ℕ)) (said : Line) (entry other : List ℕ) (more : List (List ℕ)) → with_name name (left_of court kept fields said) ≡ entry ∷ other ∷ more → ⊥
+one_of court kept name fields line.Blank entry other more h = cc h
+one_of court kept name fields (line.Fault cause) entry other more h = cc h
+one_of court kept name fields (line.Row row) entry other more h = cc h
+
+one_at_most : (court : CourtView) (kept : List (List ℕ)) (bytes entry other : List ℕ) (more : List (List ℕ)) → leaves court kept bytes ≡ entry ∷ other ∷ more → ⊥
+unfolding leaves plain_leaves
+one_at_most court kept bytes entry other more h =
+    one_of court kept (reading_at court kept bytes).name (fields_read (reading_at court kept bytes).text) (within kept (line_read most_clerks (names_of court) (reading_at court kept bytes).text)) entry other more h
+
+-- and so does an entry whose row is entered again
+pub one_again : (court : CourtView) (kept : List (List ℕ)) (entry made other : List ℕ) (more : List (List ℕ)) → left_again court kept entry ≡ made ∷ other ∷ more → ⊥
+unfolding plain_leaves
+one_again court kept entry made other more h = one_of court kept (name_before entry) (fields_read (after_name entry)) (within kept (line_read most_clerks (names_of court) (after_name entry))) made other more h
 
 abbrev StandsAfter : CourtView → List (List ℕ) → Type 0
 StandsAfter court kept = IsHistory kept × SaysCourt (standing_file kept) court

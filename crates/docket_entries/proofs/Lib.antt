@@ -1,6 +1,8 @@
 pub mod CallerLemmas
 pub mod ChangeLemmas
+pub mod CaseLemmas
 pub mod EntryLemmas
+pub mod FieldLemmas
 pub mod HistoryLemmas
 pub mod LineFaultLemmas
 pub mod ListLemmas

@@ -8,9 +8,10 @@ use Rattle.row_line.specs.Words.{line_read}
 use Rattle.docket_entries.specs.declared.questions.Questions.{Questions}
 use Rattle.docket_entries.specs.Questions.{AsksOf, shown, shown_to}
 use Rattle.docket_entries.specs.Register.{StandsAt}
-use Rattle.docket_entries.specs.Rows.{most_clerks, within}
+use Rattle.docket_entries.specs.Entries.{most_clerks}
+use Rattle.docket_entries.specs.Rows.{reading_at, within}
 
-pub line_asked : (court : CourtView) (questions : Questions) (kept : List (List ℕ)) (bytes : List ℕ) (batch : List (List ℕ)) (text : List ℕ) (said : Line) → within kept (line_read most_clerks (names_of court) bytes) ≡ said
+pub line_asked : (court : CourtView) (questions : Questions) (kept : List (List ℕ)) (bytes : List ℕ) (batch : List (List ℕ)) (text : List ℕ) (said : Line) → within kept (line_read most_clerks (names_of court) (reading_at court kept bytes).text) ≡ said
     → StandsAt court questions.register kept → (text_after : List ℕ) → text_after ≡ text ++ shown_to court kept said
     → TakesLine (λ k l. []) (shown court) (AsksOf court questions) kept bytes batch batch text text_after
 unfolding shown

@@ -1,5 +1,5 @@
 -- The answers to lines one by one, and those of a run of their rows together.
-use Rattle.std.proofs.Common.{◌≡◌, ◌∙◌, ◌+◌, ◌<◌, ◌≤◌, ℕ, true, ltb, List, [], ◌∷◌, ◌++◌, length, length-append, refl, sym, ap, append_assoc, append-nil, arith}
+use Rattle.std.proofs.Common.{◌≡◌, ◌∙◌, ◌+◌, ◌<◌, ◌≤◌, ℕ, true, false, ltb, Option, Some, None, List, [], ◌∷◌, ◌++◌, length, length-append, refl, sym, ap, append_assoc, append-nil, arith}
 use Rattle.std.specs.Prelude.{All}
 use Rattle.std.proofs.lemmas.Bool.Decides.{nat_tests}
 use Rattle.std.proofs.lemmas.List.Elements.{All-head, All-tail}
@@ -12,13 +12,21 @@ use Rattle.office_rows.specs.Words.{names_of}
 use Rattle.row_line.specs.Words.{fields_read, line_read}
 use Rattle.row_line.proofs.CallerLemmas.{says_row}
 use Rattle.office_run.specs.Replies.{docketed_after}
-use Rattle.office_run.specs.Text.{lines_from, run_text}
+use Rattle.office_run.specs.Replies.{reply_to}
+use Rattle.office_run.specs.Text.{line_of, lines_from, run_text}
 use Rattle.office_run.specs.Words.{closing_text}
 use Rattle.durable_session.specs.Taken.{left_by, told_to}
-use Rattle.docket_entries.specs.Entries.{most_entries, next_number, rows_among}
+use Rattle.case_numbers.specs.Words.{CasesView, NameView, after_name, with_case}
+use Rattle.case_numbers.specs.declared.names.NamedCase.{NamedCase}
+use Rattle.named_answers.specs.Words.{named_line_of}
+use Rattle.named_answers.proofs.CallerLemmas.{without_names_as_before_lem}
+use Rattle.docket_entries.specs.CaseLines.{Reading, as_it_is, lacks_third}
+use Rattle.docket_entries.specs.Cases.{cases_after, cases_of, opened_in, with_opened}
+use Rattle.docket_entries.specs.Entries.{most_clerks, most_entries, next_number, rows_among}
 use Rattle.docket_entries.specs.Laws.{AnswersAreTheRuns, HasNoFault}
-use Rattle.docket_entries.specs.Rows.{answer_to, answers, docketed_by, entry_of, leaves, left_of, most_clerks, row_in, rows_in, told_of, within}
-use Rattle.docket_entries.proofs.EntryLemmas.{is_no_file, says_its_row}
+use Rattle.docket_entries.specs.Rows.{answer_to, answers, docketed_by, entry_of, leaves, left_of, plain_answers, plain_leaves, reading_at, row_in, rows_in, told_of, with_name, within}
+use Rattle.docket_entries.proofs.CaseLemmas.{cases_of-row, reads_itself}
+use Rattle.docket_entries.proofs.EntryLemmas.{is_no_file, its_name, past_its_name, says_its_row}
 use Rattle.docket_entries.proofs.ListLemmas.{next_number-row}
 use Rattle.docket_entries.proofs.RegisterLemmas.{docketed_by-more}
 
@@ -31,12 +39,18 @@ none_run : (court : CourtView) (kept : List (List ℕ)) → IsRun court kept []
 unfolding told_to left_by lines_from rows_in docketed_after
 none_run court kept = record { told = refl; docket = ap (docketed_by court) (append-nil kept) }
 
+-- a line in which there is no fault is read as it is
+reads_plain : (court : CourtView) (kept : List (List ℕ)) (bytes : List ℕ) (said : Line) → line_read most_clerks (names_of court) bytes ≡ said → lacks_third said ≡ false → reading_at court kept bytes ≡ as_it_is bytes
+reads_plain court kept bytes said is third = reads_itself (names_of court) (cases_of court kept) bytes (ap lacks_third is ∙ third)
+
 -- a line that says nothing
 blank_run : (court : CourtView) (kept lines : List (List ℕ)) (bytes : List ℕ) → line_read most_clerks (names_of court) bytes ≡ line.Blank → IsRun court kept lines → IsRun court kept (bytes ∷ lines)
-unfolding told_to left_by rows_in leaves answers
+unfolding told_to left_by rows_in leaves answers plain_leaves plain_answers
 blank_run court kept lines bytes blank run =
-    let left : leaves court kept bytes ≡ [] = ap (λ (l : Line). left_of court kept (fields_read bytes) (within kept l)) blank in
-    let told : answers court kept bytes ≡ [] = ap (λ (l : Line). told_of court kept (within kept l)) blank in
+    let plain = reads_plain court kept bytes line.Blank blank refl in
+    let left : leaves court kept bytes ≡ [] =
+    ap (λ (r : Reading). with_name r.name (plain_leaves court kept r.text)) plain ∙ ap (λ (l : Line). with_name None (left_of court kept (fields_read bytes) (within kept l))) blank in
+    let told : answers court kept bytes ≡ [] = ap (λ (r : Reading). plain_answers court kept r.text) plain ∙ ap (λ (l : Line). told_of court kept (within kept l)) blank in
     let rows : rows_in (names_of court) (bytes ∷ lines) ≡ rows_in (names_of court) lines = ap (λ (l : Line). row_in l ++ rows_in (names_of court) lines) blank in
     let same : kept ++ leaves court kept bytes ≡ kept = ap (λ (l : List (List ℕ)). kept ++ l) left ∙ append-nil kept in
     record {
@@ -48,26 +62,44 @@ blank_run court kept lines bytes blank run =
           ∙ ap (docketed_after (setup_of court) (docketed_by court kept)) (sym rows);
     }
 
+-- what a row is answered where no case has a name
+no_names_answer : (court : CourtView) (kept : List (List ℕ)) (row : Row) → (cases_of court kept).named ≡ [] → answer_to court kept row ≡ line_of court (next_number kept) row.clerk (reply_to (setup_of court) (docketed_by court kept) row.work)
+unfolding answer_to
+no_names_answer court kept row none =
+    let reply = reply_to (setup_of court) (docketed_by court kept) row.work in
+    ap (λ (n : List NamedCase). named_line_of court n (next_number kept) row.clerk reply) none ∙ without_names_as_before_lem court (next_number kept) row.clerk reply
+
+-- and it leaves none
+still_no_names : (cases : CasesView) (number : Option ℕ) → cases.named ≡ [] → (with_opened cases number None).named ≡ []
+unfolding with_case
+still_no_names cases None none = none
+still_no_names cases (Some number) none = none
+
 -- a line that says a row
-row_run : (court : CourtView) (kept lines : List (List ℕ)) (bytes : List ℕ) (row : Row) → 0 < length kept → ltb (length kept) most_entries ≡ true → line_read most_clerks (names_of court) bytes ≡ line.Row row
+row_run : (court : CourtView) (kept lines : List (List ℕ)) (bytes : List ℕ) (row : Row) → 0 < length kept → ltb (length kept) most_entries ≡ true → line_read most_clerks (names_of court) bytes ≡ line.Row row → (cases_of court kept).named ≡ []
     → IsRun court (kept ++ entry_of court kept (fields_read bytes) row ∷ []) lines → IsRun court kept (bytes ∷ lines)
-unfolding told_to left_by rows_in leaves answers lines_from docketed_after answer_to
-row_run court kept lines bytes row begun room said run =
+unfolding told_to left_by rows_in leaves answers plain_leaves plain_answers lines_from docketed_after
+row_run court kept lines bytes row begun room said names run =
+    let plain = reads_plain court kept bytes (line.Row row) said refl in
     let entry = entry_of court kept (fields_read bytes) row in
     let spelled = says_row most_clerks (names_of court) bytes row said in
     let none = is_no_file (names_of court) (fields_read bytes) row (answer_to court kept row) spelled in
-    let after = docketed_by-more court kept entry row begun none (says_its_row (names_of court) (fields_read bytes) row (answer_to court kept row) spelled) in
+    let reads : line_read most_clerks (names_of court) (after_name entry) ≡ line.Row row =
+    ap (line_read most_clerks (names_of court)) (past_its_name (names_of court) (fields_read bytes) row (answer_to court kept row) spelled None tt) ∙ says_its_row (names_of court) (fields_read bytes) row (answer_to court kept row) spelled in
+    let after = docketed_by-more court kept entry row begun none reads in
     let number = next_number-row kept entry begun none in
     let is : within kept (line_read most_clerks (names_of court) bytes) ≡ line.Row row = ap (within kept) said ∙ rw room refl in
-    let left : leaves court kept bytes ≡ entry ∷ [] = ap (left_of court kept (fields_read bytes)) is in
-    let told : answers court kept bytes ≡ answer_to court kept row = ap (told_of court kept) is in
+    let left : leaves court kept bytes ≡ entry ∷ [] = ap (λ (r : Reading). with_name r.name (plain_leaves court kept r.text)) plain ∙ ap (λ (l : Line). with_name None (left_of court kept (fields_read bytes) l)) is in
+    let told : answers court kept bytes ≡ line_of court (next_number kept) row.clerk (reply_to (setup_of court) (docketed_by court kept) row.work) =
+    ap (λ (r : Reading). plain_answers court kept r.text) plain ∙ ap (told_of court kept) is ∙ no_names_answer court kept row names in
     let rows : rows_in (names_of court) (bytes ∷ lines) ≡ row ∷ rows_in (names_of court) lines = ap (λ (l : Line). row_in l ++ rows_in (names_of court) lines) said in
     let then = docketed_by court (kept ++ entry ∷ []) in
     let others = rows_in (names_of court) lines in
+    let answer = line_of court (next_number kept) row.clerk (reply_to (setup_of court) (docketed_by court kept) row.work) in
     record {
       told = ap (λ (t : List ℕ). t ++ told_to (leaves court) (answers court) (kept ++ leaves court kept bytes) lines) told
-          ∙ ap (λ (l : List (List ℕ)). answer_to court kept row ++ told_to (leaves court) (answers court) (kept ++ l) lines) left
-          ∙ ap (λ (t : List ℕ). answer_to court kept row ++ t) (run.told ∙ ap (λ (n : ℕ). lines_from court then n others) number ∙ ap (λ (d : Rows). lines_from court d (next_number kept + 1) others) after)
+          ∙ ap (λ (l : List (List ℕ)). answer ++ told_to (leaves court) (answers court) (kept ++ l) lines) left
+          ∙ ap (λ (t : List ℕ). answer ++ t) (run.told ∙ ap (λ (n : ℕ). lines_from court then n others) number ∙ ap (λ (d : Rows). lines_from court d (next_number kept + 1) others) after)
           ∙ ap (lines_from court (docketed_by court kept) (next_number kept)) (sym rows);
       docket = ap (λ (l : List (List ℕ)). docketed_by court (kept ++ (l ++ left_by (leaves court) (kept ++ l) lines))) left
           ∙ ap (docketed_by court) (sym (append_assoc kept (entry ∷ []) (left_by (leaves court) (kept ++ entry ∷ []) lines)))
@@ -75,26 +107,44 @@ row_run court kept lines bytes row begun room said run =
           ∙ ap (docketed_after (setup_of court) (docketed_by court kept)) (sym rows);
     }
 
+-- the cases after a row's entry without a name have none
+names_after : (court : CourtView) (kept : List (List ℕ)) (bytes : List ℕ) (row : Row) → 0 < length kept → line_read most_clerks (names_of court) bytes ≡ line.Row row → (cases_of court kept).named ≡ []
+    → (cases_of court (kept ++ entry_of court kept (fields_read bytes) row ∷ [])).named ≡ []
+names_after court kept bytes row begun said names =
+    let entry = entry_of court kept (fields_read bytes) row in
+    let spelled = says_row most_clerks (names_of court) bytes row said in
+    let none = is_no_file (names_of court) (fields_read bytes) row (answer_to court kept row) spelled in
+    let opened = opened_in (line_read most_clerks (names_of court) (after_name entry)) in
+    ap (λ (c : CasesView). c.named) (cases_of-row court kept entry begun none)
+    ∙ ap (λ (n : Option NameView). (with_opened (cases_of court kept) opened n).named) (its_name (names_of court) (fields_read bytes) row (answer_to court kept row) spelled None tt)
+    ∙ still_no_names (cases_of court kept) opened names
+
 -- one line more
-line_run : (court : CourtView) (kept lines : List (List ℕ)) (bytes : List ℕ) → 0 < length kept → length kept + length (bytes ∷ lines) ≤ most_entries → HasNoFault (names_of court) bytes
-    → ((then : List (List ℕ)) → 0 < length then → length then + length lines ≤ most_entries → IsRun court then lines) → IsRun court kept (bytes ∷ lines)
-line_run court kept lines bytes begun few sound rest = by (line_read most_clerks (names_of court) bytes) refl
+line_run : (court : CourtView) (kept lines : List (List ℕ)) (bytes : List ℕ) → 0 < length kept → length kept + length (bytes ∷ lines) ≤ most_entries → (cases_of court kept).named ≡ [] → HasNoFault (names_of court) bytes
+    → ((then : List (List ℕ)) → 0 < length then → length then + length lines ≤ most_entries → (cases_of court then).named ≡ [] → IsRun court then lines) → IsRun court kept (bytes ∷ lines)
+line_run court kept lines bytes begun few names sound rest = by (line_read most_clerks (names_of court) bytes) refl
   where
     room : ltb (length kept) most_entries ≡ true
     room = grind (arith, nat_tests)
 
     by : (said : Line) → line_read most_clerks (names_of court) bytes ≡ said → IsRun court kept (bytes ∷ lines)
-    by line.Blank is = blank_run court kept lines bytes is (rest kept begun (omega (arith, few)))
+    by line.Blank is = blank_run court kept lines bytes is (rest kept begun (omega (arith, few)) names)
     by (line.Fault cause) is = absurd (sound cause is)
     by (line.Row row) is =
         let entry = entry_of court kept (fields_read bytes) row in
         let long = length-append kept (entry ∷ []) in
-        row_run court kept lines bytes row begun room is (rest (kept ++ entry ∷ []) (omega (arith, long)) (omega (arith, long, few)))
+        row_run court kept lines bytes row begun room is names (rest (kept ++ entry ∷ []) (omega (arith, long)) (omega (arith, long, few)) (names_after court kept bytes row begun is names))
 
-lines_run : (court : CourtView) (kept lines : List (List ℕ)) → 0 < length kept → length kept + length lines ≤ most_entries → All (HasNoFault (names_of court)) lines → IsRun court kept lines
-lines_run court kept [] begun few sound = none_run court kept
-lines_run court kept (bytes ∷ lines) begun few sound =
-    line_run court kept lines bytes begun few (All-head (HasNoFault (names_of court)) bytes lines sound) (λ then first room. lines_run court then lines first room (All-tail (HasNoFault (names_of court)) bytes lines sound))
+lines_run : (court : CourtView) (kept lines : List (List ℕ)) → 0 < length kept → length kept + length lines ≤ most_entries → (cases_of court kept).named ≡ [] → All (HasNoFault (names_of court)) lines → IsRun court kept lines
+lines_run court kept [] begun few names sound = none_run court kept
+lines_run court kept (bytes ∷ lines) begun few names sound =
+    line_run court kept lines bytes begun few names (All-head (HasNoFault (names_of court)) bytes lines sound)
+    (λ then first room none. lines_run court then lines first room none (All-tail (HasNoFault (names_of court)) bytes lines sound))
+
+-- no case has a name before the first row
+no_names_first : (court : CourtView) (file : List ℕ) → (cases_of court (file ∷ [])).named ≡ []
+unfolding cases_of cases_after rows_among
+no_names_first court file = refl
 
 -- the docket before the first row
 opening : (court : CourtView) (file : List ℕ) → docketed_by court (file ∷ []) ≡ opening_rows (setup_of court)
@@ -109,7 +159,7 @@ first_number file = refl
 pub answers_are_the_runs_lem : AnswersAreTheRuns
 unfolding run_text
 answers_are_the_runs_lem court file lines sound few =
-    let run = lines_run court (file ∷ []) lines (omega arith) (omega (arith, few)) sound in
+    let run = lines_run court (file ∷ []) lines (omega arith) (omega (arith, few)) (no_names_first court file) sound in
     let rows = rows_in (names_of court) lines in
     let told : told_to (leaves court) (answers court) (file ∷ []) lines ≡ lines_from court (opening_rows (setup_of court)) 1 rows =
     run.told ∙ ap (λ (d : Rows). lines_from court d (next_number (file ∷ [])) rows) (opening court file) ∙ ap (λ (n : ℕ). lines_from court (opening_rows (setup_of court)) n rows) (first_number file) in

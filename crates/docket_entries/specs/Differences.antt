@@ -1,10 +1,11 @@
 -- The rows that another court's file would have answered otherwise.
 use Rattle.std.specs.Prelude.{◌≡◌, ℕ, Bool, false, List, [], ◌∷◌, ◌++◌, Option, Some, None, if◌then◌else◌}
 use Rattle.std.specs.Str.{bytes_eq}
+use Rattle.case_numbers.specs.Words.{after_name}
 use Rattle.court_days.specs.Words.{CourtView}
 use Rattle.docket_entries.specs.declared.review.Difference.{Difference}
 use Rattle.docket_entries.specs.Entries.{later_file, next_number}
-use Rattle.docket_entries.specs.Rows.{answers, follows, leaves}
+use Rattle.docket_entries.specs.Rows.{follows, left_again, plain_answers}
 
 -- a row that would be answered otherwise: its number, its entry as it is kept, and the answer that it would get
 pub record Change : Type 0 where
@@ -23,7 +24,7 @@ is_left (made ∷ more) entry = bytes_eq made entry
 -- the change that a court makes to an entry after these: none to a court's file, and none to a row that it answers the same
 abbrev pub change_as : Option (List ℕ) → CourtView → (kept : List (List ℕ)) → (entry : List ℕ) → List Change
 change_as (Some file) court kept entry = []
-change_as None court kept entry = if is_left (leaves court kept entry) entry then [] else record { number = next_number kept; entry = entry; answer = answers court kept entry } ∷ []
+change_as None court kept entry = if is_left (left_again court kept entry) entry then [] else record { number = next_number kept; entry = entry; answer = plain_answers court kept (after_name entry) } ∷ []
 
 -- the changes that a court makes to entries that come after these
 unfoldable pub changes_after : CourtView → (kept : List (List ℕ)) → (later : List (List ℕ)) → List Change
@@ -38,4 +39,4 @@ changes_by court (file ∷ later) = changes_after court (file ∷ []) later
 -- an entry can't follow others under a court, since its row gets this answer
 pub record IsOtherwise (court : CourtView) (kept : List (List ℕ)) (entry answer : List ℕ) : Type 0 where
   pub other : follows court kept entry → ⊥
-  pub answer_is : answer ≡ answers court kept entry
+  pub answer_is : answer ≡ plain_answers court kept (after_name entry)

@@ -6,6 +6,10 @@ use Rattle.std.specs.List.{starts_with}
 abbrev pub most_entries : ℕ
 most_entries = 1_000_000
 
+-- how many clerks may enter rows
+abbrev pub most_clerks : ℕ
+most_clerks = 64
+
 -- the line with which a later court's file begins; a row never begins so
 abbrev pub court_line : List ℕ
 court_line = codes "%%\n"

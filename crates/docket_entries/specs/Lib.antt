@@ -1,4 +1,6 @@
 pub mod Entries
+pub mod Cases
+pub mod CaseLines
 pub mod Rows
 pub mod History
 pub mod Register

@@ -10,9 +10,9 @@ use Rattle.office_rows.specs.declared.row.Work.TheVariants.{Command, Query}
 use Rattle.office_rows.specs.Words.{names_of}
 use Rattle.row_line.specs.Words.{line_read}
 use Rattle.docket_entries.specs.declared.questions.Questions.{Questions}
-use Rattle.docket_entries.specs.Entries.{next_number}
+use Rattle.docket_entries.specs.Entries.{most_clerks, next_number}
 use Rattle.docket_entries.specs.Register.{StandsAt}
-use Rattle.docket_entries.specs.Rows.{answer_to, most_clerks, told_of, within}
+use Rattle.docket_entries.specs.Rows.{answer_to, reading_at, told_of, within}
 
 -- the line that tells that a row asks for a change, where the next row has this number
 abbrev pub command_text : (number : ℕ) → List ℕ
@@ -29,7 +29,7 @@ shown_to court kept (line.Fault cause) = told_of court kept (line.Fault cause)
 shown_to court kept (line.Row row) = shown_for court kept row row.work
 
 unfoldable pub shown : CourtView → (kept : List (List ℕ)) → (line : List ℕ) → List ℕ
-shown court kept line = shown_to court kept (within kept (line_read most_clerks (names_of court) line))
+shown court kept line = shown_to court kept (within kept (line_read most_clerks (names_of court) (reading_at court kept line).text))
 
 -- its docket is that of the entries
 abbrev pub AsksOf : CourtView → Questions → (kept : List (List ℕ)) → Type 0

@@ -3,15 +3,18 @@ ghost use Rattle.std.specs.Prelude.{◌≡◌, ◌++◌, IfOk, OnOk, Some, optio
 ghost use Rattle.csv.specs.Records.{fields_of};
 ghost use Rattle.csv.specs.Writing.{default_writer, row_text};
 ghost use Rattle.office_rows.specs.Words.{names_of};
-ghost use Rattle.office_run.specs.Words.{line_of};
+ghost use Rattle.case_numbers.specs.Words.{name_line};
+ghost use Rattle.named_answers.specs.Words.{named_line_of};
 ghost use Rattle.durable_journal.specs.Words.{batch_of};
 ghost use Rattle.docket_entries.specs.Entries.{later_file, standing_file};
 ghost use Rattle.docket_entries.specs.Rows.{row_shown};
 
 use crate::register::{MOST_CLERKS, RowTypes};
+use case_numbers::{CaseName, Cases, after_name, push_name_line};
 use court_days::Court;
 use csv::StringRecord;
-use office_run::{Reply, push_numbers, push_reply};
+use named_answers::push_named_line;
+use office_run::Reply;
 use row_line::{Line, push_row_text, read_line};
 use std::alloc::{AllocError, Global};
 
@@ -48,31 +51,34 @@ pub fn court_entry(alloc: Global, file: &[u8]) -> Result<Vec<u8>, AllocError>
 }
 
 // The answer to the row of that number.
-#[tactic(auto, unfolding(office_run::specs::Text::line_of))]
 pub(crate) fn answer_of(
     alloc: Global,
     court: &Court,
+    cases: &Cases,
     number: u32,
     clerk: u8,
     reply: &Reply,
 ) -> Result<String, AllocError>
-    ensures { IfOk result (λ text. string_bytes text ≡ line_of court.now number clerk reply.now) }
+    ensures { IfOk result (λ text. string_bytes text ≡ named_line_of court.now cases.now.named number clerk reply.now) }
 {
     let mut text = String::new(alloc);
-    push_numbers(&mut text, u64::from(number), clerk)?;
-    push_reply(&mut text, court, reply)?;
+    push_named_line(&mut text, court, cases, u64::from(number), clerk, reply)?;
     Ok(text)
 }
 
-// The entry of a row with these fields and this answer.
+// The entry of a row with these fields and this answer, after the line of a new name.
 pub(crate) fn entry_of(
     alloc: Global,
+    name: &Option<CaseName>,
     fields: &StringRecord,
     answer: &str,
 ) -> Result<Vec<u8>, AllocError>
-    ensures { IfOk result (λ entry. entry.items ≡ row_text default_writer (fields_of fields.now) ++ answer.now) }
+    ensures { IfOk result (λ entry. entry.items ≡ name_line name.now ++ (row_text default_writer (fields_of fields.now) ++ answer.now)) }
 {
     let mut entry = Vec::new(alloc);
+    if let Some(name) = name {
+        push_name_line(&mut entry, name)?;
+    }
     push_row_text(&mut entry, fields)?;
     entry.extend_from_slice(answer.as_bytes())?;
     Ok(entry)
@@ -90,7 +96,7 @@ pub fn push_row(
     ensures { OnOk result (text.new.items ≡ text.old.items ++ row_shown (names_of court.now) entry.now) }
 {
     let _types: RowTypes = None;
-    match read_line(alloc, entry, MOST_CLERKS, court, fields)? {
+    match read_line(alloc, after_name(entry), MOST_CLERKS, court, fields)? {
         Line::Row(_) => push_row_text(text, fields),
         _ => Ok(()),
     }

@@ -1,5 +1,5 @@
 //! Laws of the definitions, the contracts of functions that do nothing.
-ghost use Rattle.docket_entries.specs.Laws.{AnswersAreTheRuns, FaultlessLinesSayRows, WhatIsLeftFollows, WhatIsLeftIsHistory};
+ghost use Rattle.docket_entries.specs.Laws.{ACaseNumberIsOneCase, AnswersAreTheRuns, FaultlessLinesSayRows, OtherLinesAreReadAsTheyAre, WhatIsLeftFollows, WhatIsLeftIsHistory};
 
 /// What a line leaves may follow when the journal is opened again, and is no court's file.
 #[tactic(auto, using(crate::proofs::EntryLemmas::left_follows))]
@@ -23,4 +23,16 @@ pub fn answers_are_the_runs()
 #[tactic(auto, using(crate::proofs::LineFaultLemmas::faultless_lines_say_rows_lem))]
 pub fn faultless_lines_say_rows()
     ensures { FaultlessLinesSayRows }
+{}
+
+/// After any entries no two names have one number, and no two have one key.
+#[tactic(auto, using(crate::proofs::CaseLemmas::one_case))]
+pub fn a_case_number_is_one_case()
+    ensures { ACaseNumberIsOneCase }
+{}
+
+/// A line that says a row, or has another fault than in its third field, is read as it is.
+#[tactic(auto, using(crate::proofs::CaseLemmas::other_lines))]
+pub fn other_lines_are_read_as_they_are()
+    ensures { OtherLinesAreReadAsTheyAre }
 {}

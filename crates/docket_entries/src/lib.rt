@@ -2,6 +2,7 @@
 //! it goes.
 #![tactic(auto)]
 
+mod case_line;
 mod docketed;
 mod entry;
 mod fault;
@@ -11,11 +12,13 @@ mod questions;
 mod register;
 mod review;
 
+pub use case_line::read_named;
 pub use docketed::Docketed;
 pub use entry::{court_entry, later_file, push_row, standing_file};
 pub use fault::HistoryFault;
 pub use laws::{
-    answers_are_the_runs, faultless_lines_say_rows, what_is_left_follows, what_is_left_is_history,
+    a_case_number_is_one_case, answers_are_the_runs, faultless_lines_say_rows,
+    other_lines_are_read_as_they_are, what_is_left_follows, what_is_left_is_history,
 };
 pub use line_faults::LineFault;
 pub use questions::Questions;

@@ -3,15 +3,18 @@ ghost use Rattle.std.specs.Prelude.{◌≡◌, ◌++◌, ◌∷◌, [], ℕ, Lis
 ghost use Rattle.office_rows.specs.Words.{names_of};
 ghost use Rattle.row_line.specs.Words.{line_read};
 ghost use Rattle.durable_session.specs.Words.{numbered_lines};
-ghost use Rattle.docket_entries.specs.LineFaults.{fault_as, fault_in, faults_of};
-ghost use Rattle.docket_entries.specs.Rows.{leaves, most_clerks, within};
+ghost use Rattle.docket_entries.specs.Entries.{most_clerks};
+ghost use Rattle.docket_entries.specs.LineFaults.{CountsAs, fault_as, fault_in, faults_of};
+ghost use Rattle.docket_entries.specs.Rows.{leaves, reading_at, within};
 
-use crate::register::{DocketRegister, MOST_CLERKS, RowTypes, within};
+use crate::case_line::{note_case, read_named};
+use crate::register::{DocketRegister, RowTypes, within};
+use case_numbers::Cases;
 use court_days::Court;
 use csv::StringRecord;
 use durable_session::{number_after, split_line};
 use office_rows::RowCause;
-use row_line::{Line, read_line};
+use row_line::Line;
 use std::alloc::{AllocError, Global};
 
 /// What is wrong with a line.
@@ -32,6 +35,8 @@ struct Reading {
     fields: StringRecord,
     // How many entries there would be.
     count: u32,
+    // The cases that would be opened.
+    cases: Cases,
     faults: Vec<LineFault>,
 }
 
@@ -46,6 +51,7 @@ impl Reading {
     ) -> Result<(), AllocError>
         ensures faults { OnOk result (map fault_in self.new.faults.items ≡ map fault_in self.old.faults.items ++ record { number = number; cause = cause; line = line.now } ∷ []) }
         ensures count { self.new.count ≡ self.old.count }
+        ensures cases { self.new.cases ≡ self.old.cases }
         ensures fields { self.new.fields ≡ self.old.fields }
     {
         let line = Vec::from_slice(alloc, line)?;
@@ -65,18 +71,20 @@ impl Reading {
         number: usize,
         line: &[u8],
     ) -> Result<(), AllocError>
-        ensures faults { (kept : List (List ℕ)) → self.old.count ≡ length kept → OnOk result
-            (map fault_in self.new.faults.items ≡ map fault_in self.old.faults.items ++ fault_as number line.now (within kept (line_read most_clerks (names_of court.now) line.now))) }
-        ensures count { (kept : List (List ℕ)) → self.old.count ≡ length kept → OnOk result (self.new.count ≡ length (kept ++ leaves court.now kept line.now)) }
+        ensures faults { (kept : List (List ℕ)) → CountsAs court.now kept self.old.count self.old.cases → OnOk result
+            (map fault_in self.new.faults.items ≡ map fault_in self.old.faults.items ++ fault_as number line.now (within kept (line_read most_clerks (names_of court.now) (reading_at court.now kept line.now).text))) }
+        ensures counts { (kept : List (List ℕ)) → CountsAs court.now kept self.old.count self.old.cases → OnOk result (CountsAs court.now (kept ++ leaves court.now kept line.now) self.new.count self.new.cases) }
     {
         let _types: RowTypes = None;
-        let said = read_line(alloc, line, MOST_CLERKS, court, &mut self.fields)?;
+        let (said, name) = read_named(alloc, court, &self.cases, line, &mut self.fields)?;
         match within(said, self.count) {
-            Line::Blank => {}
-            Line::Fault(cause) => self.note(alloc, number, cause, line)?,
-            Line::Row(_) => self.count += 1,
+            Line::Blank => Ok(()),
+            Line::Fault(cause) => self.note(alloc, number, cause, line),
+            Line::Row(row) => {
+                self.count += 1;
+                note_case(alloc, &mut self.cases, &row.work, name)
+            }
         }
-        Ok(())
     }
 }
 
@@ -95,6 +103,7 @@ impl DocketRegister {
         let mut reading = Reading {
             fields: StringRecord::new(alloc),
             count: self.count,
+            cases: self.cases.copy(alloc)?,
             faults: Vec::new(alloc),
         };
         let mut number = 1usize;

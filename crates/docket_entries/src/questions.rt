@@ -46,7 +46,8 @@ impl Register for Questions {
         text: &mut Vec<u8>,
     ) -> Result<(), AllocError> {
         let _types: RowTypes = None;
-        match self.register.said(alloc, court, line)? {
+        let (said, _) = self.register.heard(alloc, court, line)?;
+        match said {
             Line::Blank => Ok(()),
             Line::Fault(cause) => push_fault(alloc, text, self.register.next_number(), cause),
             Line::Row(row) => match &row.work {

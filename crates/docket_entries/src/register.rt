@@ -8,12 +8,15 @@ ghost use Rattle.row_line.specs.declared.line.Line.TheVariants as says;
 ghost use Rattle.office_streams.specs.Words.{told_line};
 ghost use Rattle.court_days.specs.Words.{CourtView};
 ghost use Rattle.docket_entries.specs.Differences.{IsOtherwise};
-ghost use Rattle.docket_entries.specs.Entries.{later_file, most_entries, next_number};
+ghost use Rattle.docket_entries.specs.Entries.{later_file, most_clerks, most_entries, next_number};
+ghost use Rattle.docket_entries.specs.Cases.{cases_of};
 ghost use Rattle.docket_rows.specs.Words.{setup_of};
 ghost use Rattle.office_run.specs.Words.{Holds, docketed_then};
-ghost use Rattle.docket_entries.specs.Rows.{answer_to, docketed_by, follows, most_clerks, within};
+ghost use Rattle.docket_entries.specs.Rows.{answer_to, docketed_by, follows, within};
 
+use crate::case_line::{note_case, read_named};
 use crate::entry::{answer_of, entry_of};
+use case_numbers::{CaseName, Cases, after_name, name_before};
 use court_clock::Day;
 use court_days::Court;
 use csv::StringRecord;
@@ -45,13 +48,15 @@ pub struct DocketRegister {
     pub(crate) count: u32,
     // The number of the next row, counted from 1.
     pub(crate) number: u32,
+    // The cases that were opened.
+    pub(crate) cases: Cases,
     // The fields of the row that was read last.
     fields: StringRecord,
     ghost numbered: { number ≤ count },
 }
 
 impl DocketRegister {
-    ghost use Rattle.docket_entries.specs.Register.{IsDone, StandsAt};
+    ghost use Rattle.docket_entries.specs.Register.{IsDone, IsHeard, StandsAt};
 
     // The register of a court before its first row.
     pub(crate) fn new(alloc: Global, court: &Court) -> Result<DocketRegister, AllocError>
@@ -62,11 +67,12 @@ impl DocketRegister {
             docket: Docket::new(alloc, court)?,
             count: 1,
             number: 1,
+            cases: Cases::new(alloc),
             fields: StringRecord::new(alloc),
         })
     }
 
-    // What a line says, whose fields are kept where it says a row.
+    // What a plain line says, whose fields are kept where it says a row.
     pub(crate) fn said(
         &mut self,
         alloc: Global,
@@ -75,6 +81,7 @@ impl DocketRegister {
     ) -> Result<Line, AllocError>
         ensures said { (kept : List (List ℕ)) → self.old.count ≡ length kept → IfOk result (λ said. said ≡ within kept (line_read most_clerks (names_of court.now) line.now)) }
         ensures fields { IfOk result (λ said. (row : RowOf) → said ≡ says.Row row → fields_of self.new.fields ≡ fields_read line.now) }
+        ensures cases { self.new.cases ≡ self.old.cases }
         ensures docket { self.new.docket ≡ self.old.docket }
         ensures count { self.new.count ≡ self.old.count }
         ensures number { self.new.number ≡ self.old.number }
@@ -82,6 +89,24 @@ impl DocketRegister {
     {
         let said = read_line(alloc, line, MOST_CLERKS, court, &mut self.fields)?;
         Ok(within(said, self.count))
+    }
+
+    // What a line says, and the name in it that no case has yet. The fields of its plain line are kept where it says a row.
+    pub(crate) fn heard(
+        &mut self,
+        alloc: Global,
+        court: &Court,
+        line: &[u8],
+    ) -> Result<(Line, Option<CaseName>), AllocError>
+        ensures said { (kept : List (List ℕ)) → StandsAt court.now self.old kept → IfOk result (IsHeard court.now kept line.now (fields_of self.new.fields)) }
+        ensures docket { self.new.docket ≡ self.old.docket }
+        ensures cases { self.new.cases ≡ self.old.cases }
+        ensures count { self.new.count ≡ self.old.count }
+        ensures number { self.new.number ≡ self.old.number }
+        ensures room { IfOk result (λ heard. (row : RowOf) → heard.0 ≡ says.Row row → self.old.count < most_entries) }
+    {
+        let (said, name) = read_named(alloc, court, &self.cases, line, &mut self.fields)?;
+        Ok((within(said, self.count), name))
     }
 
     // Decides a row, and gives its answer.
@@ -96,25 +121,28 @@ impl DocketRegister {
         ensures docket { (kept : List (List ℕ)) → StandsAt court.now self.old kept → OnOk result (Holds (setup_of court.now) self.new.docket (docketed_then (setup_of court.now) (docketed_by court.now kept) row.now.work)) }
         ensures count { self.new.count ≡ self.old.count }
         ensures number { self.new.number ≡ self.old.number }
+        ensures cases { self.new.cases ≡ self.old.cases }
         ensures fields { self.new.fields ≡ self.old.fields }
     {
         let reply = reply_to(alloc, &mut self.docket, &row.work)?;
-        answer_of(alloc, court, self.number, row.clerk, &reply)
+        answer_of(alloc, court, &self.cases, self.number, row.clerk, &reply)
     }
 
-    // Does a row, and gives its answer and its entry.
+    // Does a row, perhaps with a new name, and gives its answer and its entry.
     fn done(
         &mut self,
         alloc: Global,
         court: &Court,
         row: &Row,
+        name: Option<CaseName>,
     ) -> Result<(String, Vec<u8>), AllocError>
         requires { self.old.count < most_entries }
-        ensures done { (kept : List (List ℕ)) → StandsAt court.now self.old kept → IfOk result (IsDone court.now kept (fields_of self.old.fields) row.now self.new) }
+        ensures done { (kept : List (List ℕ)) → StandsAt court.now self.old kept → IfOk result (IsDone court.now kept (fields_of self.old.fields) row.now name self.new) }
         ensures count { OnOk result (self.new.count ≡ self.old.count + 1) }
     {
         let answer = self.answered(alloc, court, row)?;
-        let entry = entry_of(alloc, &self.fields, &answer)?;
+        let entry = entry_of(alloc, &name, &self.fields, &answer)?;
+        note_case(alloc, &mut self.cases, &row.work, name)?;
         self.count += 1;
         self.number += 1;
         Ok((answer, entry))
@@ -132,6 +160,13 @@ impl DocketRegister {
         ensures { (court : CourtView) (kept : List (List ℕ)) → StandsAt court self.now kept → Holds (setup_of court) result.now (docketed_by court kept) }
     {
         &self.docket
+    }
+
+    /// The cases that were opened, with their names.
+    pub fn cases(&self) -> &Cases
+        ensures { (court : CourtView) (kept : List (List ℕ)) → StandsAt court self.now kept → result.now ≡ cases_of court kept }
+    {
+        &self.cases
     }
 
     /// Whether the journal has room for another entry.
@@ -152,6 +187,7 @@ impl DocketRegister {
     fn pass_row(&mut self)
         requires { self.old.count < most_entries }
         ensures docket { self.new.docket ≡ self.old.docket }
+        ensures cases { self.new.cases ≡ self.old.cases }
         ensures count { self.new.count ≡ self.old.count + 1 }
         ensures number { self.new.number ≡ self.old.number + 1 }
     {
@@ -173,9 +209,10 @@ impl DocketRegister {
         ensures count { OnOk result (self.new.count ≡ self.old.count + 1) }
     {
         let _types: RowTypes = None;
-        match self.said(alloc, court, entry)? {
+        let name = name_before(alloc, entry)?;
+        match self.said(alloc, court, after_name(entry))? {
             Line::Row(row) => {
-                let (answer, again) = self.done(alloc, court, &row)?;
+                let (answer, again) = self.done(alloc, court, &row, name)?;
                 if again.as_slice() == entry {
                     Ok(None)
                 } else {
@@ -196,7 +233,7 @@ impl DocketRegister {
     }
 }
 
-// What a line says after so many entries: where there is no room for another, a row is one too many.
+// What a line says after this many entries: where there is no room for another, a row is one too many.
 pub(crate) fn within(said: Line, count: u32) -> Line
     ensures said { (kept : List (List ℕ)) → count ≡ length kept → result ≡ within kept said }
     ensures row { (row : RowOf) → result ≡ says.Row row → said ≡ says.Row row }
@@ -250,11 +287,12 @@ impl Register for DocketRegister {
         text: &mut Vec<u8>,
     ) -> Result<(), AllocError> {
         let _types: RowTypes = None;
-        match self.said(alloc, court, line)? {
+        let (said, name) = self.heard(alloc, court, line)?;
+        match said {
             Line::Blank => Ok(()),
             Line::Fault(cause) => push_fault(alloc, text, self.number, cause),
             Line::Row(row) => {
-                let (answer, entry) = self.done(alloc, court, &row)?;
+                let (answer, entry) = self.done(alloc, court, &row, name)?;
                 text.extend_from_slice(answer.as_bytes())?;
                 batch.push(entry)?;
                 Ok(())

@@ -22,7 +22,7 @@ pub fn every_hearing_lies_on_a_court_day_within_office_hours()
     ensures { EveryHearingLiesOnACourtDayWithinOfficeHours }
 {}
 
-/// The rows of a docket fit together, and no step undoes that: each case stands once, deadlines and motions are those of
+/// The rows of a docket fit together, and no step undoes that: each case is there once, deadlines and motions are those of
 /// open cases and numbered from 1, each hearing is that of a motion, before judges and in a room of the court.
 pub fn rows_stay_sound()
     ensures { RowsStaySound }

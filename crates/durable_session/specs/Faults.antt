@@ -14,7 +14,7 @@ fault_from journal.Write = Journal journal.Write
 fault_from journal.Sync = Journal journal.Sync
 fault_from journal.OutOfMemory = OutOfMemory
 
--- only a write that has failed is told as one
+-- only a write that has failed is said to be one
 abbrev pub IsToldIfFailed : (failed : Bool) → SessionFault → Type 0
 IsToldIfFailed failed (Journal fault) = Unit {0}
 IsToldIfFailed failed Read = Unit {0}

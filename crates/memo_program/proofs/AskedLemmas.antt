@@ -1,5 +1,5 @@
 -- The number of a case, as it is read of the text of its option, and the faults of words.
-use Rattle.std.proofs.Common.{◌≡◌, ℕ, Bool, true, false, ◌&&◌, List, [], ◌∷◌, Option, Some, None, Result, inl, inr, refl}
+use Rattle.std.proofs.Common.{◌≡◌, ℕ, List, [], ◌∷◌, Option, Some, None, Result, inl, inr, refl}
 use Rattle.std.specs.Str.Parse.{ExplainsUnsignedError, HasUnsignedDigitsIfOk, ParsesUnsigned}
 use Rattle.std.specs.declared.num.ParseIntError.{ParseIntError}
 use Rattle.clap.specs.Kinds.{Kinds, or_else}
@@ -19,11 +19,6 @@ pub case_read : (text : Option Text) (number : Option ℕ) → (text ≡ None �
 case_read None number none value = none refl
 case_read (Some t) (Some n) none value = let read = value t refl in read.0
 case_read (Some t) None none value = let read = value t refl in (read.0, read.1.0)
-
--- what passes two tests passes each
-pub both_taken : (a b : Bool) → (a && b) ≡ true → (a ≡ true) × (b ≡ true)
-both_taken true b both = (refl, both)
-both_taken false b both = absurd cc
 
 -- a fault of the first kinds is one of those that come first
 pub first_fault : (kinds next : Kinds) (fault : OptionsFault) → IsFaultAmong kinds fault → IsFaultAmong (or_else kinds next) fault

@@ -24,7 +24,7 @@ abbrev pub IsClosing : CourtView → List NamedDay → (docketed : Rows) → Lis
 IsClosing court names docketed =
     Then (AreSheets court names docketed 1 last_case) (Is (calendars_from court (parts_of docketed) 0 (length court.judges)))
 
--- the replies to rows, and what stands behind them
+-- the replies to rows, and what comes after them
 abbrev pub IsMemo : CourtView → List NamedDay → List Row → List ℕ → Type 0
 IsMemo court names rows =
     let opening = opening_rows (setup_of court) in

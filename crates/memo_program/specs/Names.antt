@@ -12,7 +12,7 @@ use Rattle.reason_texts.specs.Words.{NamedDay}
 abbrev pub is_printed_byte : ℕ → Bool
 is_printed_byte b = not (nat_lt b 32 || (b == 127))
 
--- a text that can stand in a line as a name: it isn't empty, and has no such character
+-- a text that can be a name in a line: it isn't empty, and has no such character
 abbrev pub is_printed : List ℕ → Bool
 is_printed text = not (length text == 0) && list_all is_printed_byte text
 

@@ -1,6 +1,6 @@
 -- The lines that say of an act by how much it was in time or late, of a refusal why it is one, and of an extension what a reader
 -- is warned of.
-use Rattle.std.specs.Prelude.{ℕ, ◌==◌, find, List, [], Option, Some, None}
+use Rattle.std.specs.Prelude.{ℕ, List, [], Option, Some}
 use Rattle.court_days.specs.Words.{CourtView}
 use Rattle.rule6.specs.declared.timeliness.Shown.{Shown}
 use Rattle.rule_periods.specs.declared.grant.Request.{Request}
@@ -9,33 +9,17 @@ use Rattle.docket_rows.specs.declared.answer.Answer.{Answer}
 use Rattle.docket_rows.specs.declared.answer.Answer.TheVariants as answer
 use Rattle.docket_rows.specs.declared.command.Command.{Command as CommandOf}
 use Rattle.docket_rows.specs.declared.query.Query.{Query as QueryOf}
-use Rattle.docket_rows.specs.declared.query.Query.TheVariants as query
-use Rattle.docket_rows.specs.declared.sheet.SheetMotion.{SheetMotion}
 use Rattle.docket_rows.specs.declared.view.View.{View}
 use Rattle.docket_rows.specs.declared.view.View.TheVariants as view
-use Rattle.docket_rows.specs.Words.{Rows, deadline_in, parts_of, setup_of, view_of}
+use Rattle.docket_rows.specs.Words.{Rows, parts_of}
 use Rattle.office_rows.specs.declared.row.Work.{Work}
 use Rattle.office_rows.specs.declared.row.Work.TheVariants.{Command, Query}
 use Rattle.office_run.specs.declared.reply.Reply.{Reply}
 use Rattle.office_run.specs.declared.reply.Reply.TheVariants.{Made, Viewed}
 use Rattle.act_margins.specs.Words.{recorded_lines}
 use Rattle.docket_notes.specs.Words.{extension_notes}
-use Rattle.refusal_texts.specs.Words.{deadline_asked, motion_of_refusal, query_lines, refusal_lines, request_asked}
-
--- the docketed deadline of a case and a number, if they are given and there is one
-abbrev pub deadline_at : (docketed : Rows) → Option (ℕ × ℕ) → Option DeadlineRowView
-deadline_at docketed (Some at) = deadline_in (parts_of docketed) at.0 at.1
-deadline_at docketed None = None
-
--- the motion of that number on a sheet
-abbrev pub motion_viewed : (number : ℕ) → View → Option SheetMotion
-motion_viewed number (view.Sheet sheet) = find (λ (m : SheetMotion). m.number == number) sheet.motions
-motion_viewed number v = None
-
--- the motion of a case and a number, as the sheet of the case shows it
-abbrev pub motion_at : CourtView → (docketed : Rows) → Option (ℕ × ℕ) → Option SheetMotion
-motion_at court docketed (Some at) = motion_viewed at.1 (view_of (setup_of court) docketed (query.Sheet at.0))
-motion_at court docketed None = None
+use Rattle.refusal_texts.specs.Words.{deadline_asked, motion_called, motion_of_refusal, query_lines, request_asked}
+use Rattle.refused_commands.specs.Words.{deadline_at, why_refused}
 
 -- what a reader is warned of an extension, by the deadline as it was left and the request for it
 abbrev pub notes_of_request : CourtView → Shown → Option DeadlineRowView → Option Request → List ℕ
@@ -45,11 +29,11 @@ notes_of_request court shown row request = []
 -- what is said of the answer to a command
 abbrev pub notes_of : CourtView → (docketed : Rows) → CommandOf → Answer → List ℕ
 notes_of court docketed command (answer.Filed timely) =
-    recorded_lines docketed.days court.clock (deadline_at docketed (deadline_asked command))
+    recorded_lines docketed.days court.clock (deadline_at (parts_of docketed) (deadline_asked command))
 notes_of court docketed command (answer.Extended shown) =
-    notes_of_request court shown (deadline_at docketed (deadline_asked command)) (request_asked command)
+    notes_of_request court shown (deadline_at (parts_of docketed) (deadline_asked command)) (request_asked command)
 notes_of court docketed command (answer.Refused refusal) =
-    refusal_lines docketed.days court.clock command (deadline_at docketed (deadline_asked command)) (motion_at court docketed (motion_of_refusal command refusal)) refusal
+    why_refused court (parts_of docketed) command (motion_called (motion_of_refusal command refusal)) refusal
 notes_of court docketed command answer = []
 
 -- what is said of the view that answers a question

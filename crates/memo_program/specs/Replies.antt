@@ -64,7 +64,7 @@ pub record HasAnswered (court : CourtView) (docket : DocketView) (docketed : Row
   pub left : docketed ≡ docketed_then (setup_of court) before work
   pub holds : Holds (setup_of court) docket docketed
 
--- the reasons of the deadline whose end a reply tells, as it is docketed behind the row, or of that whose end is computed
+-- the reasons of the deadline whose end a reply tells, as it is docketed after the row, or of that whose end is computed
 abbrev pub AreReasonsTold : CourtView → List NamedDay → (docketed : Rows) → Option (ℕ × ℕ) → Option DeadlineRowView → List ℕ → Type 0
 AreReasonsTold court names docketed (Some told) computed = AreReasonsDocketed court names docketed told.0 told.1
 AreReasonsTold court names docketed None computed = AreReasonsIfAny court names docketed.days computed

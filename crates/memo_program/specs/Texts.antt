@@ -6,7 +6,7 @@ use Rattle.std.specs.declared.alloc.Global.{Global}
 abbrev pub Is : List ℕ → List ℕ → Type 0
 Is wanted text = text ≡ wanted
 
--- a text of the first kind, and behind it one of the second
+-- a text of the first kind, and after it one of the second
 pub record Then (First Second : List ℕ → Type 0) (text : List ℕ) : Type 0 where
   pub front : List ℕ
   pub back : List ℕ

@@ -1,4 +1,4 @@
-//! The command line, as `clap` is told of it.
+//! The command line, as `clap` takes it.
 
 ghost use Rattle.std.specs.Prelude.{◌≡◌, false, true, IfErr, IfOk};
 ghost use Rattle.clap.specs.Walk.{texts};

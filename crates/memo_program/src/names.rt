@@ -18,7 +18,7 @@ const TABLE: &str = "holiday_names";
 // A body that said at an entry which is passed over that memory ran out would meet these contracts; the program's stored
 // run has such entries.
 
-/// The names that a court's file gives to holidays: in its table `holiday_names` a text stands behind each date. What is
+/// The names that a court's file gives to holidays: in its table `holiday_names` each date has a text. What is
 /// no date, and a name that is no text, is empty or has an ASCII control character, is passed over, and so are names
 /// after the first `MOST_DATES`. Bytes that are no TOML have none. `Err` says that memory ran out.
 pub(crate) fn holiday_names(alloc: Global, file: &[u8]) -> Result<Vec<HolidayName>, AllocError>
@@ -86,7 +86,7 @@ fn push_named(
     }
 }
 
-/// Whether a text can stand in a line as a name.
+/// Whether a text can be a name in a line.
 fn is_printed(text: &str) -> bool
     ensures { result ≡ is_printed text.now }
 {

@@ -1,27 +1,25 @@
 //! What is said of an act, of an extension, and why a command or a question is refused.
 
-ghost use Rattle.std.specs.Prelude.{◌≡◌, ◌==◌, ◌++◌, IfOk, OnOk, find, option_copied, string_bytes};
-ghost use Rattle.docket_rows.specs.declared.sheet.SheetMotion.{SheetMotion as SheetMotionOf};
-ghost use Rattle.court_days.specs.Words.{CourtView};
-ghost use Rattle.docket_rows.specs.Words.{CourtSetup, Rows, setup_of};
+ghost use Rattle.std.specs.Prelude.{◌≡◌, ◌++◌, OnOk, option_copied, string_bytes};
+ghost use Rattle.docket_rows.specs.Words.{CourtSetup, Rows, parts_of, setup_of};
 ghost use Rattle.office_run.specs.Words.{Holds};
 ghost use Rattle.act_margins.specs.Words.{recorded_lines};
-ghost use Rattle.refusal_texts.specs.Words.{deadline_asked, request_asked};
-ghost use Rattle.memo_program.specs.Notes.{deadline_at, motion_at, motion_viewed, notes_of, notes_of_request, notes_text, notes_viewed};
+ghost use Rattle.refusal_texts.specs.Words.{deadline_asked, motion_called, motion_of_refusal, request_asked};
+ghost use Rattle.refused_commands.specs.Words.{deadline_at, why_refused};
+ghost use Rattle.memo_program.specs.Notes.{notes_of, notes_of_request, notes_text, notes_viewed};
 
 use act_margins::push_recorded;
-use court_clock::Day;
 use court_days::Court;
 use docket_core::Docket;
 use docket_notes::push_extension_notes;
-use docket_rows::{Answer, Command, Hearing, Query, Refusal, SheetHearing, SheetMotion, View};
-use hearing_slots::{Need, Panel};
+use docket_rows::{Answer, Command, Query, Refusal, View};
 use office_rows::Work;
 use office_run::Reply;
 use refusal_texts::{
-    deadline_asked, motion_of_refusal, push_query_refusal, push_refusal, request_asked,
+    deadline_asked, motion_of_refusal, push_motion_called, push_query_refusal, request_asked,
 };
-use rule_periods::{DeadlineRow, DocketRow, Request};
+use refused_commands::{deadline_at, push_why_refused};
+use rule_periods::{DeadlineRow, Request};
 use rule6::Shown;
 use std::alloc::{AllocError, Global};
 
@@ -75,7 +73,7 @@ fn push_filed(
     docket: &Docket,
     command: &Command,
 ) -> Result<(), AllocError>
-    ensures { (docketed : Rows) → Holds (setup_of court.now) docket.now docketed → OnOk result (string_bytes text.new ≡ string_bytes text.old ++ recorded_lines docketed.days court.now.clock (deadline_at docketed (deadline_asked command.now))) }
+    ensures { (docketed : Rows) → Holds (setup_of court.now) docket.now docketed → OnOk result (string_bytes text.new ≡ string_bytes text.old ++ recorded_lines docketed.days court.now.clock (deadline_at (parts_of docketed) (deadline_asked command.now))) }
 {
     let row = deadline_at(docket, deadline_asked(command));
     push_recorded(alloc, text, docket.days(), court.clock(), row)
@@ -89,7 +87,7 @@ fn push_extended(
     command: &Command,
     shown: &Shown,
 ) -> Result<(), AllocError>
-    ensures { (docketed : Rows) → Holds (setup_of court.now) docket.now docketed → OnOk result (string_bytes text.new ≡ string_bytes text.old ++ notes_of_request court.now shown.now (deadline_at docketed (deadline_asked command.now)) (request_asked command.now)) }
+    ensures { (docketed : Rows) → Holds (setup_of court.now) docket.now docketed → OnOk result (string_bytes text.new ≡ string_bytes text.old ++ notes_of_request court.now shown.now (deadline_at (parts_of docketed) (deadline_asked command.now)) (request_asked command.now)) }
 {
     let row = deadline_at(docket, deadline_asked(command));
     push_notes_of_request(text, court, shown, row, request_asked(command))
@@ -129,9 +127,6 @@ fn push_notes_viewed(
     }
 }
 
-/// The types that a motion is made of, which a function that hands one on has to name.
-type MotionTypes = Option<(Day, Need, Hearing, SheetHearing, Panel)>;
-
 /// Adds why a command is refused.
 fn push_refused(
     alloc: Global,
@@ -141,81 +136,17 @@ fn push_refused(
     command: &Command,
     refusal: &Refusal,
 ) -> Result<(), AllocError>
-    ensures { (docketed : Rows) → Holds (setup_of court.now) docket.now docketed → OnOk result (string_bytes text.new ≡ string_bytes text.old ++ notes_of court.now docketed command.now (Answer.Refused refusal.now)) }
+    ensures { (docketed : Rows) → Holds (setup_of court.now) docket.now docketed → OnOk result (string_bytes text.new ≡ string_bytes text.old ++ why_refused court.now (parts_of docketed) command.now (motion_called (motion_of_refusal command.now refusal.now)) refusal.now) }
 {
-    let _types: MotionTypes = None;
-    let row = deadline_at(docket, deadline_asked(command));
-    let motion = motion_at(alloc, docket, motion_of_refusal(command, refusal))?;
-    push_refusal(
+    let mut called = String::new(alloc);
+    push_motion_called(&mut called, motion_of_refusal(command, refusal))?;
+    push_why_refused(
         alloc,
         text,
-        docket.days(),
-        court.clock(),
+        court,
+        docket,
         command,
-        row,
-        motion,
+        called.as_str(),
         refusal,
     )
-}
-
-/// The docketed deadline of a case and a number, if they are given and there is one.
-fn deadline_at(docket: &Docket, at: Option<(u32, u32)>) -> Option<&DeadlineRow>
-    ensures { (court : CourtView) (docketed : Rows) → Holds (setup_of court) docket.now docketed → option_copied result ≡ deadline_at docketed at }
-{
-    match at {
-        Some((case, number)) => row_of(docket.deadline(case, number)),
-        None => None,
-    }
-}
-
-/// The deadline of a row of the docket.
-fn row_of(found: Option<&DocketRow>) -> Option<&DeadlineRow>
-    ensures { option_copied result ≡ option_copied found.entry }
-{
-    match found {
-        Some(row) => Some(row.row()),
-        None => None,
-    }
-}
-
-/// The motion of a case and a number, as the sheet of the case shows it. `Err` says that memory ran out.
-fn motion_at(
-    alloc: Global,
-    docket: &Docket,
-    at: Option<(u32, u32)>,
-) -> Result<Option<SheetMotion>, AllocError>
-    ensures { (court : CourtView) (docketed : Rows) → Holds (setup_of court) docket.now docketed → IfOk result (λ motion. motion ≡ motion_at court docketed at) }
-{
-    match at {
-        Some((case, number)) => {
-            let view = docket.show(alloc, &Query::Sheet(case))?;
-            Ok(motion_viewed(&view, number))
-        }
-        None => Ok(None),
-    }
-}
-
-/// The motion of that number on a sheet.
-fn motion_viewed(view: &View, number: u32) -> Option<SheetMotion>
-    ensures { result ≡ motion_viewed number view.now }
-{
-    match view {
-        View::Sheet(sheet) => motion_of(sheet.motions.as_slice(), number),
-        _ => None,
-    }
-}
-
-/// The first motion of that number in a list.
-fn motion_of(motions: &[SheetMotion], number: u32) -> Option<SheetMotion>
-    ensures { result ≡ find (λ (m : SheetMotionOf). m.number == number) motions.now }
-{
-    match motions {
-        [] => None,
-        [motion, rest @ ..] => {
-            if motion.number == number {
-                return Some(*motion);
-            }
-            motion_of(rest, number)
-        }
-    }
 }

@@ -2,6 +2,6 @@
 use Rattle.std.specs.Prelude.{List, drop}
 use Rattle.clap.specs.Words.{Text}
 
--- the words behind the program's name
+-- the words after the program's name
 abbrev pub arguments_in : List Text → List Text
 arguments_in all = drop 1 all

@@ -1,4 +1,4 @@
-//! The command line, as `clap` is told of it.
+//! The command line, as `clap` takes it.
 
 ghost use Rattle.std.specs.Prelude.{◌≡◌, IfOk, false};
 ghost use Rattle.clap.specs.Words.{app_of, rule_of};

@@ -15,7 +15,7 @@ pub fn arguments_of(rt: &HostRuntime) -> io::Result<Vec<String>> {
     Ok(env::args(rt)?.collect(rt.alloc())?)
 }
 
-/// The texts of the words behind the program's name, which is the first. `Err` says that memory ran out.
+/// The texts of the words after the program's name, which is the first. `Err` says that memory ran out.
 pub fn argument_texts(alloc: Global, words: &[String]) -> Result<Vec<&str>, AllocError>
     ensures { IfOk result (λ found. texts found.items ≡ arguments_in (map string_bytes words.now)) }
 {

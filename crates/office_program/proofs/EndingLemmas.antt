@@ -12,7 +12,7 @@ module _ {R : Type 0} (faults_of : List Text → Kinds) (takes : List Text → B
   chosen_report : {IsSo : R → Type 0} → IsSo report → WithReport faults_of IsChosen words IsSo
   chosen_report is_so = record { report = report; faultless = faultless; chosen = chosen; is_so = is_so }
 
-  -- with 2 or 3 the line of the input's fault is told
+  -- with 2 or 3 the line of the input's fault is written
   faulty_if_told : (fault : OfficeFault) (input : List ℕ) → IsReportRun (clerk_count report) (IsText report) old new (Err fault) input → IsToldAs fault status G → (status ≡ 2) ⊎ (status ≡ 3) → HasFaultTold status G (input_of (clerk_count report) input)
   faulty_if_told (Court fault) input run told two_or_three = record { fault = Court fault; has = run; told = told }
   faulty_if_told (Row number cause) input run told two_or_three = record { fault = Row number cause; has = run; told = told }

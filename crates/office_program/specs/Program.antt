@@ -30,7 +30,7 @@ pub record WithReport {R : Type 0} (faults_of : List Text → Kinds) (IsChosen :
   pub is_so : IsSo report
 
 -- 0 says that the help or the version, which the words ask for, was written, or that all rows were answered; 2 that the
--- court's file has a fault and 3 that a row has one, whose line is told; 4 that nothing was written, or that writing
+-- court's file has a fault and 3 that a row has one, whose line is written; 4 that nothing was written, or that writing
 -- stopped within what was to be written. A report says how many clerks there are.
 pub record IsEnding {R : Type 0} (faults_of : List Text → Kinds) (takes : List Text → Bool) (IsChosen : List Text → R → Type 0) (clerk_count : R → ℕ) (IsText : R → (file : List ℕ) → Input → List ℕ → Type 0)
     (words : List Text) (old new : Option (List ℕ)) (IsGivenErrors : List ℕ → Type 0) (status : ℕ) (input : List ℕ) : Type 0 where

@@ -39,7 +39,7 @@ pub fn run_program<H: Threads + Wait + Sync, P: Program, R: Read, W: Write, E: W
         (result ≡ 1) × IsGiven E.contents errors.old errors.new no_text_line) }
 
     // Words that are refused: only those that have a mistake, and where they ask for no help nothing else can happen to
-    // them but that memory runs out. What is wrong with them is told.
+    // them but that memory runs out. What is wrong with them is written.
     ensures mistaken { IfOk words (λ all. result ≡ 1 → HasMistake (P.faults (arguments_in (map string_bytes all.items)))) }
     ensures told { IfOk words (λ all. result ≡ 1 →
         WithText P.faults P.takes P.is_chosen (arguments_in (map string_bytes all.items)) OptionsFault.BadWords (IsGiven E.contents errors.old errors.new)) }
@@ -60,7 +60,7 @@ pub fn run_program<H: Threads + Wait + Sync, P: Program, R: Read, W: Write, E: W
     ensures no_memory { result ≡ 5 → IsGiven E.contents errors.old errors.new (told_line OfficeFault.OutOfMemory) }
     ensures known { result ≤ 5 }
 
-    // A read or a write that fails is told as such, and is the last one.
+    // A read or a write that fails is answered as such, and is the last one.
     ensures failed { result ≡ 4 →
         (WasCutShort reader.old reader.new × IsGiven E.contents errors.old errors.new (told_line OfficeFault.ReadFault))
         ⊎ ((has_failed writer.new ≡ true) × IsGiven E.contents errors.old errors.new (told_line OfficeFault.WriteFault)) }

@@ -7,7 +7,7 @@ use Rattle.std.proofs.lemmas.Slice.Eq.{starts_is}
 use Rattle.office_streams.specs.Division.{behind, behind_line_end, behind_divider, divided_at, divided_from, rows_part}
 use Rattle.office_streams.specs.Divider.{FirstDividerDivides, HasDivider, StartsWithDivider}
 
--- what stands behind a beginning
+-- what comes after a beginning
 behind-some : (beginning bytes rest : List ℕ) → behind beginning bytes ≡ Some rest → bytes ≡ beginning ++ rest
 behind-some beginning bytes rest found = by (starts_with eqb bytes beginning) refl found
   where
@@ -22,7 +22,7 @@ behind-none beginning bytes rest none split =
     let starts = (starts_is Decides-eqb bytes beginning (starts_with eqb bytes beginning) refl).1 rest split in
     cc (rw starts at none)
 
--- what stands behind the end of a line
+-- what comes after the end of a line
 record EndsLine (bytes rows : List ℕ) : Type 0 where
   how : (bytes ≡ 10 ∷ rows) ⊎ (bytes ≡ 13 ∷ 10 ∷ rows) ⊎ ((bytes ≡ []) × (rows ≡ []))
 
@@ -34,7 +34,7 @@ line_end-some (b ∷ bytes) rows found = by (behind (10 ∷ []) (b ∷ bytes)) r
     by (Some rest) e found = record { how = inl (behind-some (10 ∷ []) (b ∷ bytes) rows (e ∙ found)) }
     by None e found = record { how = inr (inl (behind-some (13 ∷ 10 ∷ []) (b ∷ bytes) rows found)) }
 
--- a divider that is found stands there
+-- a divider that is found is there
 divider-some : (bytes rows : List ℕ) → behind_divider true bytes ≡ Some rows → StartsWithDivider bytes rows
 divider-some bytes rows found = by (behind (codes "%%") bytes) refl found
   where
@@ -51,7 +51,7 @@ divider-some bytes rows found = by (behind (codes "%%") bytes) refl found
     by (Some rest) e found = ends rest (behind-some (codes "%%") bytes rest e) (line_end-some rest rows found)
     by None e found = cc found
 
--- a divider that isn't found doesn't stand there
+-- a divider that isn't found isn't there
 divider-none : (bytes rows : List ℕ) → behind_divider true bytes ≡ None → StartsWithDivider bytes rows → ⊥
 divider-none bytes rows none stands =
     elim stands.is_divider [
@@ -62,7 +62,7 @@ divider-none bytes rows none stands =
       ]
     ]
 
--- no divider stands in nothing
+-- no divider is in nothing
 nothing-divider : (rows : List ℕ) → StartsWithDivider [] rows → ⊥
 nothing-divider rows stands =
     elim stands.is_divider [
@@ -108,7 +108,7 @@ unfolding Begins
 nearer begins_line b bytes zero h = (Decides-eqb b 10).1 (cc h)
 nearer begins_line b bytes (suc i) h = h
 
--- no divider stands before or at this byte, if none is found at it and none before the place behind it
+-- no divider is before or at this byte, if none is found at it and none before the place after it
 not_before : (begins_line : Bool) (b : ℕ) (bytes : List ℕ) (k : ℕ) (rows : List ℕ) → behind_divider begins_line (b ∷ bytes) ≡ None
     → ((j : ℕ) → suc j ≡ k → HasDividerFrom (b == 10) bytes j rows → ⊥) → HasDividerFrom begins_line (b ∷ bytes) k rows → ⊥
 unfolding Begins

@@ -22,7 +22,7 @@ fault_is_past_1 ReadFault = omega arith
 fault_is_past_1 WriteFault = omega arith
 fault_is_past_1 OutOfMemory = omega arith
 
--- a fault is told as what it is, or as want of memory
+-- a fault is written as what it is, or as want of memory
 pub told_as : (fault : OfficeFault) (status : ℕ) (G : List ℕ → Type 0) → IsTold fault status G → IsToldAs fault status G ⊎ IsToldAs OutOfMemory status G
 told_as (Court fault) status G told = told
 told_as (Row number cause) status G told = told
@@ -30,7 +30,7 @@ told_as ReadFault status G told = inl told
 told_as WriteFault status G told = inl told
 told_as OutOfMemory status G told = inl told
 
--- whichever is told of it
+-- whichever is written of it
 pub told_is_past_1 : (fault : OfficeFault) (status : ℕ) (G : List ℕ → Type 0) → IsTold fault status G → 1 < status
 told_is_past_1 fault status G told = elim (told_as fault status G told) [
   | inl as_it_is ↦ omega (arith, as_it_is.numbered, fault_is_past_1 fault)

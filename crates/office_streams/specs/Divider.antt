@@ -1,4 +1,4 @@
--- What the division of the input means: where a line `%%` stands, and which is the first.
+-- What the division of the input means: where a line `%%` is, and which is the first.
 use Rattle.std.specs.Prelude.{◌≡◌, ◌⊎◌, ◌<◌, ⊤, ℕ, zero, suc, List, [], ◌∷◌, ◌++◌, Some, codes, drop, slice_get, take}
 use Rattle.office_streams.specs.Division.{court_part, rows_part}
 
@@ -17,7 +17,7 @@ pub record StartsWithDivider (bytes rows : List ℕ) : Type 0 where
   pub is_divider : IsDivider divider rows
   pub split : bytes ≡ divider ++ rows
 
--- a line `%%` stands at this place of the input, and these rows behind it
+-- a line `%%` is at this place of the input, and these rows come after it
 pub record HasDivider (input : List ℕ) (i : ℕ) (rows : List ℕ) : Type 0 where
   pub begins : BeginsLine input i
   pub line : StartsWithDivider (drop i input) rows

@@ -28,12 +28,12 @@ status_number OutOfMemory = 5
 abbrev pub told_line : OfficeFault → List ℕ
 told_line fault = fault_text fault ++ 10 ∷ []
 
--- a fault is told: the program ends with its status, and standard error is given its line
+-- a fault is written: the program ends with its status, and standard error is given its line
 pub record IsToldAs (fault : OfficeFault) (status : ℕ) (IsGivenErrors : List ℕ → Type 0) : Type 0 where
   pub numbered : status ≡ status_number fault
   pub line : IsGivenErrors (told_line fault)
 
--- a fault is told as what it is or, where there is no memory for its line, as want of memory
+-- a fault is written as what it is or, where there is no memory for its line, as want of memory
 abbrev pub IsToldIfRoom : OfficeFault → ℕ → (List ℕ → Type 0) → Type 0
 IsToldIfRoom fault status IsGivenErrors = IsToldAs fault status IsGivenErrors ⊎ IsToldAs OutOfMemory status IsGivenErrors
 

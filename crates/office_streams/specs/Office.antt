@@ -26,7 +26,7 @@ abbrev pub by_office : {A E : Type 0} → (E → OfficeFault) → Result A E →
 by_office fault_of (Ok x) = Ok x
 by_office fault_of (Err e) = Err (fault_of e)
 
--- the court's file and the rows behind it
+-- the court's file and the rows after it
 pub record Input : Type 0 where
   pub file : CourtFile
   pub rows : List RowOf
@@ -103,7 +103,7 @@ pub record WasReadWhole {R : Type 0} (old new : Watched R) : Type 0 where
   pub worked : has_failed new ≡ false
   pub within : IsWithinLimits old new
 
--- an input has the fault that is told with this status
+-- an input has the fault that is written with this status
 pub record HasFaultTold (status : ℕ) (IsGivenErrors : List ℕ → Type 0) (said : Result Input OfficeFault) : Type 0 where
   pub fault : OfficeFault
   pub has : said ≡ Err fault

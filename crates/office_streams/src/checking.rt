@@ -15,9 +15,9 @@ use std::alloc::Global;
 /// What an input holds that has no fault.
 #[derive(Drop)]
 pub struct CheckedInput {
-    /// The court whose file stands before the line `%%`.
+    /// The court whose file comes before the line `%%`.
     pub court: Court,
-    /// The rows behind it.
+    /// The rows after it.
     pub rows: Vec<Row>,
 }
 
@@ -45,7 +45,7 @@ fn court_of(alloc: Global, file: &[u8]) -> Result<Court, OfficeFault>
     }
 }
 
-// The rows that the bytes behind the court's file are.
+// The rows that the bytes after the court's file are.
 fn rows_behind(
     alloc: Global,
     bytes: &[u8],

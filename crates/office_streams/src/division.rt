@@ -3,7 +3,7 @@
 ghost use Rattle.std.specs.Prelude.{◌≡◌, option_map};
 ghost use Rattle.office_streams.specs.Division.{behind_divider, behind_line_end, court_part, rows_part};
 
-/// The court's file and the rows: what stands before and behind the first line `%%`, which LF, CR LF or the
+/// The court's file and the rows: what comes before and after the first line `%%`, which LF, CR LF or the
 /// end of the input ends. Without such a line there are no rows.
 pub fn divide(input: &[u8]) -> (&[u8], &[u8])
     ensures court { result.0.now ≡ court_part input.now }

@@ -38,7 +38,7 @@ pub(crate) fn ended_line(alloc: Global, fault: &OfficeFault) -> Result<String, A
     format!(in alloc; "{line}\n")
 }
 
-/// A fault, to be written as its line. The numbers and names of faults stand in `NumberedFault` and in `RowCause`.
+/// A fault, to be written as its line. The numbers and names of faults are in `NumberedFault` and in `RowCause`.
 #[derive(Clone, Copy)]
 pub struct FaultLine<'a> {
     /// The fault.

@@ -2,7 +2,7 @@
 
 ghost use Rattle.office_streams.specs.Divider.{FirstDividerDivides};
 
-/// The court's file is what stands before the first line `%%`, and the rows are what stands behind it. Where no
+/// The court's file is what comes before the first line `%%`, and the rows are what comes after it. Where no
 /// line is that, all is the court's file.
 pub fn first_divider_divides()
     ensures { FirstDividerDivides }

@@ -1,4 +1,4 @@
-//! A run over streams: the input is read, divided and checked, then a whole text of it is written; or one fault is told.
+//! A run over streams: the input is read, divided and checked, then a whole text of it is written; or one fault is written.
 #![tactic(auto)]
 
 mod checking;

@@ -54,8 +54,9 @@ fn push_booking(text: &mut String, court: &Court, booking: &Booking) -> Result<(
     text.push_str("\n")
 }
 
-/// Adds the day of a hearing, when it begins, and how long it takes.
-pub(crate) fn push_span(text: &mut String, day: Day, first: u8, count: u8) -> Result<(), AllocError>
+/// Adds the day of a hearing, when it begins, and how long it takes. Slots are quarter hours; the first is counted from
+/// midnight. `Err` says that memory ran out.
+pub fn push_span(text: &mut String, day: Day, first: u8, count: u8) -> Result<(), AllocError>
     ensures { OnOk result (AddsText text.old text.new (span_text day first count)) }
 {
     write!(text, "{day} ")?;
@@ -83,8 +84,8 @@ fn push_slots(text: &mut String, count: u8) -> Result<(), AllocError>
     }
 }
 
-/// The name of the judge, if the court has one of that number.
-pub(crate) fn judge_name(court: &Court, number: u8) -> &str
+/// The name of the judge; an empty one if the court has none of that number.
+pub fn judge_name(court: &Court, number: u8) -> &str
     ensures { result.now ≡ name_of court.now.judges number }
 {
     match court.judge_name(number) {
@@ -93,8 +94,8 @@ pub(crate) fn judge_name(court: &Court, number: u8) -> &str
     }
 }
 
-/// The name of the room, if the court has one of that number.
-pub(crate) fn room_name(court: &Court, number: u8) -> &str
+/// The name of the room; an empty one if the court has none of that number.
+pub fn room_name(court: &Court, number: u8) -> &str
     ensures { result.now ≡ name_of court.now.rooms number }
 {
     match court.room_name(number) {

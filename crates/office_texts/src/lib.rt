@@ -12,7 +12,7 @@ mod shown;
 mod views;
 
 pub use answers::push_answer;
-pub use calendars::push_calendar;
+pub use calendars::{judge_name, push_calendar, push_span, room_name};
 pub use numbers::push_number;
-pub use sheets::{push_case, push_deadline, push_motions, push_sheet};
+pub use sheets::{push_case, push_deadline, push_deadlines, push_motions, push_sheet};
 pub use views::push_view;

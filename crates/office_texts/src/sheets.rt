@@ -34,8 +34,8 @@ pub fn push_case(text: &mut String, sheet: &Sheet) -> Result<(), AllocError>
     write!(text, "case {case} filed {filed}\n")
 }
 
-/// Adds a line for each deadline.
-fn push_deadlines(
+/// Adds a line for each deadline. `Err` says that memory ran out.
+pub fn push_deadlines(
     text: &mut String,
     clock: &Clock,
     deadlines: &[SheetDeadline],

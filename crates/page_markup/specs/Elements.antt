@@ -86,7 +86,7 @@ unfoldable pub text_in : Tag → (text : List ℕ) → List ℕ
 text_in tag text = element tag (escaped text)
 
 -- What is made of elements and escaped texts alone: so each tag is one of those above, each is closed in its place, and what
--- stands between tags is escaped.
+-- is between tags is escaped.
 pub data IsMarkup : List ℕ → Type 0 where
   nothing : IsMarkup []
   text : (t : List ℕ) → IsMarkup (escaped t)

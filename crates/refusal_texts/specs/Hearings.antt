@@ -64,19 +64,19 @@ short_lines s latest motion = []
 abbrev pub slot_time : ℕ → List ℕ
 slot_time s = minute_time (15 * s)
 
--- `case 1 motion 2 has the judge, 10:00 to 11:00`
-unfoldable pub taken_text : (case motion : ℕ) → (words : List ℕ) → Hearing → List ℕ
-taken_text case motion words h =
-    codes "case " ++ decimal case ++ codes " motion " ++ decimal motion ++ words ++ slot_time h.first ++ codes " to " ++ slot_time (h.first + h.count)
+-- `case 1 motion 2 has the judge, 10:00 to 11:00`, of a motion that is called so
+unfoldable pub taken_text : (called words : List ℕ) → Hearing → List ℕ
+taken_text called words h =
+    called ++ words ++ slot_time h.first ++ codes " to " ++ slot_time (h.first + h.count)
 
-abbrev pub taken_by : (case motion : ℕ) → (words : List ℕ) → Option SheetHearing → List ℕ
-taken_by case motion words (Some h) = note_line (Some h.hearing.day) (taken_text case motion words h.hearing) (codes "ours")
-taken_by case motion words None = []
+abbrev pub taken_by : (called words : List ℕ) → Option SheetHearing → List ℕ
+taken_by called words (Some h) = note_line (Some h.hearing.day) (taken_text called words h.hearing) (codes "ours")
+taken_by called words None = []
 
 -- the hearing that is set for a motion
-abbrev pub taken_line : (case motion : ℕ) → (words : List ℕ) → Option SheetMotion → List ℕ
-taken_line case motion words (Some m) = taken_by case motion words m.hearing
-taken_line case motion words None = []
+abbrev pub taken_line : (called words : List ℕ) → Option SheetMotion → List ℕ
+taken_line called words (Some m) = taken_by called words m.hearing
+taken_line called words None = []
 
 -- when the notice of that hearing was served, the later of motion and notice
 abbrev pub lost_by : SheetMotion → Option SheetHearing → List ℕ

@@ -15,20 +15,20 @@ use Rattle.refusal_texts.specs.Hearings.{closed_lines, hours_text, lost_line, sh
 use Rattle.refusal_texts.specs.Ranges.{range_lines}
 
 -- `row` is the deadline that the command is about, and `motion` the motion that the refusal names, or whose hearing the
--- command asks for.
-unfoldable pub refusal_lines : DaysView → ClockView → Command → Option DeadlineRowView → Option SheetMotion → Refusal → List ℕ
-refusal_lines c clock command row motion AlreadyMet = recorded_lines c clock row
-refusal_lines c clock command row motion NotExtendable = note_line None (codes "this time must not be extended") (codes "6(b)(2)")
-refusal_lines c clock command row motion NoGoodCause = note_line None (codes "an extension takes good cause, which wasn't found") (codes "6(b)(1)")
-refusal_lines c clock command row motion LateWithoutMotion = late_lines c clock (codes "a motion is needed") row (request_asked command)
-refusal_lines c clock command row motion LateWithoutNeglect = late_lines c clock (codes "neglect must be excused") row (request_asked command)
-refusal_lines c clock command row motion NotLonger = not_longer_lines c clock row (request_asked command)
-refusal_lines c clock command row motion WrongGrant = note_line None (codes "hours are extended by hours, days by days") (codes "ours")
-refusal_lines c clock command row motion NotACourtDay = closed_lines c (setting_asked command)
-refusal_lines c clock command row motion OutsideHours = note_line None (hours_text clock) (codes "ours")
-refusal_lines c clock command row motion (ShortNotice latest) = short_lines (setting_asked command) latest motion
-refusal_lines c clock command row motion (JudgeBusy case number) = taken_line case number (codes " has the judge, ") motion
-refusal_lines c clock command row motion (RoomBusy case number) = taken_line case number (codes " has the room, ") motion
-refusal_lines c clock command row motion (HearingThatDay case number) = taken_line case number (codes " is heard, ") motion
-refusal_lines c clock command row motion (NoticeLost case number) = taken_line case number (codes " is heard, ") motion ++ lost_line motion
-refusal_lines c clock command row motion refusal = range_lines c command motion refusal
+-- command asks for; `called` is what that motion is called.
+unfoldable pub refusal_lines : DaysView → ClockView → Command → Option DeadlineRowView → (called : List ℕ) → Option SheetMotion → Refusal → List ℕ
+refusal_lines c clock command row called motion AlreadyMet = recorded_lines c clock row
+refusal_lines c clock command row called motion NotExtendable = note_line None (codes "this time must not be extended") (codes "6(b)(2)")
+refusal_lines c clock command row called motion NoGoodCause = note_line None (codes "an extension takes good cause, which wasn't found") (codes "6(b)(1)")
+refusal_lines c clock command row called motion LateWithoutMotion = late_lines c clock (codes "a motion is needed") row (request_asked command)
+refusal_lines c clock command row called motion LateWithoutNeglect = late_lines c clock (codes "neglect must be excused") row (request_asked command)
+refusal_lines c clock command row called motion NotLonger = not_longer_lines c clock row (request_asked command)
+refusal_lines c clock command row called motion WrongGrant = note_line None (codes "hours are extended by hours, days by days") (codes "ours")
+refusal_lines c clock command row called motion NotACourtDay = closed_lines c (setting_asked command)
+refusal_lines c clock command row called motion OutsideHours = note_line None (hours_text clock) (codes "ours")
+refusal_lines c clock command row called motion (ShortNotice latest) = short_lines (setting_asked command) latest motion
+refusal_lines c clock command row called motion (JudgeBusy case number) = taken_line called (codes " has the judge, ") motion
+refusal_lines c clock command row called motion (RoomBusy case number) = taken_line called (codes " has the room, ") motion
+refusal_lines c clock command row called motion (HearingThatDay case number) = taken_line called (codes " is heard, ") motion
+refusal_lines c clock command row called motion (NoticeLost case number) = taken_line called (codes " is heard, ") motion ++ lost_line motion
+refusal_lines c clock command row called motion refusal = range_lines c command called motion refusal

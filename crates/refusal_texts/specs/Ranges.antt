@@ -10,14 +10,12 @@ use Rattle.rule_periods.specs.declared.rule.RulePeriod.{RulePeriod}
 use Rattle.rule_periods.specs.Words.{is_given, is_kind_for, is_kind_for_entered, service_rule_of}
 use Rattle.docket_rows.specs.declared.command.Command.{Command}
 use Rattle.docket_rows.specs.declared.command.Command.TheVariants.{Start, Extend, Motion, Book, MoveHearing, Holiday, Inaccessible}
-use Rattle.docket_rows.specs.declared.hearing.Setting.{Setting}
 use Rattle.docket_rows.specs.declared.query.Query.{Query}
 use Rattle.docket_rows.specs.declared.query.Query.TheVariants.{Compute}
 use Rattle.docket_rows.specs.declared.refusal.Refusal.{Refusal}
 use Rattle.docket_rows.specs.declared.refusal.Refusal.TheVariants.{NoSuchCase, CaseIsOpen, NoSuchDeadline, NoSuchMotion, BadDay, BadLength, WrongService, Beyond, AlreadySet, NotSet, AlreadyHoliday, Full, NoSuchJudge, NoSuchRoom, BadPanel}
 use Rattle.docket_rows.specs.declared.sheet.SheetMotion.{SheetMotion}
 use Rattle.reason_texts.specs.Words.{note_line}
-use Rattle.refusal_texts.specs.Asked.{setting_asked}
 use Rattle.refusal_texts.specs.Hearings.{taken_line}
 
 -- a line of ours, of no day
@@ -86,34 +84,29 @@ abbrev pub service_lines : Command → List ℕ
 service_lines (Start case period event second service) = suits_line period second service
 service_lines command = []
 
--- the hearing that the motion has
-abbrev pub set_lines : Option Setting → Option SheetMotion → List ℕ
-set_lines (Some s) motion = taken_line s.case s.motion (codes " is heard, ") motion
-set_lines None motion = []
-
 -- the day that is in the list
 abbrev pub listed_lines : Command → List ℕ
 listed_lines (Holiday day list) = note_line (Some day) (codes "the day is in that list already") (codes "ours")
 listed_lines command = []
 
--- the lines of such a refusal of a command; `motion` is that whose hearing the command asks for
-unfoldable pub range_lines : DaysView → Command → Option SheetMotion → Refusal → List ℕ
-range_lines c command motion NoSuchCase = ours_line (codes "the case isn't open; cases are 1 to 4096")
-range_lines c command motion CaseIsOpen = ours_line (codes "the case is open already")
-range_lines c command motion NoSuchDeadline = ours_line (codes "the case has no deadline of this number")
-range_lines c command motion NoSuchMotion = ours_line (codes "the case has no motion of this number")
-range_lines c command motion BadDay = span_line (codes "the days covered are ") c
-range_lines c command motion Beyond = span_line (codes "beyond the days covered, ") c
-range_lines c command motion BadLength = length_lines command
-range_lines c command motion WrongService = service_lines command
-range_lines c command motion Full = full_lines command
-range_lines c command motion AlreadySet = set_lines (setting_asked command) motion
-range_lines c command motion NotSet = ours_line (codes "the motion has no hearing; `book` sets one")
-range_lines c command motion AlreadyHoliday = listed_lines command
-range_lines c command motion NoSuchJudge = ours_line (codes "the court's file names no such judge")
-range_lines c command motion NoSuchRoom = ours_line (codes "the court's file names no such room")
-range_lines c command motion BadPanel = ours_line (codes "a panel is one to three judges, each once")
-range_lines c command motion refusal = []
+-- the lines of such a refusal of a command; `motion` is that whose hearing the command asks for, and is called so
+unfoldable pub range_lines : DaysView → Command → (called : List ℕ) → Option SheetMotion → Refusal → List ℕ
+range_lines c command called motion NoSuchCase = ours_line (codes "the case isn't open; cases are 1 to 4096")
+range_lines c command called motion CaseIsOpen = ours_line (codes "the case is open already")
+range_lines c command called motion NoSuchDeadline = ours_line (codes "the case has no deadline of this number")
+range_lines c command called motion NoSuchMotion = ours_line (codes "the case has no motion of this number")
+range_lines c command called motion BadDay = span_line (codes "the days covered are ") c
+range_lines c command called motion Beyond = span_line (codes "beyond the days covered, ") c
+range_lines c command called motion BadLength = length_lines command
+range_lines c command called motion WrongService = service_lines command
+range_lines c command called motion Full = full_lines command
+range_lines c command called motion AlreadySet = taken_line called (codes " is heard, ") motion
+range_lines c command called motion NotSet = ours_line (codes "the motion has no hearing; `book` sets one")
+range_lines c command called motion AlreadyHoliday = listed_lines command
+range_lines c command called motion NoSuchJudge = ours_line (codes "the court's file names no such judge")
+range_lines c command called motion NoSuchRoom = ours_line (codes "the court's file names no such room")
+range_lines c command called motion BadPanel = ours_line (codes "a panel is one to three judges, each once")
+range_lines c command called motion refusal = []
 
 -- which doesn't suit the period whose end is asked for
 abbrev pub service_asked : Query → List ℕ

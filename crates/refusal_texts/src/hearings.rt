@@ -165,19 +165,18 @@ fn later(day: Day, other: Day) -> Day
     }
 }
 
-/// Adds the hearing that is set for a motion.
+/// Adds the hearing that is set for a motion which is called so.
 pub(crate) fn push_taken(
     alloc: Global,
     text: &mut String,
-    case: u32,
-    number: u32,
+    called: &str,
     words: &str,
     motion: Option<SheetMotion>,
 ) -> Result<(), AllocError>
-    ensures { OnOk result (string_bytes text.new ≡ string_bytes text.old ++ taken_line case number words.now motion) }
+    ensures { OnOk result (string_bytes text.new ≡ string_bytes text.old ++ taken_line called.now words.now motion) }
 {
     match motion {
-        Some(motion) => push_taken_by(alloc, text, case, number, words, motion.hearing),
+        Some(motion) => push_taken_by(alloc, text, called, words, motion.hearing),
         None => Ok(()),
     }
 }
@@ -186,35 +185,33 @@ pub(crate) fn push_taken(
 fn push_taken_by(
     alloc: Global,
     text: &mut String,
-    case: u32,
-    number: u32,
+    called: &str,
     words: &str,
     hearing: Option<SheetHearing>,
 ) -> Result<(), AllocError>
-    ensures { OnOk result (string_bytes text.new ≡ string_bytes text.old ++ taken_by case number words.now hearing) }
+    ensures { OnOk result (string_bytes text.new ≡ string_bytes text.old ++ taken_by called.now words.now hearing) }
 {
     match hearing {
         Some(hearing) => {
             let mut what = String::new(alloc);
-            push_taken_text(&mut what, case, number, words, &hearing.hearing)?;
+            push_taken_text(&mut what, called, words, &hearing.hearing)?;
             push_note(text, Some(hearing.hearing.day), what.as_str(), "ours")
         }
         None => Ok(()),
     }
 }
 
-/// Adds the case and the motion, what is said of its hearing, and the hearing's time.
+/// Adds what a motion is called, what is said of its hearing, and the hearing's time.
 #[tactic(auto, unfolding(crate::specs::Hearings::taken_text))]
 fn push_taken_text(
     text: &mut String,
-    case: u32,
-    number: u32,
+    called: &str,
     words: &str,
     hearing: &Hearing,
 ) -> Result<(), AllocError>
-    ensures { OnOk result (string_bytes text.new ≡ string_bytes text.old ++ taken_text case number words.now hearing.now) }
+    ensures { OnOk result (string_bytes text.new ≡ string_bytes text.old ++ taken_text called.now words.now hearing.now) }
 {
-    write!(text, "case {case} motion {number}")?;
+    text.push_str(called)?;
     text.push_str(words)?;
     push_slot(text, u16::from(hearing.first))?;
     text.push_str(" to ")?;

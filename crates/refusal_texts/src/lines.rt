@@ -18,7 +18,8 @@ use rule_periods::DeadlineRow;
 use std::alloc::{AllocError, Global};
 
 /// Adds why a command is refused, in a line or a few: `row` is the deadline that the command is about, and `motion` the
-/// motion that the refusal names, or whose hearing the command asks for. `Err` says that memory ran out.
+/// motion that the refusal names, or whose hearing the command asks for; `called` is what that motion is called. `Err` says
+/// that memory ran out.
 #[tactic(auto, unfolding(crate::specs::Lines::refusal_lines))]
 pub fn push_refusal(
     alloc: Global,
@@ -27,10 +28,11 @@ pub fn push_refusal(
     clock: &Clock,
     command: &Command,
     row: Option<&DeadlineRow>,
+    called: &str,
     motion: Option<SheetMotion>,
     refusal: &Refusal,
 ) -> Result<(), AllocError>
-    ensures { OnOk result (string_bytes text.new ≡ string_bytes text.old ++ refusal_lines days.now clock.now command.now (option_copied row.entry) motion refusal.now) }
+    ensures { OnOk result (string_bytes text.new ≡ string_bytes text.old ++ refusal_lines days.now clock.now command.now (option_copied row.entry) called.now motion refusal.now) }
 {
     match *refusal {
         Refusal::AlreadyMet => push_recorded(alloc, text, days, clock, row),
@@ -87,32 +89,11 @@ pub fn push_refusal(
             latest,
             motion,
         ),
-        Refusal::JudgeBusy(case, number) => push_taken(
-            alloc,
-            text,
-            case,
-            number,
-            " has the judge, ",
-            motion,
-        ),
-        Refusal::RoomBusy(case, number) => push_taken(
-            alloc,
-            text,
-            case,
-            number,
-            " has the room, ",
-            motion,
-        ),
-        Refusal::HearingThatDay(case, number) => push_taken(
-            alloc,
-            text,
-            case,
-            number,
-            " is heard, ",
-            motion,
-        ),
-        Refusal::NoticeLost(case, number) => push_both(alloc, text, case, number, &motion),
-        _ => push_range(alloc, text, days, command, motion, refusal),
+        Refusal::JudgeBusy(_, _) => push_taken(alloc, text, called, " has the judge, ", motion),
+        Refusal::RoomBusy(_, _) => push_taken(alloc, text, called, " has the room, ", motion),
+        Refusal::HearingThatDay(_, _) => push_taken(alloc, text, called, " is heard, ", motion),
+        Refusal::NoticeLost(_, _) => push_both(alloc, text, called, &motion),
+        _ => push_range(alloc, text, days, command, called, motion, refusal),
     }
 }
 
@@ -129,12 +110,11 @@ fn push_open(alloc: Global, text: &mut String, clock: &Clock) -> Result<(), Allo
 fn push_both(
     alloc: Global,
     text: &mut String,
-    case: u32,
-    number: u32,
+    called: &str,
     motion: &Option<SheetMotion>,
 ) -> Result<(), AllocError>
-    ensures { OnOk result (string_bytes text.new ≡ string_bytes text.old ++ taken_line case number (codes " is heard, ") motion.now ++ lost_line motion.now) }
+    ensures { OnOk result (string_bytes text.new ≡ string_bytes text.old ++ taken_line called.now (codes " is heard, ") motion.now ++ lost_line motion.now) }
 {
-    push_taken(alloc, text, case, number, " is heard, ", *motion)?;
+    push_taken(alloc, text, called, " is heard, ", *motion)?;
     push_lost(text, *motion)
 }

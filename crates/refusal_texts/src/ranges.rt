@@ -1,13 +1,12 @@
 //! Why a command or a question is refused that names what there isn't, or what is out of its range.
 
 ghost use Rattle.std.specs.Prelude.{◌≡◌, ◌++◌, OnOk, string_bytes};
-ghost use Rattle.refusal_texts.specs.Ranges.{entered_words, full_lines, kind_words, length_lines, listed_lines, ours_line, query_lines, range_lines, rule_words, second_words, service_asked, service_lines, set_lines, span_line, span_text, suits_line, suits_words};
+ghost use Rattle.refusal_texts.specs.Ranges.{entered_words, full_lines, kind_words, length_lines, listed_lines, ours_line, query_lines, range_lines, rule_words, second_words, service_asked, service_lines, span_line, span_text, suits_line, suits_words};
 
-use crate::asked::setting_asked;
 use crate::hearings::push_taken;
 use court_clock::{Day, Direction};
 use court_days::Days;
-use docket_rows::{Command, Query, Refusal, Setting, SheetMotion};
+use docket_rows::{Command, Query, Refusal, SheetMotion};
 use reason_texts::push_note;
 use rule_periods::{Entered, Length, Period, RulePeriod, ServiceRule};
 use rule6::ServiceKind;
@@ -23,17 +22,18 @@ const PERIOD: &str = "a period is 1 to 3650 days, or 1 to 8760 hours";
 const HEARING: &str = "a hearing is 15 minutes or more, on one day";
 
 /// Adds why a command is refused that names what there isn't, or what is out of its range: `motion` is that whose
-/// hearing it asks for. `Err` says that memory ran out.
+/// hearing it asks for, and is called so. `Err` says that memory ran out.
 #[tactic(auto, unfolding(crate::specs::Ranges::range_lines))]
 pub(crate) fn push_range(
     alloc: Global,
     text: &mut String,
     days: &Days,
     command: &Command,
+    called: &str,
     motion: Option<SheetMotion>,
     refusal: &Refusal,
 ) -> Result<(), AllocError>
-    ensures { OnOk result (string_bytes text.new ≡ string_bytes text.old ++ range_lines days.now command.now motion refusal.now) }
+    ensures { OnOk result (string_bytes text.new ≡ string_bytes text.old ++ range_lines days.now command.now called.now motion refusal.now) }
 {
     match *refusal {
         Refusal::NoSuchCase => push_ours(text, NO_CASE),
@@ -45,7 +45,7 @@ pub(crate) fn push_range(
         Refusal::BadLength => push_length(text, command),
         Refusal::WrongService => push_service(text, command),
         Refusal::Full => push_full(text, command),
-        Refusal::AlreadySet => push_set(alloc, text, setting_asked(command), motion),
+        Refusal::AlreadySet => push_taken(alloc, text, called, " is heard, ", motion),
         Refusal::NotSet => push_ours(text, "the motion has no hearing; `book` sets one"),
         Refusal::AlreadyHoliday => push_listed(text, command),
         Refusal::NoSuchJudge => push_ours(text, NO_JUDGE),
@@ -219,28 +219,6 @@ fn second_words(second: Option<Day>) -> &'static str
     match second {
         Some(_) => "this period takes no second day",
         None => "this period takes a second day",
-    }
-}
-
-/// Adds the hearing that the motion has.
-fn push_set(
-    alloc: Global,
-    text: &mut String,
-    setting: Option<Setting>,
-    motion: Option<SheetMotion>,
-) -> Result<(), AllocError>
-    ensures { OnOk result (string_bytes text.new ≡ string_bytes text.old ++ set_lines setting motion) }
-{
-    match setting {
-        Some(setting) => push_taken(
-            alloc,
-            text,
-            setting.case,
-            setting.motion,
-            " is heard, ",
-            motion,
-        ),
-        None => Ok(()),
     }
 }
 

@@ -1,10 +1,10 @@
--- A line that no quote is in: its fields are what stands between its commas.
+-- A line that no quote is in: its fields are what is between its commas.
 use Rattle.std.specs.Prelude.{◌≡◌, ◌==◌, ◌||◌, if◌then◌else◌, ℕ, List, [], ◌∷◌, ◌++◌, Option, Some, None}
 use Rattle.csv.specs.Machine.{next_record}
 use Rattle.csv.specs.Reading.{default_config, strip_bom}
 use Rattle.csv.specs.declared.parser.State.TheVariants as st
 
--- what stands between the commas of a line, after these fields and these bytes of the next; none where a quote is in it
+-- what is between the commas of a line, after these fields and these bytes of the next; none where a quote is in it
 unfoldable pub cut : List (List ℕ) → List ℕ → List ℕ → Option (List (List ℕ))
 cut fields field [] = Some (fields ++ (field ∷ []))
 cut fields field (b ∷ rest) =

@@ -27,8 +27,23 @@ fn take_text(row: ByteRecord, fields: &mut StringRecord) -> bool
     }
 }
 
-// Reads the first record of a text into `fields`. A plain line is cut here, and the reader of CSV reads all else: it
-// is made anew for each text, and its tables take longer to make than a line to read.
+// Reads the first record of a text by the reader of CSV. It is made anew for each text, and its tables take longer to make
+// than a line to read: so this is a function of its own, and whoever cuts a plain line doesn't make them.
+#[inline(never)]
+fn read_by_reader(
+    alloc: Global,
+    bytes: &[u8],
+    fields: &mut StringRecord,
+) -> Result<Next, AllocError>
+    ensures text { result ≡ Ok Next.Text → BeginsWith bytes.now (fields_of fields.new) × (list_all is_utf8 (fields_of fields.new) ≡ true) }
+    ensures no_text { result ≡ Ok Next.NotText → (met : List (List ℕ)) × BeginsWith bytes.now met × (list_all is_utf8 met ≡ false) }
+    ensures end { result ≡ Ok Next.End → records default_config (strip_bom bytes.now) ≡ [] }
+{
+    let mut reader = rows_reader(alloc, bytes);
+    read_next(&mut reader, fields)
+}
+
+// Reads the first record of a text into `fields`. A plain line is cut here, and the reader of CSV reads all else.
 pub(crate) fn read_first(
     alloc: Global,
     bytes: &[u8],
@@ -46,7 +61,6 @@ pub(crate) fn read_first(
             Ok(Next::NotText)
         }
     } else {
-        let mut reader = rows_reader(alloc, bytes);
-        read_next(&mut reader, fields)
+        read_by_reader(alloc, bytes, fields)
     }
 }

@@ -1,6 +1,7 @@
 //! One line, read as a row.
 
-ghost use Rattle.std.specs.Prelude.{◌≡◌, ◌≢◌, IfOk};
+ghost use Rattle.std.specs.Prelude.{◌≡◌, ◌≢◌, ℕ, IfOk};
+ghost use Rattle.office_rows.specs.declared.fault.RowCause.TheVariants.{BadField};
 ghost use Rattle.csv.specs.Records.{fields_of};
 ghost use Rattle.office_rows.specs.Words.{names_of};
 ghost use Rattle.row_line.specs.Line.{line_read, fields_read};
@@ -23,7 +24,7 @@ pub enum Line {
 }
 
 /// Reads the first row of a text, which may be a line alone, for an office with this number of clerks. The fields of the
-/// row are put into `fields`. `Err` says that memory ran out.
+/// row are put into `fields`, and so are those of a row one of whose fields isn't what it should be. `Err` says that memory ran out.
 pub fn read_line(
     alloc: Global,
     bytes: &[u8],
@@ -33,6 +34,7 @@ pub fn read_line(
 ) -> Result<Line, AllocError>
     ensures said { IfOk result (λ line. line ≡ line_read clerks (names_of court.now) bytes.now) }
     ensures fields { IfOk result (λ line. (row : Row) → line ≡ Line.Row row → fields_of fields.new ≡ fields_read bytes.now) }
+    ensures field { IfOk result (λ line. (column : ℕ) → line ≡ Line.Fault (BadField column) → fields_of fields.new ≡ fields_read bytes.now) }
 {
     match read_first(alloc, bytes, fields)? {
         Next::End => Ok(Line::Blank),

@@ -1,4 +1,4 @@
-//! A line that no quote is in: its fields are what stands between its commas.
+//! A line that no quote is in: its fields are what is between its commas.
 
 ghost use Rattle.std.specs.Prelude.{◌≡◌, [], true, Some, Ok};
 ghost use Rattle.csv.specs.Records.{fields_of};

@@ -53,7 +53,7 @@ pub nth_from_first : (n m : ℕ) (w : Weekday) (y : ℤ) → 1 ≤ n → days_fr
 unfolding nth_weekday
 nth_from_first n m w y first = omega (arith, signed_arith)
 
--- the last Monday of a month of 31 days is so many days before the 31st as its weekday says
+-- the last Monday of a month of 31 days is as many days before the 31st as its weekday says
 pub last_monday : (y : ℤ) → days_from_civil y 3 31 -ℤ pos (weekday_of (days_from_civil y 3 31)) ≡ last_weekday Monday 3 y
 unfolding last_weekday
 last_monday y = let bound = weekday_number_bound (days_from_civil y 3 31) in omega (arith, signed_arith, bound)

@@ -40,7 +40,7 @@ fn day_of(date: Date) -> Day
     }
 }
 
-/// The day that is so many days later.
+/// The day that is this many days later.
 pub(crate) fn later(day: Day, days: u8) -> Day
     requires { IsNear 1000 day }
     ensures { result ≡ day +ℤ pos days }
@@ -51,7 +51,7 @@ pub(crate) fn later(day: Day, days: u8) -> Day
     }
 }
 
-/// The day that is so many days earlier.
+/// The day that is this many days earlier.
 pub(crate) fn earlier(day: Day, days: u8) -> Day
     requires { IsNear 1000 day }
     ensures { result ≡ day -ℤ pos days }

@@ -9,7 +9,7 @@ use std::alloc::Global;
 /// More calls than the opening of a journal makes.
 const CALLS: u64 = 20;
 
-// A disk whose file has these bytes, all of them durable, and that passes so many calls on.
+// A disk whose file has these bytes, all of them durable, and that passes this many calls on.
 fn disk_with(alloc: Global, file: &[u8], calls: u64) -> Result<Device> {
     let mut memory = Memory::new(alloc);
     memory.write_at(0, file)?;
@@ -69,7 +69,7 @@ pub fn lasts(alloc: Global, expected: &[Vec<u8>], file: &[u8], count: usize) -> 
     Ok(false)
 }
 
-// Whether what this crash may leave has so many entries.
+// Whether what this crash may leave has this many entries.
 fn keeps(alloc: Global, expected: &[Vec<u8>], crash: &Crashed, count: usize) -> Result<bool> {
     for fill in FILLS {
         let file = crash.left(alloc, crash.certain(), fill)?;

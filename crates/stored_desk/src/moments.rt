@@ -10,7 +10,7 @@ use std::alloc::Global;
 /// Of how many files one is also opened on disks that fail.
 const EACH: u64 = 4;
 
-// The states between which a session was stopped after so many steps.
+// The states between which a session was stopped after this many steps.
 #[derive(Clone, Copy)]
 struct Bounds {
     before: State,

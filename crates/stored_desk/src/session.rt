@@ -8,7 +8,7 @@ use office_streams::Watched;
 use sqlite_disk::{Fuse, Memory};
 use std::alloc::Global;
 
-/// A file in memory that passes so many calls on, and fails each one after.
+/// A file in memory that passes this many calls on, and fails each one after.
 pub type Device = Fuse<Memory>;
 
 /// A session that has ended, or was stopped by its disk.

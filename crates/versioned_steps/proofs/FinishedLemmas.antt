@@ -64,7 +64,7 @@ module _ {Part Value Command : Type 0} where
   nobody_began clerks = λ clerk hand at. absurd (idle_own clerks clerk hand at)
 
 module _ {Part Value Command Answer : Type 0} (r : Rules Part Value Command Answer) where
-  -- what is told of a step is what it appended, and what the clerks then have in hand
+  -- what is said of a step is what it appended, and what the clerks then have in hand
   record IsTold (begun : ℕ → Option Command) (w : World Part Value Command Answer) (step : Step Command) (outcome : Outcome Part Answer) (after : World Part Value Command Answer) : Type 0 where
     entries : entered 1 w.history ++ finish_of begun step outcome ≡ entered 1 after.history
     hands : AreBegun (begun_then begun step outcome) after.hands

@@ -41,7 +41,7 @@ meant rest =
     else if begins rest (194 ∷ 160 ∷ []) then (32, 1)
     else alone rest
 
--- A line as plain keys type it, of which so many more bytes are those of the character before: one byte for each character.
+-- A line as plain keys type it, of which this many more bytes are those of the character before: one byte for each character.
 unfoldable pub typed_after : ℕ → List ℕ → List ℕ
 typed_after more [] = []
 typed_after more (b ∷ rest) =
@@ -91,7 +91,7 @@ fields_in mark line = fields_after mark false [] [] line
 abbrev pub is_padding : ℕ → Bool
 is_padding b = (b == 32) || (b == 34)
 
--- Where a field begins in a line, counted from 0: after so many separating marks, and after blanks and quotes.
+-- Where a field begins in a line, counted from 0: after this many separating marks, and after blanks and quotes.
 unfoldable pub place_after : (mark left : ℕ) → (quoted : Bool) → List ℕ → ℕ
 place_after mark left quoted [] = 0
 place_after mark left quoted (b ∷ rest) =

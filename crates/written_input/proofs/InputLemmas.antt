@@ -1,5 +1,5 @@
 -- Inputs, line by line.
-use Rattle.std.proofs.Common.{◌≡◌, ◌∙◌, ◌+◌, ◌≤◌, ◌==◌, ℕ, Bool, true, false, cond, List, [], ◌∷◌, ◌++◌, length, length-append, refl, sym, ap, arith}
+use Rattle.std.proofs.Common.{◌≡◌, ◌∙◌, ◌+◌, ◌≤◌, ◌==◌, ℕ, Bool, true, false, cond, List, [], ◌∷◌, ◌++◌, length, length-append, ap, arith}
 use Rattle.std.specs.Prelude.{Option}
 use Rattle.durable_session.specs.Words.{HasNoEnd, IsFirstLine, number_after, numbered_from}
 use Rattle.durable_session.proofs.CallerLemmas.{numbered_from-first, numbered_from-none}

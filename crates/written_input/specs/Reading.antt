@@ -1,5 +1,5 @@
 -- Inputs as people write them, read as plain rows.
-use Rattle.std.specs.Prelude.{ℕ, nat_eq, List, [], ◌∷◌, ◌++◌, codes, map, Option, Some, None, if◌then◌else◌}
+use Rattle.std.specs.Prelude.{ℕ, nat_eq, List, [], ◌∷◌, ◌++◌, codes, map, Option, Some, if◌then◌else◌}
 use Rattle.std.specs.List.{ends_with}
 use Rattle.office_rows.specs.Words.{CourtNames}
 use Rattle.written_fields.specs.declared.dates.DateOrder.{DateOrder}

@@ -7,7 +7,7 @@ fn held(column: Column) -> &'static str {
     match column {
         Column::Clerk => "the clerk's number, from 1 to 64",
         Column::Command => "a command word",
-        Column::Case => "a case's number, as 12",
+        Column::Case => "a number, as 7, or a case number, as 1:25-cv-01234",
         Column::Deadline => "a deadline's number, as 1",
         Column::Motion => "a motion's number, as 1",
         Column::Period => "a period, as 59(e) or 14d/after/filing/event/plain",

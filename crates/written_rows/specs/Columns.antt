@@ -1,5 +1,5 @@
 -- The columns of rows, and their headings.
-use Rattle.std.specs.Prelude.{ℕ, ◌||◌, List, [], ◌∷◌, codes, Option, Some, None, if◌then◌else◌}
+use Rattle.std.specs.Prelude.{ℕ, ◌||◌, List, [], ◌∷◌, codes, slice_get, unwrap_or, Option, Some, None, if◌then◌else◌}
 use Rattle.std.specs.Str.{bytes_eq}
 use Rattle.written_fields.specs.Words.{is_one_of}
 use Rattle.written_rows.specs.declared.columns.Column.{Column}
@@ -21,6 +21,10 @@ columns_of word =
     else if bytes_eq word (codes "sheet") then Some (Clerk ∷ Command ∷ Case ∷ [])
     else if bytes_eq word (codes "calendar") then Some (Clerk ∷ Command ∷ Judge ∷ Date ∷ [])
     else None
+
+-- the column of that number, counted from 0
+abbrev pub column_at : List Column → ℕ → Column
+column_at columns number = unwrap_or (slice_get columns number) Command
 
 -- the heading of a column
 abbrev pub name_of : Column → List ℕ

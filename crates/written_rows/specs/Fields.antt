@@ -1,11 +1,12 @@
 -- What a field says, by what its column holds, as a plain row writes it.
-use Rattle.std.specs.Prelude.{ℕ, ◌-◌, ◌==◌, ◌&&◌, nat_eq, Bool, true, false, List, [], ◌∷◌, codes, length, take, Option, Some, None, if◌then◌else◌}
+use Rattle.std.specs.Prelude.{ℕ, ◌-◌, ◌==◌, ◌&&◌, nat_eq, Bool, true, false, List, [], codes, length, take, Option, Some, None, if◌then◌else◌}
 use Rattle.std.specs.List.{ends_with, list_any, starts_with}
 use Rattle.std.specs.Str.{bytes_eq}
+use Rattle.case_numbers.specs.Words.{NameView, case_read}
 use Rattle.court_clock.specs.Words.{day_text, minute_text}
 use Rattle.office_rows.specs.Words.{CourtNames, is_number}
 use Rattle.written_fields.specs.declared.said.Said.{Said}
-use Rattle.written_fields.specs.declared.said.Said.TheVariants.{Unknown, Clear, Unclear}
+use Rattle.written_fields.specs.declared.said.Said.TheVariants.{Unknown, Clear}
 use Rattle.written_fields.specs.declared.dates.DateOrder.{DateOrder}
 use Rattle.written_fields.specs.Words.{answer_said, bare, date_said, folded, list_said, means_said, rule_said, said_map, service_said, time_said}
 use Rattle.written_rows.specs.declared.columns.Column.{Column}
@@ -19,6 +20,15 @@ clear_if so text = if so then Clear text else Unknown
 -- a number
 abbrev pub number_said : List ℕ → Said (List ℕ)
 number_said text = clear_if (is_number (bare text)) (bare text)
+
+-- a case number as it is shown
+abbrev pub shown_said : Option NameView → Said (List ℕ)
+shown_said None = Unknown
+shown_said (Some name) = Clear name.shown
+
+-- a case: its number, or its case number as the court writes it
+abbrev pub case_said : List ℕ → Said (List ℕ)
+case_said text = if is_number (bare text) then Clear (bare text) else shown_said (case_read (bare text))
 
 -- the digits of a number of slots: half hours, or quarter hours before a `q`
 abbrev pub slots_number : List ℕ → List ℕ
@@ -74,7 +84,7 @@ may_be_empty _ = false
 abbrev pub filled_said : CourtNames → Option DateOrder → Column → List ℕ → Said (List ℕ)
 filled_said names order Clerk text = number_said text
 filled_said names order Command text = Clear (folded text)
-filled_said names order Case text = number_said text
+filled_said names order Case text = case_said text
 filled_said names order Deadline text = number_said text
 filled_said names order Motion text = number_said text
 filled_said names order Period text = period_said text

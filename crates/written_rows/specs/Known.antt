@@ -1,5 +1,5 @@
 -- Whether a row names judges and a room that the court has.
-use Rattle.std.specs.Prelude.{ℕ, ◌&&◌, nat_lt, Bool, true, length}
+use Rattle.std.specs.Prelude.{◌&&◌, nat_lt, Bool, true, length}
 use Rattle.std.specs.List.{list_all}
 use Rattle.docket_rows.specs.declared.hearing.Setting.{Setting}
 use Rattle.docket_rows.specs.declared.command.Command.TheVariants.{Book, MoveHearing}

@@ -1,11 +1,15 @@
 -- What the definitions come to.
-use Rattle.std.specs.Prelude.{◌≡◌, ℕ, true, List, Option, Some, None}
+use Rattle.std.specs.Prelude.{◌≡◌, ◌⊎◌, ℕ, true, List, Option, Some, None}
+use Rattle.csv.specs.Writing.{default_writer, row_text}
+use Rattle.case_numbers.specs.Words.{NameView, case_read}
 use Rattle.office_rows.specs.declared.row.Row.{Row}
 use Rattle.office_rows.specs.Words.{CourtNames}
 use Rattle.row_line.specs.declared.line.Line.TheVariants as line
 use Rattle.row_line.specs.Words.{line_read}
 use Rattle.written_fields.specs.declared.dates.DateOrder.{DateOrder}
 use Rattle.written_rows.specs.declared.rows.Written.TheVariants.{Plain}
+use Rattle.written_rows.specs.Cases.{with_one}
+use Rattle.written_rows.specs.Headings.{word_at}
 use Rattle.written_rows.specs.Known.{names_known}
 use Rattle.written_rows.specs.Rows.{read_as}
 
@@ -14,11 +18,22 @@ pub record IsPlainRow (clerks : ℕ) (names : CourtNames) (text : List ℕ) (row
   pub read : line_read clerks names text ≡ line.Row row
   pub known : names_known names row.work ≡ true
 
+-- a text is a plain row with a case number in place of its case's number: with the number 1 there it is a plain row
+pub record IsNamedRow (clerks : ℕ) (names : CourtNames) (text : List ℕ) (row : Row) : Type 0 where
+  pub fields : List (List ℕ)
+  pub name : NameView
+  pub text_is : text ≡ row_text default_writer fields
+  pub case : case_read (word_at fields 2) ≡ Some name
+  pub row_is : IsPlainRow clerks names (row_text default_writer (with_one fields)) row
+
+abbrev pub IsRow : (clerks : ℕ) → CourtNames → (text : List ℕ) → Row → Type 0
+IsRow clerks names text row = IsPlainRow clerks names text row ⊎ IsNamedRow clerks names text row
+
 -- A plain row stays as it is, where columns have no headings.
 abbrev pub PlainRowsStay : Type 0
 PlainRowsStay = (clerks : ℕ) (names : CourtNames) (order : Option DateOrder) (text : List ℕ) (row : Row) → IsPlainRow clerks names text row → read_as clerks names order None text ≡ Plain text
 
--- What a line is read as, if it is read as a row, is a plain row.
+-- What a line is read as, if it is read as a row, is a plain row, or one with a case number in place of its case's number.
 abbrev pub RowsArePlain : Type 0
 RowsArePlain = (clerks : ℕ) (names : CourtNames) (order : Option DateOrder) (header : Option (List (List ℕ))) (line text : List ℕ) → read_as clerks names order header line ≡ Plain text
-    → (row : Row) × IsPlainRow clerks names text row
+    → (row : Row) × IsRow clerks names text row

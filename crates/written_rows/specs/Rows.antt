@@ -1,5 +1,5 @@
 -- Lines as people write them, read as plain rows.
-use Rattle.std.specs.Prelude.{ℕ, ◌+◌, ◌-◌, ◌&&◌, ◌||◌, not, nat_eq, nat_lt, Bool, true, false, List, [], ◌∷◌, ◌++◌, map, codes, length, slice_get, unwrap_or, Option, Some, None, if◌then◌else◌}
+use Rattle.std.specs.Prelude.{ℕ, ◌+◌, ◌-◌, ◌&&◌, ◌||◌, not, nat_eq, nat_lt, Bool, false, List, [], ◌∷◌, ◌++◌, map, codes, length, Option, Some, None, if◌then◌else◌}
 use Rattle.std.specs.List.{list_any, starts_with}
 use Rattle.std.specs.Str.{bytes_eq}
 use Rattle.csv.specs.Writing.{default_writer, row_text}
@@ -18,7 +18,8 @@ use Rattle.written_rows.specs.declared.columns.Column.TheVariants.{Command}
 use Rattle.written_rows.specs.declared.fault.Flaw.TheVariants.{Excess, NoCommand, Unclear, Unknown}
 use Rattle.written_rows.specs.declared.rows.Written.{Written}
 use Rattle.written_rows.specs.declared.rows.Written.TheVariants as written
-use Rattle.written_rows.specs.Columns.{columns_of, name_of}
+use Rattle.written_rows.specs.Cases.{asked}
+use Rattle.written_rows.specs.Columns.{column_at, columns_of, name_of}
 use Rattle.written_rows.specs.Fault.{FieldFault, fault_at}
 use Rattle.written_rows.specs.Fields.{field_said}
 use Rattle.written_rows.specs.Headings.{heading_faults, heading_of, index_of, is_filled, names_columns, word_at}
@@ -78,10 +79,6 @@ excess_faults header columns text number [] = []
 excess_faults header columns text number (field ∷ fields) =
     excess_fault header columns text number field ++ excess_faults header columns text (number + 1) fields
 
--- the column of that number
-abbrev pub column_at : List Column → ℕ → Column
-column_at columns number = unwrap_or (slice_get columns number) Command
-
 -- the number of the column that is at fault
 abbrev pub column_of_cause : RowCause → ℕ
 column_of_cause cause.BadClerk = 0
@@ -97,7 +94,7 @@ abbrev pub fault_of_column : Option (List (List ℕ)) → (text : List ℕ) → 
 fault_of_column header text fields columns number =
     fault_at text (column_place header number (column_at columns number)) (Unknown (column_at columns number)) (value_at header fields number (column_at columns number)) [] []
 
--- the plain row with this text, which says this
+-- the row with this text, where the row that the office is asked about says this
 abbrev pub taken : CourtNames → Option (List (List ℕ)) → (text : List ℕ) → (fields : List (List ℕ)) → List Column → (plain : List ℕ) → Line → Written (List (List ℕ)) (List ℕ) (List FieldFault)
 taken names header text fields columns plain line.Blank = written.Faulty (fault_of_column header text fields columns 1 ∷ [])
 taken names header text fields columns plain (line.Fault cause) = written.Faulty (fault_of_column header text fields columns (column_of_cause cause) ∷ [])
@@ -116,16 +113,17 @@ module _ (names : CourtNames) (order : Option DateOrder) (header : Option (List 
   column_faults number (column ∷ columns) =
       unclear text (column_place header number column) column (value_at header fields number column) (said_in names order header fields number column) ++ column_faults (number + 1) columns
 
-  -- the plain row with this text, if there is no fault
-  abbrev pub if_faultless : (clerks : ℕ) → List Column → (plain : List ℕ) → List FieldFault → Written (List (List ℕ)) (List ℕ) (List FieldFault)
-  if_faultless clerks columns plain [] = taken names header text fields columns plain (line_read clerks names plain)
+  -- the row with these plain fields, if there is no fault
+  abbrev pub if_faultless : (clerks : ℕ) → List Column → (plain : List (List ℕ)) → List FieldFault → Written (List (List ℕ)) (List ℕ) (List FieldFault)
+  if_faultless clerks columns plain [] =
+      taken names header text fields columns (row_text default_writer plain) (line_read clerks names (row_text default_writer (asked columns plain)))
   if_faultless clerks columns plain (fault ∷ faults) = written.Faulty (fault ∷ faults)
 
   -- what a row with these columns is read as: each field says one thing in its column, and no other field is there
   abbrev pub in_columns : (clerks : ℕ) → Option (List Column) → Written (List (List ℕ)) (List ℕ) (List FieldFault)
   in_columns clerks None = written.Faulty (fault_at text (column_place header 1 Command) NoCommand (value_at header fields 1 Command) [] [] ∷ [])
   in_columns clerks (Some columns) =
-      if_faultless clerks columns (row_text default_writer (plain_in 0 columns)) (column_faults 0 columns ++ excess_faults header columns text 0 fields)
+      if_faultless clerks columns (plain_in 0 columns) (column_faults 0 columns ++ excess_faults header columns text 0 fields)
 
   -- what a row is read as: its columns are those of its command word
   unfoldable pub row_said : (clerks : ℕ) → Written (List (List ℕ)) (List ℕ) (List FieldFault)

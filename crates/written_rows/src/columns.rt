@@ -1,7 +1,7 @@
 //! The columns of rows, and their headings.
 
 ghost use Rattle.std.specs.Prelude.{◌≡◌, option_map};
-ghost use Rattle.written_rows.specs.Columns.{columns_of, heading_said, name_of};
+ghost use Rattle.written_rows.specs.Columns.{column_at, columns_of, heading_said, name_of};
 
 /// What a column of a row holds.
 #[derive(Clone, Copy, Debug, PartialEq, Eq)]
@@ -10,7 +10,7 @@ pub enum Column {
     Clerk,
     /// The command word.
     Command,
-    /// A case's number.
+    /// A case: its number, or its number as the court writes it.
     Case,
     /// A deadline's number.
     Deadline,
@@ -142,6 +142,13 @@ pub fn columns_of(word: &str) -> Option<&'static [Column]>
         "calendar" => Some(&[Column::Clerk, Column::Command, Column::Judge, Column::Date]),
         _ => None,
     }
+}
+
+/// The column of that number, counted from 0.
+pub(crate) fn column_at(columns: &[Column], number: usize) -> Column
+    ensures { result ≡ column_at columns.now number }
+{
+    columns.get(number).copied().unwrap_or(Column::Command)
 }
 
 /// The heading of a column.

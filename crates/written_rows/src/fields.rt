@@ -7,10 +7,11 @@ ghost use Rattle.jiff_fmt.specs.Text.{pad2};
 ghost use Rattle.court_clock.specs.Words.{day_text};
 ghost use Rattle.office_rows.specs.Words.{is_number, names_of};
 ghost use Rattle.written_fields.specs.Words.{date_said, said_map, time_said};
-ghost use Rattle.written_rows.specs.Fields.{ending_said, field_said, filled_said, grant_said, may_be_empty, need_said, number_said, period_said, slots_number, slots_said, time_if, word_said};
+ghost use Rattle.written_rows.specs.Fields.{case_said, ending_said, field_said, filled_said, grant_said, may_be_empty, need_said, number_said, period_said, slots_number, slots_said, time_if, word_said};
 
 use crate::columns::Column;
 use crate::names::{Named, name_said, owned, panel_said};
+use case_numbers::case_read;
 use court_clock::Day;
 use court_days::Court;
 use std::alloc::{AllocError, Global};
@@ -47,6 +48,20 @@ fn number_said(alloc: Global, text: &str) -> Result<Said<String>, AllocError>
         Ok(Said::Clear(text))
     } else {
         Ok(Said::Unknown)
+    }
+}
+
+// A case: its number, or its case number as the court writes it.
+fn case_said(alloc: Global, text: &str) -> Result<Said<String>, AllocError>
+    ensures { IfOk result (λ said. said_map string_bytes said ≡ case_said text.now) }
+{
+    let text = bare(alloc, text)?;
+    if is_number(text.as_bytes()) {
+        return Ok(Said::Clear(text));
+    }
+    match case_read(alloc, text.as_bytes())? {
+        Some(name) => Ok(Said::Clear(String::from_str(alloc, name.shown())?)),
+        None => Ok(Said::Unknown),
     }
 }
 
@@ -210,9 +225,8 @@ fn filled_said(
 {
     match column {
         Column::Command => Ok(Said::Clear(folded(alloc, text)?)),
-        Column::Clerk | Column::Case | Column::Deadline | Column::Motion => {
-            number_said(alloc, text)
-        }
+        Column::Clerk | Column::Deadline | Column::Motion => number_said(alloc, text),
+        Column::Case => case_said(alloc, text),
         Column::Date | Column::SecondOrNone | Column::Notice => day_said(alloc, order, text),
         Column::Time | Column::TimeOrNone | Column::From => minute_said(alloc, text),
         Column::To => ending_said(alloc, text),

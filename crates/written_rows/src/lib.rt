@@ -1,6 +1,7 @@
 //! Lines as people write them, read as plain rows.
 #![tactic(auto)]
 
+mod cases;
 mod columns;
 mod fault;
 mod fields;

@@ -9,12 +9,14 @@ ghost use Rattle.row_line.specs.Words.{line_read};
 ghost use Rattle.written_fields.specs.Words.{said_map};
 ghost use Rattle.std.specs.Str.{bytes_eq};
 ghost use Rattle.written_rows.specs.declared.rows.Written.TheVariants as written;
-ghost use Rattle.written_rows.specs.Columns.{name_of};
+ghost use Rattle.written_rows.specs.Cases.{asked};
+ghost use Rattle.written_rows.specs.Columns.{column_at, name_of};
 ghost use Rattle.written_rows.specs.Fault.{fault_in};
 ghost use Rattle.written_rows.specs.Headings.{heading_of, is_filled};
-ghost use Rattle.written_rows.specs.Rows.{clear_text, column_at, column_faults, column_of_cause, column_place, excess_fault, excess_faults, fault_of_column, fields_written, is_wanted, plain_in, read_as, row_said, said_in, says_nothing, stays, taken, typed_as, unclear, value_at, written_map};
+ghost use Rattle.written_rows.specs.Rows.{clear_text, column_faults, column_of_cause, column_place, excess_fault, excess_faults, fault_of_column, fields_written, is_wanted, plain_in, read_as, row_said, said_in, says_nothing, stays, taken, typed_as, unclear, value_at, written_map};
 
-use crate::columns::{Column, columns_of, name_of};
+use crate::cases::{asked_text, text_of};
+use crate::columns::{Column, column_at, columns_of, name_of};
 use crate::fault::{Fault, Flaw, fault_at};
 use crate::fields::field_said;
 use crate::headings::{headings_of, index_of, names_columns, word_at};
@@ -24,7 +26,7 @@ use court_days::Court;
 use csv::StringRecord;
 use docket_rows::{Command, Query};
 use office_rows::{Row, RowCause, Work};
-use row_line::{Line, push_row_text, read_line};
+use row_line::{Line, read_line};
 use rule_periods::{Grant, Request};
 use std::alloc::{AllocError, Global};
 use written_fields::{DateOrder, Said, cut_line, folded, separator_of, typed};
@@ -244,13 +246,6 @@ fn column_of_cause(cause: RowCause) -> usize
     }
 }
 
-// The column of that number.
-fn column_at(columns: &[Column], number: usize) -> Column
-    ensures { result ≡ column_at columns.now number }
-{
-    columns.get(number).copied().unwrap_or(Column::Command)
-}
-
 // A line whose field in the column of that number isn't what the column holds.
 fn faulty_column(
     alloc: Global,
@@ -270,7 +265,7 @@ fn faulty_column(
     Ok(Written::Faulty(faults))
 }
 
-// What the text of a plain row is read as, in these columns.
+// What a row with these plain fields is read as, in these columns.
 fn taken(
     alloc: Global,
     clerks: u8,
@@ -279,14 +274,17 @@ fn taken(
     text: &str,
     fields: &StringRecord,
     columns: &[Column],
-    plain: Vec<u8>,
+    plain: &StringRecord,
 ) -> Result<WrittenLine, AllocError>
-    ensures { IfOk result (λ line. written_map fields_of (λ t. t.items) (λ f. map fault_in f.items) line ≡ taken (names_of court.now) (option_map fields_of header.now) text.now (fields_of fields.now) columns.now plain.items (line_read clerks (names_of court.now) plain.items)) }
+    ensures { IfOk result (λ line. written_map fields_of (λ t. t.items) (λ f. map fault_in f.items) line ≡ taken (names_of court.now) (option_map fields_of header.now) text.now (fields_of fields.now) columns.now (row_text default_writer (fields_of plain.now)) (line_read clerks (names_of court.now) (row_text default_writer (asked columns.now (fields_of plain.now))))) }
 {
     let _types: RowTypes = None;
+    let asked = asked_text(alloc, columns, plain)?;
     let mut read = StringRecord::new(alloc);
-    match read_line(alloc, &plain, clerks, court, &mut read)? {
-        Line::Row(row) if names_known(court, &row.work) => Ok(Written::Plain(plain)),
+    match read_line(alloc, &asked, clerks, court, &mut read)? {
+        Line::Row(row) if names_known(court, &row.work) => {
+            Ok(Written::Plain(text_of(alloc, plain)?))
+        }
         Line::Fault(cause) => {
             faulty_column(alloc, header, text, fields, columns, column_of_cause(cause))
         }
@@ -320,9 +318,7 @@ fn row_said(
     if !faults.is_empty() {
         return Ok(Written::Faulty(faults));
     }
-    let mut row = Vec::new(alloc);
-    push_row_text(&mut row, &plain)?;
-    taken(alloc, clerks, court, header, text, fields, columns, row)
+    taken(alloc, clerks, court, header, text, fields, columns, &plain)
 }
 
 // What a line that is typed on plain keys is read as.
@@ -375,8 +371,8 @@ fn stays(
 }
 
 /// Reads a line as people write it as a plain row, in a file whose columns have these headings, or none. A line that is a
-/// plain row already stays as it is, where there are no headings; any other is one if each of its fields says one thing.
-/// `Err` says that memory ran out.
+/// plain row already stays as it is, where there are no headings; any other is one if each of its fields says one thing. A case
+/// number stays in the row, as it is shown. `Err` says that memory ran out.
 #[tactic(auto, unfolding(crate::specs::Rows::read_as))]
 pub fn read_written(
     alloc: Global,

@@ -85,7 +85,7 @@ fn has_day(days: &Days, first: Day, next: Day) -> bool
     found
 }
 
-/// Whether the federal list has the day that comes so many days after the first, or another was found before.
+/// Whether the federal list has the day that comes this many days after the first, or another was found before.
 fn is_listed_or(found: bool, days: &Days, first: Day, place: u32) -> bool
     requires { (first +ℤ pos place) ≤ℤ pos 110000 }
     ensures { result ≡ (found || is_among days.now.federal (first +ℤ pos place)) }

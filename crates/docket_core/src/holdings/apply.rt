@@ -8,7 +8,7 @@ use super::{Holdings, calendars, cases};
 use crate::rebooking::rebooking_of;
 use crate::writes::days_written;
 use docket_decisions::{answer_if_made, case_of_command, refusal};
-use docket_rows::{Answer, Command, Rebooking};
+use docket_rows::{Answer, Command, Rebooking, Refusal};
 use std::alloc::{AllocError, Global};
 
 impl Holdings {
@@ -35,6 +35,14 @@ impl Holdings {
         let answer = answer_if_made(alloc, &self.rules, self, command);
         self.change(alloc, command)?;
         Ok(answer)
+    }
+
+    /// Why the docket as it is refuses the command, if it does. `Err` says that memory ran out.
+    pub fn refusal(&self, alloc: Global, command: &Command) -> Result<Option<Refusal>, AllocError>
+        ensures value { IfOk result (λ r. r ≡ refusal self.now.setup (parts_held self.now) command.now) }
+        ensures memory { IfErr result (λ e. takes_memory (refusal self.now.setup (parts_held self.now) command.now) command.now ≡ true) }
+    {
+        refusal(alloc, &self.rules, self, command)
     }
 
     /// Changes the docket as the command says that isn't refused. An error leaves it as it was.

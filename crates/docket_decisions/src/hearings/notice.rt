@@ -28,8 +28,9 @@ fn last_service(days: &Days, hearing: Day, n: u32) -> Option<Day>
     }
 }
 
-/// Whether no covered day qualifies as that day, where one has to.
-pub(crate) fn lacks_last_service(days: &Days, hearing: Day, need: Need) -> bool
+/// Whether the days of the court's file have no day on which a motion for that hearing could be served with its notice at the
+/// latest, where it needs notice (Fed. R. Civ. P. 6(c)(1)).
+pub fn lacks_last_service(days: &Days, hearing: Day, need: Need) -> bool
     ensures { result ≡ lacks_last_service days.now hearing need }
 {
     match need {
@@ -38,8 +39,9 @@ pub(crate) fn lacks_last_service(days: &Days, hearing: Day, need: Need) -> bool
     }
 }
 
-/// That day, where the motion or the notice was served after it.
-pub(crate) fn missed_service(days: &Days, hearing: Day, need: Need, served: Day) -> Option<Day>
+/// The last day to serve a motion and the notice of its hearing, where the later of the two was served after that day; else
+/// nothing (Fed. R. Civ. P. 6(c)(1)).
+pub fn missed_service(days: &Days, hearing: Day, need: Need, served: Day) -> Option<Day>
     ensures { result ≡ missed_service days.now hearing need served }
 {
     let Need::Days(n) = need else {

@@ -14,7 +14,7 @@ pub(crate) fn fits_day(first: u8, count: u32) -> bool
 }
 
 /// Whether the court hears motions on the day.
-pub(crate) fn is_court_day(days: &Days, day: Day) -> bool
+pub fn is_court_day(days: &Days, day: Day) -> bool
     ensures { result ≡ is_court_day days.now day }
 {
     days.is_permitted(day, Direction::After) && !days.has_outage(day)

@@ -42,7 +42,7 @@ sound_motion setup rows case served need s h =
       hearings_settable = s.hearings_settable;
     }
 
--- a motion stands among those of its case
+-- a motion is among those of its case
 pub among_its_case : (rows : Rows) (case number : ℕ) (m : DocketedMotion) → Contains rows.motions m → is_motion case number m ≡ true → Contains (filter (is_motion_in case) rows.motions) m
 among_its_case rows case number m held is = to_filter (is_motion_in case) rows.motions m held.0 held.1 held.2 (and_parts (m.case == case) (m.number == number) is).0
 

@@ -27,7 +27,7 @@ module _ {X : Type 0} (number : X → ℕ) where
             ∙ map-range_with_len_more (λ k. k) 1 n (n + 1) (omega arith)
             ∙ ap (λ ns. ns ++ (n + 1) ∷ []) (map-id (range_with_len 1 n))
 
-  -- a row's number says where it stands
+  -- a row's number says where it is
   pub number_at : (xs : List X) → AreNumbered xs → (k : ℕ) (d : X) → k < length xs → number (get_or xs k d) ≡ 1 + k
   number_at xs h k d within =
       sym (get_or-map number xs k d 0 within)

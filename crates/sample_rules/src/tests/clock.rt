@@ -85,7 +85,7 @@ fn holds(rt: &impl Abort, clock: &Clock, at: i64, offset: i32, until: i64) {
     assert!(rt; clock.steady_until(instant) == until, "{at}");
 }
 
-/// The last second before the change of March 2025, and the first behind it, whose offset holds until November.
+/// The last second before the change of March 2025, and the first after it, whose offset holds until November.
 #[test]
 fn offsets_hold_until_the_clocks_change(rt: HostRuntime) -> Result<(), Fail> {
     let court = court_in(rt.alloc(), EASTERN)?;
@@ -94,7 +94,7 @@ fn offsets_hold_until_the_clocks_change(rt: HostRuntime) -> Result<(), Fail> {
     Ok(())
 }
 
-/// A fixed offset holds behind the last instant, and the clock shows no day there.
+/// A fixed offset holds after the last instant, and the clock shows no day there.
 fn is_at_an_end(rt: &impl Abort, clock: &Clock, at: i64) {
     holds(rt, clock, at, 53_940, 10_000_000_000);
     let instant = Instant::new(at).expect(rt, "an instant");

@@ -20,7 +20,7 @@ fn closed(rt: &impl Abort, alloc: Global, days: &Days) -> Result<Days, Fail> {
     Ok(once.with_holiday(alloc, HolidayList::State, monday)?)
 }
 
-/// The next accessible day behind Thursday, 2025-03-06, and how many outages and holidays of the state there are.
+/// The next accessible day after Thursday, 2025-03-06, and how many outages and holidays of the state there are.
 fn are(rt: &impl Abort, days: &Days, next: &str, outages: usize, dates: usize) {
     let found = days.first_accessible(day(rt, "2025-03-06"), Direction::After);
     assert!(rt; found == Some(day(rt, next)), "{next}");

@@ -33,7 +33,7 @@ fn rolls_a_last_day(rt: &impl Abort, days: &Days) {
     assert!(rt; last == Some(day(rt, "2025-09-02")));
 }
 
-/// The last day is the Friday before Labor Day, and the next accessible one the Tuesday behind it.
+/// The last day is the Friday before Labor Day, and the next accessible one the Tuesday after it.
 fn extends_a_last_day(rt: &impl Abort, alloc: Global, days: &Days) -> Result<(), Fail> {
     let shut = shut(rt, alloc, days, "2007-08-31", (540, 600))?;
     let extended = extended_for_access(&shut, day(rt, "2007-08-31"), Direction::Before);
@@ -165,7 +165,7 @@ fn rows_are_changed_in_place_and_copied(rt: HostRuntime) -> Result<(), Fail> {
 }
 
 // A hearing, and the last day for notice of 14 days: on court days, on a Saturday and a Sunday, at the beginning of the
-// calendar and behind its end.
+// calendar and after its end.
 const HEARINGS: &str = "\
 2025-09-15 2025-08-29
 2025-09-16 2025-09-02

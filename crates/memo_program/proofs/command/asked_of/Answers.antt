@@ -1,5 +1,6 @@
 -- The kinds of the parse's faults go over to those of the answer.
 use Rattle.std.proofs.Common.{◌≡◌, ◌∙◌, [], ap, subst, sym}
+use Rattle.std.proofs.lemmas.Bool.{and_parts}
 use Rattle.clap.specs.Faults.{fault_of, is_simple_and_free}
 use Rattle.clap.specs.Kinds.{HasKind, Kinds}
 use Rattle.clap.specs.Simple.{is_simple}
@@ -10,7 +11,7 @@ use Rattle.clap.specs.Words.{found_of, matches_of, rows_of}
 use Rattle.office_options.proofs.CallerLemmas.{fault_among, only_memory}
 use Rattle.memo_program.specs.Asked.{are_given_taken, faults_given}
 use Rattle.memo_program.specs.CommandLine.{command_line}
-use Rattle.memo_program.proofs.AskedLemmas.{both_taken, first_fault}
+use Rattle.memo_program.proofs.AskedLemmas.{first_fault}
 use Rattle.memo_program.proofs.command.asked_of.Goals as goal
 
 pub returns-in-Ok-clause-faults : goal.returns-in-Ok-clause-faults
@@ -26,7 +27,7 @@ returns-in-Ok-clause-taken c taken =
     let words = texts c.args.words.now in
     let is = c.in_ok-command.ensures in
     let given : rows_of (found_of c.in-Ok.matches) ≡ matches_of command_line words = (c.in-Ok.ensures.matches (ap is_simple is)).0 ∙ ap (λ a. matches_of a words) is in
-    c.asked_by.ensures.taken (ap are_given_taken given ∙ (both_taken (takes command_line words) _ taken).1)
+    c.asked_by.ensures.taken (ap are_given_taken given ∙ (and_parts (takes command_line words) _ taken).1)
 
 pub returns-in-Err-clause-faults : goal.returns-in-Err-clause-faults
 returns-in-Err-clause-faults c =
@@ -40,5 +41,5 @@ pub returns-in-Err-clause-taken : goal.returns-in-Err-clause-taken
 returns-in-Err-clause-taken c taken =
     let words = texts c.args.words.now in
     let is = c.in_ok-command.ensures in
-    let memory = c.in-Err.ensures.passes (ap (λ a. takes a words) is ∙ (both_taken (takes command_line words) _ taken).0) in
+    let memory = c.in-Err.ensures.passes (ap (λ a. takes a words) is ∙ (and_parts (takes command_line words) _ taken).0) in
     only_memory (kind_of c.in-Err.error) c.fault_from.result memory c.fault_from.ensures

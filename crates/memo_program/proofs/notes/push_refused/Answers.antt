@@ -1,18 +1,18 @@
-use Rattle.std.proofs.Common.{◌≡◌, ◌∙◌, option_copied}
-use Rattle.docket_rows.specs.Words.{setup_of}
-use Rattle.refusal_texts.specs.Words.{deadline_asked, motion_of_refusal}
-use Rattle.memo_program.specs.Notes.{deadline_at, motion_at}
-use Rattle.memo_program.proofs.DocketLemmas.{days_held}
+use Rattle.std.proofs.Common.{◌≡◌, ◌++◌, ◌∙◌, ℕ, List, OnOk, ap, string_bytes, subst}
+use Rattle.docket_rows.specs.Words.{Parts, parts_of}
+use Rattle.docket_core.specs.Words.{parts_held}
+use Rattle.refusal_texts.specs.Words.{motion_called, motion_of_refusal}
+use Rattle.refused_commands.specs.Words.{why_refused}
+use Rattle.refused_commands.proofs.CallerLemmas.{parts_same}
 use Rattle.memo_program.proofs.notes.push_refused.Goals as goal
 
 pub returns : goal.returns
 returns c docketed holds =
-    let court = c.args.court.now in
-    let command = c.args.command.now in
-    let days : c.days.result.now ≡ docketed.days = c.days.ensures ∙ days_held (setup_of court) c.args.docket.now docketed holds in
-    let clock : c.clock.result.now ≡ court.clock = c.clock.ensures in
-    let asked : c.deadline_asked.result ≡ deadline_asked command = c.deadline_asked.ensures in
-    let row : option_copied c.deadline_at-row.result ≡ deadline_at docketed (deadline_asked command) = rw asked at c.deadline_at-row.ensures court docketed holds in
-    let named : c.motion_of_refusal.result ≡ motion_of_refusal command c.args.refusal.now = c.motion_of_refusal.ensures in
-    let motion : c.in_ok-motion.motion ≡ motion_at court docketed (motion_of_refusal command c.args.refusal.now) = rw named at c.in_ok-motion.ensures court docketed holds in
-    rw motion at (rw row at (rw clock at (rw days at c.push_refusal.ensures)))
+    let written : List ℕ = c.as_str.result.now in
+    let called : written ≡ motion_called (motion_of_refusal c.args.command.now c.args.refusal.now) =
+    c.as_str.ensures.value ∙ c.in_ok-push_motion_called.ensures ∙ ap (λ (t : List ℕ). t ++ motion_called c.motion_of_refusal.result) c.new-called.ensures.bytes ∙ ap motion_called c.motion_of_refusal.ensures in
+    subst (λ (t : List ℕ). OnOk c.push_why_refused.result (string_bytes c.push_why_refused.new.text ≡ string_bytes c.args.text.now ++ why_refused c.args.court.now (parts_of docketed) c.args.command.now t c.args.refusal.now))
+    called
+    (subst (λ (p : Parts). OnOk c.push_why_refused.result (string_bytes c.push_why_refused.new.text ≡ string_bytes c.args.text.now ++ why_refused c.args.court.now p c.args.command.now written c.args.refusal.now))
+    (parts_same (parts_held c.args.docket.now) (parts_of docketed) holds.stands)
+    (c.push_why_refused.ensures holds.setup_is))

@@ -28,3 +28,8 @@ pub returns-in-Err-clause-said : goal.returns-in-Err-clause-said
 returns-in-Err-clause-said c =
     let (begins, text) = c.in_ok-read_first.ensures.text (ap Ok c.in-Text.is) in
     says_first c.args.clerks (names_of c.args.court.now) c.args.bytes.now (fields_of c.read_first.new.fields) begins.later (Err c.in-Err.cause) begins.is (sym c.in-Err.ensures)
+
+pub returns-in-Err-clause-field : goal.returns-in-Err-clause-field
+returns-in-Err-clause-field c = λ column same.
+    let (begins, text) = c.in_ok-read_first.ensures.text (ap Ok c.in-Text.is) in
+    has_fields c.args.clerks (names_of c.args.court.now) c.args.bytes.now (fields_of c.read_first.new.fields) begins.later begins.is

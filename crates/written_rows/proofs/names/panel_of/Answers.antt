@@ -1,4 +1,4 @@
-use Rattle.std.proofs.Common.{◌≡◌, ◌∙◌, [], List, ℕ, ap, sym, arith}
+use Rattle.std.proofs.Common.{◌∙◌, [], ap, sym, arith}
 use Rattle.std.specs.Prelude.{string_bytes}
 use Rattle.csv.specs.Records.{fields_of}
 use Rattle.written_fields.specs.Words.{said_map}

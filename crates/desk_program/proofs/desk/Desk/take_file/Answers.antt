@@ -7,6 +7,7 @@ use Rattle.docket_entries.specs.Words.{SaysCourt, StandsAt}
 use Rattle.docket_entries.proofs.CallerLemmas.{docketed_file}
 use Rattle.desk_program.specs.Desk.{docketed_at}
 use Rattle.desk_program.proofs.DeskLemmas.{one_file}
+use Rattle.desk_program.proofs.FaultLemmas.{never_differs}
 use Rattle.desk_program.proofs.desk.Desk.take_file.Goals as goal
 
 pub returns-in-Err-clause-crash : goal.returns-in-Err-clause-crash
@@ -33,3 +34,6 @@ pub returns-in-Ok-clause-crash : goal.returns-in-Ok-clause-crash
 returns-in-Ok-clause-crash g c = λ entries keeps x left.
     let (entry, is_one, says) = c.in_ok-batch.ensures in
     one_file x entries (batch_of c.deref.result.now) c.args.file.now entry (ap batch_of c.deref.ensures.value ∙ is_one) says (c.append.ensures.crash entries keeps.kept x left)
+
+pub returns-in-Err-clause-fault : goal.returns-in-Err-clause-fault
+returns-in-Err-clause-fault g c = λ count is. never_differs c.in-Err.fault c.from.result count c.from.ensures is

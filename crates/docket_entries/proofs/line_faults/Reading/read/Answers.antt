@@ -1,20 +1,28 @@
-use Rattle.std.proofs.Common.{◌∙◌, ◌+◌, ℕ, ap, refl, sym}
+use Rattle.std.proofs.Common.{◌∙◌, ◌+◌, ap, refl, sym}
+use Rattle.std.proofs.lemmas.Result.{on_ok_weaker}
+use Rattle.case_numbers.specs.Words.{CasesView}
+use Rattle.office_rows.specs.Words.{names_of}
+use Rattle.docket_entries.specs.CaseLines.{reading_of}
 use Rattle.row_line.specs.declared.line.Line.TheVariants as says
-use Rattle.row_line.specs.Words.{fields_read}
-use Rattle.docket_entries.specs.Rows.{entry_of, within}
-use Rattle.docket_entries.proofs.LineFaultLemmas.{count_more, count_same}
+use Rattle.docket_entries.proofs.LineFaultLemmas.{counts_more, counts_same, said_at}
 use Rattle.docket_entries.proofs.line_faults.Reading.read.Goals as goal
 
-pub returns-in-Blank-clause-count : goal.returns-in-Blank-clause-count
-returns-in-Blank-clause-count c = λ kept count.
-    count ∙ sym (count_same c.args.court.now kept c.args.line.now says.Blank (ap (within kept) (sym c.in_ok-said.ensures.said) ∙ sym (c.within.ensures.said kept count) ∙ c.in-Blank.is) refl)
+pub returns-in-Blank-clause-counts : goal.returns-in-Blank-clause-counts
+returns-in-Blank-clause-counts c = λ kept counts.
+    let is = sym (said_at c.args.court.now kept c.args.line.now c.args.self.now.cases c.in_ok-said.said counts.cases_are c.in_ok-said.ensures.said) ∙ sym (c.within.ensures.said kept counts.count_is) ∙ c.in-Blank.is in
+    counts_same c.args.court.now kept c.args.line.now says.Blank c.args.self.now.count c.args.self.now.cases is refl counts
 
-pub returns-in_ok-note-in-Fault-clause-count : goal.returns-in_ok-note-in-Fault-clause-count
-returns-in_ok-note-in-Fault-clause-count c = λ kept count.
-    c.note.ensures.count ∙ count ∙ sym (count_same c.args.court.now kept c.args.line.now (says.Fault c.in-Fault.cause) (ap (within kept) (sym c.in_ok-said.ensures.said) ∙ sym (c.within.ensures.said kept count) ∙ c.in-Fault.is) refl)
+pub returns-in-Fault-clause-counts : goal.returns-in-Fault-clause-counts
+returns-in-Fault-clause-counts c = λ kept counts.
+    let is = sym (said_at c.args.court.now kept c.args.line.now c.args.self.now.cases c.in_ok-said.said counts.cases_are c.in_ok-said.ensures.said) ∙ sym (c.within.ensures.said kept counts.count_is) ∙ c.in-Fault.is in
+    on_ok_weaker c.note.result
+    (λ noted. rw (c.note.ensures.count, c.note.ensures.cases) (counts_same c.args.court.now kept c.args.line.now (says.Fault c.in-Fault.cause) c.args.self.now.count c.args.self.now.cases is refl counts))
+    c.note.ensures.faults
 
-pub returns-in-Row-clause-count : goal.returns-in-Row-clause-count
-returns-in-Row-clause-count c = λ kept count.
-    ap (λ (n : ℕ). n + 1) count
-    ∙ sym (count_more c.args.court.now kept c.args.line.now (says.Row c.in-Row.field-0) (entry_of c.args.court.now kept (fields_read c.args.line.now) c.in-Row.field-0)
-    (ap (within kept) (sym c.in_ok-said.ensures.said) ∙ sym (c.within.ensures.said kept count) ∙ c.in-Row.is) refl)
+pub returns-in-Row-clause-counts : goal.returns-in-Row-clause-counts
+returns-in-Row-clause-counts c = λ kept counts.
+    let is = sym (said_at c.args.court.now kept c.args.line.now c.args.self.now.cases c.in_ok-said.said counts.cases_are c.in_ok-said.ensures.said) ∙ sym (c.within.ensures.said kept counts.count_is) ∙ c.in-Row.is in
+    let name = c.in_ok-said.ensures.name ∙ ap (λ (k : CasesView). (reading_of (names_of c.args.court.now) k c.args.line.now).name) counts.cases_are in
+    on_ok_weaker c.note_case.result
+    (λ opened. counts_more c.args.court.now kept c.args.line.now c.in-Row.row c.args.self.now.count (c.args.self.now.count + 1) c.args.self.now.cases c.note_case.new.cases is counts refl c.in_ok-said.name name opened)
+    c.note_case.ensures

@@ -16,23 +16,23 @@ use Rattle.docket_entries.proofs.questions.QuestionsRegister.take.Goals as goal
 
 pub returns-in-Blank : goal.returns-in-Blank
 returns-in-Blank c = λ kept stands.
-    line_asked c.args.court.now (record { register = c.said.new.self }) kept c.args.line.now (batch_of c.args._batch.now.items) c.args.text.now.items says.Blank (sym (c.in_ok-said.ensures.said kept stands.count) ∙ c.in-Blank.is)
-    (as_it_was c.args.court.now c.args.self.now.register c.said.new.self kept stands c.said.ensures.docket c.said.ensures.number c.said.ensures.count) c.args.text.now.items (sym (append-nil c.args.text.now.items))
+    line_asked c.args.court.now (record { register = c.heard.new.self }) kept c.args.line.now (batch_of c.args._batch.now.items) c.args.text.now.items says.Blank (sym (c.in_ok-said.ensures.said kept stands).said ∙ c.in-Blank.is)
+    (as_it_was c.args.court.now c.args.self.now.register c.heard.new.self kept stands c.heard.ensures.docket c.heard.ensures.cases c.heard.ensures.number c.heard.ensures.count) c.args.text.now.items (sym (append-nil c.args.text.now.items))
 
 pub returns-in-Fault : goal.returns-in-Fault
 returns-in-Fault c = λ kept stands.
-    let before = as_it_was c.args.court.now c.args.self.now.register c.said.new.self kept stands c.said.ensures.docket c.said.ensures.number c.said.ensures.count in
+    let before = as_it_was c.args.court.now c.args.self.now.register c.heard.new.self kept stands c.heard.ensures.docket c.heard.ensures.cases c.heard.ensures.number c.heard.ensures.count in
     on_ok_weaker c.push_fault.result
-    (λ told. line_asked c.args.court.now (record { register = c.said.new.self }) kept c.args.line.now (batch_of c.args._batch.now.items) c.args.text.now.items (says.Fault c.in-Fault.cause) (sym (c.in_ok-said.ensures.said kept stands.count) ∙ c.in-Fault.is)
+    (λ told. line_asked c.args.court.now (record { register = c.heard.new.self }) kept c.args.line.now (batch_of c.args._batch.now.items) c.args.text.now.items (says.Fault c.in-Fault.cause) (sym (c.in_ok-said.ensures.said kept stands).said ∙ c.in-Fault.is)
     before c.push_fault.new.text.items
     (told ∙ ap (λ (n : ℕ). c.args.text.now.items ++ told_line (RowFault n c.in-Fault.cause)) (c.next_number.ensures c.args.court.now kept before)))
     c.push_fault.ensures
 
 pub returns-in-Command : goal.returns-in-Command
 returns-in-Command c = λ kept stands.
-    let before = as_it_was c.args.court.now c.args.self.now.register c.said.new.self kept stands c.said.ensures.docket c.said.ensures.number c.said.ensures.count in
+    let before = as_it_was c.args.court.now c.args.self.now.register c.heard.new.self kept stands c.heard.ensures.docket c.heard.ensures.cases c.heard.ensures.number c.heard.ensures.count in
     on_ok_weaker c.push_command.result
-    (λ told. line_asked c.args.court.now (record { register = c.said.new.self }) kept c.args.line.now (batch_of c.args._batch.now.items) c.args.text.now.items (says.Row c.in-Row.row) (sym (c.in_ok-said.ensures.said kept stands.count) ∙ c.in-Row.is)
+    (λ told. line_asked c.args.court.now (record { register = c.heard.new.self }) kept c.args.line.now (batch_of c.args._batch.now.items) c.args.text.now.items (says.Row c.in-Row.row) (sym (c.in_ok-said.ensures.said kept stands).said ∙ c.in-Row.is)
     before c.push_command.new.text.items
     (told ∙ ap (λ (n : ℕ). c.args.text.now.items ++ command_text n) (c.next_number-in-Command.ensures c.args.court.now kept before)
     ∙ ap (λ (w : Work). c.args.text.now.items ++ shown_for c.args.court.now kept c.in-Row.row w) (sym c.in-Command.is)))
@@ -40,16 +40,17 @@ returns-in-Command c = λ kept stands.
 
 pub returns-in_ok-extend_from_slice-in-Query : goal.returns-in_ok-extend_from_slice-in-Query
 returns-in_ok-extend_from_slice-in-Query c = λ kept stands.
-    let before = as_it_was c.args.court.now c.args.self.now.register c.said.new.self kept stands c.said.ensures.docket c.said.ensures.number c.said.ensures.count in
+    let before = as_it_was c.args.court.now c.args.self.now.register c.heard.new.self kept stands c.heard.ensures.docket c.heard.ensures.cases c.heard.ensures.number c.heard.ensures.count in
     let holds = subst (λ (w : Work). Holds (setup_of c.args.court.now) c.answered.new.self.docket (docketed_then (setup_of c.args.court.now) (docketed_by c.args.court.now kept) w)) c.in-Query.is (c.in_ok-answer-in-Query.ensures.docket kept before) in
     let after : StandsAt c.args.court.now c.answered.new.self kept = record {
       docket = holds;
+      cases = c.answered.ensures.cases ∙ before.cases;
       number = c.answered.ensures.number ∙ before.number;
       count = c.answered.ensures.count ∙ before.count;
       begun = before.begun;
       few = before.few;
     } in
-    line_asked c.args.court.now (record { register = c.answered.new.self }) kept c.args.line.now (batch_of c.args._batch.now.items) c.args.text.now.items (says.Row c.in-Row.row) (sym (c.in_ok-said.ensures.said kept stands.count) ∙ c.in-Row.is)
+    line_asked c.args.court.now (record { register = c.answered.new.self }) kept c.args.line.now (batch_of c.args._batch.now.items) c.args.text.now.items (says.Row c.in-Row.row) (sym (c.in_ok-said.ensures.said kept stands).said ∙ c.in-Row.is)
     after c.extend_from_slice.new.self.items
     (c.in_ok-extend_from_slice-in-Query.ensures.items ∙ ap (λ (l : List ℕ). c.args.text.now.items ++ l) (c.as_bytes.ensures.value ∙ c.in_ok-answer-in-Query.ensures.answer kept before)
     ∙ ap (λ (w : Work). c.args.text.now.items ++ shown_for c.args.court.now kept c.in-Row.row w) (sym c.in-Query.is))

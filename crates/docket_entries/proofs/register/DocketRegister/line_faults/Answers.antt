@@ -14,7 +14,7 @@ loop-split-preserved c = (
       let court = c.args.court.now in
       let line = c.in-Some.split.line.now in (
         then ++ leaves court then line,
-        c.in_ok-read.ensures.count then count,
+        c.in_ok-read.ensures.counts then count,
         subst (λ (n : ℕ). map fault_in c.read.new.self.faults.items ++ faults_of court (then ++ leaves court then line) (numbered_from n [] c.in-Some.split.rest.now) ≡ faults_of court kept (numbered_lines c.args.input.now)) (sym c.number_after-number.ensures)
             (faults_more court then c.loop-split.number c.loop-split.rest.now line c.in-Some.split.end c.in-Some.split.rest.now (map fault_in c.loop-split.reading.faults.items) (map fault_in c.read.new.self.faults.items) (faults_of court kept (numbered_lines c.args.input.now)) c.in-Some.ensures so_far
             (c.in_ok-read.ensures.faults then count)),

@@ -1,0 +1,79 @@
+//! What a clerk is warned of a command that would be refused.
+
+ghost use Rattle.std.specs.Prelude.{◌≡◌, ◌++◌, OnOk, string_bytes};
+ghost use Rattle.docket_rows.specs.Words.{setup_of};
+ghost use Rattle.docket_core.specs.Words.{parts_held};
+ghost use Rattle.refusal_texts.specs.Words.{motion_of_refusal};
+ghost use Rattle.refused_commands.specs.Words.{why_refused};
+ghost use Rattle.named_answers.specs.Words.{motion_called};
+ghost use Rattle.careful_rows.specs.Warnings.{if_refused, refused_line};
+
+use crate::hearings::push_kept;
+use crate::instead::push_instead;
+use case_numbers::Cases;
+use court_clock::Clock;
+use court_days::Court;
+use docket_core::Docket;
+use docket_rows::{Answer, Command, Refusal};
+use named_answers::{push_motion_called, push_named_answer};
+use refusal_texts::motion_of_refusal;
+use refused_commands::push_why_refused;
+use std::alloc::{AllocError, Global};
+
+/// Adds that a command would be refused, why, and what would do instead.
+#[tactic(auto, unfolding(crate::specs::Warnings::if_refused))]
+pub(crate) fn push_refused(
+    alloc: Global,
+    text: &mut String,
+    court: &Court,
+    cases: &Cases,
+    docket: &Docket,
+    command: &Command,
+    refusal: &Refusal,
+) -> Result<(), AllocError>
+    ensures { docket.now.setup ≡ setup_of court.now → OnOk result (string_bytes text.new ≡ string_bytes text.old ++ if_refused court.now cases.now.named (parts_held docket.now) command.now refusal.now) }
+{
+    push_refused_line(text, court.clock(), cases, refusal)?;
+    push_why(alloc, text, court, cases, docket, command, refusal)?;
+    push_kept(alloc, text, court, cases, docket, command, refusal)?;
+    push_instead(alloc, text, docket, command, refusal)
+}
+
+/// Adds the refusal, in the words that it would be answered.
+fn push_refused_line(
+    text: &mut String,
+    clock: &Clock,
+    cases: &Cases,
+    refusal: &Refusal,
+) -> Result<(), AllocError>
+    ensures { OnOk result (string_bytes text.new ≡ string_bytes text.old ++ refused_line clock.now cases.now.named refusal.now) }
+{
+    text.push_str("  would be ")?;
+    push_named_answer(text, clock, cases, &Answer::Refused(*refusal))?;
+    text.push_str("\n")
+}
+
+/// Adds why a command is refused, with the name of the case of the motion that this rests on.
+fn push_why(
+    alloc: Global,
+    text: &mut String,
+    court: &Court,
+    cases: &Cases,
+    docket: &Docket,
+    command: &Command,
+    refusal: &Refusal,
+) -> Result<(), AllocError>
+    ensures { docket.now.setup ≡ setup_of court.now → OnOk result (string_bytes text.new ≡ string_bytes text.old ++ why_refused court.now (parts_held docket.now) command.now (motion_called cases.now.named (motion_of_refusal command.now refusal.now)) refusal.now) }
+{
+    let mut called = String::new(alloc);
+    push_motion_called(&mut called, cases, motion_of_refusal(command, refusal))?;
+    push_why_refused(
+        alloc,
+        text,
+        court,
+        docket,
+        command,
+        called.as_str(),
+        refusal,
+    )
+}

@@ -1,0 +1,3 @@
+-- The lemmas for the crates above, from one place.
+pub use Rattle.case_numbers.proofs.NameLineLemmas.{name_of_line, no_name_line, no_name_past, rest_of_line}
+pub use Rattle.case_numbers.proofs.ApartLemmas.{names_stay_apart_lem}

@@ -1,0 +1,5 @@
+pub mod Number
+pub mod NameLine
+pub mod Cases
+pub mod Laws
+pub mod Words

@@ -1,0 +1,14 @@
+//! Case numbers as courts write them, and the cases that were opened by one.
+#![tactic(auto)]
+
+mod cases;
+mod laws;
+mod name;
+mod name_line;
+mod names;
+
+pub use cases::Cases;
+pub use laws::{names_stay_apart, shown_is_read_back};
+pub use name::{CaseName, case_read};
+pub use name_line::{after_name, name_before, push_name_line};
+pub use names::NamedCase;
