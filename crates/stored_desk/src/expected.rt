@@ -24,11 +24,26 @@ pub struct Expected {
 pub fn expected_of(alloc: Global, file: &[u8], rows: &str) -> Result<Expected> {
     let mut entries = Vec::new(alloc);
     entries.push(Vec::from_slice(alloc, file)?)?;
-    let Docketed {
-        court,
-        mut register,
-    } = docket_of(alloc, &entries)?;
     let mut answers = Vec::new(alloc);
+    let mut states = first_states(alloc)?;
+    let mut docketed = docket_of(alloc, &entries)?;
+    take_batches(
+        alloc,
+        &mut docketed,
+        rows,
+        &mut entries,
+        &mut answers,
+        &mut states,
+    )?;
+    Ok(Expected {
+        entries,
+        answers,
+        states,
+    })
+}
+
+// The states before the court's file and after it.
+fn first_states(alloc: Global) -> Result<Vec<State>> {
     let mut states = Vec::new(alloc);
     states.push(State {
         entries: 0,
@@ -38,25 +53,33 @@ pub fn expected_of(alloc: Global, file: &[u8], rows: &str) -> Result<Expected> {
         entries: 1,
         answered: 0,
     })?;
+    Ok(states)
+}
+
+// Takes the rows of all batches.
+fn take_batches(
+    alloc: Global,
+    docketed: &mut Docketed,
+    rows: &str,
+    entries: &mut Vec<Vec<u8>>,
+    answers: &mut Vec<u8>,
+    states: &mut Vec<State>,
+) -> Result<()> {
     for batch in rows.split("--\n") {
         take_lines(
             alloc,
-            &court,
-            &mut register,
+            &docketed.court,
+            &mut docketed.register,
             batch,
-            &mut entries,
-            &mut answers,
+            entries,
+            answers,
         )?;
         states.push(State {
             entries: entries.len(),
             answered: answers.len(),
         })?;
     }
-    Ok(Expected {
-        entries,
-        answers,
-        states,
-    })
+    Ok(())
 }
 
 // Takes the rows of a batch.

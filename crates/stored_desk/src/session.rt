@@ -51,30 +51,49 @@ fn keep_all(
 ) -> Result<usize> {
     let mut first = Vec::new(alloc);
     first.push(Vec::from_slice(alloc, file)?)?;
-    let Docketed {
-        court,
-        mut register,
-    } = docket_of(alloc, &first)?;
+    let mut docketed = docket_of(alloc, &first)?;
     if journal.append(&first).is_err() {
         return Ok(0);
     }
+    keep_batches(alloc, journal, &mut docketed, rows, answers)
+}
+
+// Keeps rows batch by batch, after the court's file.
+fn keep_batches(
+    alloc: Global,
+    journal: &mut Journal<Device>,
+    docketed: &mut Docketed,
+    rows: &str,
+    answers: &mut Vec<u8>,
+) -> Result<usize> {
     let mut done = 1usize;
     for batch in rows.split("--\n") {
-        let mut reader = Watched::new(batch.as_bytes());
-        let mut writer = Watched::new(Vec::new(alloc));
-        let ended = serve(
-            &court,
-            alloc,
-            journal,
-            &mut register,
-            &mut reader,
-            &mut writer,
-        );
-        answers.extend_from_slice(writer.inner())?;
-        if ended.is_err() {
+        if !keep_batch(alloc, journal, docketed, batch, answers)? {
             return Ok(done);
         }
         done = done.saturating_add(1);
     }
     Ok(done)
+}
+
+// Keeps the rows of a batch, and says whether the disk let it.
+fn keep_batch(
+    alloc: Global,
+    journal: &mut Journal<Device>,
+    docketed: &mut Docketed,
+    batch: &str,
+    answers: &mut Vec<u8>,
+) -> Result<bool> {
+    let mut reader = Watched::new(batch.as_bytes());
+    let mut writer = Watched::new(Vec::new(alloc));
+    let ended = serve(
+        &docketed.court,
+        alloc,
+        journal,
+        &mut docketed.register,
+        &mut reader,
+        &mut writer,
+    );
+    answers.extend_from_slice(writer.inner())?;
+    Ok(ended.is_ok())
 }
