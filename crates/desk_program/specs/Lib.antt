@@ -6,6 +6,7 @@ pub mod Desk
 pub mod FaultWords
 pub mod Faults
 pub mod File
+pub mod NamesTable
 pub mod Rows
 pub mod Together
 pub mod Trial

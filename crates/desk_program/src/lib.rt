@@ -13,6 +13,7 @@ mod fault;
 mod fault_lines;
 mod fault_words;
 mod file;
+mod names_table;
 mod rows;
 mod together;
 mod trial;

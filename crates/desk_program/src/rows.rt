@@ -1,13 +1,15 @@
 //! The rows of a docket, written as clerk_office reads them.
-ghost use Rattle.std.specs.Prelude.{◌≡◌, ◌++◌, [], ℕ, List, codes, false, OnOk};
+ghost use Rattle.std.specs.Prelude.{◌≡◌, ◌++◌, [], ℕ, List, false, OnOk};
 ghost use Rattle.std.specs.Io.KnownBytes.{Appends};
 ghost use Rattle.durable_journal.specs.Words.{batch_of};
 ghost use Rattle.office_rows.specs.Words.{names_of};
 ghost use Rattle.office_streams.specs.Words.{has_failed, watched};
 ghost use Rattle.docket_entries.specs.Words.{later_file, row_only};
-ghost use Rattle.desk_program.specs.Rows.{count_text, ended, rows_shown, written_rows};
+ghost use Rattle.desk_program.specs.Rows.{count_text, ended, head_of, rows_shown, written_rows};
 
 use crate::fault::DeskFault;
+use crate::names_table::push_names;
+use case_numbers::Cases;
 use court_days::Court;
 use csv::StringRecord;
 use docket_entries::{later_file, push_row, standing_file};
@@ -44,14 +46,29 @@ fn put_if_long<W: Write>(writer: &mut Watched<W>, text: &mut Vec<u8>) -> Result<
     put(writer, text)
 }
 
-// Adds a court's file, with an end of its last line, and a line `%%`.
-fn push_file(text: &mut Vec<u8>, file: &[u8]) -> Result<(), AllocError>
-    ensures { OnOk result (text.new.items ≡ text.old.items ++ (ended file.now ++ codes "%%\n")) }
+// Adds a court's file, with an end of its last line.
+fn push_ended(text: &mut Vec<u8>, file: &[u8]) -> Result<(), AllocError>
+    ensures { OnOk result (text.new.items ≡ text.old.items ++ ended file.now) }
 {
     text.extend_from_slice(file)?;
-    if !file.ends_with(b"\n") {
-        text.push(b'\n')?;
+    if file.ends_with(b"\n") {
+        return Ok(());
     }
+    text.push(b'\n')?;
+    Ok(())
+}
+
+// Adds a court's file, the names of cases, and a line `%%`.
+fn push_file(
+    alloc: Global,
+    text: &mut Vec<u8>,
+    file: &[u8],
+    cases: &Cases,
+) -> Result<(), AllocError>
+    ensures { OnOk result (text.new.items ≡ text.old.items ++ head_of file.now cases.now.named) }
+{
+    push_ended(text, file)?;
+    push_names(alloc, text, file, cases)?;
     text.extend_from_slice(b"%%\n")
 }
 
@@ -71,19 +88,21 @@ fn push_entry(
     }
 }
 
-/// Writes a docket's entries as clerk_office reads them: the court's file that stands, a line `%%` and the rows as CSV. Where
-/// it has had one court's file only, clerk_office gives the answers that were given, with numbers in place of names.
+/// Writes a docket's entries as clerk_office reads them: the court's file that stands, a line `%%` and the rows as CSV. After
+/// the court's file comes a table of the names that cases have, for programs that call them so; a court's file that has one of
+/// its own gets none. Where it has had one court's file only, clerk_office gives the answers that were given, with numbers in place of names.
 pub fn write_rows<W: Write>(
     alloc: Global,
     court: &Court,
+    cases: &Cases,
     entries: &[Vec<u8>],
     writer: &mut Watched<W>,
 ) -> Result<(), DeskFault>
     requires works { has_failed writer.old ≡ false }
-    ensures written { OnOk result (Appends (W.contents (watched writer.old)) (W.contents (watched writer.new)) (written_rows (names_of court.now) (batch_of entries.now))) }
+    ensures written { OnOk result (Appends (W.contents (watched writer.old)) (W.contents (watched writer.new)) (written_rows (names_of court.now) cases.now.named (batch_of entries.now))) }
 {
     let mut text = Vec::new(alloc);
-    push_file(&mut text, standing_file(entries))?;
+    push_file(alloc, &mut text, standing_file(entries), cases)?;
     let mut fields = StringRecord::new(alloc);
     for place in 1..entries.len() {
         push_entry(alloc, court, &entries[place], &mut fields, &mut text)?;

@@ -140,12 +140,12 @@ fn ask_folder<W: Write>(
     ask(rt.alloc(), &entries, &mut reader, writer)
 }
 
-// Writes the court's file, a line `%%` and all rows.
+// Writes the court's file, the names of cases, a line `%%` and all rows.
 fn rows<W: Write>(rt: &HostRuntime, writer: &mut Watched<W>, folder: &str) -> Result<(), DeskFault>
     requires { has_failed writer.old ≡ false }
 {
     let (desk, entries) = opened(rt, folder)?;
-    let ended = write_rows(rt.alloc(), desk.court(), &entries, writer);
+    let ended = write_rows(rt.alloc(), desk.court(), desk.cases(), &entries, writer);
     drop(desk.into_disk());
     ended
 }

@@ -1,7 +1,9 @@
 -- A sheet with the reasons of its deadlines.
-use Rattle.std.specs.Prelude.{ℕ, ℤ, List, [], ◌++◌, Option, Some, None}
+use Rattle.std.specs.Prelude.{ℕ, ℤ, List, [], ◌∷◌, ◌++◌, Option, Some, None, codes}
 use Rattle.std.specs.List.{flat_map}
-use Rattle.court_clock.specs.Words.{ClockView}
+use Rattle.case_numbers.specs.Words.{case_text}
+use Rattle.case_numbers.specs.declared.names.NamedCase.{NamedCase}
+use Rattle.court_clock.specs.Words.{ClockView, day_text}
 use Rattle.court_days.specs.Words.{CourtView, DaysView}
 use Rattle.docket_rows.specs.declared.sheet.Sheet.{Sheet}
 use Rattle.docket_rows.specs.declared.sheet.SheetDeadline.{SheetDeadline}
@@ -12,7 +14,7 @@ use Rattle.docket_rows.specs.declared.sheet.State.TheVariants.{Pending}
 use Rattle.docket_rows.specs.declared.view.View.{View}
 use Rattle.docket_rows.specs.declared.view.View.TheVariants as view
 use Rattle.rule6.specs.declared.timeliness.Shown.{Shown}
-use Rattle.office_texts.specs.Words.{case_line, deadline_line, motion_lines}
+use Rattle.office_texts.specs.Words.{deadline_line, motion_lines}
 use Rattle.reason_texts.specs.Words.{NamedDay}
 use Rattle.act_margins.specs.Words.{ahead_line, recorded_lines}
 use Rattle.docket_notes.specs.Words.{deadline_notes, hearing_notes}
@@ -63,12 +65,16 @@ abbrev pub motions_text : CourtView → DaysView → Detail → List SheetMotion
 motions_text court days Reasons motions = flat_map (motion_lines court) motions
 motions_text court days (Whole today sources) motions = flat_map (whole_motion court days) motions
 
+-- `case 3 filed 2025-03-03`; a case that has a name is called by it
+abbrev pub case_line : List NamedCase → Sheet → List ℕ
+case_line named s = codes "case " ++ case_text named s.case ++ codes " filed " ++ day_text s.filed ++ (10 ∷ [])
+
 -- the line of the case, then its deadlines, each with its reasons, then its motions
-abbrev pub IsSheet : CourtView → List NamedDay → DaysView → Detail → Sheet → List ℕ → Type 0
-IsSheet court names days detail sheet =
-    Then (Is (case_line sheet)) (Then (Each (IsDeadline court names days sheet.filed detail) sheet.deadlines) (Is (motions_text court days detail sheet.motions)))
+abbrev pub IsSheet : CourtView → List NamedDay → List NamedCase → DaysView → Detail → Sheet → List ℕ → Type 0
+IsSheet court names named days detail sheet =
+    Then (Is (case_line named sheet)) (Then (Each (IsDeadline court names days sheet.filed detail) sheet.deadlines) (Is (motions_text court days detail sheet.motions)))
 
 -- a case that isn't open shows none
-abbrev pub IsSheetShown : CourtView → List NamedDay → DaysView → View → List ℕ → Type 0
-IsSheetShown court names days (view.Sheet sheet) = IsSheet court names days Reasons sheet
-IsSheetShown court names days _ = Is []
+abbrev pub IsSheetShown : CourtView → List NamedDay → List NamedCase → DaysView → View → List ℕ → Type 0
+IsSheetShown court names named days (view.Sheet sheet) = IsSheet court names named days Reasons sheet
+IsSheetShown court names named days _ = Is []

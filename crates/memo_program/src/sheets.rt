@@ -4,20 +4,23 @@ ghost use Rattle.std.specs.Prelude.{◌≡◌, ◌+◌, ◌++◌, ◌≤◌, OnO
 ghost use Rattle.docket_rows.specs.Words.{Rows, setup_of};
 ghost use Rattle.office_run.specs.Words.{Holds};
 ghost use Rattle.memo_program.specs.Memo.{AreSheets};
-ghost use Rattle.memo_program.specs.Sheets.{IsDeadline, IsSheet, IsSheetShown, first_lines};
+ghost use Rattle.memo_program.specs.Sheets.{IsDeadline, IsSheet, IsSheetShown, case_line, first_lines};
 ghost use Rattle.memo_program.specs.Texts.{Each, Pushes};
 
 use crate::detail::Detail;
 use crate::reasons::push_deadline_reasons;
 use crate::sources::push_sources;
 use crate::whole::{push_all_motions, push_more};
+use case_names::push_case_text;
+use case_numbers::Cases;
 use court_clock::Day;
 use court_days::{Court, Days};
 use docket_core::Docket;
 use docket_rows::{Query, Sheet, SheetDeadline, View};
-use office_texts::{push_case, push_deadline};
+use office_texts::push_deadline;
 use reason_texts::HolidayName;
 use std::alloc::{AllocError, Global};
+use std::fmt::Write;
 
 /// Adds the lines of a sheet, with the reasons of each deadline after its line, and more where more is asked for. `Err`
 /// says that memory ran out.
@@ -26,13 +29,14 @@ pub(crate) fn push_sheet(
     text: &mut String,
     court: &Court,
     names: &[HolidayName],
+    cases: &Cases,
     days: &Days,
     detail: &Detail,
     sheet: &Sheet,
 ) -> Result<(), AllocError>
-    ensures { Pushes (IsSheet court.now names.now days.now detail.now sheet.now) result text.old text.new }
+    ensures { Pushes (IsSheet court.now names.now cases.now.named days.now detail.now sheet.now) result text.old text.new }
 {
-    push_case(text, sheet)?;
+    push_case(text, cases, sheet)?;
     push_deadlines(
         alloc,
         text,
@@ -44,6 +48,16 @@ pub(crate) fn push_sheet(
         sheet.deadlines.as_slice(),
     )?;
     push_all_motions(text, court, days, detail, sheet.motions.as_slice())
+}
+
+/// Adds the line of the case.
+fn push_case(text: &mut String, cases: &Cases, sheet: &Sheet) -> Result<(), AllocError>
+    ensures { OnOk result (string_bytes text.new ≡ string_bytes text.old ++ case_line cases.now.named sheet.now) }
+{
+    let filed = sheet.filed;
+    text.push_str("case ")?;
+    push_case_text(text, cases, sheet.case)?;
+    write!(text, " filed {filed}\n")
 }
 
 /// Adds the line of each deadline, its reasons, and what comes before and after them.
@@ -108,16 +122,17 @@ pub(crate) fn push_sheets(
     text: &mut String,
     court: &Court,
     names: &[HolidayName],
+    cases: &Cases,
     docket: &Docket,
     first: u32,
     count: u32,
 ) -> Result<(), AllocError>
     requires numbers { first + count ≤ 5_000 }
-    ensures { (docketed : Rows) → Holds (setup_of court.now) docket.now docketed → Pushes (AreSheets court.now names.now docketed first count) result text.old text.new }
+    ensures { (docketed : Rows) → Holds (setup_of court.now) docket.now docketed → Pushes (AreSheets court.now names.now cases.now.named docketed first count) result text.old text.new }
 {
     for case in first..first + count {
         let view = docket.show(alloc, &Query::Sheet(case))?;
-        push_sheet_shown(alloc, text, court, names, docket.days(), &view)?;
+        push_sheet_shown(alloc, text, court, names, cases, docket.days(), &view)?;
     }
     Ok(())
 }
@@ -128,13 +143,23 @@ fn push_sheet_shown(
     text: &mut String,
     court: &Court,
     names: &[HolidayName],
+    cases: &Cases,
     days: &Days,
     view: &View,
 ) -> Result<(), AllocError>
-    ensures { Pushes (IsSheetShown court.now names.now days.now view.now) result text.old text.new }
+    ensures { Pushes (IsSheetShown court.now names.now cases.now.named days.now view.now) result text.old text.new }
 {
     match view {
-        View::Sheet(sheet) => push_sheet(alloc, text, court, names, days, &Detail::Reasons, sheet),
+        View::Sheet(sheet) => push_sheet(
+            alloc,
+            text,
+            court,
+            names,
+            cases,
+            days,
+            &Detail::Reasons,
+            sheet,
+        ),
         _ => Ok(()),
     }
 }

@@ -1,5 +1,5 @@
 use Rattle.std.proofs.Common.{◌≡◌, ◌∙◌, ◌<◌, ◌++◌, [], ℕ, List, ap, length, sym, subst, arith, take, take_all}
-use Rattle.std.specs.Prelude.{Vec, codes}
+use Rattle.std.specs.Prelude.{Vec}
 use Rattle.std.specs.declared.alloc.Global.{Global}
 use Rattle.std.specs.Io.KnownBytes.{Appends}
 use Rattle.std.proofs.KnownBytes.{Appends-nil, Appends-trans}
@@ -9,27 +9,29 @@ use Rattle.office_rows.specs.Words.{names_of}
 use Rattle.office_streams.specs.Words.{watched}
 use Rattle.docket_entries.specs.Words.{later_file, row_entries, row_only, standing_file}
 use Rattle.docket_entries.proofs.CallerLemmas.{begun_batch, take_batch}
-use Rattle.desk_program.specs.Rows.{ended, rows_shown, written_rows}
+use Rattle.desk_program.specs.Rows.{head_of, rows_shown, written_rows}
 use Rattle.desk_program.proofs.RowsLemmas.{rows_first, rows_more}
 use Rattle.desk_program.proofs.rows.write_rows.Goals as goal
 
 pub loop-place-init : goal.loop-place-init
 loop-place-init g c =
-    let head : List ℕ = ended (standing_file (batch_of c.args.entries.now)) ++ codes "%%\n" in (
+    let named = c.args.cases.now.named in
+    let head : List ℕ = head_of (standing_file (batch_of c.args.entries.now)) named in (
       omega arith,
       c.requires.works,
       [],
       Appends-nil (g.W.Write.contents (watched c.args.writer.now)),
       rows_first (names_of c.args.court.now) head c.push_file.new.text.items c.args.entries.now
           (c.in_ok-push_file.ensures
-          ∙ ap (λ (t : List ℕ). t ++ (ended c.standing_file.result.now ++ codes "%%\n")) c.new-text.ensures.items
-          ∙ ap (λ (f : List ℕ). ended f ++ codes "%%\n") c.standing_file.ensures),
+          ∙ ap (λ (t : List ℕ). t ++ head_of c.standing_file.result.now named) c.new-text.ensures.items
+          ∙ ap (λ (f : List ℕ). head_of f named) c.standing_file.ensures),
     )
 
 pub loop-place-preserved : goal.loop-place-preserved
 loop-place-preserved g c =
     let names = names_of c.args.court.now in
-    let head : List ℕ = ended (standing_file (batch_of c.args.entries.now)) ++ codes "%%\n" in
+    let named = c.args.cases.now.named in
+    let head : List ℕ = head_of (standing_file (batch_of c.args.entries.now)) named in
     let kept : List (List ℕ) = batch_of (take c.loop-place.place c.args.entries.now) in
     let entry : List ℕ = c.index-entries-place.result.items in
     let (begun, working, written, appends, so_far) = c.loop-place.invariant in
@@ -48,12 +50,13 @@ loop-place-preserved g c =
 pub returns : goal.returns
 returns g c =
     let names = names_of c.args.court.now in
-    let file : List ℕ = ended (standing_file (batch_of c.args.entries.now)) in
+    let named = c.args.cases.now.named in
+    let head : List ℕ = head_of (standing_file (batch_of c.args.entries.now)) named in
     let (begun, working, written, appends, so_far) = c.loop-place.invariant in
     let all : take c.loop-place.place c.args.entries.now ≡ c.args.entries.now = take_all c.loop-place.place c.args.entries.now (omega (arith, c.loop-place-test.false)) in
-    let whole : written ++ c.loop-place.text.items ≡ written_rows names (batch_of c.args.entries.now) =
+    let whole : written ++ c.loop-place.text.items ≡ written_rows names named (batch_of c.args.entries.now) =
     so_far
-    ∙ ap (λ (l : List (Vec ℕ Global)). (file ++ codes "%%\n") ++ rows_shown names (row_entries (batch_of l))) all in
+    ∙ ap (λ (l : List (Vec ℕ Global)). head ++ rows_shown names (row_entries (batch_of l))) all in
     record {
       written = on_ok_weaker c.put.result
           (λ last. subst (Appends (g.W.Write.contents (watched c.args.writer.now)) (g.W.Write.contents (watched c.put.new.writer))) whole
