@@ -6,6 +6,8 @@ pub mod FieldLemmas
 pub mod HistoryLemmas
 pub mod LineFaultLemmas
 pub mod ListLemmas
+pub mod NoteLemmas
 pub mod QuestionLemmas
 pub mod RegisterLemmas
 pub mod RunLemmas
+pub mod StrikingLemmas

@@ -3,6 +3,7 @@ pub mod Cases
 pub mod CaseLines
 pub mod Rows
 pub mod History
+pub mod Striking
 pub mod Register
 pub mod Differences
 pub mod Docketed
