@@ -5,10 +5,11 @@
 
 Inputs are made at random. clerk_office answers each; from the sheets and calendars at the end of its text this script
 makes the list of what is due, a judge's week and what a page says by itself, and court_calendar must write just that: for
-any days, any judge, any case, and words that say nothing of the court. A page is read by Python's own reader of HTML; its
-markup is looked at too (lib/pages.py). What it says of the reasons of a deadline must be the lines of deadline_memo. A
-faulty input must end both programs alike, and so must names that no court's file may have, such as `<b>`. Words that write
-no day or no instant must be refused. It needs Python 3.8 or later; the status is 0 where all is alike.
+any days, any judge, any case, and words that say nothing of the court. In half of the inputs the court's file names cases
+(lib/case_names.py), and each is called by its name. A page is read by Python's own reader of HTML; its markup is looked at
+too (lib/pages.py). What it says of the reasons of a deadline must be the lines of deadline_memo. A faulty input must end
+both programs alike, and so must names that no court's file may have, such as `<b>`. Words that write no day, no instant or
+no case must be refused. It needs Python 3.8 or later; the status is 0 where all is alike.
 """
 import datetime
 import random
@@ -17,6 +18,7 @@ import subprocess
 import sys
 from collections import namedtuple
 
+from lib.case_names import asked, called, made_name, read, with_names
 from lib.made_inputs import INPUTS, made_input
 from lib.pages import faults_of, parts_of
 
@@ -28,14 +30,19 @@ ACTS = {"filing": "to file", "service": "to serve"}
 HOSTILE = ["<b>", "&amp;", "&", '\\"', "'", "a>b", "<script>alert(1)</script>", "x" * 33, "x" * 64, ""]
 # Names that a file may have, of the greatest length and of all characters.
 LONG = ["Calloway-Montgomery_von.Humboldt", "-_.-_.-_.-_.-_.-_.-_.-_.-_.-_.-_"]
-# Words that write no day or no instant, the option that is wrong, and what it says is wanted.
+# Words that write no day, no instant or no case, the option that is wrong, and what it says is wanted.
 A_DAY = "write a day as 2025-09-15"
+A_CASE = "write a case as its number, 1 to 4096, or as 1:25-cv-01234-ABC"
 NO_TIMES = [
     (["due", "--from", "2025-13-45"], "from <DAY>", A_DAY),
     (["page", "--to", "2025-02-29"], "to <DAY>", A_DAY),
     (["week", "--judge", "Ames", "--of", "9/2/2025"], "of <DAY>", A_DAY),
     (["json", "--from", "2025-09-15", "--to", ""], "to <DAY>", A_DAY),
     (["ics", "--stamp", "2025-09-15"], "stamp <INSTANT>", "write it as 20250915T120000Z, in UTC"),
+    (["due", "--case", "0"], "case <N>", A_CASE),
+    (["page", "--case", "4097"], "case <N>", A_CASE),
+    (["ics", "--case", "one"], "case <N>", A_CASE),
+    (["json", "--case", "1:25-cv"], "case <N>", A_CASE),
 ]
 
 Sheet = namedtuple("Sheet", "case filed deadlines motions")
@@ -74,7 +81,7 @@ def period_words(code):
     return words if mark == "plain" else "{} ({})".format(words, mark)
 
 
-def deadline_item(case, words):
+def deadline_item(names, case, words):
     """The item of a deadline's line, or none where it was met in time or has no end."""
     number, code, end = int(words[1]), words[2], words[3]
     if end == "beyond":
@@ -84,31 +91,32 @@ def deadline_item(case, words):
         return None
     day = day_of(words[4])
     second = sum(int(part) * 60 ** (2 - at) for at, part in enumerate(words[5].split(":"))) if end == "until" else 0
-    line = "  {}  case {} deadline {}: {}{}".format("to " + words[5] if end == "until" else "to midnight", case, number,
-                                                    period_words(code), ", filed late" if state == "late" else "")
+    line = "  {}  case {} deadline {}: {}{}".format("to " + words[5] if end == "until" else "to midnight",
+                                                    called(names, case), number, period_words(code),
+                                                    ", filed late" if state == "late" else "")
     return Item(day, second, case, 0, number, line, None)
 
 
-def hearing_item(case, number, words):
+def hearing_item(names, case, number, words):
     first, count = minutes(words[2]), 15 * quarters(words[3])
-    line = "  {}-{}  case {} motion {}: hearing before {}, room {}".format(clock(first), clock(first + count), case,
-                                                                         number, words[4], words[5])
+    line = "  {}-{}  case {} motion {}: hearing before {}, room {}".format(clock(first), clock(first + count),
+                                                                         called(names, case), number, words[4], words[5])
     return Item(day_of(words[1]), 60 * first, case, 1, number, line, words[4].split("+"))
 
 
-def docket_of(lines):
-    """What the sheets and calendars at the end of a text say."""
+def docket_of(names, lines):
+    """What the sheets and calendars at the end of a text say, in lines that call cases by these names."""
     items, before, calendars, case, motion, judge = [], {}, {}, None, None, None
     for line in lines:
         words = line.split(" ")
         if words[0] == "case":
             case = int(words[1])
         elif words[0] == "deadline":
-            items.append(deadline_item(case, words))
+            items.append(deadline_item(names, case, words))
         elif words[0] == "motion":
             motion = int(words[1])
         elif words[0] == "hearing":
-            items.append(hearing_item(case, motion, words))
+            items.append(hearing_item(names, case, motion, words))
             before.setdefault(case, set()).update(words[4].split("+"))
         elif words[0] == "judge":
             judge = line[len("judge "):]
@@ -119,14 +127,14 @@ def docket_of(lines):
     return Docket([item for item in items if item], before, calendars)
 
 
-def due_text(court, docket, first, last, judge, case):
+def due_text(names, court, docket, first, last, judge, case):
     def is_chosen(item):
         if case is not None and item.case != case or not first <= item.day <= last:
             return False
         return judge is None or judge in (item.panel or docket.before.get(item.case, ()))
     chosen = sorted(filter(is_chosen, docket.items), key=lambda i: (i.day, i.second, i.case, i.kind, i.number))
     lines = ["Due from {} to {}{}{}".format(named(first), named(last), ", judge " + judge if judge is not None else "",
-                                            ", case {}".format(case) if case is not None else ""),
+                                            ", case " + called(names, case) if case is not None else ""),
              "Filing on paper ends at {}, when the clerk's office closes.".format(court["closes"])]
     if not chosen:
         lines += ["", "Nothing is due."]
@@ -139,7 +147,7 @@ def due_text(court, docket, first, last, judge, case):
     return lines
 
 
-def week_text(court, docket, judge, of):
+def week_text(names, court, docket, judge, of):
     days = [of - datetime.timedelta(of.weekday() - n) for n in range(7)]
     booked = {day: [b for b in docket.calendars[judge] if b.day == day] for day in days}
     lines = ["Judge {}, week of {}".format(judge, named(days[0])), "",
@@ -152,7 +160,7 @@ def week_text(court, docket, judge, of):
             row += words.ljust(9) + "|"
         lines.append(row)
     return lines + [""] + ["{}  {}-{}  case {} motion {}, room {}".format(
-        named(b.day), clock(b.first), clock(b.first + b.count), b.case, b.motion, b.room) for day in days
+        named(b.day), clock(b.first), clock(b.first + b.count), called(names, b.case), b.motion, b.room) for day in days
         for b in booked[day]]
 
 
@@ -215,20 +223,20 @@ def due_rows(text):
     for line in text[2:]:
         if line.startswith("  "):
             time, rest = line[2:].split("  ", 1)
-            case, words = re.match("(case [0-9]+) (.*)", rest).groups()
+            case, words = re.match("(case [^ ]+) (.*)", rest).groups()
             rows.append((day, [time, case, words]))
         elif line and line != "Nothing is due.":
             day = line
     return rows
 
 
-def booking_row(b):
+def booking_row(names, b):
     return ("Week of " + named(b.day - datetime.timedelta(b.day.weekday())),
             [named(b.day), "{}-{}".format(clock(b.first), clock(b.first + b.count)),
-             "case {}, motion {}".format(b.case, b.motion), b.room])
+             "case {}, motion {}".format(called(names, b.case), b.motion), b.room])
 
 
-def page_fault(page, text, docket, sheets, reasons, first, last, judge, case):
+def page_fault(names, page, text, docket, sheets, reasons, first, last, judge, case):
     """What a page says otherwise than the docket, or what is wrong with its markup, or none."""
     faults = faults_of(page)
     if faults:
@@ -239,7 +247,7 @@ def page_fault(page, text, docket, sheets, reasons, first, last, judge, case):
         return "another title"
     if [(day, [cell.text() for cell in cells]) for day, cells in parts.due] != due_rows(text):
         return "something else is due"
-    calendars = [("Judge " + name, [booking_row(b) for b in bookings if first <= b.day <= last and case in (None, b.case)])
+    calendars = [("Judge " + name, [booking_row(names, b) for b in bookings if first <= b.day <= last and case in (None, b.case)])
                  for name, bookings in docket.calendars.items() if judge in (None, name)]
     found = [(name, [(week, [cell.text() for cell in cells]) for week, cells in rows]) for name, rows in parts.judges]
     if found != [calendar for calendar in calendars if calendar[1]]:
@@ -250,7 +258,7 @@ def page_fault(page, text, docket, sheets, reasons, first, last, judge, case):
     for s, found in zip(cases, parts.cases.values()):
         cells = [[lines[0] for lines in (cell.lines() for cell in row)] for _, row in found.deadlines]
         notes = [row[1].all("div")[1].raw() for _, row in found.deadlines]
-        if (found.title, found.filed) != ("Case {}".format(s.case), "Filed " + named(day_of(s.filed))) or \
+        if (found.title, found.filed) != ("Case " + called(names, s.case), "Filed " + named(day_of(s.filed))) or \
                 cells != [deadline_cells(words) for words in s.deadlines] or \
                 [title for title, _ in found.reasons] != ["Reasons of deadline " + words[1] for words in s.deadlines] or \
                 [note + why for note, (_, why) in zip(notes, found.reasons)] != \
@@ -278,7 +286,7 @@ def refuses_hostile_names(calendar, clerk):
 
 
 def refuses_no_times(calendar):
-    """What is wrong with words that write no day or no instant: the first is named, and nothing is read."""
+    """What is wrong with words that write no day, no instant or no case: the first is named, and nothing is read."""
     for words, option, wanted in NO_TIMES:
         found = ran(calendar, words, b"")
         said = "error: invalid value '{}' for '--{}': {}\n\nFor more information, try '--help'.\n".format(words[-1], option, wanted)
@@ -292,7 +300,7 @@ def ran(program, words, data):
     return done.returncode, done.stdout.decode(), done.stderr.decode()
 
 
-def made_words(chance, court, docket, sheets, reasons):
+def made_words(chance, names, court, docket, sheets, reasons):
     """Words, and what is wrong with what the program writes for them, or none."""
     def is_text(lines):
         wanted = "".join(line + "\n" for line in lines)
@@ -301,10 +309,15 @@ def made_words(chance, court, docket, sheets, reasons):
     days = [item.day for item in docket.items] or [day_of(court["from"])]
     if judges and chance.random() < 0.4:
         judge, of = chance.choice(judges), chance.choice(days)
-        return ["week", "--judge", judge, "--of", str(of)], is_text(week_text(court, docket, judge, of))
+        return ["week", "--judge", judge, "--of", str(of)], is_text(week_text(names, court, docket, judge, of))
     if chance.random() < 0.1:
         format_asked = chance.choice(["due", "page"])
         return [format_asked, "--judge", "Nobody"], is_text(["court_calendar: no judge is named 'Nobody' in the court's file"])
+    if chance.random() < 0.1:
+        name = made_name(chance)
+        key, shown = read(name)
+        if key not in [read(other)[0] for other in names.values()]:
+            return ["due", "--case", name], is_text(["court_calendar: no case is named '{}' in the court's file".format(shown)])
     words, first, last, judge, case = [chance.choice(["due", "page"])], day_of(court["from"]), day_of(court["to"]), None, None
     if chance.random() < 0.6:
         first = chance.choice(days)
@@ -317,10 +330,10 @@ def made_words(chance, court, docket, sheets, reasons):
         words += ["--judge", judge]
     if chance.random() < 0.3:
         case = chance.choice([item.case for item in docket.items] + [1, 4096])
-        words += ["--case", str(case)]
-    text = due_text(court, docket, first, last, judge, case)
+        words += ["--case", asked(chance, names, case)]
+    text = due_text(names, court, docket, first, last, judge, case)
     if words[0] == "page":
-        return words, lambda page: page_fault(page, text, docket, sheets, reasons, first, last, judge, case)
+        return words, lambda page: page_fault(names, page, text, docket, sheets, reasons, first, last, judge, case)
     return words, is_text(text)
 
 
@@ -339,11 +352,12 @@ def differs(chance, calendar, clerk, memo, data):
         return (None if alone[0] == 0 or other == alone else "a fault told otherwise"), 1
     court = dict(re.findall(r'^\s*(opens|closes|from|to)\s*=\s*"([^"]*)"', data.decode().split("%%")[0], re.MULTILINE))
     lines = closing_of(text)
-    docket, sheets = docket_of(lines), sheets_of(lines)
+    named_data, names = with_names(chance, data)
+    docket, sheets = docket_of(names, lines), sheets_of(lines)
     reasons = reasons_of(closing_of(ran(memo, [], data + LAST_ROW)[1]))
     for _ in range(5):
-        words, fault_in = made_words(chance, court, docket, sheets, reasons)
-        status, text, errors = ran(calendar, words, data)
+        words, fault_in = made_words(chance, names, court, docket, sheets, reasons)
+        status, text, errors = ran(calendar, words, named_data)
         fault = fault_in(text) if (status, errors) == (0, "") else "status {}: {}".format(status, errors)
         if fault is not None:
             return "{}: {}\n{}".format(" ".join(words), text, fault), 5

@@ -159,6 +159,8 @@ NAMES = [
 BAD_LENGTH = reason(b" " * 14, b"a period is 1 to 3650 days, or 1 to 8760 hours", b"ours")
 OPEN_CASE = COURT + OPEN.replace(b"64", b"1")
 CASE = b"case 1 filed 2025-03-03\n"
+NAMED_CASE = OPEN_CASE.replace(b"%%\n", b'[case_names]\n1 = "1:25-cv-12-abc"\n2 = "1:25-cv-00012"\n%%\n')
+NAMED = b"case 1:25-cv-00012-ABC filed 2025-03-03\n"
 TOLD = b"deadline_memo: "
 TRY_HELP = b"\n\nFor more information, try '--help'.\n"
 NO_DAY = b"error: invalid value 'X' for '--today <DAY>': write a day as 2025-09-15" + TRY_HELP
@@ -184,6 +186,12 @@ MEMO_RUNS = [(name, [], named(entries), 0, LINE + reasons(cause) + JUDGE, b"") f
     ("a case too many", ["--case", "4097"], OPEN_CASE, 1, b"", usage(b"invalid value '4097' for '--case <N>'")),
     ("no case", ["--case", "0"], OPEN_CASE, 1, b"", usage(b"invalid value '0' for '--case <N>'")),
     ("a case that is no number", ["--case", "one"], OPEN_CASE, 1, b"", usage(b"invalid value 'one' for '--case <N>'")),
+    ("a case that has a name", ["--case", "1"], NAMED_CASE, 0, NAMED, b""),
+    ("a case by its name", ["--case", "1:25-CV-12-XYZ"], NAMED_CASE, 0, NAMED, b""),
+    ("a sheet of a case that has a name", [], NAMED_CASE + b"1,sheet,1\n", 0, Has(b"sheet\n" + NAMED), b""),
+    ("a name that no case has", ["--case", "25-cv-12"], NAMED_CASE, 0,
+     TOLD + b"no case is named '25-cv-00012' in the court's file\n", b""),
+    ("a name that isn't whole", ["--case", "1:25-cv"], NAMED_CASE, 1, b"", usage(b"invalid value '1:25-cv' for '--case <N>'")),
     ("a case twice", ["--case=1", "--case=1"], OPEN_CASE, 1, b"", Has(b"cannot be used multiple times")),
     ("a day without its text", ["--case=1", "--today"], OPEN_CASE, 1, b"", usage(b"a value is required for '--today <DAY>'")),
 ]

@@ -242,6 +242,14 @@ def check_numbers(programs):
             b"1,open,2,2025-03-05\n", b"1,sheet,3\n", b"1,sheet,2\n", b"1,sheet,1\n"], rows_of(journal)
         assert b"rows kept: 8" in desk.call("check").output
         assert desk.call("cases").output == b"2 1:25-cv-01234-ABC\n3 25-cv-01234\n", desk.call("cases")
+        # The names come after the court's file, unless that has a table of its own.
+        table = b'[case_names]\n2 = "1:25-cv-01234-ABC"\n3 = "25-cv-01234"\n'
+        front, _, _ = desk.input_of([]).partition(b"%%\n")
+        assert desk.rows().startswith(front + table + b"%%\n1,open,1,2025-03-03\n"), desk.rows()
+        with tempfile.TemporaryDirectory() as other:
+            own = Desk(programs, other, SHORT_COURT + b'\n[case_names]\n1 = "9:99-cv-1"\n')
+            own.enter([b"1,open,1:25-cv-1234,2025-03-03\n"])
+            assert own.rows() == own.input_of([b"1,open,1,2025-03-03\n"]), own.rows()
         # Warnings call a case by its name too.
         rows = [b"1,motion,2,2025-04-01,14\n", b"1,book,1:25-cv-01234,1,Ames,R1,2025-05-05,10:00,1,2025-04-01\n",
                 b"1,motion,3,2025-04-01,14\n", b"1,book,25-cv-01234,1,Ames,R1,2025-05-05,10:00,1,2025-04-01\n", b"1,holiday,2025-05-05,federal\n"]

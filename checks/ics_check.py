@@ -4,6 +4,7 @@
     ics_check.py CALENDAR CLERK [SEED [COUNT]]
 
 Inputs are made at random, half of them in the zones of examples/courts, with hearings around both changes of the clocks.
+In half of them the court's file names cases (lib/case_names.py), and each is called by its name.
 clerk_office answers each; from its answers to the rows and the sheets at its end this script makes the list of events
 that a calendar must have: the deadlines and hearings that are chosen, in order, and then the hearings that were cancelled.
 The calendar is read by Debian's python3-icalendar, and each event must be the wanted one, property by property. The times
@@ -32,6 +33,7 @@ except ImportError:
         os.execv("/usr/bin/python3", ["/usr/bin/python3", *sys.argv])
     sys.exit("ics_check.py: install Debian's python3-icalendar and khal")
 
+from lib.case_names import asked, called, with_names
 from lib.made_inputs import INPUTS, made_input
 from lib.period_words import RULES
 from reference.periods import period_of_text
@@ -110,13 +112,13 @@ def period_in_words(code):
     return words, words
 
 
-def deadline_item(case, words, closes):
+def deadline_item(names, case, words, closes):
     number, code, end = int(words[1]), words[2], words[3]
     if end == "beyond":
         return None
     what, described = period_in_words(code)
     day, state = day_of(words[4]), words[6] if end == "until" else words[5]
-    summary = "Case {} deadline {}: {}{}".format(case, number, what, STATES.get(state, ""))
+    summary = "Case {} deadline {}: {}{}".format(called(names, case), number, what, STATES.get(state, ""))
     if end == "until":
         ending, second = "The time ends at {} on the court's clock".format(words[5]), seconds(words[5])
         begins = (day, second)
@@ -128,10 +130,10 @@ def deadline_item(case, words, closes):
                 None)
 
 
-def hearing_item(case, number, hearing, off=False):
+def hearing_item(names, case, number, hearing, off=False):
     second = 900 * hearing.first
-    summary = "{}Case {} motion {}: hearing before {}, room {}".format("Cancelled: " if off else "", case, number,
-                                                                     hearing.panel, hearing.room)
+    summary = "{}Case {} motion {}: hearing before {}, room {}".format("Cancelled: " if off else "", called(names, case),
+                                                                     number, hearing.panel, hearing.room)
     description = "Notice of the hearing was served on {}.".format(hearing.notice)
     if hearing.affidavits not in (None, "none"):
         description += "\nThe last day to serve an opposing affidavit is {} (Fed. R. Civ. P. 6(c)(2)).".format(
@@ -145,19 +147,20 @@ def hearing_of(words):
     return Hearing(day_of(words[0]), seconds(words[1]) // 900, quarters(words[2]), words[3], words[4], words[6], words[8])
 
 
-def docket_of(lines, closes):
-    """What the sheets at the end of a text say: the items, and the judges before whom each case has a hearing."""
+def docket_of(names, lines, closes):
+    """What the sheets at the end of a text say, where cases have these names: the items, and the judges before whom each case
+    has a hearing."""
     items, before, case, motion = [], {}, None, None
     for line in lines:
         words = line.split(" ")
         if words[0] == "case":
             case = int(words[1])
         elif words[0] == "deadline":
-            items.append(deadline_item(case, words, closes))
+            items.append(deadline_item(names, case, words, closes))
         elif words[0] == "motion":
             motion = int(words[1])
         elif words[0] == "hearing":
-            item = hearing_item(case, motion, hearing_of(words[1:]))
+            item = hearing_item(names, case, motion, hearing_of(words[1:]))
             items.append(item)
             before.setdefault(case, set()).update(item.panel)
         elif words[0] == "judge":
@@ -185,7 +188,7 @@ def changes_of(rows, answers):
 # What a calendar must have
 
 
-def events_wanted(clock, docket, changes, choice, stamp):
+def events_wanted(names, clock, docket, changes, choice, stamp):
     items, before = docket
     first, last, judge, case = choice
 
@@ -197,7 +200,7 @@ def events_wanted(clock, docket, changes, choice, stamp):
     events = [event_wanted(clock, item, changes.get((item.case, item.number), (0,))[0] if item.kind else 0, False, stamp)
               for item in chosen]
     for (of, motion), (count, hearing, off) in sorted(changes.items()):
-        item = hearing_item(of, motion, hearing, True)
+        item = hearing_item(names, of, motion, hearing, True)
         if off and is_chosen(item):
             events.append(event_wanted(clock, item, count, True, stamp))
     return events
@@ -283,16 +286,17 @@ def differs(chance, calendar, clerk, data):
     lines = text.decode().splitlines()
     closing = max(at for at, line in enumerate(lines) if re.match(r"[0-9]+ 1 ", line)) + 1
     answers = answers_of(lines[:closing])
-    docket = docket_of(lines[closing:], court["closes"])
+    data, names = with_names(chance, data)
+    docket = docket_of(names, lines[closing:], court["closes"])
     clock, changes = Clock(court["zone"]), changes_of(rows, answers)
     compared = 0
     for _ in range(2):
-        words, choice, stamp = made_words(chance, court, docket, changes)
+        words, choice, stamp = made_words(chance, names, court, docket, changes)
         status, found, errors = ran(calendar, words, data)
         fault = faults_of_bytes(found) if (status, errors) == (0, b"") else errors.decode()
         if fault:
             return "{}: {}".format(" ".join(words), fault), compared
-        wanted, read = events_wanted(clock, docket, changes, choice, stamp), events_read(found)
+        wanted, read = events_wanted(names, clock, docket, changes, choice, stamp), events_read(found)
         for at in range(max(len(wanted), len(read))):
             if wanted[at:at + 1] != read[at:at + 1]:
                 return "{}: event {}\nwanted {}\nfound  {}".format(" ".join(words), at, wanted[at:at + 1],
@@ -301,7 +305,7 @@ def differs(chance, calendar, clerk, data):
     return None, compared
 
 
-def made_words(chance, court, docket, changes):
+def made_words(chance, names, court, docket, changes):
     days = [item.day for item in docket[0]] or [day_of(court["from"])]
     judges = sorted({judge for panels in docket[1].values() for judge in panels})
     words, first, last, judge, case = ["ics"], day_of(court["from"]), day_of(court["to"]), None, None
@@ -317,7 +321,7 @@ def made_words(chance, court, docket, changes):
         words += ["--judge", judge]
     if chance.random() < 0.2:
         case = chance.choice([item.case for item in docket[0]] + [1, 4096])
-        words += ["--case", str(case)]
+        words += ["--case", asked(chance, names, case)]
     if chance.random() < 0.3:
         stamp = datetime.datetime(chance.randrange(1900, 2200), chance.randrange(1, 13), chance.randrange(1, 29),
                                   chance.randrange(24), chance.randrange(60), chance.randrange(60),
@@ -391,10 +395,10 @@ def khal_differs(chance, calendar, clerk):
         data = zoned_input(chance, zone)
         lines = ran(clerk, [], data + LAST_ROW)[1].decode().splitlines()
         closing = max(at for at, line in enumerate(lines) if re.match(r"[0-9]+ 1 ", line)) + 1
-        docket = docket_of(lines[closing:], "17:00")
+        docket = docket_of({}, lines[closing:], "17:00")
         changes = changes_of(data.decode().split("%%\n")[1].splitlines(), answers_of(lines[:closing]))
         found = ran(calendar, ["ics"], data)[1]
-        wanted = sorted(khal_line(item) for item in docket[0] + [hearing_item(*key, hearing, True)
+        wanted = sorted(khal_line(item) for item in docket[0] + [hearing_item({}, *key, hearing, True)
                                                                for key, (_, hearing, off) in changes.items() if off])
         read = khal_lines(found, name)
         if wanted != read:

@@ -7,8 +7,10 @@
 Inputs are made at random. From the JSON alone this script writes the text of clerk_office again: each answer, each sheet and
 each calendar, and the two texts must be the same. Each instant must be that of the day and the time beside it, by a reading
 of the court's zone of its own (reference/civil.py). Each reason of a deadline must be a line of deadline_memo below it, in
-the same order. With a judge, a case or days the JSON must be that part of the whole, and with --lines its answers, a line
-each. A faulty input must end both programs alike. It needs Python 3.8 or later; the status is 0 where all is alike.
+the same order. In half of the inputs the court's file names cases (lib/case_names.py): then a name must be beside the number
+of each case that has one, and nowhere else. With a judge, a case or days the JSON must be that part of the whole, and with
+--lines its answers, a line each. A faulty input must end both programs alike. It needs Python 3.8 or later; the status is
+0 where all is alike.
 
 With --schema each text is also held to docs/court_calendar.schema.json, which needs Debian's python3-jsonschema.
 """
@@ -20,6 +22,7 @@ import re
 import subprocess
 import sys
 
+from lib.case_names import asked, with_names
 from lib.made_inputs import INPUTS, made_input
 from reference.civil import day_of_text, instant_at, offset_at, zone_of_text
 
@@ -203,7 +206,7 @@ def part_of(whole, first, last, judge, case):
     return dict(whole, cases=cases, calendars=[c for c in calendars if c["bookings"]])
 
 
-def made_words(chance, whole):
+def made_words(chance, names, whole):
     """Words, and what they choose."""
     court = whole["court"]
     words, first, last, judge, case = ["json"], court["from"], court["to"], None, None
@@ -219,8 +222,17 @@ def made_words(chance, whole):
         words += ["--judge", judge]
     if chance.random() < 0.5:
         case = chance.choice([s["case"] for s in whole["cases"]] + [1, 4096])
-        words += ["--case", str(case)]
+        words += ["--case", asked(chance, names, case)]
     return words, (first, last, judge, case)
+
+
+def names_fault(names, value):
+    """What is wrong with the names of cases, or none: each comes after the number of a case that has one."""
+    for o in objects(value):
+        wanted = names.get(o.get("case"))
+        if o.get("case_name") != wanted or wanted and list(o)[list(o).index("case") + 1] != "case_name":
+            return "another name in {}".format(o)
+    return None
 
 
 def read(text):
@@ -239,6 +251,7 @@ def ran(program, words, data):
 def differs(chance, calendar, clerk, memo, data, valid):
     """How the JSON of an input differs from the texts of clerk_office and deadline_memo, or none."""
     status, text, errors = ran(clerk, [], data)
+    plain, (data, names) = data, with_names(chance, data)
     found = ran(calendar, ["json"], data)
     if status != 0 or found[0] != 0:
         return None if (found[0], found[2].replace("court_calendar", "clerk_office")) == (status, errors) and not found[1] \
@@ -253,10 +266,10 @@ def differs(chance, calendar, clerk, memo, data, valid):
         return "other answers line by line"
     zone = re.search(r'^\s*zone\s*=\s*"([^"]*)"', data.decode(), re.MULTILINE)
     fault = times_fault(zone_of_text(zone.group(1)), whole) if zone else None
-    fault = fault or reasons_fault(whole, ran(memo, [], data)[1].decode())
+    fault = fault or names_fault(names, whole) or reasons_fault(whole, ran(memo, [], plain)[1].decode())
     if fault or not valid(whole):
         return fault or "not of the schema"
-    words, chosen = made_words(chance, whole)
+    words, chosen = made_words(chance, names, whole)
     part = read(ran(calendar, words, data)[1])
     return None if part == part_of(whole, *chosen) else " ".join(words)
 

@@ -18,6 +18,7 @@ import subprocess
 import sys
 import tempfile
 
+from lib.case_names import with_names
 from lib.made_inputs import INPUTS, made_input
 from lib.pages import faults_of, read
 
@@ -34,10 +35,12 @@ window.onload = () => {{ document.title = "wide " + [...document.querySelectorAl
 
 
 def long_names():
-    """An input with the longest names, a hearing before them, and a deadline of each kind of words."""
+    """An input with the longest names, also of a case, a hearing before them, and a deadline of each kind of words."""
     listed = ", ".join('"{}"'.format(name) for name in LONG)
     return ('zone = "EST5EDT,M3.2.0/2,M11.1.0/2"\nopens = "09:00"\ncloses = "17:00"\nfrom = "2025-01-01"\nto = "2025-12-31"\n'
-            "federal = []\nstate = []\njudges = [{0}]\nrooms = [{0}]\n%%\n1,open,4096,2025-08-01\n"
+            "federal = []\nstate = []\njudges = [{0}]\nrooms = [{0}]\n"
+            '[case_names]\n4096 = "9:25-wm-99999-WWW-WWWW-WWW-WWWW"\n%%\n'
+            "1,open,4096,2025-08-01\n"
             "1,motion,4096,2025-08-01,exparte\n1,book,4096,1,{1},{2},2025-09-15,10:00,2,2025-08-01\n"
             "1,start,4096,8760h/before/service/served/59e,2025-12-01,12:00,,E\n"
             "1,start,4096,12a1Aii-abroad,2025-08-04,,,\n").format(listed, "+".join(LONG), LONG[1]).encode()
@@ -86,7 +89,7 @@ def main():
     inputs = [long_names()]
     for number in range(count):
         chance = random.Random("page {} {}".format(seed, number))
-        inputs.append(made_input(chance, chance.choice(KINDS)))
+        inputs.append(with_names(chance, made_input(chance, chance.choice(KINDS)))[0])
     for number, data in enumerate(inputs):
         page = ran([calendar, "page"], data).stdout.decode()
         with tempfile.TemporaryDirectory() as folder:

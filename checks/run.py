@@ -59,6 +59,8 @@ ALL = [
           "the program and a reference in Python agree", "1 min", quick=True, seeded=True, seeds=(2, 3, 4, 5, 6)),
     Check("desk_check", [DESK, CLERK], [["desk_check.py", built(DESK), built(CLERK)]],
           "the desk and clerk_office agree; it is killed", "1 min", quick=True, seeded=True, seeds=(2, 3)),
+    Check("strike_check", [DESK, CLERK], [["strike_check.py", built(DESK), built(CLERK)]],
+          "rows that are struck, and a replay of the others", "30 s", quick=True, seeded=True, seeds=(2, 3)),
     Check("written_check", [DESK], [["written_check.py", built(DESK)]],
           "rows as people write them, and their faults", "20 s", quick=True, seeded=True, seeds=(2, 3)),
     Check("desk_kill", [DESK, CLERK], [["desk_kill.py", built(DESK), built(CLERK)]],

@@ -7,7 +7,8 @@ Inputs are made at random. Each script must load without a complaint, with all k
 the server is one of its own, in a folder that is removed at the end. Both are asked what is due and for the week of a judge,
 and what they say, written as court_calendar writes it, must be the texts of `due` and `week`. The rows of each table must be
 those of the JSON and of the answers of clerk_office, each once and in order, and each instant that of its day and time, by
-a reading of the court's zone of its own (reference/civil.py). A faulty input must end both programs alike. The questions in
+a reading of the court's zone of its own (reference/civil.py). In half of the inputs the court's file names cases
+(lib/case_names.py): then the table of cases must have their names. A faulty input must end both programs alike. The questions in
 docs/CALENDAR.md must be answered as written. It needs Debian's sqlite3 and postgresql, and Python 3.8 or later; the status is
 0 where all is alike.
 """
@@ -23,6 +24,7 @@ import subprocess
 import sys
 import tempfile
 
+from lib.case_names import called, with_names
 from lib.made_inputs import INPUTS, made_input
 from reference.civil import day_of_text, instant_at, zone_of_text
 
@@ -159,7 +161,7 @@ def clock(minute):
     return "{:02}:{:02}".format(minute // 60, minute % 60)
 
 
-def due_text(database, closes, first, last):
+def due_text(database, names, closes, first, last):
     panels = {}
     for case, motion, judge in rows_of(database, PANELS):
         panels.setdefault((case, motion), []).append(judge)
@@ -171,21 +173,21 @@ def due_text(database, closes, first, last):
             lines += ["", named(day)]
         before = day
         if kind == "0":
-            lines.append("  to {}  case {} deadline {}: {}{}".format(time or "midnight", case, number, words,
+            lines.append("  to {}  case {} deadline {}: {}{}".format(time or "midnight", called(names, int(case)), number, words,
                                                                      ", filed late" if timely == "0" else ""))
         else:
             end = clock(minutes(time) + int(length))
             lines.append("  {}-{}  case {} motion {}: hearing before {}, room {}".format(
-                time[:5], end, case, number, "+".join(panels[case, number]), words))
+                time[:5], end, called(names, int(case)), number, "+".join(panels[case, number]), words))
     return "".join(line + "\n" for line in (lines if before else lines + ["", "Nothing is due."]))
 
 
-def week_lines(database, judge, of):
+def week_lines(database, names, judge, of):
     monday = datetime.date.fromisoformat(of)
     monday -= datetime.timedelta(monday.weekday())
     found = rows_of(database, WEEK.format(judge, monday, monday + datetime.timedelta(6)))
-    return ["{}  {}-{}  case {} motion {}, room {}".format(named(day), begins[:5], clock(minutes(begins) + int(length)), case,
-                                                         motion, room) for day, begins, length, case, motion, room in found]
+    return ["{}  {}-{}  case {} motion {}, room {}".format(named(day), begins[:5], clock(minutes(begins) + int(length)),
+                                                         called(names, int(case)), motion, room) for day, begins, length, case, motion, room in found]
 
 
 # The rows that each table must have, by the JSON and by clerk_office
@@ -256,6 +258,15 @@ def closing_of(whole_text, rows):
 LAST_ROW = b"1,compute,59e,2025-08-04,,,\n"
 
 
+def names_fault(database, names, whole):
+    """What is wrong with the names of cases, or none: without names the table of cases has no column for them."""
+    if not names:
+        return None
+    found = rows_of(database, "SELECT number, name FROM cases ORDER BY number")
+    wanted = [(str(sheet["case"]), names.get(sheet["case"], "")) for sheet in whole["cases"]]
+    return None if found == wanted else "names of cases: found {}, wanted {}".format(found, wanted)
+
+
 def table_fault(database, wanted):
     for table, (columns, order) in TABLES.items():
         columns = columns.format(starts_at=database.seconds("starts_at"), ends_at=database.seconds("ends_at"))
@@ -293,14 +304,15 @@ def is_in_order(script):
 
 def differs(chance, calendar, clerk, databases, data):
     status, text, errors = ran([clerk], data)
+    plain, (data, names) = data, with_names(chance, data)
     found = ran([calendar, "sql"], data)
     if status != 0 or found[0] != 0:
         return None if (found[0], found[2].replace("court_calendar", "clerk_office")) == (status, errors) and not found[1] \
             else "another fault"
     head, rows = data.decode().split("%%", 1)
     rows = [row for row in rows.splitlines()[1:] if row]
-    whole_text = ran([clerk], data if data.endswith(b"\n") else data + b"\n")
-    longer = ran([clerk], (data if data.endswith(b"\n") else data + b"\n") + LAST_ROW)
+    whole_text = ran([clerk], plain if plain.endswith(b"\n") else plain + b"\n")
+    longer = ran([clerk], (plain if plain.endswith(b"\n") else plain + b"\n") + LAST_ROW)
     if longer[0] != 0:
         return None
     answers = answers_of(whole_text[1], closing_of(longer[1], len(rows)))
@@ -316,14 +328,15 @@ def differs(chance, calendar, clerk, databases, data):
     of = chance.choice([b["day"] for c in whole["calendars"] for b in c["bookings"]] or [first])
     due = ran([calendar, "due", "--from", first, "--to", last], data)[1]
     for database in databases:
-        fault = database.load(found[1].encode()) or table_fault(database, wanted) or zone_fault(database, data)
+        fault = database.load(found[1].encode()) or table_fault(database, wanted) or zone_fault(database, data) or \
+            names_fault(database, names, whole)
         if fault:
             return "{}: {}".format(database.name, fault)
-        if due_text(database, closes, first, last) != due:
+        if due_text(database, names, closes, first, last) != due:
             return "{}: something else is due from {} to {}".format(database.name, first, last)
         if judge is not None:
             week = ran([calendar, "week", "--judge", judge, "--of", of], data)[1].splitlines()
-            if week_lines(database, judge, of) != week[week.index("") + 1:][week[week.index("") + 1:].index("") + 1:]:
+            if week_lines(database, names, judge, of) != week[week.index("") + 1:][week[week.index("") + 1:].index("") + 1:]:
                 return "{}: another week of {} with {}".format(database.name, judge, of)
     return None
 

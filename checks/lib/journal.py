@@ -11,6 +11,8 @@ MOST_ENTRIES = 1_000_000
 COURT_LINE = b"%%\n"
 # With what the line begins in which a row's entry has the new name of its case, before the row.
 NAME_MARK = b"%%case "
+# With what an entry begins by which a row is struck.
+STRIKE_MARK = b"%%strike "
 
 
 class Damaged(Exception):
@@ -111,8 +113,9 @@ class Kept(NamedTuple):
 
 
 def rows_of(journal):
-    """The rows of a journal with their answers. The first entry is a court's file, and so is each that begins with a line `%%`."""
-    rows = [after_name(entry).partition(b"\n") for entry in journal.entries[1:] if not entry.startswith(COURT_LINE)]
+    """The rows of a journal with their answers. The first entry is a court's file, and so is each that begins with a line `%%`; one
+    that strikes a row is none either."""
+    rows = [after_name(entry).partition(b"\n") for entry in journal.entries[1:] if not entry.startswith((COURT_LINE, STRIKE_MARK))]
     return [Kept(row + end, answer) for row, end, answer in rows]
 
 

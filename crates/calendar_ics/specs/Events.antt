@@ -1,6 +1,8 @@
 -- The events of a calendar (RFC 5545, 3.6.1).
 use Rattle.std.specs.Prelude.{ℕ, ◌+◌, ◌==◌, ℤ, pos, ◌+ℤ◌, Bool, true, false, List, [], ◌∷◌, ◌++◌, Option, Some, None, codes, if◌then◌else◌}
 use Rattle.std.specs.Fmt.{decimal}
+use Rattle.case_numbers.specs.Words.{case_text}
+use Rattle.case_numbers.specs.declared.names.NamedCase.{NamedCase}
 use Rattle.court_clock.specs.Words.{ClockView, day_text}
 use Rattle.court_days.specs.Words.{CourtView}
 use Rattle.rule6.specs.declared.timeliness.Act.TheVariants.{Filing, Service}
@@ -102,9 +104,9 @@ abbrev pub name_words : CourtView → (number : ℕ) → Matter → List ℕ
 name_words court number (Deadline d) = deadline_name number d
 name_words court number (Hearing h) = matter_words court number (Hearing h)
 
--- `Case 1 motion 1: hearing before Ames+Brandt, room R1`
-unfoldable pub summary : CourtView → Appointment → List ℕ
-summary court a = off_words a.cancelled ++ codes "Case " ++ decimal a.item.case ++ name_words court a.item.number a.item.matter
+-- `Case 1 motion 1: hearing before Ames+Brandt, room R1`; a case that has a name is called by it
+unfoldable pub summary : CourtView → List NamedCase → Appointment → List ℕ
+summary court named a = off_words a.cancelled ++ codes "Case " ++ case_text named a.item.case ++ name_words court a.item.number a.item.matter
 
 -- the room of a hearing
 abbrev pub place_lines : CourtView → Matter → List (List ℕ)
@@ -170,18 +172,18 @@ abbrev pub description : ClockView → (second : ℕ) → Matter → List ℕ
 description clock second (Deadline d) = deadline_words clock second d
 description clock second (Hearing h) = hearing_words h
 
-unfoldable pub word_lines : CourtView → Appointment → List (List ℕ)
-word_lines court a =
-    property (codes "SUMMARY") (summary court a)
+unfoldable pub word_lines : CourtView → List NamedCase → Appointment → List (List ℕ)
+word_lines court named a =
+    property (codes "SUMMARY") (summary court named a)
     ∷ place_lines court a.item.matter
     ++ property (codes "DESCRIPTION") (description court.clock a.item.second a.item.matter) ∷ []
 
 -- the lines of an event
-unfoldable pub event_lines : CourtView → (stamp : ℤ) → Appointment → List (List ℕ)
-event_lines court stamp a =
+unfoldable pub event_lines : CourtView → List NamedCase → (stamp : ℤ) → Appointment → List (List ℕ)
+event_lines court named stamp a =
     begin_lines stamp a.item
     ++ sequence_lines a.changes
     ++ status_lines a.cancelled
     ++ time_lines court.clock a.item.day a.item.matter
-    ++ word_lines court a
+    ++ word_lines court named a
     ++ property (codes "END") (codes "VEVENT") ∷ []

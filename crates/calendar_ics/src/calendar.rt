@@ -9,23 +9,26 @@ ghost use Rattle.calendar_ics.specs.Events.{event_lines};
 
 use crate::appointment::Appointment;
 use crate::events::push_event;
+use case_numbers::Cases;
 use content_lines::push_property;
 use court_clock::Instant;
 use court_days::Court;
 use std::alloc::{AllocError, Global};
 
-/// The appointments as a calendar. `stamp` is when it is written, for each event. `Err` says that memory ran out.
+/// The appointments as a calendar. `cases` has the names of cases, and `stamp` is when it is written, for each event. `Err`
+/// says that memory ran out.
 pub fn icalendar(
     alloc: Global,
     court: &Court,
+    cases: &Cases,
     stamp: Instant,
     appointments: &[Appointment],
 ) -> Result<String, AllocError>
-    ensures text { IfOk result (λ text. string_bytes text ≡ icalendar_text court.now stamp appointments.now) }
+    ensures text { IfOk result (λ text. string_bytes text ≡ icalendar_text court.now cases.now.named stamp appointments.now) }
     ensures short { IfOk result (λ text. HasShortLines (string_bytes text)) }
 {
     let mut text = String::new(alloc);
-    push_icalendar(alloc, &mut text, court, stamp, appointments)?;
+    push_icalendar(alloc, &mut text, court, cases, stamp, appointments)?;
     let _text = text.as_str();
     Ok(text)
 }
@@ -35,15 +38,24 @@ fn push_icalendar(
     alloc: Global,
     text: &mut String,
     court: &Court,
+    cases: &Cases,
     stamp: Instant,
     appointments: &[Appointment],
 ) -> Result<(), AllocError>
-    ensures { OnOk result (AddsText text.old text.new (icalendar_text court.now stamp appointments.now)) }
+    ensures { OnOk result (AddsText text.old text.new (icalendar_text court.now cases.now.named stamp appointments.now)) }
 {
     let mut line = String::new(alloc);
     let mut value = String::new(alloc);
     push_head(text, &mut line)?;
-    push_events(text, &mut line, &mut value, court, stamp, appointments)?;
+    push_events(
+        text,
+        &mut line,
+        &mut value,
+        court,
+        cases,
+        stamp,
+        appointments,
+    )?;
     push_property(text, &mut line, "END", "VCALENDAR")?;
     Ok(())
 }
@@ -64,13 +76,14 @@ fn push_events(
     line: &mut String,
     value: &mut String,
     court: &Court,
+    cases: &Cases,
     stamp: Instant,
     appointments: &[Appointment],
 ) -> Result<(), AllocError>
-    ensures { OnOk result (AddsText text.old text.new (sent (flat_map (event_lines court.now stamp) appointments.now))) }
+    ensures { OnOk result (AddsText text.old text.new (sent (flat_map (event_lines court.now cases.now.named stamp) appointments.now))) }
 {
     for appointment in appointments {
-        push_event(text, line, value, court, stamp, appointment)?;
+        push_event(text, line, value, court, cases, stamp, appointment)?;
     }
     Ok(())
 }

@@ -9,6 +9,7 @@ ghost use Rattle.calendar_ics.specs.Events.{begin_lines, day_lines, end_lines, e
 use crate::appointment::Appointment;
 use crate::times::push_slot;
 use crate::words::push_words;
+use case_numbers::Cases;
 use content_lines::{push_date, push_property, push_utc};
 use court_clock::{Clock, Day, Instant};
 use court_days::Court;
@@ -24,17 +25,18 @@ pub(crate) fn push_event(
     line: &mut String,
     value: &mut String,
     court: &Court,
+    cases: &Cases,
     stamp: Instant,
     appointment: &Appointment,
 ) -> Result<(), AllocError>
-    ensures { OnOk result (AddsText text.old text.new (sent (event_lines court.now stamp appointment.now))) }
+    ensures { OnOk result (AddsText text.old text.new (sent (event_lines court.now cases.now.named stamp appointment.now))) }
 {
     let item = &appointment.item;
     push_begin(text, line, value, stamp, item)?;
     push_sequence(text, line, value, appointment.changes)?;
     push_status(text, line, appointment.cancelled)?;
     push_times(text, line, value, court.clock(), item.day, &item.matter)?;
-    push_words(text, line, value, court, appointment)?;
+    push_words(text, line, value, court, cases, appointment)?;
     push_property(text, line, "END", "VEVENT")?;
     Ok(())
 }

@@ -8,6 +8,7 @@ ghost use Rattle.calendar_ics.specs.Events.{affidavits_back, affidavits_front, a
 
 use crate::appointment::Appointment;
 use calendar_texts::{push_matter, push_minute, push_period, push_second};
+use case_numbers::{Cases, push_case_text};
 use content_lines::push_property;
 use court_clock::{Clock, Day};
 use court_days::Court;
@@ -27,12 +28,13 @@ pub(crate) fn push_words(
     line: &mut String,
     value: &mut String,
     court: &Court,
+    cases: &Cases,
     appointment: &Appointment,
 ) -> Result<(), AllocError>
-    ensures { OnOk result (AddsText text.old text.new (sent (word_lines court.now appointment.now))) }
+    ensures { OnOk result (AddsText text.old text.new (sent (word_lines court.now cases.now.named appointment.now))) }
 {
     let item = &appointment.item;
-    push_name(text, line, value, court, appointment)?;
+    push_name(text, line, value, court, cases, appointment)?;
     push_place(text, line, value, court, &item.matter)?;
     push_details(text, line, value, court.clock(), item.second, &item.matter)
 }
@@ -43,12 +45,13 @@ fn push_name(
     line: &mut String,
     value: &mut String,
     court: &Court,
+    cases: &Cases,
     appointment: &Appointment,
 ) -> Result<(), AllocError>
-    ensures { OnOk result (AddsText text.old text.new (sent_line (property (codes "SUMMARY") (summary court.now appointment.now)))) }
+    ensures { OnOk result (AddsText text.old text.new (sent_line (property (codes "SUMMARY") (summary court.now cases.now.named appointment.now)))) }
 {
     value.clear();
-    push_summary(value, court, appointment)?;
+    push_summary(value, court, cases, appointment)?;
     push_property(text, line, "SUMMARY", value.as_str())
 }
 
@@ -73,14 +76,15 @@ fn push_details(
 fn push_summary(
     value: &mut String,
     court: &Court,
+    cases: &Cases,
     appointment: &Appointment,
 ) -> Result<(), AllocError>
-    ensures { OnOk result (AddsText value.old value.new (summary court.now appointment.now)) }
+    ensures { OnOk result (AddsText value.old value.new (summary court.now cases.now.named appointment.now)) }
 {
     let item = &appointment.item;
     value.push_str(off_words(appointment.cancelled))?;
     value.push_str("Case ")?;
-    push_number(value, u64::from(item.case))?;
+    push_case_text(value, cases, item.case)?;
     push_called(value, court, item.number, &item.matter)
 }
 

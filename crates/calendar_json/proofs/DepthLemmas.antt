@@ -5,6 +5,7 @@ use Rattle.json.specs.Tree.{depth, items_depth, members_depth}
 use Rattle.json.specs.Value.{items_of}
 use Rattle.jiff_tz.specs.declared.timezone.TimeZone.{TimeZone}
 use Rattle.court_clock.specs.Words.{civil_of, is_day_number}
+use Rattle.calendar_json.specs.Cases.{name_fields}
 use Rattle.calendar_json.specs.Times.{happened_fields, instant_value, moment_value, slot_value, span_fields}
 use Rattle.calendar_json.specs.Values.{Field, array_of, members, object_of, or_null}
 
@@ -71,3 +72,7 @@ happened_within zone day minute = (omega arith, (omega arith, (instant_within zo
 pub span_within : (zone : TimeZone) (day : ℤ) (first count : ℕ) → FieldsWithin 0 (span_fields zone day first count)
 unfolding span_fields
 span_within zone day first count = (omega arith, (omega arith, (omega arith, (slot_within zone day first, (slot_within zone day (first + count), tt)))))
+
+pub name_within : (n : ℕ) (name : Option (List ℕ)) → FieldsWithin n (name_fields name)
+name_within n (Some name) = (omega arith, tt)
+name_within n None = tt

@@ -1,9 +1,12 @@
 -- How deep the values of a docket nest.
-use Rattle.std.proofs.Common.{◌≤◌, ◌+◌, ℕ, List, [], ◌∷◌, length, codes, slice_get, arith}
+use Rattle.std.proofs.Common.{◌≤◌, ◌+◌, ℕ, List, [], ◌∷◌, ◌++◌, length, codes, slice_get, arith}
 use Rattle.std.specs.List.{range_with_len}
+use Rattle.std.specs.Option.{option_and_then}
 use Rattle.json.specs.Json.{string, max_depth}
 use Rattle.json.specs.Tree.{depth}
 use Rattle.jiff_tz.specs.declared.timezone.TimeZone.{TimeZone}
+use Rattle.case_numbers.specs.Words.{name_of}
+use Rattle.case_numbers.specs.declared.names.NamedCase.{NamedCase}
 use Rattle.court_clock.specs.Words.{ClockView}
 use Rattle.court_days.specs.Words.{CourtView}
 use Rattle.rule6.specs.declared.timeliness.Filing.{Filing}
@@ -36,18 +39,19 @@ use Rattle.office_run.specs.declared.reply.Reply.{Reply}
 use Rattle.office_run.specs.declared.reply.Reply.TheVariants.{Made, Viewed}
 use Rattle.office_run.specs.Words.{docketed_after, docketed_then}
 use Rattle.calendar_json.specs.declared.answers.AnsweredRow.{AnsweredRow}
-use Rattle.calendar_json.specs.Answers.{answer_fields, answered_value, case_named, day_named, motion_named, refusal_fields, refusal_value, reply_fields, row_fields, view_fields}
-use Rattle.calendar_json.specs.Bookings.{booking_fields, booking_value, calendar_fields, calendar_value}
+use Rattle.calendar_json.specs.Answers.{answer_fields, answered_value, case_named, day_named, motion_named, refusal_fields, refusal_front, refusal_value, reply_fields, row_fields, view_fields}
+use Rattle.calendar_json.specs.Bookings.{booked_fields, booking_fields, booking_value, calendar_fields, calendar_value}
+use Rattle.calendar_json.specs.Cases.{case_fields, name_fields}
 use Rattle.calendar_json.specs.Deadlines.{deadline_fields, deadline_value, docketed_fields, end_of, event_value, filed_fields, filed_value, last_day_of, outcome_fields, shown_fields, started_fields}
 use Rattle.calendar_json.specs.Document.{answers_from, court_value, court_fields, document_fields, document_value}
 use Rattle.calendar_json.specs.Motions.{hearing_fields, hearing_value, motion_fields, motion_value, notice_days_of}
 use Rattle.calendar_json.specs.Names.{judges_value, name_value, names_from}
 use Rattle.calendar_json.specs.Periods.{code_of, day_of_grant, days_of_grant, days_of_length, entered_fields, entered_of, entered_value, grant_fields, grant_value, hours_of_grant, hours_of_length, service_value}
-use Rattle.calendar_json.specs.Reasons.{case_fields, case_value, explained_fields, explained_value, instant_shown, reason_fields, reason_value, reason_values, reasons_field}
-use Rattle.calendar_json.specs.Sheets.{sheet_fields, sheet_value}
+use Rattle.calendar_json.specs.Reasons.{case_value, explained_docketed, explained_fields, explained_sheet_fields, explained_value, instant_shown, reason_fields, reason_value, reason_values, reasons_field}
+use Rattle.calendar_json.specs.Sheets.{sheet_docketed, sheet_fields, sheet_value}
 use Rattle.calendar_json.specs.Times.{day_value, happened_fields, instant_value}
 use Rattle.calendar_json.specs.Values.{amount, field, or_null}
-use Rattle.calendar_json.proofs.DepthLemmas.{AllWithin, FieldsWithin, append_within, array_within, deeper_within, happened_within, instant_within, list_within, nullable, object_within, span_within}
+use Rattle.calendar_json.proofs.DepthLemmas.{AllWithin, FieldsWithin, append_within, array_within, deeper_within, happened_within, instant_within, list_within, name_within, nullable, object_within, span_within}
 
 flat : 0 ≤ 0
 flat = omega arith
@@ -116,11 +120,17 @@ motion_within court m =
     object_within 2 (motion_fields court m)
     (omega arith, (omega arith, (nullable amount 2 (λ _. omega arith) (notice_days_of m.need), (nullable (hearing_value court) 2 (hearing_within court) m.hearing, tt))))
 
-sheet_within : (court : CourtView) (s : Sheet) → depth (sheet_value court s) ≤ 5
-unfolding sheet_value
-sheet_within court s =
-    object_within 4 (sheet_fields court s)
-    (omega arith, (omega arith, (array_within _ 3 (deadline_within court.clock.zone) s.deadlines, (array_within _ 3 (motion_within court) s.motions, tt))))
+-- the number of a case and its name
+named_within : (n : ℕ) (named : List NamedCase) (case : ℕ) → FieldsWithin n (case_fields named case)
+unfolding case_fields
+named_within n named case = (omega arith, name_within n (name_of named case))
+
+sheet_within : (court : CourtView) (named : List NamedCase) (s : Sheet) → depth (sheet_value court named s) ≤ 5
+unfolding sheet_value sheet_docketed
+sheet_within court named s =
+    object_within 4 (sheet_fields court named s)
+    (append_within 4 (case_fields named s.case) (sheet_docketed court s) (named_within 4 named s.case)
+    (omega arith, (array_within _ 3 (deadline_within court.clock.zone) s.deadlines, (array_within _ 3 (motion_within court) s.motions, tt))))
 
 reason_within : (clock : ClockView) (course : Course) (r : Reason) → depth (reason_value clock course r) ≤ 1
 unfolding reason_value
@@ -140,23 +150,30 @@ explained_within clock e =
     (append_within 2 (deadline_fields clock.zone e.deadline) (reasons_field clock e ∷ []) (append_within 2 (docketed_fields clock.zone e.deadline) (outcome_fields clock.zone e.deadline) (docketed_within clock.zone e.deadline) (outcome_within clock.zone e.deadline))
     (list_within 1 _ (reasons_within clock (course_of e.deadline.row.period) e.reasons.items), tt))
 
-case_within : (court : CourtView) (e : ExplainedSheet) → depth (case_value court e) ≤ 5
-unfolding case_value
-case_within court e =
-    object_within 4 (case_fields court e)
-    (omega arith, (omega arith, (array_within _ 3 (explained_within court.clock) e.deadlines.items, (array_within _ 3 (motion_within court) e.motions, tt))))
+case_within : (court : CourtView) (named : List NamedCase) (e : ExplainedSheet) → depth (case_value court named e) ≤ 5
+unfolding case_value explained_docketed
+case_within court named e =
+    object_within 4 (explained_sheet_fields court named e)
+    (append_within 4 (case_fields named e.case) (explained_docketed court e) (named_within 4 named e.case)
+    (omega arith, (array_within _ 3 (explained_within court.clock) e.deadlines.items, (array_within _ 3 (motion_within court) e.motions, tt))))
 
-booking_within : (court : CourtView) (b : Booking) → depth (booking_value court b) ≤ 1
-unfolding booking_value
-booking_within court b =
-    object_within 0 (booking_fields court b)
-    (flat, (flat, (nullable string 0 (λ _. flat) _, span_within court.clock.zone b.day b.first b.count)))
+booking_within : (court : CourtView) (named : List NamedCase) (b : Booking) → depth (booking_value court named b) ≤ 1
+unfolding booking_value booked_fields
+booking_within court named b =
+    object_within 0 (booking_fields court named b)
+    (append_within 0 (case_fields named b.case) (booked_fields court b) (named_within 0 named b.case)
+    (flat, (nullable string 0 (λ _. flat) _, span_within court.clock.zone b.day b.first b.count)))
 
-refusal_within : (r : Refusal) → depth (refusal_value r) ≤ 1
-unfolding refusal_value
-refusal_within r =
-    object_within 0 (refusal_fields r)
-    (flat, (flat, (nullable day_value 0 (λ _. flat) (day_named r), (nullable amount 0 (λ _. flat) (case_named r), (nullable amount 0 (λ _. flat) (motion_named r), tt)))))
+refusal_within : (named : List NamedCase) (r : Refusal) → depth (refusal_value named r) ≤ 1
+unfolding refusal_value refusal_front
+refusal_within named r =
+    let name = name_fields (option_and_then (name_of named) (case_named r)) in
+    object_within 0 (refusal_fields named r)
+    (append_within 0 (refusal_front r ++ name) (field (codes "motion") (or_null amount (motion_named r)) ∷ [])
+    (append_within 0 (refusal_front r) name
+    (flat, (flat, (nullable day_value 0 (λ _. flat) (day_named r), (nullable amount 0 (λ _. flat) (case_named r), tt))))
+    (name_within 0 (option_and_then (name_of named) (case_named r))))
+    (nullable amount 0 (λ _. flat) (motion_named r), tt))
 
 shown_deep : (zone : TimeZone) (end : Shown) → FieldsWithin 5 (shown_fields zone end)
 shown_deep zone end = deeper_within 0 5 (shown_fields zone end) (omega arith) (shown_within zone end)
@@ -164,51 +181,51 @@ shown_deep zone end = deeper_within 0 5 (shown_fields zone end) (omega arith) (s
 zero_five : 0 ≤ 5
 zero_five = omega arith
 
-refusal_deep : (r : Refusal) → depth (refusal_value r) ≤ 5
-refusal_deep r = let h = refusal_within r in omega arith
+refusal_deep : (named : List NamedCase) (r : Refusal) → depth (refusal_value named r) ≤ 5
+refusal_deep named r = let h = refusal_within named r in omega arith
 
-answer_within : (zone : TimeZone) (a : Answer) → FieldsWithin 5 (answer_fields zone a)
+answer_within : (zone : TimeZone) (named : List NamedCase) (a : Answer) → FieldsWithin 5 (answer_fields zone named a)
 unfolding answer_fields
-answer_within zone Opened = (zero_five, tt)
-answer_within zone (Started number end) = (zero_five, (zero_five, shown_deep zone end))
-answer_within zone (Filed timely) = (zero_five, (zero_five, tt))
-answer_within zone (Extended end) = (zero_five, shown_deep zone end)
-answer_within zone (MotionEntered number) = (zero_five, (zero_five, tt))
-answer_within zone Booked = (zero_five, tt)
-answer_within zone Moved = (zero_five, tt)
-answer_within zone Cancelled = (zero_five, tt)
-answer_within zone HolidayEntered = (zero_five, tt)
-answer_within zone OutageEntered = (zero_five, tt)
-answer_within zone (Refused refusal) = (zero_five, (refusal_deep refusal, tt))
+answer_within zone named Opened = (zero_five, tt)
+answer_within zone named (Started number end) = (zero_five, (zero_five, shown_deep zone end))
+answer_within zone named (Filed timely) = (zero_five, (zero_five, tt))
+answer_within zone named (Extended end) = (zero_five, shown_deep zone end)
+answer_within zone named (MotionEntered number) = (zero_five, (zero_five, tt))
+answer_within zone named Booked = (zero_five, tt)
+answer_within zone named Moved = (zero_five, tt)
+answer_within zone named Cancelled = (zero_five, tt)
+answer_within zone named HolidayEntered = (zero_five, tt)
+answer_within zone named OutageEntered = (zero_five, tt)
+answer_within zone named (Refused refusal) = (zero_five, (refusal_deep named refusal, tt))
 
-view_within : (court : CourtView) (v : View) → FieldsWithin 5 (view_fields court v)
+view_within : (court : CourtView) (named : List NamedCase) (v : View) → FieldsWithin 5 (view_fields court named v)
 unfolding view_fields
-view_within court (view.Sheet s) = (zero_five, (sheet_within court s, tt))
-view_within court (view.Bookings bookings) =
-    let h = array_within (booking_value court) 1 (booking_within court) bookings in (zero_five, (omega arith, tt))
-view_within court (view.Computed end) = (zero_five, shown_deep court.clock.zone end)
-view_within court (view.Refused refusal) = (zero_five, (refusal_deep refusal, tt))
+view_within court named (view.Sheet s) = (zero_five, (sheet_within court named s, tt))
+view_within court named (view.Bookings bookings) =
+    let h = array_within (booking_value court named) 1 (booking_within court named) bookings in (zero_five, (omega arith, tt))
+view_within court named (view.Computed end) = (zero_five, shown_deep court.clock.zone end)
+view_within court named (view.Refused refusal) = (zero_five, (refusal_deep named refusal, tt))
 
-reply_within : (court : CourtView) (r : Reply) → FieldsWithin 5 (reply_fields court r)
+reply_within : (court : CourtView) (named : List NamedCase) (r : Reply) → FieldsWithin 5 (reply_fields court named r)
 unfolding reply_fields
-reply_within court (Made answer) = answer_within court.clock.zone answer
-reply_within court (Viewed v) = view_within court v
+reply_within court named (Made answer) = answer_within court.clock.zone named answer
+reply_within court named (Viewed v) = view_within court named v
 
 row_within : (number clerk : ℕ) → FieldsWithin 5 (row_fields number clerk)
 unfolding row_fields
 row_within number clerk = (zero_five, (zero_five, tt))
 
-answered_within : (court : CourtView) (r : AnsweredRow) → depth (answered_value court r) ≤ 6
+answered_within : (court : CourtView) (named : List NamedCase) (r : AnsweredRow) → depth (answered_value court named r) ≤ 6
 unfolding answered_value
-answered_within court r = object_within 5 _ (append_within 5 (row_fields r.number r.clerk) (reply_fields court r.reply) (row_within r.number r.clerk) (reply_within court r.reply))
+answered_within court named r = object_within 5 _ (append_within 5 (row_fields r.number r.clerk) (reply_fields court named r.reply) (row_within r.number r.clerk) (reply_within court named r.reply))
 
-pub answered_reads_within : (court : CourtView) (r : AnsweredRow) → depth (answered_value court r) ≤ max_depth
-answered_reads_within court r = let h = answered_within court r in omega arith
+pub answered_reads_within : (court : CourtView) (named : List NamedCase) (r : AnsweredRow) → depth (answered_value court named r) ≤ max_depth
+answered_reads_within court named r = let h = answered_within court named r in omega arith
 
-answers_within : (court : CourtView) (docketed : Rows) (number : ℕ) (rows : List Row) → AllWithin 6 (answers_from court docketed number rows)
+answers_within : (court : CourtView) (named : List NamedCase) (docketed : Rows) (number : ℕ) (rows : List Row) → AllWithin 6 (answers_from court named docketed number rows)
 unfolding answers_from
-answers_within court docketed number [] = tt
-answers_within court docketed number (row ∷ rows) = (answered_within court _, answers_within court (docketed_then (setup_of court) docketed row.work) (number + 1) rows)
+answers_within court named docketed number [] = tt
+answers_within court named docketed number (row ∷ rows) = (answered_within court named _, answers_within court named (docketed_then (setup_of court) docketed row.work) (number + 1) rows)
 
 judges_within : (court : CourtView) → depth (judges_value court) ≤ 1
 unfolding names_from
@@ -218,19 +235,19 @@ court_within : (court : CourtView) → depth (court_value court) ≤ 2
 unfolding court_value
 court_within court = object_within 1 (court_fields court) (omega arith, (omega arith, (omega arith, (omega arith, (judges_within court, tt)))))
 
-calendar_within : (court : CourtView) (c : JudgeCalendar) → depth (calendar_value court c) ≤ 3
+calendar_within : (court : CourtView) (named : List NamedCase) (c : JudgeCalendar) → depth (calendar_value court named c) ≤ 3
 unfolding calendar_value
-calendar_within court c =
-    object_within 2 (calendar_fields court c)
-    (nullable string 2 (λ _. omega arith) _, (array_within (booking_value court) 1 (booking_within court) c.bookings, tt))
+calendar_within court named c =
+    object_within 2 (calendar_fields court named c)
+    (nullable string 2 (λ _. omega arith) _, (array_within (booking_value court named) 1 (booking_within court named) c.bookings, tt))
 
-pub document_within : (court : CourtView) (choice : Choice) (rows : List Row) (sheets : List ExplainedSheet) → depth (document_value court choice rows sheets) ≤ max_depth
+pub document_within : (court : CourtView) (named : List NamedCase) (choice : Choice) (rows : List Row) (sheets : List ExplainedSheet) → depth (document_value court named choice rows sheets) ≤ max_depth
 unfolding document_value
-document_within court choice rows sheets =
+document_within court named choice rows sheets =
     let docketed = docketed_after (setup_of court) (opening_rows (setup_of court)) rows in
     let here : depth (court_value court) ≤ 7 = let h = court_within court in omega arith in
-    let answers = list_within 6 _ (answers_within court (opening_rows (setup_of court)) 1 rows) in
-    let cases = array_within (case_value court) 5 (case_within court) sheets in
-    let calendars = array_within (calendar_value court) 3 (calendar_within court) (chosen_calendars (setup_of court) docketed choice) in
-    let whole = object_within 7 (document_fields court choice rows sheets) (here, (answers, (omega arith, (omega arith, tt)))) in
+    let answers = list_within 6 _ (answers_within court named (opening_rows (setup_of court)) 1 rows) in
+    let cases = array_within (case_value court named) 5 (case_within court named) sheets in
+    let calendars = array_within (calendar_value court named) 3 (calendar_within court named) (chosen_calendars (setup_of court) docketed choice) in
+    let whole = object_within 7 (document_fields court named choice rows sheets) (here, (answers, (omega arith, (omega arith, tt)))) in
     omega arith

@@ -1,7 +1,10 @@
 -- What rows are answered.
 use Rattle.std.specs.Prelude.{ℕ, ℤ, List, [], ◌∷◌, ◌++◌, map, Option, Some, None, codes}
+use Rattle.std.specs.Option.{option_and_then}
 use Rattle.json.specs.Json.{Json, boolean, string}
 use Rattle.jiff_tz.specs.declared.timezone.TimeZone.{TimeZone}
+use Rattle.case_numbers.specs.Words.{name_of}
+use Rattle.case_numbers.specs.declared.names.NamedCase.{NamedCase}
 use Rattle.court_days.specs.Words.{CourtView}
 use Rattle.rule6.specs.declared.timeliness.Shown.{Shown}
 use Rattle.hearing_slots.specs.declared.booking.Booking.{Booking}
@@ -16,6 +19,7 @@ use Rattle.office_run.specs.declared.reply.Reply.{Reply}
 use Rattle.office_run.specs.declared.reply.Reply.TheVariants.{Made, Viewed}
 use Rattle.calendar_json.specs.declared.answers.AnsweredRow.{AnsweredRow}
 use Rattle.calendar_json.specs.Bookings.{booking_value}
+use Rattle.calendar_json.specs.Cases.{name_fields}
 use Rattle.calendar_json.specs.Deadlines.{shown_fields}
 use Rattle.calendar_json.specs.Sheets.{sheet_value}
 use Rattle.calendar_json.specs.Times.{day_value}
@@ -41,65 +45,68 @@ motion_named (NoticeLost case motion) = Some motion
 motion_named _ = None
 
 -- a refusal: its number, its name, and what it names
-abbrev pub refusal_fields : Refusal → List Field
-refusal_fields r =
+unfoldable pub refusal_front : Refusal → List Field
+refusal_front r =
     field (codes "number") (amount (refusal_number r))
     ∷ field (codes "name") (string (refusal_name r))
     ∷ field (codes "day") (or_null day_value (day_named r))
     ∷ field (codes "case") (or_null amount (case_named r))
-    ∷ field (codes "motion") (or_null amount (motion_named r))
     ∷ []
 
-unfoldable pub refusal_value : Refusal → Json
-refusal_value r = object_of (refusal_fields r)
+abbrev pub refusal_fields : List NamedCase → Refusal → List Field
+refusal_fields named r =
+    refusal_front r ++ name_fields (option_and_then (name_of named) (case_named r)) ++ field (codes "motion") (or_null amount (motion_named r)) ∷ []
+
+unfoldable pub refusal_value : List NamedCase → Refusal → Json
+refusal_value named r = object_of (refusal_fields named r)
 
 -- of which kind an answer is
 abbrev pub kind : (word : List ℕ) → Field
 kind word = field (codes "kind") (string word)
 
-abbrev pub refused_fields : Refusal → List Field
-refused_fields r = kind (codes "refused") ∷ field (codes "refusal") (refusal_value r) ∷ []
+abbrev pub refused_fields : List NamedCase → Refusal → List Field
+refused_fields named r = kind (codes "refused") ∷ field (codes "refusal") (refusal_value named r) ∷ []
 
 -- a deadline was given that number, and when its time ends
 abbrev pub started_fields : TimeZone → (number : ℕ) → Shown → List Field
 started_fields zone number end = kind (codes "deadline") ∷ field (codes "number") (amount number) ∷ shown_fields zone end
 
 -- the bookings of a judge on a day
-abbrev pub day_fields : CourtView → List Booking → List Field
-day_fields court bookings = kind (codes "calendar") ∷ field (codes "bookings") (array_of (map (booking_value court) bookings)) ∷ []
+abbrev pub day_fields : CourtView → List NamedCase → List Booking → List Field
+day_fields court named bookings = kind (codes "calendar") ∷ field (codes "bookings") (array_of (map (booking_value court named) bookings)) ∷ []
 
 -- what a command is answered
-unfoldable pub answer_fields : TimeZone → Answer → List Field
-answer_fields zone Opened = kind (codes "opened") ∷ []
-answer_fields zone (Started number end) = started_fields zone number end
-answer_fields zone (Filed timely) = kind (codes "filed") ∷ field (codes "timely") (boolean timely) ∷ []
-answer_fields zone (Extended end) = kind (codes "extended") ∷ shown_fields zone end
-answer_fields zone (MotionEntered number) = kind (codes "motion") ∷ field (codes "number") (amount number) ∷ []
-answer_fields zone Booked = kind (codes "booked") ∷ []
-answer_fields zone Moved = kind (codes "moved") ∷ []
-answer_fields zone Cancelled = kind (codes "cancelled") ∷ []
-answer_fields zone HolidayEntered = kind (codes "holiday") ∷ []
-answer_fields zone OutageEntered = kind (codes "outage") ∷ []
-answer_fields zone (Refused refusal) = refused_fields refusal
+unfoldable pub answer_fields : TimeZone → List NamedCase → Answer → List Field
+answer_fields zone named Opened = kind (codes "opened") ∷ []
+answer_fields zone named (Started number end) = started_fields zone number end
+answer_fields zone named (Filed timely) = kind (codes "filed") ∷ field (codes "timely") (boolean timely) ∷ []
+answer_fields zone named (Extended end) = kind (codes "extended") ∷ shown_fields zone end
+answer_fields zone named (MotionEntered number) = kind (codes "motion") ∷ field (codes "number") (amount number) ∷ []
+answer_fields zone named Booked = kind (codes "booked") ∷ []
+answer_fields zone named Moved = kind (codes "moved") ∷ []
+answer_fields zone named Cancelled = kind (codes "cancelled") ∷ []
+answer_fields zone named HolidayEntered = kind (codes "holiday") ∷ []
+answer_fields zone named OutageEntered = kind (codes "outage") ∷ []
+answer_fields zone named (Refused refusal) = refused_fields named refusal
 
 -- what a query shows
-unfoldable pub view_fields : CourtView → View → List Field
-view_fields court (view.Sheet s) = kind (codes "sheet") ∷ field (codes "sheet") (sheet_value court s) ∷ []
-view_fields court (view.Bookings bookings) = day_fields court bookings
-view_fields court (view.Computed end) = kind (codes "computed") ∷ shown_fields court.clock.zone end
-view_fields court (view.Refused refusal) = refused_fields refusal
+unfoldable pub view_fields : CourtView → List NamedCase → View → List Field
+view_fields court named (view.Sheet s) = kind (codes "sheet") ∷ field (codes "sheet") (sheet_value court named s) ∷ []
+view_fields court named (view.Bookings bookings) = day_fields court named bookings
+view_fields court named (view.Computed end) = kind (codes "computed") ∷ shown_fields court.clock.zone end
+view_fields court named (view.Refused refusal) = refused_fields named refusal
 
-unfoldable pub reply_fields : CourtView → Reply → List Field
-reply_fields court (Made answer) = answer_fields court.clock.zone answer
-reply_fields court (Viewed v) = view_fields court v
+unfoldable pub reply_fields : CourtView → List NamedCase → Reply → List Field
+reply_fields court named (Made answer) = answer_fields court.clock.zone named answer
+reply_fields court named (Viewed v) = view_fields court named v
 
 -- the number of a row, counted from 1, and that of its clerk
 unfoldable pub row_fields : (number clerk : ℕ) → List Field
 row_fields number clerk = field (codes "row") (amount number) ∷ field (codes "clerk") (amount clerk) ∷ []
 
 -- a row, and what it was answered
-abbrev pub answered_fields : CourtView → AnsweredRow → List Field
-answered_fields court r = row_fields r.number r.clerk ++ reply_fields court r.reply
+abbrev pub answered_fields : CourtView → List NamedCase → AnsweredRow → List Field
+answered_fields court named r = row_fields r.number r.clerk ++ reply_fields court named r.reply
 
-unfoldable pub answered_value : CourtView → AnsweredRow → Json
-answered_value court r = object_of (answered_fields court r)
+unfoldable pub answered_value : CourtView → List NamedCase → AnsweredRow → Json
+answered_value court named r = object_of (answered_fields court named r)

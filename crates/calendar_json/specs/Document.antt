@@ -4,6 +4,7 @@ use Rattle.std.specs.Str.{IsUtf8}
 use Rattle.json.specs.Json.{Json, document}
 use Rattle.json.specs.Print.{print}
 use Rattle.json.specs.Tree.{json_tokens}
+use Rattle.case_numbers.specs.declared.names.NamedCase.{NamedCase}
 use Rattle.court_days.specs.Words.{CourtView}
 use Rattle.docket_rows.specs.Words.{Rows, opening_rows, setup_of}
 use Rattle.docket_selection.specs.declared.choice.Choice.{Choice}
@@ -33,37 +34,37 @@ unfoldable pub court_value : CourtView → Json
 court_value court = object_of (court_fields court)
 
 -- what each row is answered, where the first has that number
-unfoldable pub answers_from : CourtView → (docketed : Rows) → (number : ℕ) → List Row → List Json
-answers_from court docketed number [] = []
-answers_from court docketed number (row ∷ rows) =
-    answered_value court (record { number = number; clerk = row.clerk; reply = reply_to (setup_of court) docketed row.work })
-    ∷ answers_from court (docketed_then (setup_of court) docketed row.work) (number + 1) rows
+unfoldable pub answers_from : CourtView → List NamedCase → (docketed : Rows) → (number : ℕ) → List Row → List Json
+answers_from court named docketed number [] = []
+answers_from court named docketed number (row ∷ rows) =
+    answered_value court named (record { number = number; clerk = row.clerk; reply = reply_to (setup_of court) docketed row.work })
+    ∷ answers_from court named (docketed_then (setup_of court) docketed row.work) (number + 1) rows
 
 -- the sheets of cases, with the reasons of each deadline
-abbrev pub cases_field : CourtView → List ExplainedSheet → Field
-cases_field court sheets = field (codes "cases") (array_of (map (case_value court) sheets))
+abbrev pub cases_field : CourtView → List NamedCase → List ExplainedSheet → Field
+cases_field court named sheets = field (codes "cases") (array_of (map (case_value court named) sheets))
 
 -- the calendars of the chosen judges, with the bookings that are chosen, in the order of the court's file
-abbrev pub calendars_field : CourtView → Choice → (docketed : Rows) → Field
-calendars_field court choice docketed =
-    field (codes "calendars") (array_of (map (calendar_value court) (chosen_calendars (setup_of court) docketed choice)))
+abbrev pub calendars_field : CourtView → List NamedCase → Choice → (docketed : Rows) → Field
+calendars_field court named choice docketed =
+    field (codes "calendars") (array_of (map (calendar_value court named) (chosen_calendars (setup_of court) docketed choice)))
 
-abbrev pub closing_fields : CourtView → Choice → (docketed : Rows) → List ExplainedSheet → List Field
-closing_fields court choice docketed sheets = cases_field court sheets ∷ calendars_field court choice docketed ∷ []
+abbrev pub closing_fields : CourtView → List NamedCase → Choice → (docketed : Rows) → List ExplainedSheet → List Field
+closing_fields court named choice docketed sheets = cases_field court named sheets ∷ calendars_field court named choice docketed ∷ []
 
 -- what is docketed after all rows
 abbrev pub docketed_by : CourtView → List Row → Rows
 docketed_by court rows = docketed_after (setup_of court) (opening_rows (setup_of court)) rows
 
 -- of a court and all rows, with these sheets: the calendars are those after the last row
-abbrev pub document_fields : CourtView → Choice → List Row → List ExplainedSheet → List Field
-document_fields court choice rows sheets =
+abbrev pub document_fields : CourtView → List NamedCase → Choice → List Row → List ExplainedSheet → List Field
+document_fields court named choice rows sheets =
     field (codes "court") (court_value court)
-    ∷ field (codes "answers") (array_of (answers_from court (opening_rows (setup_of court)) 1 rows))
-    ∷ closing_fields court choice (docketed_by court rows) sheets
+    ∷ field (codes "answers") (array_of (answers_from court named (opening_rows (setup_of court)) 1 rows))
+    ∷ closing_fields court named choice (docketed_by court rows) sheets
 
-unfoldable pub document_value : CourtView → Choice → List Row → List ExplainedSheet → Json
-document_value court choice rows sheets = object_of (document_fields court choice rows sheets)
+unfoldable pub document_value : CourtView → List NamedCase → Choice → List Row → List ExplainedSheet → Json
+document_value court named choice rows sheets = object_of (document_fields court named choice rows sheets)
 
 -- the sheets of the chosen cases after all rows, by their numbers, with the reasons of a derivation of what is shown of each
 -- deadline, by the days that are docketed
@@ -78,7 +79,7 @@ pub record IsJsonText (value : Json) (text : List ℕ) : Type 0 where
   pub utf8 : IsUtf8 (print (json_tokens value))
 
 -- the text is that of the court and all rows, with the sheets of the chosen cases
-pub record IsDocketJson (court : CourtView) (choice : Choice) (rows : List Row) (text : List ℕ) : Type 0 where
+pub record IsDocketJson (court : CourtView) (named : List NamedCase) (choice : Choice) (rows : List Row) (text : List ℕ) : Type 0 where
   pub sheets : List ExplainedSheet
   pub explained : AreSheetsAfter court choice rows sheets
-  pub json : IsJsonText (document_value court choice rows sheets) text
+  pub json : IsJsonText (document_value court named choice rows sheets) text

@@ -1,5 +1,6 @@
 pub mod Answers
 pub mod Bookings
+pub mod Cases
 pub mod Deadlines
 pub mod Document
 pub mod Lines

@@ -5,6 +5,7 @@ use Rattle.std.specs.Str.{IsUtf8}
 use Rattle.json.specs.Json.{Json, document}
 use Rattle.json.specs.Print.{print}
 use Rattle.json.specs.Tree.{json_tokens}
+use Rattle.case_numbers.specs.declared.names.NamedCase.{NamedCase}
 use Rattle.court_days.specs.Words.{CourtView}
 use Rattle.docket_rows.specs.Words.{opening_rows, setup_of}
 use Rattle.office_rows.specs.declared.row.Row.{Row}
@@ -20,10 +21,10 @@ pub record ReadsBack (value : Json) : Type 0 where
   pub utf8 : IsUtf8 (print (json_tokens value))
 
 -- what each row is answered, from the first on
-abbrev pub answers_of : CourtView → List Row → List Json
-answers_of court rows = answers_from court (opening_rows (setup_of court)) 1 rows
+abbrev pub answers_of : CourtView → List NamedCase → List Row → List Json
+answers_of court named rows = answers_from court named (opening_rows (setup_of court)) 1 rows
 
 -- the text has a line for each row, in their order, and each line reads as what the row is answered
-pub record AreAnswerLines (court : CourtView) (rows : List Row) (text : List ℕ) : Type 0 where
-  pub lines : text ≡ flat_map line_of (answers_of court rows)
-  pub read : All ReadsBack (answers_of court rows)
+pub record AreAnswerLines (court : CourtView) (named : List NamedCase) (rows : List Row) (text : List ℕ) : Type 0 where
+  pub lines : text ≡ flat_map line_of (answers_of court named rows)
+  pub read : All ReadsBack (answers_of court named rows)

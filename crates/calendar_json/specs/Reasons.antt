@@ -2,6 +2,7 @@
 use Rattle.std.specs.Prelude.{ℤ, List, [], ◌∷◌, ◌++◌, map, Option, Some, None, codes}
 use Rattle.json.specs.Json.{Json, string}
 use Rattle.court_clock.specs.Words.{ClockView}
+use Rattle.case_numbers.specs.declared.names.NamedCase.{NamedCase}
 use Rattle.court_days.specs.Words.{CourtView}
 use Rattle.deadline_reasons.specs.declared.reason.Reason.{Reason}
 use Rattle.deadline_reasons.specs.declared.reason.Reason.TheVariants.{HoursFrom, HoursCounted, SameTime, UntilInstant}
@@ -9,10 +10,11 @@ use Rattle.reason_texts.specs.declared.course.Course.{Course}
 use Rattle.reason_texts.specs.Words.{course_after, course_of, day_shown, section_text, what_text}
 use Rattle.explained_sheets.specs.declared.explained.ExplainedDeadline.{ExplainedDeadline}
 use Rattle.explained_sheets.specs.declared.explained.ExplainedSheet.{ExplainedSheet}
+use Rattle.calendar_json.specs.Cases.{case_fields}
 use Rattle.calendar_json.specs.Deadlines.{deadline_fields}
 use Rattle.calendar_json.specs.Motions.{motion_value}
 use Rattle.calendar_json.specs.Times.{day_value, instant_value}
-use Rattle.calendar_json.specs.Values.{Field, amount, array_of, field, object_of, or_null}
+use Rattle.calendar_json.specs.Values.{Field, array_of, field, object_of, or_null}
 
 -- the instant that a reason is about, where it is about one
 abbrev pub instant_shown : Reason → Option ℤ
@@ -50,14 +52,17 @@ explained_fields clock e = deadline_fields clock.zone e.deadline ++ reasons_fiel
 unfoldable pub explained_value : ClockView → ExplainedDeadline → Json
 explained_value clock e = object_of (explained_fields clock e)
 
--- a case: its number, when it was filed, each of its deadlines with its reasons, and each of its motions, in order
-abbrev pub case_fields : CourtView → ExplainedSheet → List Field
-case_fields court e =
-    field (codes "case") (amount e.case)
-    ∷ field (codes "filed") (day_value e.filed)
+-- when a case was filed, each of its deadlines with its reasons, and each of its motions, in order
+unfoldable pub explained_docketed : CourtView → ExplainedSheet → List Field
+explained_docketed court e =
+    field (codes "filed") (day_value e.filed)
     ∷ field (codes "deadlines") (array_of (map (explained_value court.clock) e.deadlines.items))
     ∷ field (codes "motions") (array_of (map (motion_value court) e.motions))
     ∷ []
 
-unfoldable pub case_value : CourtView → ExplainedSheet → Json
-case_value court e = object_of (case_fields court e)
+-- a case: its number, its name where it has one, and what is docketed in it
+abbrev pub explained_sheet_fields : CourtView → List NamedCase → ExplainedSheet → List Field
+explained_sheet_fields court named e = case_fields named e.case ++ explained_docketed court e
+
+unfoldable pub case_value : CourtView → List NamedCase → ExplainedSheet → Json
+case_value court named e = object_of (explained_sheet_fields court named e)

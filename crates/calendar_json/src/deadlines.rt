@@ -10,6 +10,7 @@ ghost use Rattle.calendar_json.specs.Values.{AddsFields, field, or_null};
 use crate::periods::{code_of, entered_of};
 use crate::to_json::{ToFields, ToJson};
 use crate::writer::JsonWriter;
+use case_numbers::Cases;
 use court_clock::{Day, Instant};
 use court_days::Court;
 use docket_rows::{SheetDeadline, State};
@@ -20,12 +21,17 @@ use std::alloc::AllocError;
 impl ToFields for SheetDeadline {
     ghost use Rattle.calendar_json.specs.Deadlines.{deadline_fields};
 
-    ghost fields = { λ court deadline. deadline_fields court.clock.zone deadline };
+    ghost fields = { λ court named deadline. deadline_fields court.clock.zone deadline };
 
     #[tactic(auto, using(crate::proofs::TokenLemmas::more_fields))]
-    fn write_fields(&self, out: &mut JsonWriter, court: &Court) -> Result<(), AllocError> {
-        push_docketed(out, court, self)?;
-        push_outcome(out, court, self)
+    fn write_fields(
+        &self,
+        out: &mut JsonWriter,
+        court: &Court,
+        cases: &Cases,
+    ) -> Result<(), AllocError> {
+        push_docketed(out, court, cases, self)?;
+        push_outcome(out, court, cases, self)
     }
 }
 
@@ -34,27 +40,33 @@ impl ToFields for SheetDeadline {
 fn push_docketed(
     out: &mut JsonWriter,
     court: &Court,
+    cases: &Cases,
     deadline: &SheetDeadline,
 ) -> Result<(), AllocError>
     ensures { OnOk result (AddsFields out.old out.new (docketed_fields court.now.clock.zone deadline.now)) }
 {
     let row = &deadline.row;
     let period = row.period();
-    out.field(court, "number", &deadline.number)?;
+    out.field(court, cases, "number", &deadline.number)?;
     out.text_if_any("period", code_of(&period))?;
-    out.field(court, "entered", &entered_of(&period))?;
-    push_started(out, court, row)
+    out.field(court, cases, "entered", &entered_of(&period))?;
+    push_started(out, court, cases, row)
 }
 
 /// Writes from what a deadline runs, and its extensions.
 #[tactic(auto, unfolding(crate::specs::Deadlines::started_fields))]
-fn push_started(out: &mut JsonWriter, court: &Court, row: &DeadlineRow) -> Result<(), AllocError>
+fn push_started(
+    out: &mut JsonWriter,
+    court: &Court,
+    cases: &Cases,
+    row: &DeadlineRow,
+) -> Result<(), AllocError>
     ensures { OnOk result (AddsFields out.old out.new (started_fields court.now.clock.zone row.now)) }
 {
-    out.field(court, "event", &row.event())?;
-    out.field(court, "second_day", &row.second())?;
-    out.field(court, "service", &row.service())?;
-    out.list_field(court, "grants", row.grants())
+    out.field(court, cases, "event", &row.event())?;
+    out.field(court, cases, "second_day", &row.second())?;
+    out.field(court, cases, "service", &row.service())?;
+    out.list_field(court, cases, "grants", row.grants())
 }
 
 /// Writes when a deadline's time ends, and whether it was met.
@@ -62,23 +74,24 @@ fn push_started(out: &mut JsonWriter, court: &Court, row: &DeadlineRow) -> Resul
 fn push_outcome(
     out: &mut JsonWriter,
     court: &Court,
+    cases: &Cases,
     deadline: &SheetDeadline,
 ) -> Result<(), AllocError>
     ensures { OnOk result (AddsFields out.old out.new (outcome_fields court.now.clock.zone deadline.now)) }
 {
-    deadline.shown.write_fields(out, court)?;
-    out.field(court, "state", &deadline.state)?;
-    push_filed(out, court, deadline.row.filed())
+    deadline.shown.write_fields(out, court, cases)?;
+    out.field(court, cases, "state", &deadline.state)?;
+    push_filed(out, court, cases, deadline.row.filed())
 }
 
 impl ToJson for SheetDeadline {
     ghost use Rattle.calendar_json.specs.Deadlines.{deadline_value};
 
-    ghost value = { λ court deadline. deadline_value court.clock.zone deadline };
+    ghost value = { λ court named deadline. deadline_value court.clock.zone deadline };
 
     #[tactic(auto, unfolding(crate::specs::Deadlines::deadline_value))]
-    fn write(&self, out: &mut JsonWriter, court: &Court) -> Result<(), AllocError> {
-        out.object(court, self)
+    fn write(&self, out: &mut JsonWriter, court: &Court, cases: &Cases) -> Result<(), AllocError> {
+        out.object(court, cases, self)
     }
 }
 
@@ -86,11 +99,16 @@ impl ToJson for SheetDeadline {
 impl ToFields for Shown {
     ghost use Rattle.calendar_json.specs.Deadlines.{shown_fields};
 
-    ghost fields = { λ court shown. shown_fields court.clock.zone shown };
+    ghost fields = { λ court named shown. shown_fields court.clock.zone shown };
 
-    fn write_fields(&self, out: &mut JsonWriter, court: &Court) -> Result<(), AllocError> {
-        out.field(court, "last_day", &last_day_of(self))?;
-        out.field(court, "end", &end_of(self))
+    fn write_fields(
+        &self,
+        out: &mut JsonWriter,
+        court: &Court,
+        cases: &Cases,
+    ) -> Result<(), AllocError> {
+        out.field(court, cases, "last_day", &last_day_of(self))?;
+        out.field(court, cases, "end", &end_of(self))
     }
 }
 
@@ -113,29 +131,34 @@ fn end_of(shown: &Shown) -> Option<Instant>
 }
 
 impl ToJson for Instant {
-    ghost value = { λ court instant. instant_value court.clock.zone instant };
+    ghost value = { λ court named instant. instant_value court.clock.zone instant };
 
-    fn write(&self, out: &mut JsonWriter, court: &Court) -> Result<(), AllocError> {
+    fn write(&self, out: &mut JsonWriter, court: &Court, cases: &Cases) -> Result<(), AllocError> {
         out.instant(court.clock(), *self)
     }
 }
 
 impl ToFields for Event {
-    ghost fields = { λ court event. happened_fields court.clock.zone event.day event.minute };
+    ghost fields = { λ court named event. happened_fields court.clock.zone event.day event.minute };
 
-    fn write_fields(&self, out: &mut JsonWriter, court: &Court) -> Result<(), AllocError> {
-        push_happened(out, court, self.day(), self.minute())
+    fn write_fields(
+        &self,
+        out: &mut JsonWriter,
+        court: &Court,
+        cases: &Cases,
+    ) -> Result<(), AllocError> {
+        push_happened(out, court, cases, self.day(), self.minute())
     }
 }
 
 impl ToJson for Event {
     ghost use Rattle.calendar_json.specs.Deadlines.{event_value};
 
-    ghost value = { λ court event. event_value court.clock.zone event };
+    ghost value = { λ court named event. event_value court.clock.zone event };
 
     #[tactic(auto, unfolding(crate::specs::Deadlines::event_value))]
-    fn write(&self, out: &mut JsonWriter, court: &Court) -> Result<(), AllocError> {
-        out.object(court, self)
+    fn write(&self, out: &mut JsonWriter, court: &Court, cases: &Cases) -> Result<(), AllocError> {
+        out.object(court, cases, self)
     }
 }
 
@@ -143,13 +166,14 @@ impl ToJson for Event {
 fn push_happened(
     out: &mut JsonWriter,
     court: &Court,
+    cases: &Cases,
     day: Day,
     minute: u16,
 ) -> Result<(), AllocError>
     requires { minute < 1440 }
     ensures { OnOk result (AddsFields out.old out.new (happened_fields court.now.clock.zone day minute)) }
 {
-    out.field(court, "day", &day)?;
+    out.field(court, cases, "day", &day)?;
     out.minute_field("time", minute)?;
     out.moment_field(court, "at", day, 60 * u32::from(minute))
 }
@@ -163,13 +187,18 @@ struct Done {
 
 /// Writes the act that was recorded, if one was.
 #[tactic(auto, unfolding(crate::specs::Values::field_tokens))]
-fn push_filed(out: &mut JsonWriter, court: &Court, filed: Option<Filing>) -> Result<(), AllocError>
+fn push_filed(
+    out: &mut JsonWriter,
+    court: &Court,
+    cases: &Cases,
+    filed: Option<Filing>,
+) -> Result<(), AllocError>
     requires { IfSome filed (λ f. f.minute < 1440) }
     ensures { OnOk result (AddsFields out.old out.new (field (codes "filed") (or_null (filed_value court.now.clock.zone) filed) ∷ [])) }
 {
     out.key("filed")?;
     match filed {
-        Some(filing) => Done { filing }.write(out, court),
+        Some(filing) => Done { filing }.write(out, court, cases),
         None => out.null(),
     }
 }
@@ -177,10 +206,15 @@ fn push_filed(out: &mut JsonWriter, court: &Court, filed: Option<Filing>) -> Res
 impl ToFields for Done {
     ghost use Rattle.calendar_json.specs.Deadlines.{filed_fields};
 
-    ghost fields = { λ court done. filed_fields court.clock.zone done.filing };
+    ghost fields = { λ court named done. filed_fields court.clock.zone done.filing };
 
-    fn write_fields(&self, out: &mut JsonWriter, court: &Court) -> Result<(), AllocError> {
-        push_happened(out, court, self.filing.day, self.filing.minute)?;
+    fn write_fields(
+        &self,
+        out: &mut JsonWriter,
+        court: &Court,
+        cases: &Cases,
+    ) -> Result<(), AllocError> {
+        push_happened(out, court, cases, self.filing.day, self.filing.minute)?;
         out.text_field("means", means_word(self.filing.means))
     }
 }
@@ -188,11 +222,11 @@ impl ToFields for Done {
 impl ToJson for Done {
     ghost use Rattle.calendar_json.specs.Deadlines.{filed_value};
 
-    ghost value = { λ court done. filed_value court.clock.zone done.filing };
+    ghost value = { λ court named done. filed_value court.clock.zone done.filing };
 
     #[tactic(auto, unfolding(crate::specs::Deadlines::filed_value))]
-    fn write(&self, out: &mut JsonWriter, court: &Court) -> Result<(), AllocError> {
-        out.object(court, self)
+    fn write(&self, out: &mut JsonWriter, court: &Court, cases: &Cases) -> Result<(), AllocError> {
+        out.object(court, cases, self)
     }
 }
 
@@ -206,9 +240,14 @@ fn means_word(means: Means) -> &'static str
 }
 
 impl ToJson for State {
-    ghost value = { λ court state. string (state_word state) };
+    ghost value = { λ court named state. string (state_word state) };
 
-    fn write(&self, out: &mut JsonWriter, _court: &Court) -> Result<(), AllocError> {
+    fn write(
+        &self,
+        out: &mut JsonWriter,
+        _court: &Court,
+        _cases: &Cases,
+    ) -> Result<(), AllocError> {
         out.text(state_word(*self))
     }
 }

@@ -13,6 +13,7 @@ use crate::answers::AnsweredRow;
 use crate::names::push_judges;
 use crate::to_json::ToJson;
 use crate::writer::JsonWriter;
+use case_numbers::Cases;
 use court_days::Court;
 use docket_core::Docket;
 use docket_selection::{Choice, calendars_of};
@@ -22,17 +23,19 @@ use office_run::reply_to;
 use std::alloc::{AllocError, Global};
 
 /// One line of JSON: an object with the court, what each row was answered, the sheets of the chosen cases with the reasons
-/// of each deadline, and the calendars of the chosen judges after the last row. `Err` says that memory ran out.
+/// of each deadline, and the calendars of the chosen judges after the last row. `cases` has the names of cases, each of which
+/// is beside the number of its case. `Err` says that memory ran out.
 pub fn json_text(
     alloc: Global,
     court: &Court,
+    cases: &Cases,
     rows: &[Row],
     choice: &Choice,
 ) -> Result<Vec<u8>, AllocError>
-    ensures { IfOk result (λ text. IsDocketJson court.now choice.now rows.now text.items) }
+    ensures { IfOk result (λ text. IsDocketJson court.now cases.now.named choice.now rows.now text.items) }
 {
     let mut out = JsonWriter::new(alloc);
-    let _sheets = push_document(alloc, &mut out, court, rows, choice)?;
+    let _sheets = push_document(alloc, &mut out, court, cases, rows, choice)?;
     let mut text = out.into_text();
     text.push(b'\n')?;
     Ok(text)
@@ -43,14 +46,15 @@ fn push_document(
     alloc: Global,
     out: &mut JsonWriter,
     court: &Court,
+    cases: &Cases,
     rows: &[Row],
     choice: &Choice,
 ) -> Result<Vec<ExplainedSheet>, AllocError>
     ensures sheets { IfOk result (λ sheets. AreSheetsAfter court.now choice.now rows.now sheets.items) }
-    ensures object { IfOk result (λ sheets. AddsValue out.old out.new (document_value court.now choice.now rows.now sheets.items)) }
+    ensures object { IfOk result (λ sheets. AddsValue out.old out.new (document_value court.now cases.now.named choice.now rows.now sheets.items)) }
 {
     out.begin_object()?;
-    let sheets = push_document_fields(alloc, out, court, rows, choice)?;
+    let sheets = push_document_fields(alloc, out, court, cases, rows, choice)?;
     out.end_object()?;
     Ok(sheets)
 }
@@ -59,46 +63,47 @@ fn push_document_fields(
     alloc: Global,
     out: &mut JsonWriter,
     court: &Court,
+    cases: &Cases,
     rows: &[Row],
     choice: &Choice,
 ) -> Result<Vec<ExplainedSheet>, AllocError>
     ensures sheets { IfOk result (λ sheets. AreSheetsAfter court.now choice.now rows.now sheets.items) }
-    ensures fields { IfOk result (λ sheets. AddsFields out.old out.new (document_fields court.now choice.now rows.now sheets.items)) }
+    ensures fields { IfOk result (λ sheets. AddsFields out.old out.new (document_fields court.now cases.now.named choice.now rows.now sheets.items)) }
 {
     let mut docket = Docket::new(alloc, court)?;
-    push_court(out, court)?;
-    push_answers(alloc, out, court, &mut docket, rows)?;
+    push_court(out, court, cases)?;
+    push_answers(alloc, out, court, cases, &mut docket, rows)?;
     let sheets = explained_sheets(alloc, court, &docket, choice)?;
-    push_closing(alloc, out, court, &docket, choice, &sheets)?;
+    push_closing(alloc, out, court, cases, &docket, choice, &sheets)?;
     Ok(sheets)
 }
 
 /// Writes the court.
 #[tactic(auto, unfolding(crate::specs::Values::field_tokens))]
-fn push_court(out: &mut JsonWriter, court: &Court) -> Result<(), AllocError>
+fn push_court(out: &mut JsonWriter, court: &Court, cases: &Cases) -> Result<(), AllocError>
     ensures { OnOk result (AddsFields out.old out.new (field (codes "court") (court_value court.now) ∷ [])) }
 {
     out.key("court")?;
-    push_court_value(out, court)
+    push_court_value(out, court, cases)
 }
 
-fn push_court_value(out: &mut JsonWriter, court: &Court) -> Result<(), AllocError>
+fn push_court_value(out: &mut JsonWriter, court: &Court, cases: &Cases) -> Result<(), AllocError>
     ensures { OnOk result (AddsValue out.old out.new (court_value court.now)) }
 {
     out.begin_object()?;
-    push_court_fields(out, court)?;
+    push_court_fields(out, court, cases)?;
     out.end_object()
 }
 
 /// Writes the hours of the clerk's office, the first and the last day, and the judges.
-fn push_court_fields(out: &mut JsonWriter, court: &Court) -> Result<(), AllocError>
+fn push_court_fields(out: &mut JsonWriter, court: &Court, cases: &Cases) -> Result<(), AllocError>
     ensures { OnOk result (AddsFields out.old out.new (court_fields court.now)) }
 {
     let (opens, closes) = hours_of(court);
     out.minute_field("opens", opens)?;
     out.minute_field("closes", closes)?;
-    out.field(court, "from", &court.days().from())?;
-    out.field(court, "to", &court.days().to())?;
+    out.field(court, cases, "from", &court.days().from())?;
+    out.field(court, cases, "to", &court.days().to())?;
     push_judges(out, court)
 }
 
@@ -117,16 +122,17 @@ fn push_answers(
     alloc: Global,
     out: &mut JsonWriter,
     court: &Court,
+    cases: &Cases,
     docket: &mut Docket,
     rows: &[Row],
 ) -> Result<(), AllocError>
     requires { Holds (setup_of court.now) docket.old (opening_rows (setup_of court.now)) }
-    ensures answers { OnOk result (AddsFields out.old out.new (field (codes "answers") (array_of (answers_from court.now (opening_rows (setup_of court.now)) 1 rows.now)) ∷ [])) }
+    ensures answers { OnOk result (AddsFields out.old out.new (field (codes "answers") (array_of (answers_from court.now cases.now.named (opening_rows (setup_of court.now)) 1 rows.now)) ∷ [])) }
     ensures docket { OnOk result (Holds (setup_of court.now) docket.new (docketed_after (setup_of court.now) (opening_rows (setup_of court.now)) rows.now)) }
 {
     out.key("answers")?;
     out.begin_array()?;
-    push_answered(alloc, out, court, docket, rows)?;
+    push_answered(alloc, out, court, cases, docket, rows)?;
     out.end_array()
 }
 
@@ -135,11 +141,12 @@ fn push_answered(
     alloc: Global,
     out: &mut JsonWriter,
     court: &Court,
+    cases: &Cases,
     docket: &mut Docket,
     rows: &[Row],
 ) -> Result<(), AllocError>
     requires { Holds (setup_of court.now) docket.old (opening_rows (setup_of court.now)) }
-    ensures answers { OnOk result (Adds out.old out.new (flat_map json_tokens (answers_from court.now (opening_rows (setup_of court.now)) 1 rows.now))) }
+    ensures answers { OnOk result (Adds out.old out.new (flat_map json_tokens (answers_from court.now cases.now.named (opening_rows (setup_of court.now)) 1 rows.now))) }
     ensures docket { OnOk result (Holds (setup_of court.now) docket.new (docketed_after (setup_of court.now) (opening_rows (setup_of court.now)) rows.now)) }
 {
     let mut number = 1u64;
@@ -150,7 +157,7 @@ fn push_answered(
             clerk: row.clerk,
             reply,
         };
-        answered.write(out, court)?;
+        answered.write(out, court, cases)?;
         number += 1;
     }
     Ok(())
@@ -161,15 +168,16 @@ fn push_closing(
     alloc: Global,
     out: &mut JsonWriter,
     court: &Court,
+    cases: &Cases,
     docket: &Docket,
     choice: &Choice,
     sheets: &[ExplainedSheet],
 ) -> Result<(), AllocError>
     requires court { docket.now.setup ≡ setup_of court.now }
-    ensures { (docketed : Rows) → StandsFor docket.now docketed → OnOk result (AddsFields out.old out.new (closing_fields court.now choice.now docketed sheets.now)) }
+    ensures { (docketed : Rows) → StandsFor docket.now docketed → OnOk result (AddsFields out.old out.new (closing_fields court.now cases.now.named choice.now docketed sheets.now)) }
 {
-    out.list_field(court, "cases", sheets)?;
-    push_calendars(alloc, out, court, docket, choice)
+    out.list_field(court, cases, "cases", sheets)?;
+    push_calendars(alloc, out, court, cases, docket, choice)
 }
 
 /// Writes the calendars of the chosen judges.
@@ -177,12 +185,13 @@ fn push_calendars(
     alloc: Global,
     out: &mut JsonWriter,
     court: &Court,
+    cases: &Cases,
     docket: &Docket,
     choice: &Choice,
 ) -> Result<(), AllocError>
     requires court { docket.now.setup ≡ setup_of court.now }
-    ensures { (docketed : Rows) → StandsFor docket.now docketed → OnOk result (AddsFields out.old out.new (calendars_field court.now choice.now docketed ∷ [])) }
+    ensures { (docketed : Rows) → StandsFor docket.now docketed → OnOk result (AddsFields out.old out.new (calendars_field court.now cases.now.named choice.now docketed ∷ [])) }
 {
     let calendars = calendars_of(alloc, court, docket, choice)?;
-    out.list_field(court, "calendars", &calendars)
+    out.list_field(court, cases, "calendars", &calendars)
 }

@@ -10,6 +10,7 @@ ghost use Rattle.calendar_json.specs.Lines.{AreAnswerLines, ReadsBack, answers_o
 use crate::answers::AnsweredRow;
 use crate::to_json::ToJson;
 use crate::writer::JsonWriter;
+use case_numbers::Cases;
 use court_days::Court;
 use docket_core::Docket;
 use office_rows::Row;
@@ -18,12 +19,17 @@ use std::alloc::{AllocError, Global};
 
 /// A line of JSON for each row, in their order: an object that says what the row is answered, as among the answers of
 /// `json_text`. `Err` says that memory ran out.
-pub fn answer_lines(alloc: Global, court: &Court, rows: &[Row]) -> Result<Vec<u8>, AllocError>
-    ensures { IfOk result (λ text. AreAnswerLines court.now rows.now text.items) }
+pub fn answer_lines(
+    alloc: Global,
+    court: &Court,
+    cases: &Cases,
+    rows: &[Row],
+) -> Result<Vec<u8>, AllocError>
+    ensures { IfOk result (λ text. AreAnswerLines court.now cases.now.named rows.now text.items) }
 {
     let mut docket = Docket::new(alloc, court)?;
     let mut text = Vec::new(alloc);
-    push_lines(alloc, &mut text, court, &mut docket, rows)?;
+    push_lines(alloc, &mut text, court, cases, &mut docket, rows)?;
     Ok(text)
 }
 
@@ -32,12 +38,13 @@ fn push_lines(
     alloc: Global,
     text: &mut Vec<u8>,
     court: &Court,
+    cases: &Cases,
     docket: &mut Docket,
     rows: &[Row],
 ) -> Result<(), AllocError>
     requires { Holds (setup_of court.now) docket.old (opening_rows (setup_of court.now)) }
-    ensures lines { OnOk result (text.new.items ≡ text.old.items ++ flat_map line_of (answers_of court.now rows.now)) }
-    ensures read { OnOk result (All ReadsBack (answers_of court.now rows.now)) }
+    ensures lines { OnOk result (text.new.items ≡ text.old.items ++ flat_map line_of (answers_of court.now cases.now.named rows.now)) }
+    ensures read { OnOk result (All ReadsBack (answers_of court.now cases.now.named rows.now)) }
 {
     let mut number = 1u64;
     for row in rows {
@@ -47,7 +54,7 @@ fn push_lines(
             clerk: row.clerk,
             reply,
         };
-        push_line(alloc, text, court, &answered)?;
+        push_line(alloc, text, court, cases, &answered)?;
         number += 1;
     }
     Ok(())
@@ -58,13 +65,14 @@ fn push_line(
     alloc: Global,
     text: &mut Vec<u8>,
     court: &Court,
+    cases: &Cases,
     answered: &AnsweredRow,
 ) -> Result<(), AllocError>
-    ensures line { OnOk result (text.new.items ≡ text.old.items ++ line_of (answered_value court.now answered.now)) }
-    ensures read { OnOk result (ReadsBack (answered_value court.now answered.now)) }
+    ensures line { OnOk result (text.new.items ≡ text.old.items ++ line_of (answered_value court.now cases.now.named answered.now)) }
+    ensures read { OnOk result (ReadsBack (answered_value court.now cases.now.named answered.now)) }
 {
     let mut out = JsonWriter::new(alloc);
-    answered.write(&mut out, court)?;
+    answered.write(&mut out, court, cases)?;
     let line = out.into_text();
     text.extend_from_slice(&line)?;
     text.push(b'\n')?;

@@ -6,6 +6,7 @@ ghost use Rattle.calendar_json.specs.Periods.{code_of, day_of_grant, days_of_gra
 
 use crate::to_json::{ToFields, ToJson};
 use crate::writer::JsonWriter;
+use case_numbers::Cases;
 use court_clock::{Day, Direction};
 use court_days::Court;
 use rule_periods::{Entered, Grant, Length, Period};
@@ -35,11 +36,16 @@ pub(crate) fn entered_of(period: &Period) -> Option<Entered>
 impl ToFields for Entered {
     ghost use Rattle.calendar_json.specs.Periods.{entered_fields};
 
-    ghost fields = { λ court entered. entered_fields entered };
+    ghost fields = { λ court named entered. entered_fields entered };
 
-    fn write_fields(&self, out: &mut JsonWriter, court: &Court) -> Result<(), AllocError> {
-        out.field(court, "days", &days_of_length(self.length))?;
-        out.field(court, "hours", &hours_of_length(self.length))?;
+    fn write_fields(
+        &self,
+        out: &mut JsonWriter,
+        court: &Court,
+        cases: &Cases,
+    ) -> Result<(), AllocError> {
+        out.field(court, cases, "days", &days_of_length(self.length))?;
+        out.field(court, cases, "hours", &hours_of_length(self.length))?;
         out.text_field("direction", direction_word(self.direction))?;
         out.text_field("act", act_word(self.act))?;
         out.text_field("from", start_word(self.served))?;
@@ -50,11 +56,11 @@ impl ToFields for Entered {
 impl ToJson for Entered {
     ghost use Rattle.calendar_json.specs.Periods.{entered_value};
 
-    ghost value = { λ court entered. entered_value entered };
+    ghost value = { λ court named entered. entered_value entered };
 
     #[tactic(auto, unfolding(crate::specs::Periods::entered_value))]
-    fn write(&self, out: &mut JsonWriter, court: &Court) -> Result<(), AllocError> {
-        out.object(court, self)
+    fn write(&self, out: &mut JsonWriter, court: &Court, cases: &Cases) -> Result<(), AllocError> {
+        out.object(court, cases, self)
     }
 }
 
@@ -103,9 +109,14 @@ fn start_word(served: bool) -> &'static str
 impl ToJson for ServiceKind {
     ghost use Rattle.calendar_json.specs.Periods.{service_value};
 
-    ghost value = { λ court kind. service_value kind };
+    ghost value = { λ court named kind. service_value kind };
 
-    fn write(&self, out: &mut JsonWriter, _court: &Court) -> Result<(), AllocError> {
+    fn write(
+        &self,
+        out: &mut JsonWriter,
+        _court: &Court,
+        _cases: &Cases,
+    ) -> Result<(), AllocError> {
         out.text(service_letter(*self))
     }
 }
@@ -126,23 +137,28 @@ fn service_letter(kind: ServiceKind) -> &'static str
 impl ToFields for Grant {
     ghost use Rattle.calendar_json.specs.Periods.{grant_fields};
 
-    ghost fields = { λ court grant. grant_fields grant };
+    ghost fields = { λ court named grant. grant_fields grant };
 
-    fn write_fields(&self, out: &mut JsonWriter, court: &Court) -> Result<(), AllocError> {
-        out.field(court, "days", &days_of_grant(*self))?;
-        out.field(court, "hours", &hours_of_grant(*self))?;
-        out.field(court, "until", &day_of_grant(*self))
+    fn write_fields(
+        &self,
+        out: &mut JsonWriter,
+        court: &Court,
+        cases: &Cases,
+    ) -> Result<(), AllocError> {
+        out.field(court, cases, "days", &days_of_grant(*self))?;
+        out.field(court, cases, "hours", &hours_of_grant(*self))?;
+        out.field(court, cases, "until", &day_of_grant(*self))
     }
 }
 
 impl ToJson for Grant {
     ghost use Rattle.calendar_json.specs.Periods.{grant_value};
 
-    ghost value = { λ court grant. grant_value grant };
+    ghost value = { λ court named grant. grant_value grant };
 
     #[tactic(auto, unfolding(crate::specs::Periods::grant_value))]
-    fn write(&self, out: &mut JsonWriter, court: &Court) -> Result<(), AllocError> {
-        out.object(court, self)
+    fn write(&self, out: &mut JsonWriter, court: &Court, cases: &Cases) -> Result<(), AllocError> {
+        out.object(court, cases, self)
     }
 }
 

@@ -3,11 +3,12 @@
 ghost use Rattle.std.specs.Prelude.{◌≡◌, [], ◌∷◌, OnOk};
 ghost use Rattle.std.specs.List.{flat_map};
 ghost use Rattle.json.specs.Tree.{json_tokens};
-ghost use Rattle.calendar_json.specs.Reasons.{instant_shown, reason_values, reasons_field};
+ghost use Rattle.calendar_json.specs.Reasons.{explained_docketed, instant_shown, reason_values, reasons_field};
 ghost use Rattle.calendar_json.specs.Values.{Adds, AddsFields};
 
 use crate::to_json::{ToFields, ToJson};
 use crate::writer::JsonWriter;
+use case_numbers::Cases;
 use court_clock::Instant;
 use court_days::Court;
 use deadline_reasons::Reason;
@@ -25,12 +26,17 @@ struct Step {
 impl ToFields for Step {
     ghost use Rattle.calendar_json.specs.Reasons.{reason_fields};
 
-    ghost fields = { λ court step. reason_fields court.clock step.course step.reason };
+    ghost fields = { λ court named step. reason_fields court.clock step.course step.reason };
 
-    fn write_fields(&self, out: &mut JsonWriter, court: &Court) -> Result<(), AllocError> {
+    fn write_fields(
+        &self,
+        out: &mut JsonWriter,
+        court: &Court,
+        cases: &Cases,
+    ) -> Result<(), AllocError> {
         let clock = court.clock();
-        out.field(court, "day", &day_shown(clock, &self.reason))?;
-        out.field(court, "at", &instant_shown(&self.reason))?;
+        out.field(court, cases, "day", &day_shown(clock, &self.reason))?;
+        out.field(court, cases, "at", &instant_shown(&self.reason))?;
         out.what_field(clock, &self.course, &self.reason)?;
         out.section_field(&self.course, &self.reason)
     }
@@ -39,11 +45,11 @@ impl ToFields for Step {
 impl ToJson for Step {
     ghost use Rattle.calendar_json.specs.Reasons.{reason_value};
 
-    ghost value = { λ court step. reason_value court.clock step.course step.reason };
+    ghost value = { λ court named step. reason_value court.clock step.course step.reason };
 
     #[tactic(auto, unfolding(crate::specs::Reasons::reason_value))]
-    fn write(&self, out: &mut JsonWriter, court: &Court) -> Result<(), AllocError> {
-        out.object(court, self)
+    fn write(&self, out: &mut JsonWriter, court: &Court, cases: &Cases) -> Result<(), AllocError> {
+        out.object(court, cases, self)
     }
 }
 
@@ -64,6 +70,7 @@ fn instant_shown(reason: &Reason) -> Option<Instant>
 fn push_reasons(
     out: &mut JsonWriter,
     court: &Court,
+    cases: &Cases,
     explained: &ExplainedDeadline,
 ) -> Result<(), AllocError>
     ensures { OnOk result (AddsFields out.old out.new (reasons_field court.now.clock explained.now ∷ [])) }
@@ -71,7 +78,7 @@ fn push_reasons(
     let course = Course::of(&explained.deadline.row.period());
     out.key("reasons")?;
     out.begin_array()?;
-    push_steps(out, court, course, &explained.reasons)?;
+    push_steps(out, court, cases, course, &explained.reasons)?;
     out.end_array()
 }
 
@@ -79,6 +86,7 @@ fn push_reasons(
 fn push_steps(
     out: &mut JsonWriter,
     court: &Court,
+    cases: &Cases,
     course: Course,
     reasons: &[Reason],
 ) -> Result<(), AllocError>
@@ -90,7 +98,7 @@ fn push_steps(
             course: here,
             reason: *reason,
         };
-        step.write(out, court)?;
+        step.write(out, court, cases)?;
         here = here.after(reason);
     }
     Ok(())
@@ -99,37 +107,61 @@ fn push_steps(
 impl ToFields for ExplainedDeadline {
     ghost use Rattle.calendar_json.specs.Reasons.{explained_fields};
 
-    ghost fields = { λ court e. explained_fields court.clock e };
+    ghost fields = { λ court named e. explained_fields court.clock e };
 
     #[tactic(auto, using(crate::proofs::TokenLemmas::more_fields))]
-    fn write_fields(&self, out: &mut JsonWriter, court: &Court) -> Result<(), AllocError> {
-        self.deadline.write_fields(out, court)?;
-        push_reasons(out, court, self)
+    fn write_fields(
+        &self,
+        out: &mut JsonWriter,
+        court: &Court,
+        cases: &Cases,
+    ) -> Result<(), AllocError> {
+        self.deadline.write_fields(out, court, cases)?;
+        push_reasons(out, court, cases, self)
     }
 }
 
 impl ToJson for ExplainedDeadline {
     ghost use Rattle.calendar_json.specs.Reasons.{explained_value};
 
-    ghost value = { λ court e. explained_value court.clock e };
+    ghost value = { λ court named e. explained_value court.clock e };
 
     #[tactic(auto, unfolding(crate::specs::Reasons::explained_value))]
-    fn write(&self, out: &mut JsonWriter, court: &Court) -> Result<(), AllocError> {
-        out.object(court, self)
+    fn write(&self, out: &mut JsonWriter, court: &Court, cases: &Cases) -> Result<(), AllocError> {
+        out.object(court, cases, self)
     }
 }
 
 impl ToFields for ExplainedSheet {
-    ghost use Rattle.calendar_json.specs.Reasons.{case_fields};
+    ghost use Rattle.calendar_json.specs.Reasons.{explained_sheet_fields};
 
-    ghost fields = { case_fields };
+    ghost fields = { explained_sheet_fields };
 
-    fn write_fields(&self, out: &mut JsonWriter, court: &Court) -> Result<(), AllocError> {
-        out.field(court, "case", &self.case)?;
-        out.field(court, "filed", &self.filed)?;
-        out.list_field(court, "deadlines", self.deadlines.as_slice())?;
-        out.list_field(court, "motions", self.motions.as_slice())
+    #[tactic(auto, using(crate::proofs::TokenLemmas::more_fields))]
+    fn write_fields(
+        &self,
+        out: &mut JsonWriter,
+        court: &Court,
+        cases: &Cases,
+    ) -> Result<(), AllocError> {
+        out.case_fields(court, cases, self.case)?;
+        push_docketed(out, court, cases, self)
     }
+}
+
+/// Writes when a case was filed, its deadlines with their reasons and its motions.
+#[tactic(auto, unfolding(crate::specs::Reasons::explained_docketed))]
+fn push_docketed(
+    out: &mut JsonWriter,
+    court: &Court,
+    cases: &Cases,
+    sheet: &ExplainedSheet,
+) -> Result<(), AllocError>
+    ensures { OnOk result (AddsFields out.old out.new (explained_docketed court.now sheet.now)) }
+{
+    out.field(court, cases, "filed", &sheet.filed)?;
+    out.list_field(court, cases, "deadlines", sheet.deadlines.as_slice())?;
+    out.list_field(court, cases, "motions", sheet.motions.as_slice())
 }
 
 impl ToJson for ExplainedSheet {
@@ -138,7 +170,7 @@ impl ToJson for ExplainedSheet {
     ghost value = { case_value };
 
     #[tactic(auto, unfolding(crate::specs::Reasons::case_value))]
-    fn write(&self, out: &mut JsonWriter, court: &Court) -> Result<(), AllocError> {
-        out.object(court, self)
+    fn write(&self, out: &mut JsonWriter, court: &Court, cases: &Cases) -> Result<(), AllocError> {
+        out.object(court, cases, self)
     }
 }

@@ -5,6 +5,7 @@ ghost use Rattle.calendar_json.specs.Times.{slot_value, span_fields};
 ghost use Rattle.calendar_json.specs.Values.{AddsFields, AddsValue, field};
 
 use crate::writer::JsonWriter;
+use case_numbers::Cases;
 use court_clock::{Clock, Day};
 use court_days::Court;
 use std::alloc::AllocError;
@@ -14,6 +15,7 @@ use std::alloc::AllocError;
 pub(crate) fn push_span(
     out: &mut JsonWriter,
     court: &Court,
+    cases: &Cases,
     day: Day,
     first: u8,
     count: u8,
@@ -22,9 +24,9 @@ pub(crate) fn push_span(
 {
     let start = u16::from(first);
     let slots = u16::from(count);
-    out.field(court, "day", &day)?;
+    out.field(court, cases, "day", &day)?;
     out.minute_field("time", 15 * start)?;
-    out.field(court, "minutes", &(15 * u32::from(count)))?;
+    out.field(court, cases, "minutes", &(15 * u32::from(count)))?;
     slot_field(out, court.clock(), "start", day, start)?;
     slot_field(out, court.clock(), "end", day, start + slots)
 }

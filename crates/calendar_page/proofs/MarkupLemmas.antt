@@ -3,6 +3,7 @@ use Rattle.std.proofs.Common.{ℕ, ℤ, Bool, true, false, List, [], ◌∷◌, 
 use Rattle.std.specs.Prelude.{if◌then◌else◌}
 use Rattle.std.specs.Fmt.{decimal}
 use Rattle.std.specs.List.{flat_map}
+use Rattle.case_numbers.specs.declared.names.NamedCase.{NamedCase}
 use Rattle.court_clock.specs.Words.{ClockView}
 use Rattle.court_days.specs.Words.{CourtView, DaysView}
 use Rattle.hearing_slots.specs.declared.booking.Booking.{Booking}
@@ -55,67 +56,67 @@ unfolding four_heads
 four_heads_are a b c d =
     within tag.TableHead (within tag.Row (both (both (both (words tag.ColumnHead a) (words tag.ColumnHead b)) (words tag.ColumnHead c)) (words tag.ColumnHead d)))
 
-case_link_is : (case : ℕ) → IsMarkup (case_link case)
+case_link_is : (named : List NamedCase) (case : ℕ) → IsMarkup (case_link named case)
 unfolding case_link
-case_link_is case = words (tag.CaseLink case) _
+case_link_is named case = words (tag.CaseLink case) _
 
-case_cell_is : (case : ℕ) → IsMarkup (case_cell case)
+case_cell_is : (named : List NamedCase) (case : ℕ) → IsMarkup (case_cell named case)
 unfolding case_cell
-case_cell_is case = within tag.Cell (case_link_is case)
+case_cell_is named case = within tag.Cell (case_link_is named case)
 
-motion_cell_is : (case motion : ℕ) → IsMarkup (motion_cell case motion)
+motion_cell_is : (named : List NamedCase) (case motion : ℕ) → IsMarkup (motion_cell named case motion)
 unfolding motion_cell
-motion_cell_is case motion = within tag.Cell (both (case_link_is case) (text (motion_name motion)))
+motion_cell_is named case motion = within tag.Cell (both (case_link_is named case) (text (motion_name motion)))
 
-due_row_is : (court : CourtView) (item : DueItem) → IsMarkup (due_row court item)
+due_row_is : (court : CourtView) (named : List NamedCase) (item : DueItem) → IsMarkup (due_row court named item)
 unfolding due_row
-due_row_is court item = within tag.Row (both (both (words tag.RowHead _) (case_cell_is item.case)) (words _ _))
+due_row_is court named item = within tag.Row (both (both (words tag.RowHead _) (case_cell_is named item.case)) (words _ _))
 
-due_rows_are : (court : CourtView) (before : Option ℤ) (items : List DueItem) → IsMarkup (due_rows court before items)
+due_rows_are : (court : CourtView) (named : List NamedCase) (before : Option ℤ) (items : List DueItem) → IsMarkup (due_rows court named before items)
 unfolding due_rows
-due_rows_are court before [] = nothing
-due_rows_are court before (item ∷ items) =
-    both (both (row_unless (is_day_of before item.day) tag.DayHead (whole_day item.day)) (due_row_is court item)) (due_rows_are court (Some item.day) items)
+due_rows_are court named before [] = nothing
+due_rows_are court named before (item ∷ items) =
+    both (both (row_unless (is_day_of before item.day) tag.DayHead (whole_day item.day)) (due_row_is court named item)) (due_rows_are court named (Some item.day) items)
 
 due_heads_are : IsMarkup due_heads
 unfolding due_heads
 due_heads_are = three_heads_are _ _ _
 
-due_table_is : (court : CourtView) (items : List DueItem) → IsMarkup (due_table court items)
+due_table_is : (court : CourtView) (named : List NamedCase) (items : List DueItem) → IsMarkup (due_table court named items)
 unfolding due_table
-due_table_is court [] = words tag.Paragraph _
-due_table_is court (item ∷ items) = within tag.Table (both (both (words tag.Caption _) due_heads_are) (within tag.TableBody (due_rows_are court None (item ∷ items))))
+due_table_is court named [] = words tag.Paragraph _
+due_table_is court named (item ∷ items) = within tag.Table (both (both (words tag.Caption _) due_heads_are) (within tag.TableBody (due_rows_are court named None (item ∷ items))))
 
-due_part_is : (court : CourtView) (items : List DueItem) → IsMarkup (due_part court items)
+due_part_is : (court : CourtView) (named : List NamedCase) (items : List DueItem) → IsMarkup (due_part court named items)
 unfolding due_part
-due_part_is court items = within tag.Section (both (both (words tag.Heading2 _) (words tag.Paragraph _)) (due_table_is court items))
+due_part_is court named items = within tag.Section (both (both (words tag.Heading2 _) (words tag.Paragraph _)) (due_table_is court named items))
 
-booking_row_is : (court : CourtView) (b : Booking) → IsMarkup (booking_row court b)
+booking_row_is : (court : CourtView) (named : List NamedCase) (b : Booking) → IsMarkup (booking_row court named b)
 unfolding booking_row
-booking_row_is court b = within tag.Row (both (both (both (words tag.RowHead _) (words tag.Cell _)) (motion_cell_is b.case b.motion)) (words tag.Cell _))
+booking_row_is court named b = within tag.Row (both (both (both (words tag.RowHead _) (words tag.Cell _)) (motion_cell_is named b.case b.motion)) (words tag.Cell _))
 
-booking_rows_are : (court : CourtView) (before : Option ℤ) (bookings : List Booking) → IsMarkup (booking_rows court before bookings)
+booking_rows_are : (court : CourtView) (named : List NamedCase) (before : Option ℤ) (bookings : List Booking) → IsMarkup (booking_rows court named before bookings)
 unfolding booking_rows
-booking_rows_are court before [] = nothing
-booking_rows_are court before (b ∷ bookings) =
-    both (both (row_unless (is_week_of before b.day) tag.WeekHead (week_name b.day)) (booking_row_is court b)) (booking_rows_are court (Some b.day) bookings)
+booking_rows_are court named before [] = nothing
+booking_rows_are court named before (b ∷ bookings) =
+    both (both (row_unless (is_week_of before b.day) tag.WeekHead (week_name b.day)) (booking_row_is court named b)) (booking_rows_are court named (Some b.day) bookings)
 
 booking_heads_are : IsMarkup booking_heads
 unfolding booking_heads
 booking_heads_are = four_heads_are _ _ _ _
 
-judge_part_is : (court : CourtView) (c : JudgeCalendar) → IsMarkup (judge_part court c)
+judge_part_is : (court : CourtView) (named : List NamedCase) (c : JudgeCalendar) → IsMarkup (judge_part court named c)
 unfolding judge_part
-judge_part_is court c =
-    within tag.Section (both (words tag.Heading3 _) (within tag.Table (both (both (words tag.Caption _) booking_heads_are) (within tag.TableBody (booking_rows_are court None c.bookings)))))
+judge_part_is court named c =
+    within tag.Section (both (words tag.Heading3 _) (within tag.Table (both (both (words tag.Caption _) booking_heads_are) (within tag.TableBody (booking_rows_are court named None c.bookings)))))
 
-judge_parts_are : (court : CourtView) (calendars : List JudgeCalendar) → IsMarkup (judge_parts court calendars)
-judge_parts_are court [] = words tag.Paragraph _
-judge_parts_are court (c ∷ calendars) = each (judge_part court) (judge_part_is court) (c ∷ calendars)
+judge_parts_are : (court : CourtView) (named : List NamedCase) (calendars : List JudgeCalendar) → IsMarkup (judge_parts court named calendars)
+judge_parts_are court named [] = words tag.Paragraph _
+judge_parts_are court named (c ∷ calendars) = each (judge_part court named) (judge_part_is court named) (c ∷ calendars)
 
-judges_part_is : (court : CourtView) (calendars : List JudgeCalendar) → IsMarkup (judges_part court calendars)
+judges_part_is : (court : CourtView) (named : List NamedCase) (calendars : List JudgeCalendar) → IsMarkup (judges_part court named calendars)
 unfolding judges_part
-judges_part_is court calendars = within tag.Section (both (words tag.Heading2 _) (judge_parts_are court calendars))
+judges_part_is court named calendars = within tag.Section (both (words tag.Heading2 _) (judge_parts_are court named calendars))
 
 period_cell_is : (row : DeadlineRowView) → IsMarkup (period_cell row)
 unfolding period_cell
@@ -137,10 +138,10 @@ deadline_heads_are : IsMarkup deadline_heads
 unfolding deadline_heads
 deadline_heads_are = four_heads_are _ _ _ _
 
-deadline_table_is : (days : DaysView) (clock : ClockView) (case : ℕ) (deadlines : List ExplainedDeadline) → IsMarkup (deadline_table days clock case deadlines)
+deadline_table_is : (days : DaysView) (clock : ClockView) (named : List NamedCase) (case : ℕ) (deadlines : List ExplainedDeadline) → IsMarkup (deadline_table days clock named case deadlines)
 unfolding deadline_table
-deadline_table_is days clock case [] = words tag.Paragraph _
-deadline_table_is days clock case (e ∷ deadlines) =
+deadline_table_is days clock named case [] = words tag.Paragraph _
+deadline_table_is days clock named case (e ∷ deadlines) =
     within tag.Table (both (both (words tag.Caption _) deadline_heads_are) (within tag.TableBody (each (deadline_rows days clock) (deadline_rows_are days clock) (e ∷ deadlines))))
 
 hearing_cell_is : (court : CourtView) (hearing : Option SheetHearing) → IsMarkup (hearing_cell court hearing)
@@ -156,26 +157,26 @@ motion_heads_are : IsMarkup motion_heads
 unfolding motion_heads
 motion_heads_are = four_heads_are _ _ _ _
 
-motion_table_is : (court : CourtView) (case : ℕ) (motions : List SheetMotion) → IsMarkup (motion_table court case motions)
+motion_table_is : (court : CourtView) (named : List NamedCase) (case : ℕ) (motions : List SheetMotion) → IsMarkup (motion_table court named case motions)
 unfolding motion_table
-motion_table_is court case [] = words tag.Paragraph _
-motion_table_is court case (m ∷ motions) =
+motion_table_is court named case [] = words tag.Paragraph _
+motion_table_is court named case (m ∷ motions) =
     within tag.Table (both (both (words tag.Caption _) motion_heads_are) (within tag.TableBody (each (motion_row court) (motion_row_is court) (m ∷ motions))))
 
-case_part_is : (court : CourtView) (days : DaysView) (s : ExplainedSheet) → IsMarkup (case_part court days s)
+case_part_is : (court : CourtView) (days : DaysView) (named : List NamedCase) (s : ExplainedSheet) → IsMarkup (case_part court days named s)
 unfolding case_part
-case_part_is court days s =
-    within (tag.CaseSection s.case) (both (both (both (words tag.Heading3 _) (words tag.Paragraph _)) (deadline_table_is days court.clock s.case s.deadlines.items)) (motion_table_is court s.case s.motions))
+case_part_is court days named s =
+    within (tag.CaseSection s.case) (both (both (both (words tag.Heading3 _) (words tag.Paragraph _)) (deadline_table_is days court.clock named s.case s.deadlines.items)) (motion_table_is court named s.case s.motions))
 
-case_parts_are : (court : CourtView) (days : DaysView) (sheets : List ExplainedSheet) → IsMarkup (case_parts court days sheets)
-case_parts_are court days [] = words tag.Paragraph _
-case_parts_are court days (s ∷ sheets) = each (case_part court days) (case_part_is court days) (s ∷ sheets)
+case_parts_are : (court : CourtView) (days : DaysView) (named : List NamedCase) (sheets : List ExplainedSheet) → IsMarkup (case_parts court days named sheets)
+case_parts_are court days named [] = words tag.Paragraph _
+case_parts_are court days named (s ∷ sheets) = each (case_part court days named) (case_part_is court days named) (s ∷ sheets)
 
-cases_part_is : (court : CourtView) (days : DaysView) (sheets : List ExplainedSheet) → IsMarkup (cases_part court days sheets)
+cases_part_is : (court : CourtView) (days : DaysView) (named : List NamedCase) (sheets : List ExplainedSheet) → IsMarkup (cases_part court days named sheets)
 unfolding cases_part
-cases_part_is court days sheets = within tag.Section (both (words tag.Heading2 _) (case_parts_are court days sheets))
+cases_part_is court days named sheets = within tag.Section (both (words tag.Heading2 _) (case_parts_are court days named sheets))
 
 pub content_is_markup : ContentIsMarkup
 unfolding content
-content_is_markup court days choice items calendars sheets =
-    both (both (both (both (words tag.Heading1 _) (words tag.Paragraph _)) (due_part_is court items)) (judges_part_is court calendars)) (cases_part_is court days sheets)
+content_is_markup court days named choice items calendars sheets =
+    both (both (both (both (words tag.Heading1 _) (words tag.Paragraph _)) (due_part_is court named items)) (judges_part_is court named calendars)) (cases_part_is court days named sheets)

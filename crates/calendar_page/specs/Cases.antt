@@ -2,6 +2,8 @@
 use Rattle.std.specs.Prelude.{ℕ, ℤ, List, [], ◌∷◌, ◌++◌, Option, Some, None, codes}
 use Rattle.std.specs.Fmt.{decimal}
 use Rattle.std.specs.List.{flat_map}
+use Rattle.case_numbers.specs.Words.{case_text}
+use Rattle.case_numbers.specs.declared.names.NamedCase.{NamedCase}
 use Rattle.court_clock.specs.Words.{ClockView}
 use Rattle.court_days.specs.Words.{CourtView, DaysView}
 use Rattle.rule_periods.specs.Words.{DeadlineRowView}
@@ -52,14 +54,14 @@ unfoldable pub deadline_heads : List ℕ
 deadline_heads = four_heads (codes "No.") (codes "Period") (codes "Time ends") (codes "State")
 
 -- `Deadlines of case 3`
-unfoldable pub deadline_caption : (case : ℕ) → List ℕ
-deadline_caption case = codes "Deadlines of case " ++ decimal case
+unfoldable pub deadline_caption : List NamedCase → (case : ℕ) → List ℕ
+deadline_caption named case = codes "Deadlines of case " ++ case_text named case
 
 -- two rows for each deadline, or that there are none
-unfoldable pub deadline_table : DaysView → ClockView → (case : ℕ) → List ExplainedDeadline → List ℕ
-deadline_table days clock case [] = text_in tag.Paragraph (codes "No deadline is entered.")
-deadline_table days clock case (e ∷ deadlines) =
-    element tag.Table (text_in tag.Caption (deadline_caption case) ++ deadline_heads ++ element tag.TableBody (flat_map (deadline_rows days clock) (e ∷ deadlines)))
+unfoldable pub deadline_table : DaysView → ClockView → List NamedCase → (case : ℕ) → List ExplainedDeadline → List ℕ
+deadline_table days clock named case [] = text_in tag.Paragraph (codes "No deadline is entered.")
+deadline_table days clock named case (e ∷ deadlines) =
+    element tag.Table (text_in tag.Caption (deadline_caption named case) ++ deadline_heads ++ element tag.TableBody (flat_map (deadline_rows days clock) (e ∷ deadlines)))
 
 -- the hearing of a motion, or that none is set
 unfoldable pub hearing_cell : CourtView → Option SheetHearing → List ℕ
@@ -76,33 +78,33 @@ unfoldable pub motion_heads : List ℕ
 motion_heads = four_heads (codes "No.") (codes "Served") (codes "Notice") (codes "Hearing")
 
 -- `Motions of case 3`
-unfoldable pub motion_caption : (case : ℕ) → List ℕ
-motion_caption case = codes "Motions of case " ++ decimal case
+unfoldable pub motion_caption : List NamedCase → (case : ℕ) → List ℕ
+motion_caption named case = codes "Motions of case " ++ case_text named case
 
 -- a row for each motion, or that there are none
-unfoldable pub motion_table : CourtView → (case : ℕ) → List SheetMotion → List ℕ
-motion_table court case [] = text_in tag.Paragraph (codes "No motion is entered.")
-motion_table court case (m ∷ motions) =
-    element tag.Table (text_in tag.Caption (motion_caption case) ++ motion_heads ++ element tag.TableBody (flat_map (motion_row court) (m ∷ motions)))
+unfoldable pub motion_table : CourtView → List NamedCase → (case : ℕ) → List SheetMotion → List ℕ
+motion_table court named case [] = text_in tag.Paragraph (codes "No motion is entered.")
+motion_table court named case (m ∷ motions) =
+    element tag.Table (text_in tag.Caption (motion_caption named case) ++ motion_heads ++ element tag.TableBody (flat_map (motion_row court) (m ∷ motions)))
 
--- `Case 3`
-unfoldable pub case_title : (case : ℕ) → List ℕ
-case_title case = codes "Case " ++ decimal case
+-- `Case 3`; a case that has a name is called by it
+unfoldable pub case_title : List NamedCase → (case : ℕ) → List ℕ
+case_title named case = codes "Case " ++ case_text named case
 
 -- `Filed Mon 2025-03-03`
 unfoldable pub filed_words : (filed : ℤ) → List ℕ
 filed_words filed = codes "Filed " ++ whole_day filed
 
 -- the sheet of a case
-unfoldable pub case_part : CourtView → DaysView → ExplainedSheet → List ℕ
-case_part court days s =
-    element (tag.CaseSection s.case) (text_in tag.Heading3 (case_title s.case) ++ text_in tag.Paragraph (filed_words s.filed) ++ deadline_table days court.clock s.case s.deadlines.items ++ motion_table court s.case s.motions)
+unfoldable pub case_part : CourtView → DaysView → List NamedCase → ExplainedSheet → List ℕ
+case_part court days named s =
+    element (tag.CaseSection s.case) (text_in tag.Heading3 (case_title named s.case) ++ text_in tag.Paragraph (filed_words s.filed) ++ deadline_table days court.clock named s.case s.deadlines.items ++ motion_table court named s.case s.motions)
 
 -- a part for each case, or that there is none
-abbrev pub case_parts : CourtView → DaysView → List ExplainedSheet → List ℕ
-case_parts court days [] = text_in tag.Paragraph (codes "No case is open.")
-case_parts court days (s ∷ sheets) = flat_map (case_part court days) (s ∷ sheets)
+abbrev pub case_parts : CourtView → DaysView → List NamedCase → List ExplainedSheet → List ℕ
+case_parts court days named [] = text_in tag.Paragraph (codes "No case is open.")
+case_parts court days named (s ∷ sheets) = flat_map (case_part court days named) (s ∷ sheets)
 
 -- the sheets of the cases
-unfoldable pub cases_part : CourtView → DaysView → List ExplainedSheet → List ℕ
-cases_part court days sheets = element tag.Section (text_in tag.Heading2 (codes "Cases") ++ case_parts court days sheets)
+unfoldable pub cases_part : CourtView → DaysView → List NamedCase → List ExplainedSheet → List ℕ
+cases_part court days named sheets = element tag.Section (text_in tag.Heading2 (codes "Cases") ++ case_parts court days named sheets)

@@ -3,6 +3,7 @@ use Rattle.std.specs.Prelude.{ℕ, ℤ, Bool, false, List, [], ◌∷◌, ◌++�
 use Rattle.std.specs.List.{flat_map}
 use Rattle.std.specs.Option.{option_map_or}
 use Rattle.std.specs.Ordering.{int_eq}
+use Rattle.case_numbers.specs.declared.names.NamedCase.{NamedCase}
 use Rattle.court_days.specs.Words.{CourtView}
 use Rattle.hearing_slots.specs.declared.booking.Booking.{Booking}
 use Rattle.docket_selection.specs.declared.calendars.JudgeCalendar.{JudgeCalendar}
@@ -26,14 +27,14 @@ abbrev pub week_row_if_new : (before : Option ℤ) → (day : ℤ) → List ℕ
 week_row_if_new before day = if is_week_of before day then [] else element tag.Row (text_in tag.WeekHead (week_name day))
 
 -- the day of a booking, its time, what is heard, and where
-unfoldable pub booking_row : CourtView → Booking → List ℕ
-booking_row court b =
-    element tag.Row (text_in tag.RowHead (whole_day b.day) ++ text_in tag.Cell (span_words b.first b.count) ++ motion_cell b.case b.motion ++ text_in tag.Cell (name_of court.rooms b.other))
+unfoldable pub booking_row : CourtView → List NamedCase → Booking → List ℕ
+booking_row court named b =
+    element tag.Row (text_in tag.RowHead (whole_day b.day) ++ text_in tag.Cell (span_words b.first b.count) ++ motion_cell named b.case b.motion ++ text_in tag.Cell (name_of court.rooms b.other))
 
 -- a row for each booking, in the order of the list, and one for each week before the first booking of it
-unfoldable pub booking_rows : CourtView → (before : Option ℤ) → List Booking → List ℕ
-booking_rows court before [] = []
-booking_rows court before (b ∷ bookings) = week_row_if_new before b.day ++ booking_row court b ++ booking_rows court (Some b.day) bookings
+unfoldable pub booking_rows : CourtView → List NamedCase → (before : Option ℤ) → List Booking → List ℕ
+booking_rows court named before [] = []
+booking_rows court named before (b ∷ bookings) = week_row_if_new before b.day ++ booking_row court named b ++ booking_rows court named (Some b.day) bookings
 
 unfoldable pub booking_heads : List ℕ
 booking_heads = four_heads (codes "Day") (codes "Time") (codes "Hearing") (codes "Room")
@@ -47,15 +48,15 @@ unfoldable pub judge_caption : CourtView → (judge : ℕ) → List ℕ
 judge_caption court judge = codes "Hearings of judge " ++ name_of court.judges judge ++ codes ", by week"
 
 -- the hearings of a judge
-unfoldable pub judge_part : CourtView → JudgeCalendar → List ℕ
-judge_part court c =
-    element tag.Section (text_in tag.Heading3 (judge_title court c.judge) ++ element tag.Table (text_in tag.Caption (judge_caption court c.judge) ++ booking_heads ++ element tag.TableBody (booking_rows court None c.bookings)))
+unfoldable pub judge_part : CourtView → List NamedCase → JudgeCalendar → List ℕ
+judge_part court named c =
+    element tag.Section (text_in tag.Heading3 (judge_title court c.judge) ++ element tag.Table (text_in tag.Caption (judge_caption court c.judge) ++ booking_heads ++ element tag.TableBody (booking_rows court named None c.bookings)))
 
 -- a part for each judge, or that there is none
-abbrev pub judge_parts : CourtView → List JudgeCalendar → List ℕ
-judge_parts court [] = text_in tag.Paragraph (codes "No hearing is set.")
-judge_parts court (c ∷ calendars) = flat_map (judge_part court) (c ∷ calendars)
+abbrev pub judge_parts : CourtView → List NamedCase → List JudgeCalendar → List ℕ
+judge_parts court named [] = text_in tag.Paragraph (codes "No hearing is set.")
+judge_parts court named (c ∷ calendars) = flat_map (judge_part court named) (c ∷ calendars)
 
 -- the judges' hearings
-unfoldable pub judges_part : CourtView → List JudgeCalendar → List ℕ
-judges_part court calendars = element tag.Section (text_in tag.Heading2 (codes "Hearings by judge") ++ judge_parts court calendars)
+unfoldable pub judges_part : CourtView → List NamedCase → List JudgeCalendar → List ℕ
+judges_part court named calendars = element tag.Section (text_in tag.Heading2 (codes "Hearings by judge") ++ judge_parts court named calendars)

@@ -1,6 +1,8 @@
 -- What is said of a deadline and of a motion, in words.
 use Rattle.std.specs.Prelude.{ℕ, ℤ, List, [], ◌++◌, Option, Some, None, codes}
 use Rattle.std.specs.Fmt.{decimal}
+use Rattle.case_numbers.specs.Words.{case_text}
+use Rattle.case_numbers.specs.declared.names.NamedCase.{NamedCase}
 use Rattle.court_clock.specs.Words.{CivilTime, ClockView, civil_of}
 use Rattle.court_days.specs.Words.{CourtView}
 use Rattle.rule6.specs.declared.timeliness.Filing.{Filing}
@@ -15,9 +17,9 @@ use Rattle.docket_rows.specs.declared.sheet.State.{State}
 use Rattle.docket_rows.specs.declared.sheet.State.TheVariants.{Pending, Timely, Late, Undecided}
 use Rattle.calendar_texts.specs.Words.{panel_names, room_words, minute_time, second_time, span_words, unit_words, whole_day}
 
--- `case 3`
-unfoldable pub case_name : (case : ℕ) → List ℕ
-case_name case = codes "case " ++ decimal case
+-- `case 3`; a case that has a name is called by it
+unfoldable pub case_name : List NamedCase → (case : ℕ) → List ℕ
+case_name named case = codes "case " ++ case_text named case
 
 -- `, motion 1`
 unfoldable pub motion_name : (motion : ℕ) → List ℕ

@@ -7,10 +7,10 @@ ghost use Rattle.calendar_page.specs.Cases.{case_part, case_parts, case_title, c
 use crate::deadlines::push_deadlines;
 use crate::motions::push_motions;
 use calendar_texts::push_whole_day;
+use case_numbers::{Cases, push_case_text};
 use court_clock::Day;
 use court_days::{Court, Days};
 use explained_sheets::ExplainedSheet;
-use office_texts::push_number;
 use page_markup::{Page, Tag};
 use std::alloc::{AllocError, Global};
 
@@ -22,13 +22,14 @@ pub(crate) fn push_cases(
     line: &mut String,
     court: &Court,
     days: &Days,
+    cases: &Cases,
     sheets: &[ExplainedSheet],
 ) -> Result<(), AllocError>
-    ensures { OnOk result (page.new ≡ page.old ++ cases_part court.now days.now sheets.now) }
+    ensures { OnOk result (page.new ≡ page.old ++ cases_part court.now days.now cases.now.named sheets.now) }
 {
     page.open(Tag::Section)?;
     page.text_in(Tag::Heading2, "Cases")?;
-    push_parts(alloc, page, line, court, days, sheets)?;
+    push_parts(alloc, page, line, court, days, cases, sheets)?;
     page.close(Tag::Section)
 }
 
@@ -39,14 +40,15 @@ fn push_parts(
     line: &mut String,
     court: &Court,
     days: &Days,
+    cases: &Cases,
     sheets: &[ExplainedSheet],
 ) -> Result<(), AllocError>
-    ensures { OnOk result (page.new ≡ page.old ++ case_parts court.now days.now sheets.now) }
+    ensures { OnOk result (page.new ≡ page.old ++ case_parts court.now days.now cases.now.named sheets.now) }
 {
     if sheets.is_empty() {
         return page.text_in(Tag::Paragraph, "No case is open.");
     }
-    push_sheets(alloc, page, line, court, days, sheets)
+    push_sheets(alloc, page, line, court, days, cases, sheets)
 }
 
 /// Adds a part for each case.
@@ -56,12 +58,13 @@ fn push_sheets(
     line: &mut String,
     court: &Court,
     days: &Days,
+    cases: &Cases,
     sheets: &[ExplainedSheet],
 ) -> Result<(), AllocError>
-    ensures { OnOk result (page.new ≡ page.old ++ flat_map (case_part court.now days.now) sheets.now) }
+    ensures { OnOk result (page.new ≡ page.old ++ flat_map (case_part court.now days.now cases.now.named) sheets.now) }
 {
     for sheet in sheets {
-        push_case(alloc, page, line, court, days, sheet)?;
+        push_case(alloc, page, line, court, days, cases, sheet)?;
     }
     Ok(())
 }
@@ -74,12 +77,13 @@ fn push_case(
     line: &mut String,
     court: &Court,
     days: &Days,
+    cases: &Cases,
     sheet: &ExplainedSheet,
 ) -> Result<(), AllocError>
-    ensures { OnOk result (page.new ≡ page.old ++ case_part court.now days.now sheet.now) }
+    ensures { OnOk result (page.new ≡ page.old ++ case_part court.now days.now cases.now.named sheet.now) }
 {
     page.open(Tag::CaseSection(sheet.case))?;
-    set_title(line, sheet.case)?;
+    set_title(line, cases, sheet.case)?;
     page.text_in(Tag::Heading3, line)?;
     set_filed(line, sheet.filed)?;
     page.text_in(Tag::Paragraph, line)?;
@@ -89,21 +93,29 @@ fn push_case(
         line,
         days,
         court.clock(),
+        cases,
         sheet.case,
         &sheet.deadlines,
     )?;
-    push_motions(page, line, court, sheet.case, sheet.motions.as_slice())?;
+    push_motions(
+        page,
+        line,
+        court,
+        cases,
+        sheet.case,
+        sheet.motions.as_slice(),
+    )?;
     page.close(Tag::CaseSection(sheet.case))
 }
 
 /// Makes the line the title of a case's part.
 #[tactic(auto, unfolding(crate::specs::Cases::case_title))]
-fn set_title(line: &mut String, case: u32) -> Result<(), AllocError>
-    ensures { OnOk result (string_bytes line.new ≡ case_title case) }
+fn set_title(line: &mut String, cases: &Cases, case: u32) -> Result<(), AllocError>
+    ensures { OnOk result (string_bytes line.new ≡ case_title cases.now.named case) }
 {
     line.clear();
     line.push_str("Case ")?;
-    push_number(line, u64::from(case))
+    push_case_text(line, cases, case)
 }
 
 /// Makes the line when a case was filed.

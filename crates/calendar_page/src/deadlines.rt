@@ -9,11 +9,11 @@ use crate::phrases::{set_end, set_number, set_state};
 use crate::reasons::push_reasons_cell;
 use crate::tables::push_four_heads;
 use calendar_texts::push_period;
+use case_numbers::{Cases, push_case_text};
 use court_clock::Clock;
 use court_days::Days;
 use docket_rows::SheetDeadline;
 use explained_sheets::ExplainedDeadline;
-use office_texts::push_number;
 use page_markup::{Page, Tag};
 use period_texts::push_heading;
 use rule_periods::DeadlineRow;
@@ -27,16 +27,17 @@ pub(crate) fn push_deadlines(
     line: &mut String,
     days: &Days,
     clock: &Clock,
+    cases: &Cases,
     case: u32,
     deadlines: &[ExplainedDeadline],
 ) -> Result<(), AllocError>
-    ensures { OnOk result (page.new ≡ page.old ++ deadline_table days.now clock.now case deadlines.now) }
+    ensures { OnOk result (page.new ≡ page.old ++ deadline_table days.now clock.now cases.now.named case deadlines.now) }
 {
     if deadlines.is_empty() {
         return page.text_in(Tag::Paragraph, "No deadline is entered.");
     }
     page.open(Tag::Table)?;
-    set_caption(line, case)?;
+    set_caption(line, cases, case)?;
     page.text_in(Tag::Caption, line)?;
     push_heads(page)?;
     page.open(Tag::TableBody)?;
@@ -47,12 +48,12 @@ pub(crate) fn push_deadlines(
 
 /// Makes the line what the table of a case's deadlines has.
 #[tactic(auto, unfolding(crate::specs::Cases::deadline_caption))]
-fn set_caption(line: &mut String, case: u32) -> Result<(), AllocError>
-    ensures { OnOk result (string_bytes line.new ≡ deadline_caption case) }
+fn set_caption(line: &mut String, cases: &Cases, case: u32) -> Result<(), AllocError>
+    ensures { OnOk result (string_bytes line.new ≡ deadline_caption cases.now.named case) }
 {
     line.clear();
     line.push_str("Deadlines of case ")?;
-    push_number(line, u64::from(case))
+    push_case_text(line, cases, case)
 }
 
 #[tactic(auto, unfolding(crate::specs::Cases::deadline_heads))]

@@ -9,6 +9,7 @@ ghost use Rattle.calendar_page.specs.Judges.{booking_heads, booking_row, booking
 use crate::phrases::set_day;
 use crate::tables::{push_four_heads, push_motion_cell};
 use calendar_texts::{push_span, push_whole_day};
+use case_numbers::Cases;
 use court_clock::Day;
 use court_days::Court;
 use docket_selection::{JudgeCalendar, week_start};
@@ -23,13 +24,14 @@ pub(crate) fn push_judges(
     page: &mut Page,
     line: &mut String,
     court: &Court,
+    cases: &Cases,
     calendars: &[JudgeCalendar],
 ) -> Result<(), AllocError>
-    ensures { OnOk result (page.new ≡ page.old ++ judges_part court.now calendars.now) }
+    ensures { OnOk result (page.new ≡ page.old ++ judges_part court.now cases.now.named calendars.now) }
 {
     page.open(Tag::Section)?;
     page.text_in(Tag::Heading2, "Hearings by judge")?;
-    push_parts(page, line, court, calendars)?;
+    push_parts(page, line, court, cases, calendars)?;
     page.close(Tag::Section)
 }
 
@@ -38,14 +40,15 @@ fn push_parts(
     page: &mut Page,
     line: &mut String,
     court: &Court,
+    cases: &Cases,
     calendars: &[JudgeCalendar],
 ) -> Result<(), AllocError>
-    ensures { OnOk result (page.new ≡ page.old ++ judge_parts court.now calendars.now) }
+    ensures { OnOk result (page.new ≡ page.old ++ judge_parts court.now cases.now.named calendars.now) }
 {
     if calendars.is_empty() {
         return page.text_in(Tag::Paragraph, "No hearing is set.");
     }
-    push_calendars(page, line, court, calendars)
+    push_calendars(page, line, court, cases, calendars)
 }
 
 /// Adds a part for each judge.
@@ -53,12 +56,13 @@ fn push_calendars(
     page: &mut Page,
     line: &mut String,
     court: &Court,
+    cases: &Cases,
     calendars: &[JudgeCalendar],
 ) -> Result<(), AllocError>
-    ensures { OnOk result (page.new ≡ page.old ++ flat_map (judge_part court.now) calendars.now) }
+    ensures { OnOk result (page.new ≡ page.old ++ flat_map (judge_part court.now cases.now.named) calendars.now) }
 {
     for calendar in calendars {
-        push_judge(page, line, court, calendar)?;
+        push_judge(page, line, court, cases, calendar)?;
     }
     Ok(())
 }
@@ -69,9 +73,10 @@ fn push_judge(
     page: &mut Page,
     line: &mut String,
     court: &Court,
+    cases: &Cases,
     calendar: &JudgeCalendar,
 ) -> Result<(), AllocError>
-    ensures { OnOk result (page.new ≡ page.old ++ judge_part court.now calendar.now) }
+    ensures { OnOk result (page.new ≡ page.old ++ judge_part court.now cases.now.named calendar.now) }
 {
     page.open(Tag::Section)?;
     set_title(line, court, calendar.judge)?;
@@ -81,7 +86,7 @@ fn push_judge(
     page.text_in(Tag::Caption, line)?;
     push_heads(page)?;
     page.open(Tag::TableBody)?;
-    push_rows(page, line, court, calendar.bookings.as_slice())?;
+    push_rows(page, line, court, cases, calendar.bookings.as_slice())?;
     page.close(Tag::TableBody)?;
     page.close(Tag::Table)?;
     page.close(Tag::Section)
@@ -120,14 +125,15 @@ fn push_rows(
     page: &mut Page,
     line: &mut String,
     court: &Court,
+    cases: &Cases,
     bookings: &[Booking],
 ) -> Result<(), AllocError>
-    ensures { OnOk result (page.new ≡ page.old ++ booking_rows court.now None bookings.now) }
+    ensures { OnOk result (page.new ≡ page.old ++ booking_rows court.now cases.now.named None bookings.now) }
 {
     let mut before = None;
     for booking in bookings {
         push_week_if_new(page, line, before, booking.day)?;
-        push_row(page, line, court, booking)?;
+        push_row(page, line, court, cases, booking)?;
         before = Some(booking.day);
     }
     Ok(())
@@ -177,9 +183,10 @@ fn push_row(
     page: &mut Page,
     line: &mut String,
     court: &Court,
+    cases: &Cases,
     booking: &Booking,
 ) -> Result<(), AllocError>
-    ensures { OnOk result (page.new ≡ page.old ++ booking_row court.now booking.now) }
+    ensures { OnOk result (page.new ≡ page.old ++ booking_row court.now cases.now.named booking.now) }
 {
     page.open(Tag::Row)?;
     set_day(line, booking.day)?;
@@ -187,7 +194,7 @@ fn push_row(
     line.clear();
     push_span(line, booking.first, booking.count)?;
     page.text_in(Tag::Cell, line)?;
-    push_motion_cell(page, line, booking.case, booking.motion)?;
+    push_motion_cell(page, line, cases, booking.case, booking.motion)?;
     page.text_in(Tag::Cell, room_name(court, booking.other))?;
     page.close(Tag::Row)
 }

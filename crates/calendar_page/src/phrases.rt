@@ -11,6 +11,7 @@ ghost use Rattle.calendar_page.specs.Phrases.{affidavits_words, beyond_words, ca
 use calendar_texts::{
     push_minute, push_panel, push_room, push_second, push_span, push_whole_day, unit_words,
 };
+use case_numbers::{Cases, push_case_text};
 use court_clock::{Clock, Day, Instant};
 use court_days::Court;
 use docket_rows::{Hearing, State};
@@ -37,12 +38,12 @@ pub(crate) fn set_day(line: &mut String, day: Day) -> Result<(), AllocError>
 
 /// Makes the line the name of a case.
 #[tactic(auto, unfolding(crate::specs::Phrases::case_name))]
-pub(crate) fn set_case(line: &mut String, case: u32) -> Result<(), AllocError>
-    ensures { OnOk result (string_bytes line.new ≡ case_name case) }
+pub(crate) fn set_case(line: &mut String, cases: &Cases, case: u32) -> Result<(), AllocError>
+    ensures { OnOk result (string_bytes line.new ≡ case_name cases.now.named case) }
 {
     line.clear();
     line.push_str("case ")?;
-    push_number(line, u64::from(case))
+    push_case_text(line, cases, case)
 }
 
 /// Makes the line the name of a motion after that of its case.

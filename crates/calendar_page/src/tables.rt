@@ -4,6 +4,7 @@ ghost use Rattle.std.specs.Prelude.{◌≡◌, ◌++◌, OnOk};
 ghost use Rattle.calendar_page.specs.Tables.{case_cell, case_link, four_heads, motion_cell, three_heads};
 
 use crate::phrases::{set_case, set_motion};
+use case_numbers::Cases;
 use page_markup::{Page, Tag};
 use std::alloc::AllocError;
 
@@ -47,12 +48,17 @@ pub(crate) fn push_four_heads(
     page.close(Tag::TableHead)
 }
 
-/// Adds a link to the part of a case.
+/// Adds a link to the part of a case, with its name where it has one.
 #[tactic(auto, unfolding(crate::specs::Tables::case_link))]
-fn push_case_link(page: &mut Page, line: &mut String, case: u32) -> Result<(), AllocError>
-    ensures { OnOk result (page.new ≡ page.old ++ case_link case) }
+fn push_case_link(
+    page: &mut Page,
+    line: &mut String,
+    cases: &Cases,
+    case: u32,
+) -> Result<(), AllocError>
+    ensures { OnOk result (page.new ≡ page.old ++ case_link cases.now.named case) }
 {
-    set_case(line, case)?;
+    set_case(line, cases, case)?;
     page.text_in(Tag::CaseLink(case), line)
 }
 
@@ -61,12 +67,13 @@ fn push_case_link(page: &mut Page, line: &mut String, case: u32) -> Result<(), A
 pub(crate) fn push_case_cell(
     page: &mut Page,
     line: &mut String,
+    cases: &Cases,
     case: u32,
 ) -> Result<(), AllocError>
-    ensures { OnOk result (page.new ≡ page.old ++ case_cell case) }
+    ensures { OnOk result (page.new ≡ page.old ++ case_cell cases.now.named case) }
 {
     page.open(Tag::Cell)?;
-    push_case_link(page, line, case)?;
+    push_case_link(page, line, cases, case)?;
     page.close(Tag::Cell)
 }
 
@@ -75,13 +82,14 @@ pub(crate) fn push_case_cell(
 pub(crate) fn push_motion_cell(
     page: &mut Page,
     line: &mut String,
+    cases: &Cases,
     case: u32,
     motion: u32,
 ) -> Result<(), AllocError>
-    ensures { OnOk result (page.new ≡ page.old ++ motion_cell case motion) }
+    ensures { OnOk result (page.new ≡ page.old ++ motion_cell cases.now.named case motion) }
 {
     page.open(Tag::Cell)?;
-    push_case_link(page, line, case)?;
+    push_case_link(page, line, cases, case)?;
     set_motion(line, motion)?;
     page.text(line)?;
     page.close(Tag::Cell)

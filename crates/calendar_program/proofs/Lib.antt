@@ -1,2 +1,2 @@
-pub mod CaseLemmas
+pub mod FlagLemmas
 pub mod WordLemmas

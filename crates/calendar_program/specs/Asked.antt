@@ -1,11 +1,11 @@
 -- What the words of the command line ask for.
-use Rattle.std.specs.Prelude.{◌≡◌, ◌&&◌, ℕ, Bool, true, false, List, [], ◌∷◌, Option, Some, None, codes, is_some, option_map, string_bytes, IfSome, if◌then◌else◌}
+use Rattle.std.specs.Prelude.{◌≡◌, ◌&&◌, Bool, true, false, List, [], ◌∷◌, Option, Some, None, codes, is_some, option_map, string_bytes, IfSome, if◌then◌else◌}
 use Rattle.std.specs.Option.{option_and_then}
 use Rattle.std.specs.Str.{bytes_eq}
-use Rattle.std.specs.Str.Parse.{digits_value, without_leading_plus}
 use Rattle.clap.specs.Kinds.{or_else}
 use Rattle.clap.specs.Words.{Kinds, Row, Text, fault_of, first_of, one_of, subcommand_of, takes}
 use Rattle.clap.specs.declared.error.kind.ErrorKind.TheVariants.{ValueValidation}
+use Rattle.case_names.specs.Words.{case_called}
 use Rattle.content_lines.specs.Words.{stamp_of_text}
 use Rattle.court_clock.specs.Words.{day_of_text}
 use Rattle.calendar_program.specs.declared.asked.Asked.{Asked}
@@ -23,22 +23,18 @@ task_of name =
     else if bytes_eq name (codes "sql") then Sql
     else Due
 
--- the number that decimal digits write, with or without a `+` before them
-abbrev pub number_written : Text → ℕ
-number_written text = digits_value 10 (without_leading_plus text)
-
 -- whether a flag is given: its text says so, and it isn't where it has none
 abbrev pub IsFlag : Option Text → Bool → Type 0
 IsFlag None given = given ≡ false
 IsFlag (Some text) given = (text ≡ codes "true" → given ≡ true) × (text ≡ codes "false" → given ≡ false)
 
--- a subcommand with what it was given asks for that: the name is the text of its option, a case is the number that its
--- option writes, a day and the instant are those that the texts of their options write, and answers are to be lines where
+-- a subcommand with what it was given asks for that: the name is the text of its option, a case, a day
+-- and the instant are those that the texts of their options write, and answers are to be lines where
 -- that flag is given
 pub record IsAskedBy (name : Text) (given : List Row) (asked : Asked) : Type 0 where
   pub task : asked.task ≡ task_of name
   pub judge : option_map string_bytes asked.judge ≡ first_of (codes "judge") given
-  pub case : IfSome asked.case (λ case. option_map number_written (one_of (codes "case") given) ≡ Some case)
+  pub case : asked.case ≡ option_and_then case_called (first_of (codes "case") given)
   pub from : asked.from ≡ option_and_then day_of_text (first_of (codes "from") given)
   pub to : asked.to ≡ option_and_then day_of_text (first_of (codes "to") given)
   pub of : asked.of ≡ option_and_then day_of_text (first_of (codes "of") given)
@@ -59,13 +55,19 @@ abbrev pub is_instant_taken : (text : Option Text) → Bool
 is_instant_taken None = true
 is_instant_taken (Some text) = is_some (stamp_of_text text)
 
--- each text that has to write a day or an instant does
+-- it writes what a case is called, or none is given
+abbrev pub is_case_taken : (text : Option Text) → Bool
+is_case_taken None = true
+is_case_taken (Some text) = is_some (case_called text)
+
+-- each text that has to write a day, an instant or a case does
 abbrev pub are_given_taken : List Row → Bool
 are_given_taken given =
     is_day_taken (first_of (codes "from") given)
     && (is_day_taken (first_of (codes "to") given)
     && (is_day_taken (first_of (codes "of") given)
-    && is_instant_taken (first_of (codes "stamp") given)))
+    && (is_instant_taken (first_of (codes "stamp") given)
+    && is_case_taken (first_of (codes "case") given))))
 
 -- the fault of a text that writes none
 abbrev pub faults_unless : (taken : Bool) → Kinds
@@ -83,10 +85,10 @@ abbrev pub are_met_taken : Option (Text × List Row) → Bool
 are_met_taken None = true
 are_met_taken (Some met) = are_given_taken met.1
 
--- the faults that words have: of the command line, or else of a day or the instant
+-- the faults that words have: of the command line, or else of a day, the instant or the case
 abbrev pub faults_of : List Text → Kinds
 faults_of words = or_else (fault_of command_line words) (faults_met (subcommand_of command_line words))
 
--- the program takes the words: the command line does, and each day and the instant are written
+-- the program takes the words: the command line does, and each day, the instant and the case are written
 abbrev pub are_taken : List Text → Bool
 are_taken words = takes command_line words && are_met_taken (subcommand_of command_line words)

@@ -2,6 +2,9 @@
 use Rattle.std.specs.Prelude.{◌≡◌, ℕ, ℤ, List, [], ◌++◌, Option, Some, None, codes, map, string_bytes, MatchOption}
 use Rattle.std.specs.declared.alloc.Global.{Global}
 use Rattle.std.specs.Prelude.{String}
+use Rattle.case_names.specs.Words.{called_text}
+use Rattle.case_names.specs.declared.called.CaseCalled.{CaseCalled}
+use Rattle.case_numbers.specs.declared.names.NamedCase.{NamedCase}
 use Rattle.court_days.specs.Words.{CourtView, file_of}
 use Rattle.docket_rows.specs.Words.{Rows, opening_rows, setup_of}
 use Rattle.docket_selection.specs.declared.choice.Choice.{Choice}
@@ -25,41 +28,41 @@ use Rattle.calendar_program.specs.declared.chosen.Chosen.TheVariants.{Json, Line
 use Rattle.calendar_program.specs.declared.chosen.Listing.{Listing}
 use Rattle.calendar_program.specs.declared.chosen.Listing.TheVariants.{Due, Ics, Page, Week}
 use Rattle.calendar_program.specs.Changes.{changes_made}
-use Rattle.calendar_program.specs.Chosen.{chosen_of}
+use Rattle.calendar_program.specs.Chosen.{case_given, chosen_of}
 
 -- the text of what is due: a line for each item of the list of what is due
-pub record IsDueText (court : CourtView) (docketed : Rows) (choice : Choice) (text : List ℕ) : Type 0 where
+pub record IsDueText (court : CourtView) (named : List NamedCase) (docketed : Rows) (choice : Choice) (text : List ℕ) : Type 0 where
   pub items : List DueItem
   pub due : IsDue (setup_of court) docketed choice items
-  pub lines : text ≡ due_text court choice items
+  pub lines : text ≡ due_text court named choice items
 
 -- the text of the week of the judge in which the day is: of the bookings that the docket shows on each of its days
-abbrev pub week_text_of : CourtView → (docketed : Rows) → (judge : ℕ) → (day : ℤ) → List ℕ
-week_text_of court docketed judge day = week_text court judge (map (day_bookings (setup_of court) docketed judge) (week_days day))
+abbrev pub week_text_of : CourtView → List NamedCase → (docketed : Rows) → (judge : ℕ) → (day : ℤ) → List ℕ
+week_text_of court named docketed judge day = week_text court named judge (map (day_bookings (setup_of court) docketed judge) (week_days day))
 
 -- The page of what is due, of the chosen judges' bookings, and of the sheets of the chosen cases with the reasons of each
 -- deadline, by the days that are docketed.
-pub record IsPage (court : CourtView) (docketed : Rows) (choice : Choice) (text : List ℕ) : Type 0 where
+pub record IsPage (court : CourtView) (named : List NamedCase) (docketed : Rows) (choice : Choice) (text : List ℕ) : Type 0 where
   pub items : List DueItem
   pub due : IsDue (setup_of court) docketed choice items
   pub sheets : List ExplainedSheet
   pub explained : AreExplained docketed.days court.clock (chosen_sheets (setup_of court) docketed choice) sheets
-  pub page : text ≡ page_text court docketed.days choice items (chosen_calendars (setup_of court) docketed choice) sheets
+  pub page : text ≡ page_text court docketed.days named choice items (chosen_calendars (setup_of court) docketed choice) sheets
 
 -- the text of a calendar: an event for each item of the list of what is chosen, and for each chosen hearing that is off by
 -- the changes that were made
-pub record IsIcsText (court : CourtView) (docketed : Rows) (changes : List HearingChange) (choice : Choice) (stamp : ℤ) (text : List ℕ) : Type 0 where
+pub record IsIcsText (court : CourtView) (named : List NamedCase) (docketed : Rows) (changes : List HearingChange) (choice : Choice) (stamp : ℤ) (text : List ℕ) : Type 0 where
   pub items : List DueItem
   pub chosen : IsDue (setup_of court) docketed choice items
-  pub lines : text ≡ icalendar_text court stamp (appointments_of choice changes items)
+  pub lines : text ≡ icalendar_text court named stamp (appointments_of choice changes items)
   pub short : HasShortLines text
 
 -- the text of what is shown of the docket
-abbrev pub IsListing : CourtView → (docketed : Rows) → List HearingChange → Listing → List ℕ → Type 0
-IsListing court docketed changes (Due choice) text = IsDueText court docketed choice text
-IsListing court docketed changes (Week judge day) text = text ≡ week_text_of court docketed judge day
-IsListing court docketed changes (Page choice) text = IsPage court docketed choice text
-IsListing court docketed changes (Ics choice stamp) text = IsIcsText court docketed changes choice stamp text
+abbrev pub IsListing : CourtView → List NamedCase → (docketed : Rows) → List HearingChange → Listing → List ℕ → Type 0
+IsListing court named docketed changes (Due choice) text = IsDueText court named docketed choice text
+IsListing court named docketed changes (Week judge day) text = text ≡ week_text_of court named docketed judge day
+IsListing court named docketed changes (Page choice) text = IsPage court named docketed choice text
+IsListing court named docketed changes (Ics choice stamp) text = IsIcsText court named docketed changes choice stamp text
 
 -- what is docketed after all rows, and what they changed of hearings
 abbrev pub docketed_by : CourtView → List Row → Rows
@@ -69,11 +72,11 @@ abbrev pub changes_by : CourtView → List Row → List HearingChange
 changes_by court rows = changes_made (setup_of court) (opening_rows (setup_of court)) rows
 
 -- the text of what is chosen
-abbrev pub IsTextOf : CourtView → List Row → Chosen → List ℕ → Type 0
-IsTextOf court rows (Listed listing) text = IsListing court (docketed_by court rows) (changes_by court rows) listing text
-IsTextOf court rows (Json choice) text = IsDocketJson court choice rows text
-IsTextOf court rows Lines text = AreAnswerLines court rows text
-IsTextOf court rows Sql text = text ≡ script_text court rows
+abbrev pub IsTextOf : CourtView → List NamedCase → List Row → Chosen → List ℕ → Type 0
+IsTextOf court named rows (Listed listing) text = IsListing court named (docketed_by court rows) (changes_by court rows) listing text
+IsTextOf court named rows (Json choice) text = IsDocketJson court named choice rows text
+IsTextOf court named rows Lines text = AreAnswerLines court named rows text
+IsTextOf court named rows Sql text = text ≡ script_text court named rows
 
 -- the text of a word, where it was given
 abbrev pub word_given : Option (String Global) → List ℕ
@@ -84,12 +87,27 @@ word_given None = []
 abbrev pub no_judge : Option (String Global) → List ℕ
 no_judge word = codes "court_calendar: no judge is named '" ++ word_given word ++ codes "' in the court's file\n"
 
--- the text of what is chosen, or the line of a judge that the court's file doesn't name
-abbrev pub IsCalendar : Asked → CourtView → List Row → List ℕ → Type 0
-IsCalendar asked court rows text = MatchOption (chosen_of court asked) (text ≡ no_judge asked.judge) (λ chosen. IsTextOf court rows chosen text)
+-- what a case was called, where one was given
+abbrev pub called_given : Option CaseCalled → List ℕ
+called_given (Some called) = called_text called
+called_given None = []
 
--- the text of an input, in the court whose file it has
-pub record IsCalendarOf (asked : Asked) (input : Input) (text : List ℕ) : Type 0 where
+-- the line of a case that the court's file doesn't name
+abbrev pub no_case : Option CaseCalled → List ℕ
+no_case called = codes "court_calendar: no case is named '" ++ called_given called ++ codes "' in the court's file\n"
+
+-- the text of what is chosen of that case or of any, or the line of a judge that the court's file doesn't name
+abbrev pub IsOfCase : Asked → CourtView → List NamedCase → List Row → (case : Option ℕ) → List ℕ → Type 0
+IsOfCase asked court named rows case text =
+    MatchOption (chosen_of court case asked) (text ≡ no_judge asked.judge) (λ chosen. IsTextOf court named rows chosen text)
+
+-- the text of what is asked for, where cases have these names, or the line of a case that has none of them
+abbrev pub IsCalendar : Asked → CourtView → List NamedCase → List Row → List ℕ → Type 0
+IsCalendar asked court named rows text =
+    MatchOption (case_given named asked.case) (text ≡ no_case asked.case) (λ case. IsOfCase asked court named rows case text)
+
+-- the text of an input, in the court whose file it has, where cases have these names
+pub record IsCalendarOf (asked : Asked) (named : List NamedCase) (input : Input) (text : List ℕ) : Type 0 where
   pub court : CourtView
   pub is_court : file_of court ≡ input.file
-  pub is_calendar : IsCalendar asked court input.rows text
+  pub is_calendar : IsCalendar asked court named input.rows text

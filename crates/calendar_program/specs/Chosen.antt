@@ -1,6 +1,9 @@
 -- What is chosen of a court by what was asked for.
 use Rattle.std.specs.Prelude.{ℕ, pos, Bool, true, false, List, Option, Some, None, option_map, string_bytes, unwrap_or, if◌then◌else◌}
 use Rattle.std.specs.Option.{option_and_then}
+use Rattle.case_names.specs.Words.{number_called}
+use Rattle.case_names.specs.declared.called.CaseCalled.{CaseCalled}
+use Rattle.case_numbers.specs.declared.names.NamedCase.{NamedCase}
 use Rattle.court_days.specs.Words.{CourtView}
 use Rattle.court_file_text.specs.Words.{name_index}
 use Rattle.docket_selection.specs.declared.choice.Choice.{Choice}
@@ -11,57 +14,62 @@ use Rattle.calendar_program.specs.declared.chosen.Chosen.{Chosen}
 use Rattle.calendar_program.specs.declared.chosen.Chosen.TheVariants.{Json, Lines, Listed, Sql}
 use Rattle.calendar_program.specs.declared.chosen.Listing.TheVariants.{Due, Ics, Page, Week}
 
--- of that judge or of any: any case and all days of the court's file, as far as nothing else is asked for
-abbrev pub choice_of : CourtView → Asked → (met : Bool) → (judge : Option ℕ) → Choice
-choice_of court asked met judge = record {
+-- the number of the case that is asked for, if one is; none where no case has that name
+abbrev pub case_given : List NamedCase → Option CaseCalled → Option (Option ℕ)
+case_given named None = Some None
+case_given named (Some called) = option_map (λ number. Some number) (number_called named called)
+
+-- of that judge or of any, and of that case or of any: all days of the court's file, as far as nothing else is asked for
+abbrev pub choice_of : CourtView → (case : Option ℕ) → Asked → (met : Bool) → (judge : Option ℕ) → Choice
+choice_of court case asked met judge = record {
   judge = judge;
-  case = asked.case;
+  case = case;
   from = unwrap_or asked.from court.days.from;
   to = unwrap_or asked.to court.days.to;
   met = met;
 }
 
 -- of the judge of that name, where the court has one, or of any where none is asked for
-abbrev pub choice_named : CourtView → Asked → (met : Bool) → (name : Option (List ℕ)) → Option Choice
-choice_named court asked met (Some name) = option_map (λ judge. choice_of court asked met (Some judge)) (name_index court.judges name)
-choice_named court asked met None = Some (choice_of court asked met None)
+abbrev pub choice_named : CourtView → (case : Option ℕ) → Asked → (met : Bool) → (name : Option (List ℕ)) → Option Choice
+choice_named court case asked met (Some name) = option_map (λ judge. choice_of court case asked met (Some judge)) (name_index court.judges name)
+choice_named court case asked met None = Some (choice_of court case asked met None)
 
-abbrev pub choice_asked : CourtView → Asked → (met : Bool) → Option Choice
-choice_asked court asked met = choice_named court asked met (option_map string_bytes asked.judge)
+abbrev pub choice_asked : CourtView → (case : Option ℕ) → Asked → (met : Bool) → Option Choice
+choice_asked court case asked met = choice_named court case asked met (option_map string_bytes asked.judge)
 
 -- the judge of that name, who has to be given
 abbrev pub judge_given : CourtView → (name : Option (List ℕ)) → Option ℕ
 judge_given court name = option_and_then (name_index court.judges) name
 
 -- what is due of that: deadlines with no timely act
-abbrev pub due_chosen : CourtView → Asked → Option Chosen
-due_chosen court asked = option_map (λ choice. Listed (Due choice)) (choice_asked court asked false)
+abbrev pub due_chosen : CourtView → (case : Option ℕ) → Asked → Option Chosen
+due_chosen court case asked = option_map (λ choice. Listed (Due choice)) (choice_asked court case asked false)
 
 -- the page of that
-abbrev pub page_chosen : CourtView → Asked → Option Chosen
-page_chosen court asked = option_map (λ choice. Listed (Page choice)) (choice_asked court asked false)
+abbrev pub page_chosen : CourtView → (case : Option ℕ) → Asked → Option Chosen
+page_chosen court case asked = option_map (λ choice. Listed (Page choice)) (choice_asked court case asked false)
 
 -- the calendar of that, with all deadlines, written at the instant that is asked for, or else at the first one of 1970
-abbrev pub ics_chosen : CourtView → Asked → Option Chosen
-ics_chosen court asked = option_map (λ choice. Listed (Ics choice (unwrap_or asked.stamp (pos 0)))) (choice_asked court asked true)
+abbrev pub ics_chosen : CourtView → (case : Option ℕ) → Asked → Option Chosen
+ics_chosen court case asked = option_map (λ choice. Listed (Ics choice (unwrap_or asked.stamp (pos 0)))) (choice_asked court case asked true)
 
 -- the JSON of that, or the answers alone as lines
-abbrev pub json_chosen : CourtView → Asked → Option Chosen
-json_chosen court asked = option_map (λ choice. if asked.lines then Lines else Json choice) (choice_asked court asked true)
+abbrev pub json_chosen : CourtView → (case : Option ℕ) → Asked → Option Chosen
+json_chosen court case asked = option_map (λ choice. if asked.lines then Lines else Json choice) (choice_asked court case asked true)
 
 -- the week of the judge in which the day is
 abbrev pub week_chosen : CourtView → Asked → Option Chosen
 week_chosen court asked =
     option_map (λ judge. Listed (Week judge (unwrap_or asked.of court.days.from))) (judge_given court (option_map string_bytes asked.judge))
 
-abbrev pub chosen_by : Task → CourtView → Asked → Option Chosen
-chosen_by task.Due court asked = due_chosen court asked
-chosen_by task.Week court asked = week_chosen court asked
-chosen_by task.Page court asked = page_chosen court asked
-chosen_by task.Ics court asked = ics_chosen court asked
-chosen_by task.Json court asked = json_chosen court asked
-chosen_by task.Sql court asked = Some Sql
+abbrev pub chosen_by : Task → CourtView → (case : Option ℕ) → Asked → Option Chosen
+chosen_by task.Due court case asked = due_chosen court case asked
+chosen_by task.Week court case asked = week_chosen court asked
+chosen_by task.Page court case asked = page_chosen court case asked
+chosen_by task.Ics court case asked = ics_chosen court case asked
+chosen_by task.Json court case asked = json_chosen court case asked
+chosen_by task.Sql court case asked = Some Sql
 
 -- what is chosen, where the court has the judge that is asked for
-unfoldable pub chosen_of : CourtView → Asked → Option Chosen
-chosen_of court asked = chosen_by asked.task court asked
+unfoldable pub chosen_of : CourtView → (case : Option ℕ) → Asked → Option Chosen
+chosen_of court case asked = chosen_by asked.task court case asked

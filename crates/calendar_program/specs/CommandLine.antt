@@ -1,9 +1,8 @@
 -- What the program's command line may have, as `clap` reads it.
-use Rattle.std.specs.Prelude.{pos, Bool, Some, true, false, [], ◌∷◌, ◌++◌, codes}
+use Rattle.std.specs.Prelude.{Bool, Some, true, false, [], ◌∷◌, ◌++◌, codes}
 use Rattle.clap.specs.Words.{App, Rule, Shape, Text, new_rule, with_subcommand}
 use Rattle.clap.specs.Simple.{new_shape}
 use Rattle.clap.specs.declared.builder.action.ArgAction.TheVariants.{Set, SetTrue}
-use Rattle.clap.specs.declared.builder.value_parser.ValueParser.TheVariants.{Signed}
 
 -- `--NAME DAY`, once at most, and once where it has to be given
 abbrev pub day_rule : (name : Text) → (needed : Bool) → Rule
@@ -13,14 +12,9 @@ day_rule name needed = record (new_rule name) { long = Some name; action = Some 
 abbrev pub judge_rule : (needed : Bool) → Rule
 judge_rule needed = record (new_rule (codes "judge")) { long = Some (codes "judge"); action = Some Set; value_names = 1; required = needed }
 
--- `--case N`, once at most: the number of a case, of which the greatest is 4,096
+-- `--case N`, once at most
 abbrev pub case_rule : Rule
-case_rule = record (new_rule (codes "case")) {
-  long = Some (codes "case");
-  action = Some Set;
-  value_names = 1;
-  parser = Some (Signed (pos 1) (pos 4096));
-}
+case_rule = record (new_rule (codes "case")) { long = Some (codes "case"); action = Some Set; value_names = 1 }
 
 -- `--stamp INSTANT`, once at most
 abbrev pub stamp_rule : Rule

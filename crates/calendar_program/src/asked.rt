@@ -5,11 +5,13 @@ ghost use Rattle.std.specs.Option.{option_and_then};
 ghost use Rattle.clap.specs.declared.error.kind.ErrorKind.{ErrorKind};
 ghost use Rattle.clap.specs.Matches.{first_value};
 ghost use Rattle.clap.specs.Words.{found_of, rows_of};
+ghost use Rattle.case_names.specs.Words.{case_called};
 ghost use Rattle.content_lines.specs.Words.{stamp_of_text};
 ghost use Rattle.court_clock.specs.Words.{day_of_text};
 ghost use Rattle.office_options.specs.Words.{IsAnswerFor, IsFaultAmong};
-ghost use Rattle.calendar_program.specs.Asked.{IsAskedBy, are_given_taken, faults_given, is_day_taken, is_instant_taken, task_of};
+ghost use Rattle.calendar_program.specs.Asked.{IsAskedBy, are_given_taken, faults_given, is_case_taken, is_day_taken, is_instant_taken, task_of};
 
+use case_names::{CaseCalled, case_called};
 use clap::ArgMatches;
 use content_lines::stamp_of_text;
 use court_clock::{Day, Instant};
@@ -40,8 +42,8 @@ pub struct Asked {
     pub task: Task,
     /// The name of a judge.
     pub judge: Option<String>,
-    /// The number of a case.
-    pub case: Option<u32>,
+    /// A case, by its number or by its name.
+    pub case: Option<CaseCalled>,
     /// The first day.
     pub from: Option<Day>,
     /// The last day.
@@ -54,8 +56,8 @@ pub struct Asked {
     pub lines: bool,
 }
 
-/// What a subcommand of that name asks for with what it was given. BadWords where a text writes no day or no instant, and
-/// OutOfMemory where memory runs out.
+/// What a subcommand of that name asks for with what it was given. BadWords where a text writes no day, no instant or no
+/// case, and OutOfMemory where memory runs out.
 pub(crate) fn asked_by(
     alloc: Global,
     name: &str,
@@ -82,10 +84,14 @@ pub(crate) fn asked_by(
         Ok(stamp) => stamp,
         Err(fault) => return Err(fault),
     };
+    let case = match case_read(alloc, given.get_str("case")) {
+        Ok(case) => case,
+        Err(fault) => return Err(fault),
+    };
     Ok(Asked {
         task: task_of(name),
         judge,
-        case: given.get_one::<u32>("case"),
+        case,
         from,
         to,
         of,
@@ -150,6 +156,23 @@ fn stamp_read(alloc: Global, text: Option<&str>) -> Result<Option<Instant>, Opti
     }
 }
 
+/// The case that the text of its option calls, if it is given.
+fn case_read(alloc: Global, text: Option<&str>) -> Result<Option<CaseCalled>, OptionsFault>
+    ensures case { IfOk result (λ case. case ≡ option_and_then case_called (option_map (λ text. text.now) text.entry)) }
+    ensures read { IfOk result (λ case. is_case_taken (option_map (λ text. text.now) text.entry) ≡ true) }
+    ensures fault { IfErr result (λ fault. IsFaultAmong (ErrorKind.ValueValidation ∷ []) fault) }
+    ensures taken { is_case_taken (option_map (λ text. text.now) text.entry) ≡ true → IfErr result (λ fault. fault ≡ OptionsFault.OutOfMemory) }
+{
+    match text {
+        None => Ok(None),
+        Some(text) => match case_called(alloc, text) {
+            Ok(Some(case)) => Ok(Some(case)),
+            Ok(None) => Err(no_case(alloc, text)),
+            Err(_) => Err(OptionsFault::OutOfMemory),
+        },
+    }
+}
+
 /// The text of the option is no day.
 fn no_day(alloc: Global, option: &str, text: &str) -> OptionsFault
     ensures { IsFaultAmong (ErrorKind.ValueValidation ∷ []) result }
@@ -168,6 +191,18 @@ fn no_instant(alloc: Global, text: &str) -> OptionsFault
 {
     match format!(in alloc;
         "error: invalid value '{text}' for '--stamp <INSTANT>': write it as 20250915T120000Z, in UTC\n\nFor more information, try '--help'.\n"
+    ) {
+        Ok(text) => OptionsFault::BadWords(text),
+        Err(_) => OptionsFault::OutOfMemory,
+    }
+}
+
+/// The text is neither the number of a case nor a name.
+fn no_case(alloc: Global, text: &str) -> OptionsFault
+    ensures { IsFaultAmong (ErrorKind.ValueValidation ∷ []) result }
+{
+    match format!(in alloc;
+        "error: invalid value '{text}' for '--case <N>': write a case as its number, 1 to 4096, or as 1:25-cv-01234-ABC\n\nFor more information, try '--help'.\n"
     ) {
         Ok(text) => OptionsFault::BadWords(text),
         Err(_) => OptionsFault::OutOfMemory,

@@ -1,9 +1,11 @@
 //! What is chosen of a court by what was asked for.
 
 ghost use Rattle.std.specs.Prelude.{◌≡◌, pos, option_map, string_bytes};
-ghost use Rattle.calendar_program.specs.Chosen.{choice_asked, choice_of, chosen_of, due_chosen, ics_chosen, json_chosen, judge_given, page_chosen, week_chosen};
+ghost use Rattle.calendar_program.specs.Chosen.{case_given, choice_asked, choice_of, chosen_of, due_chosen, ics_chosen, json_chosen, judge_given, page_chosen, week_chosen};
 
 use crate::asked::{Asked, Task};
+use case_names::{CaseCalled, number_called};
+use case_numbers::Cases;
 use court_clock::{Day, Instant};
 use court_days::Court;
 use docket_selection::Choice;
@@ -34,47 +36,60 @@ pub enum Chosen {
     Sql,
 }
 
-/// What is chosen of the court. None where the court's file names no such judge.
+/// The number of the case that is asked for, if one is. None where no case has that name.
+pub(crate) fn case_given(cases: &Cases, called: &Option<CaseCalled>) -> Option<Option<u32>>
+    ensures { result ≡ case_given cases.now.named called.now }
+{
+    match called {
+        Some(called) => match number_called(cases, called) {
+            Some(number) => Some(Some(number)),
+            None => None,
+        },
+        None => Some(None),
+    }
+}
+
+/// What is chosen of the court, and of that case or of any. None where the court's file names no such judge.
 #[tactic(auto, unfolding(crate::specs::Chosen::chosen_of))]
-pub(crate) fn chosen_of(court: &Court, asked: &Asked) -> Option<Chosen>
-    ensures { result ≡ chosen_of court.now asked.now }
+pub(crate) fn chosen_of(court: &Court, case: Option<u32>, asked: &Asked) -> Option<Chosen>
+    ensures { result ≡ chosen_of court.now case asked.now }
 {
     match asked.task {
-        Task::Due => due_chosen(court, asked),
+        Task::Due => due_chosen(court, case, asked),
         Task::Week => week_chosen(court, asked),
-        Task::Page => page_chosen(court, asked),
-        Task::Ics => ics_chosen(court, asked),
-        Task::Json => json_chosen(court, asked),
+        Task::Page => page_chosen(court, case, asked),
+        Task::Ics => ics_chosen(court, case, asked),
+        Task::Json => json_chosen(court, case, asked),
         Task::Sql => Some(Chosen::Sql),
     }
 }
 
-fn due_chosen(court: &Court, asked: &Asked) -> Option<Chosen>
-    ensures { result ≡ due_chosen court.now asked.now }
+fn due_chosen(court: &Court, case: Option<u32>, asked: &Asked) -> Option<Chosen>
+    ensures { result ≡ due_chosen court.now case asked.now }
 {
-    let choice = choice_asked(court, asked, false)?;
+    let choice = choice_asked(court, case, asked, false)?;
     Some(Chosen::Listed(Listing::Due(choice)))
 }
 
-fn page_chosen(court: &Court, asked: &Asked) -> Option<Chosen>
-    ensures { result ≡ page_chosen court.now asked.now }
+fn page_chosen(court: &Court, case: Option<u32>, asked: &Asked) -> Option<Chosen>
+    ensures { result ≡ page_chosen court.now case asked.now }
 {
-    let choice = choice_asked(court, asked, false)?;
+    let choice = choice_asked(court, case, asked, false)?;
     Some(Chosen::Listed(Listing::Page(choice)))
 }
 
-fn ics_chosen(court: &Court, asked: &Asked) -> Option<Chosen>
-    ensures { result ≡ ics_chosen court.now asked.now }
+fn ics_chosen(court: &Court, case: Option<u32>, asked: &Asked) -> Option<Chosen>
+    ensures { result ≡ ics_chosen court.now case asked.now }
 {
-    let choice = choice_asked(court, asked, true)?;
+    let choice = choice_asked(court, case, asked, true)?;
     let stamp = asked.stamp.unwrap_or(first_stamp());
     Some(Chosen::Listed(Listing::Ics(choice, stamp)))
 }
 
-fn json_chosen(court: &Court, asked: &Asked) -> Option<Chosen>
-    ensures { result ≡ json_chosen court.now asked.now }
+fn json_chosen(court: &Court, case: Option<u32>, asked: &Asked) -> Option<Chosen>
+    ensures { result ≡ json_chosen court.now case asked.now }
 {
-    let choice = choice_asked(court, asked, true)?;
+    let choice = choice_asked(court, case, asked, true)?;
     if asked.lines {
         return Some(Chosen::Lines);
     }
@@ -89,26 +104,33 @@ fn week_chosen(court: &Court, asked: &Asked) -> Option<Chosen>
     Some(Chosen::Listed(Listing::Week(judge, day)))
 }
 
-/// The judge, the case and the days that are asked for. `met` says whether deadlines with a timely act are chosen too.
-fn choice_asked(court: &Court, asked: &Asked, met: bool) -> Option<Choice>
-    ensures { result ≡ choice_asked court.now asked.now met }
+/// The judge and the days that are asked for, and that case, or any. `met` says whether deadlines with a timely act are
+/// chosen too.
+fn choice_asked(court: &Court, case: Option<u32>, asked: &Asked, met: bool) -> Option<Choice>
+    ensures { result ≡ choice_asked court.now case asked.now met }
 {
     match &asked.judge {
         Some(name) => {
             let judge = court.judge(name.as_str())?;
-            Some(choice_of(court, asked, met, Some(judge)))
+            Some(choice_of(court, case, asked, met, Some(judge)))
         }
-        None => Some(choice_of(court, asked, met, None)),
+        None => Some(choice_of(court, case, asked, met, None)),
     }
 }
 
-/// The case and the days that are asked for, and that judge, or any.
-fn choice_of(court: &Court, asked: &Asked, met: bool, judge: Option<u8>) -> Choice
-    ensures { result ≡ choice_of court.now asked.now met judge }
+/// The days that are asked for, and that case and that judge, or any.
+fn choice_of(
+    court: &Court,
+    case: Option<u32>,
+    asked: &Asked,
+    met: bool,
+    judge: Option<u8>,
+) -> Choice
+    ensures { result ≡ choice_of court.now case asked.now met judge }
 {
     Choice {
         judge,
-        case: asked.case,
+        case,
         from: asked.from.unwrap_or(court.days().from()),
         to: asked.to.unwrap_or(court.days().to()),
         met,

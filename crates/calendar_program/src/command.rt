@@ -13,9 +13,6 @@ use clap::{Arg, ArgAction, ArgMatches, Command};
 use office_options::{OptionsFault, fault_from};
 use std::alloc::{AllocError, Global};
 
-// The greatest number of a case: `last_case` of docket_rows.
-const LAST_CASE: i64 = 4_096;
-
 // What the program is. `clap` breaks no lines, so they are broken here.
 const ABOUT: &str =
     "The court's calendar, after all rows: what is due, a week, a page, iCalendar, JSON, SQL.";
@@ -112,8 +109,7 @@ fn case_argument<'a>(alloc: Global) -> Arg<'a>
         .long("case")
         .action(ArgAction::Set)
         .value_name("N")
-        .value_parser(clap::value_parser!(u32).range(1..=LAST_CASE))
-        .help("The case of this number alone")
+        .help("This case alone: its number, or the number that the court gives it")
 }
 
 /// The command with a subcommand of that name, which takes the days, the judge and the case that are chosen.
@@ -228,8 +224,8 @@ fn command<'a>(alloc: Global) -> Result<Command<'a>, AllocError>
 }
 
 /// What the words ask for, which are those after the program's name. BadWords where `clap` refuses the words or a text
-/// writes no day or no instant, Help where they ask for the help or the version first, and OutOfMemory where memory runs
-/// out.
+/// writes no day, no instant or no case, Help where they ask for the help or the version first, and OutOfMemory where
+/// memory runs out.
 pub(crate) fn asked_of(alloc: Global, words: &[&str]) -> Result<Asked, OptionsFault>
     ensures asked { IfOk result (λ asked. IsAsked (texts words.now) asked) }
     ensures faults { IsAnswerFor (faults_of (texts words.now)) result }
@@ -242,8 +238,8 @@ pub(crate) fn asked_of(alloc: Global, words: &[&str]) -> Result<Asked, OptionsFa
     }
 }
 
-/// What the matches of words ask for. BadWords where a text writes no day or no instant, and OutOfMemory where memory runs
-/// out.
+/// What the matches of words ask for. BadWords where a text writes no day, no instant or no case, and OutOfMemory where
+/// memory runs out.
 fn asked_in(alloc: Global, matches: &ArgMatches<'_>) -> Result<Asked, OptionsFault>
     ensures asked { IfOk result (λ asked. IfSome (subcommand_rows_of matches.now) (λ met. IsAskedBy met.0 met.1 asked)) }
     ensures faults { IsAnswerFor (faults_met (subcommand_rows_of matches.now)) result }

@@ -6,6 +6,7 @@ ghost use Rattle.office_run.specs.Words.{Holds};
 ghost use Rattle.calendar_program.specs.Calendar.{IsIcsText};
 
 use calendar_ics::{appointments_of, icalendar};
+use case_numbers::Cases;
 use court_clock::Instant;
 use court_days::Court;
 use docket_core::Docket;
@@ -18,18 +19,19 @@ use std::alloc::{AllocError, Global};
 pub(crate) fn ics_text(
     alloc: Global,
     court: &Court,
+    cases: &Cases,
     docket: &Docket,
     changes: Vec<HearingChange>,
     choice: &Choice,
     stamp: Instant,
 ) -> Result<Vec<u8>, AllocError>
     requires court { docket.now.setup ≡ setup_of court.now }
-    ensures { (docketed : Rows) → Holds (setup_of court.now) docket.now docketed → IfOk result (λ text. IsIcsText court.now docketed changes.items choice.now stamp text.items) }
+    ensures { (docketed : Rows) → Holds (setup_of court.now) docket.now docketed → IfOk result (λ text. IsIcsText court.now cases.now.named docketed changes.items choice.now stamp text.items) }
 {
     let _types: DueTypes = None;
     let items = due_of(alloc, court, docket, choice)?;
     let histories = HearingHistories::of_changes(alloc, changes)?;
     let appointments = appointments_of(alloc, choice, &histories, &items)?;
-    let text = icalendar(alloc, court, stamp, &appointments)?;
+    let text = icalendar(alloc, court, cases, stamp, &appointments)?;
     Ok(text.into_bytes())
 }

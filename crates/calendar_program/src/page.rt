@@ -6,6 +6,7 @@ ghost use Rattle.office_run.specs.Words.{Holds};
 ghost use Rattle.calendar_program.specs.Calendar.{IsPage};
 
 use calendar_page::push_page;
+use case_numbers::Cases;
 use court_days::Court;
 use docket_core::Docket;
 use docket_selection::{Choice, DueTypes, calendars_of, due_of};
@@ -18,11 +19,12 @@ use std::alloc::{AllocError, Global};
 pub(crate) fn page_text(
     alloc: Global,
     court: &Court,
+    cases: &Cases,
     docket: &Docket,
     choice: &Choice,
 ) -> Result<Vec<u8>, AllocError>
     requires court { docket.now.setup ≡ setup_of court.now }
-    ensures { (docketed : Rows) → Holds (setup_of court.now) docket.now docketed → IfOk result (λ text. IsPage court.now docketed choice.now text.items) }
+    ensures { (docketed : Rows) → Holds (setup_of court.now) docket.now docketed → IfOk result (λ text. IsPage court.now cases.now.named docketed choice.now text.items) }
 {
     let _types: DueTypes = None;
     let items = due_of(alloc, court, docket, choice)?;
@@ -34,6 +36,7 @@ pub(crate) fn page_text(
         &mut page,
         court,
         docket.days(),
+        cases,
         choice,
         &items,
         &calendars,

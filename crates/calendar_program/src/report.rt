@@ -1,12 +1,14 @@
 //! The calendar, as what is written of a run.
 
-ghost use Rattle.std.specs.Prelude.{◌≡◌, string_bytes, IfOk};
+ghost use Rattle.std.specs.Prelude.{◌≡◌, string_bytes, IfOk, OnOk};
+ghost use Rattle.case_names.specs.Words.{case_names};
 ghost use Rattle.docket_rows.specs.Words.{Rows, setup_of};
 ghost use Rattle.office_run.specs.Words.{Holds};
-ghost use Rattle.calendar_program.specs.Calendar.{IsCalendar, IsListing, IsTextOf, changes_by, docketed_by, no_judge, word_given};
+ghost use Rattle.calendar_program.specs.Calendar.{IsCalendar, IsListing, IsOfCase, IsTextOf, called_given, changes_by, docketed_by, no_case, no_judge, word_given};
+ghost use Rattle.office_texts.specs.Words.{AddsText};
 
 use crate::asked::Asked;
-use crate::chosen::{Chosen, Listing, chosen_of};
+use crate::chosen::{Chosen, Listing, case_given, chosen_of};
 use crate::docket::docket_after;
 use crate::due::due_text;
 use crate::ics::ics_text;
@@ -14,6 +16,8 @@ use crate::page::page_text;
 use crate::week::week_text;
 use calendar_json::{answer_lines, json_text};
 use calendar_sql::sql_text;
+use case_names::{CaseCalled, case_names, push_called};
+use case_numbers::Cases;
 use court_days::Court;
 use docket_core::Docket;
 use hearing_changes::HearingChange;
@@ -24,12 +28,13 @@ use std::sync::Wait;
 use std::thread::Threads;
 
 impl Report for Asked {
+    ghost use Rattle.case_names.specs.Words.{case_names};
     ghost use Rattle.calendar_program.specs.Calendar.{IsCalendarOf};
 
     ghost clerk_count = { λ asked. 1 };
 
-    // The names of holidays are in no text.
-    ghost is_text = { λ asked file. IsCalendarOf asked };
+    // Cases have the names that the court's file gives them. The names of holidays are in no text.
+    ghost is_text = { λ asked file. IsCalendarOf asked (case_names file) };
 
     fn clerks(&self) -> u8 {
         1
@@ -39,25 +44,62 @@ impl Report for Asked {
         &self,
         _rt: &H,
         alloc: Global,
-        _file: &[u8],
+        file: &[u8],
         checked: CheckedInput,
     ) -> Result<Vec<u8>, AllocError> {
-        calendar_of(alloc, &checked.court, checked.rows.as_slice(), self)
+        checked_calendar(alloc, self, file, &checked)
     }
 }
 
-/// What was asked for of the court's docket after all rows, or a line that says which judge the court's file doesn't name.
-/// `Err` says that memory ran out.
+/// The text of an input that was checked, in which this is the court's file. `Err` says that memory ran out.
+fn checked_calendar(
+    alloc: Global,
+    asked: &Asked,
+    file: &[u8],
+    checked: &CheckedInput,
+) -> Result<Vec<u8>, AllocError>
+    ensures { IfOk result (λ text. IsCalendar asked.now checked.now.court (case_names file.now) checked.now.rows.items text.items) }
+{
+    let cases = case_names(alloc, file)?;
+    calendar_of(
+        alloc,
+        &checked.court,
+        &cases,
+        checked.rows.as_slice(),
+        asked,
+    )
+}
+
+/// What was asked for of the court's docket after all rows, or a line that says which case or which judge the court's file
+/// doesn't name.
 fn calendar_of(
     alloc: Global,
     court: &Court,
+    cases: &Cases,
     rows: &[Row],
     asked: &Asked,
 ) -> Result<Vec<u8>, AllocError>
-    ensures { IfOk result (λ text. IsCalendar asked.now court.now rows.now text.items) }
+    ensures { IfOk result (λ text. IsCalendar asked.now court.now cases.now.named rows.now text.items) }
 {
-    match chosen_of(court, asked) {
-        Some(chosen) => text_of(alloc, court, rows, &chosen),
+    match case_given(cases, &asked.case) {
+        Some(case) => of_case(alloc, court, cases, rows, asked, case),
+        None => Ok(no_case(alloc, &asked.case)?.into_bytes()),
+    }
+}
+
+/// What was asked for of that case or of any, or a line that says which judge the court's file doesn't name.
+fn of_case(
+    alloc: Global,
+    court: &Court,
+    cases: &Cases,
+    rows: &[Row],
+    asked: &Asked,
+    case: Option<u32>,
+) -> Result<Vec<u8>, AllocError>
+    ensures { IfOk result (λ text. IsOfCase asked.now court.now cases.now.named rows.now case text.items) }
+{
+    match chosen_of(court, case, asked) {
+        Some(chosen) => text_of(alloc, court, cases, rows, &chosen),
         None => Ok(no_judge(alloc, &asked.judge)?.into_bytes()),
     }
 }
@@ -66,16 +108,17 @@ fn calendar_of(
 fn text_of(
     alloc: Global,
     court: &Court,
+    cases: &Cases,
     rows: &[Row],
     chosen: &Chosen,
 ) -> Result<Vec<u8>, AllocError>
-    ensures { IfOk result (λ text. IsTextOf court.now rows.now chosen.now text.items) }
+    ensures { IfOk result (λ text. IsTextOf court.now cases.now.named rows.now chosen.now text.items) }
 {
     match chosen {
-        Chosen::Listed(listing) => listed(alloc, court, rows, listing),
-        Chosen::Json(choice) => json_text(alloc, court, rows, choice),
-        Chosen::Lines => answer_lines(alloc, court, rows),
-        Chosen::Sql => sql_text(alloc, court, rows),
+        Chosen::Listed(listing) => listed(alloc, court, cases, rows, listing),
+        Chosen::Json(choice) => json_text(alloc, court, cases, rows, choice),
+        Chosen::Lines => answer_lines(alloc, court, cases, rows),
+        Chosen::Sql => sql_text(alloc, court, cases, rows),
     }
 }
 
@@ -83,32 +126,36 @@ fn text_of(
 fn listed(
     alloc: Global,
     court: &Court,
+    cases: &Cases,
     rows: &[Row],
     listing: &Listing,
 ) -> Result<Vec<u8>, AllocError>
-    ensures { IfOk result (λ text. IsListing court.now (docketed_by court.now rows.now) (changes_by court.now rows.now) listing.now text.items) }
+    ensures { IfOk result (λ text. IsListing court.now cases.now.named (docketed_by court.now rows.now) (changes_by court.now rows.now) listing.now text.items) }
 {
     let mut changes = Vec::new(alloc);
     let docket = docket_after(alloc, court, rows, &mut changes)?;
-    listing_of(alloc, court, &docket, changes, listing)
+    listing_of(alloc, court, cases, &docket, changes, listing)
 }
 
 /// The text of what is shown of a docket.
 fn listing_of(
     alloc: Global,
     court: &Court,
+    cases: &Cases,
     docket: &Docket,
     changes: Vec<HearingChange>,
     listing: &Listing,
 ) -> Result<Vec<u8>, AllocError>
     requires court { docket.now.setup ≡ setup_of court.now }
-    ensures { (docketed : Rows) → Holds (setup_of court.now) docket.now docketed → IfOk result (λ text. IsListing court.now docketed changes.items listing.now text.items) }
+    ensures { (docketed : Rows) → Holds (setup_of court.now) docket.now docketed → IfOk result (λ text. IsListing court.now cases.now.named docketed changes.items listing.now text.items) }
 {
     match listing {
-        Listing::Due(choice) => due_text(alloc, court, docket, choice),
-        Listing::Week(judge, day) => week_text(alloc, court, docket, *judge, *day),
-        Listing::Page(choice) => page_text(alloc, court, docket, choice),
-        Listing::Ics(choice, stamp) => ics_text(alloc, court, docket, changes, choice, *stamp),
+        Listing::Due(choice) => due_text(alloc, court, cases, docket, choice),
+        Listing::Week(judge, day) => week_text(alloc, court, cases, docket, *judge, *day),
+        Listing::Page(choice) => page_text(alloc, court, cases, docket, choice),
+        Listing::Ics(choice, stamp) => ics_text(
+            alloc, court, cases, docket, changes, choice, *stamp,
+        ),
     }
 }
 
@@ -127,5 +174,26 @@ fn word_given(word: &Option<String>) -> &str
     match word {
         Some(word) => word.as_str(),
         None => "",
+    }
+}
+
+/// The line of a case that the court's file doesn't name.
+fn no_case(alloc: Global, called: &Option<CaseCalled>) -> Result<String, AllocError>
+    ensures { IfOk result (λ line. string_bytes line ≡ no_case called.now) }
+{
+    let mut line = String::new(alloc);
+    line.push_str("court_calendar: no case is named '")?;
+    push_called_given(&mut line, called)?;
+    line.push_str("' in the court's file\n")?;
+    Ok(line)
+}
+
+/// Adds what a case was called, where one was given.
+fn push_called_given(line: &mut String, called: &Option<CaseCalled>) -> Result<(), AllocError>
+    ensures { OnOk result (AddsText line.old line.new (called_given called.now)) }
+{
+    match called {
+        Some(called) => push_called(line, called),
+        None => Ok(()),
     }
 }

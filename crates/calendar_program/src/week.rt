@@ -6,6 +6,7 @@ ghost use Rattle.office_run.specs.Words.{Holds};
 ghost use Rattle.calendar_program.specs.Calendar.{week_text_of};
 
 use calendar_texts::push_week;
+use case_numbers::Cases;
 use court_clock::Day;
 use court_days::Court;
 use docket_core::Docket;
@@ -16,15 +17,16 @@ use std::alloc::{AllocError, Global};
 pub(crate) fn week_text(
     alloc: Global,
     court: &Court,
+    cases: &Cases,
     docket: &Docket,
     judge: u8,
     day: Day,
 ) -> Result<Vec<u8>, AllocError>
-    ensures { (docketed : Rows) → Holds (setup_of court.now) docket.now docketed → IfOk result (λ text. text.items ≡ week_text_of court.now docketed judge day) }
+    ensures { (docketed : Rows) → Holds (setup_of court.now) docket.now docketed → IfOk result (λ text. text.items ≡ week_text_of court.now cases.now.named docketed judge day) }
 {
     let days = week_days(alloc, day)?;
     let week = bookings_on(alloc, docket, judge, &days)?;
     let mut text = String::new(alloc);
-    push_week(alloc, &mut text, court, judge, &week)?;
+    push_week(alloc, &mut text, court, cases, judge, &week)?;
     Ok(text.into_bytes())
 }

@@ -1,13 +1,27 @@
 -- The tables: their columns, their keys and their constraints.
-use Rattle.std.specs.Prelude.{ℕ, List, ◌++◌, codes}
+use Rattle.std.specs.Prelude.{ℕ, ◌==◌, List, ◌++◌, codes, length, if◌then◌else◌}
+use Rattle.case_numbers.specs.declared.names.NamedCase.{NamedCase}
 
 -- the open cases, by their numbers
-unfoldable pub cases_table : List ℕ
-cases_table =
+unfoldable pub numbered_cases_table : List ℕ
+numbered_cases_table =
     codes "CREATE TABLE cases (\n"
     ++ codes "  number INTEGER NOT NULL PRIMARY KEY CHECK (number BETWEEN 1 AND 4096),\n"
     ++ codes "  filed DATE NOT NULL\n"
     ++ codes ");\n"
+
+-- the same with the name of each; NULL: it has none
+unfoldable pub named_cases_table : List ℕ
+named_cases_table =
+    codes "CREATE TABLE cases (\n"
+    ++ codes "  number INTEGER NOT NULL PRIMARY KEY CHECK (number BETWEEN 1 AND 4096),\n"
+    ++ codes "  filed DATE NOT NULL,\n"
+    ++ codes "  name VARCHAR(1000000)\n"
+    ++ codes ");\n"
+
+-- a table of names where the court's file has names
+abbrev pub cases_table : List NamedCase → List ℕ
+cases_table named = if length named == 0 then numbered_cases_table else named_cases_table
 
 -- the deadlines of a case, by number: the period in words, from what it runs, when it ends, and what was filed
 unfoldable pub deadlines_table : List ℕ
@@ -110,5 +124,5 @@ answers_table =
     ++ codes "  answer VARCHAR(1000000) NOT NULL\n"
     ++ codes ");\n"
 
-unfoldable pub tables : List ℕ
-tables = cases_table ++ deadlines_table ++ grants_table ++ motions_table ++ hearings_table ++ panels_table ++ outages_table ++ answers_table
+unfoldable pub tables : List NamedCase → List ℕ
+tables named = cases_table named ++ deadlines_table ++ grants_table ++ motions_table ++ hearings_table ++ panels_table ++ outages_table ++ answers_table

@@ -7,23 +7,30 @@ use crate::answers::push_answers;
 use crate::schema::push_tables;
 use crate::script::Script;
 use crate::sheets::push_docketed;
+use case_numbers::Cases;
 use court_days::Court;
 use docket_core::Docket;
 use office_rows::Row;
 use std::alloc::{AllocError, Global};
 
 /// One transaction of SQL: it makes the tables, and puts into them what each row was answered and what is docketed after
-/// the last. `Err` says that memory ran out.
+/// the last. `cases` has the names of cases: the table of cases has a column for them where there are any. `Err` says that
+/// memory ran out.
 #[tactic(auto, unfolding(crate::specs::Script::script_text))]
-pub fn sql_text(alloc: Global, court: &Court, rows: &[Row]) -> Result<Vec<u8>, AllocError>
-    ensures { IfOk result (λ text. text.items ≡ script_text court.now rows.now) }
+pub fn sql_text(
+    alloc: Global,
+    court: &Court,
+    cases: &Cases,
+    rows: &[Row],
+) -> Result<Vec<u8>, AllocError>
+    ensures { IfOk result (λ text. text.items ≡ script_text court.now cases.now.named rows.now) }
 {
     let mut out = Script::new(alloc);
     let mut docket = Docket::new(alloc, court)?;
     push_front(&mut out)?;
-    push_tables(&mut out)?;
+    push_tables(&mut out, cases)?;
     push_answers(alloc, &mut out, court, &mut docket, rows)?;
-    push_docketed(alloc, &mut out, court, &docket)?;
+    push_docketed(alloc, &mut out, court, cases, &docket)?;
     push_end(&mut out)?;
     Ok(out.into_bytes())
 }

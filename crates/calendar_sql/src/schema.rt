@@ -1,17 +1,18 @@
 //! The tables.
 
 ghost use Rattle.std.specs.Prelude.{◌≡◌, ◌++◌, OnOk};
-ghost use Rattle.calendar_sql.specs.Schema.{answers_table, cases_table, deadlines_table, grants_table, hearings_table, motions_table, outages_table, panels_table, tables};
+ghost use Rattle.calendar_sql.specs.Schema.{answers_table, cases_table, deadlines_table, grants_table, hearings_table, motions_table, named_cases_table, numbered_cases_table, outages_table, panels_table, tables};
 
 use crate::script::Script;
+use case_numbers::Cases;
 use std::alloc::AllocError;
 
 /// Adds the statements that make the tables. `Err` says that memory ran out.
 #[tactic(auto, unfolding(crate::specs::Schema::tables))]
-pub(crate) fn push_tables(out: &mut Script) -> Result<(), AllocError>
-    ensures { OnOk result (out.new ≡ out.old ++ tables) }
+pub(crate) fn push_tables(out: &mut Script, cases: &Cases) -> Result<(), AllocError>
+    ensures { OnOk result (out.new ≡ out.old ++ tables cases.now.named) }
 {
-    push_cases(out)?;
+    push_cases(out, cases)?;
     push_deadlines(out)?;
     push_grants(out)?;
     push_motions(out)?;
@@ -21,10 +22,34 @@ pub(crate) fn push_tables(out: &mut Script) -> Result<(), AllocError>
     push_answers(out)
 }
 
-/// The open cases, by their numbers.
-#[tactic(auto, unfolding(crate::specs::Schema::cases_table))]
-fn push_cases(out: &mut Script) -> Result<(), AllocError>
-    ensures { OnOk result (out.new ≡ out.old ++ cases_table) }
+/// The open cases, by their numbers, and with their names where the court's file has names.
+fn push_cases(out: &mut Script, cases: &Cases) -> Result<(), AllocError>
+    ensures { OnOk result (out.new ≡ out.old ++ cases_table cases.now.named) }
+{
+    if cases.named().is_empty() {
+        push_numbered_cases(out)
+    } else {
+        push_named_cases(out)
+    }
+}
+
+#[tactic(auto, unfolding(crate::specs::Schema::named_cases_table))]
+fn push_named_cases(out: &mut Script) -> Result<(), AllocError>
+    ensures { OnOk result (out.new ≡ out.old ++ named_cases_table) }
+{
+    out.statement(
+        "CREATE TABLE cases (
+  number INTEGER NOT NULL PRIMARY KEY CHECK (number BETWEEN 1 AND 4096),
+  filed DATE NOT NULL,
+  name VARCHAR(1000000)
+);
+",
+    )
+}
+
+#[tactic(auto, unfolding(crate::specs::Schema::numbered_cases_table))]
+fn push_numbered_cases(out: &mut Script) -> Result<(), AllocError>
+    ensures { OnOk result (out.new ≡ out.old ++ numbered_cases_table) }
 {
     out.statement(
         "CREATE TABLE cases (

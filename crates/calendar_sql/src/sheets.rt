@@ -6,12 +6,13 @@ ghost use Rattle.docket_rows.specs.Words.{Rows, setup_of};
 ghost use Rattle.docket_core.specs.Words.{StandsFor};
 ghost use Rattle.calendar_sql.specs.Deadlines.{deadline_rows};
 ghost use Rattle.calendar_sql.specs.Hearings.{motion_rows};
-ghost use Rattle.calendar_sql.specs.Rows.{numbered};
-ghost use Rattle.calendar_sql.specs.Script.{case_row, docketed_text, outage_row, sheet_rows};
+ghost use Rattle.calendar_sql.specs.Rows.{AddsValues, numbered};
+ghost use Rattle.calendar_sql.specs.Script.{case_row, docketed_text, name_values, outage_row, sheet_rows};
 
 use crate::deadlines::push_deadline;
 use crate::hearings::push_motion;
 use crate::script::Script;
+use case_numbers::Cases;
 use court_clock::Clock;
 use court_days::{Court, Outage};
 use docket_core::Docket;
@@ -24,14 +25,15 @@ pub(crate) fn push_docketed(
     alloc: Global,
     out: &mut Script,
     court: &Court,
+    cases: &Cases,
     docket: &Docket,
 ) -> Result<(), AllocError>
     requires court { docket.now.setup ≡ setup_of court.now }
-    ensures { (docketed : Rows) → StandsFor docket.now docketed → OnOk result (out.new ≡ out.old ++ docketed_text court.now docketed) }
+    ensures { (docketed : Rows) → StandsFor docket.now docketed → OnOk result (out.new ≡ out.old ++ docketed_text court.now cases.now.named docketed) }
 {
     push_outages(out, docket.days().outages())?;
     let sheets = sheets_of(alloc, docket)?;
-    push_sheets(out, court, &sheets)?;
+    push_sheets(out, court, cases, &sheets)?;
     Ok(())
 }
 
@@ -59,31 +61,55 @@ fn push_outage(out: &mut Script, place: u64, outage: Outage) -> Result<(), Alloc
 }
 
 /// Adds each case with all that is on its sheet.
-fn push_sheets(out: &mut Script, court: &Court, sheets: &[Sheet]) -> Result<(), AllocError>
-    ensures { OnOk result (out.new ≡ out.old ++ flat_map (sheet_rows court.now) sheets.now) }
+fn push_sheets(
+    out: &mut Script,
+    court: &Court,
+    cases: &Cases,
+    sheets: &[Sheet],
+) -> Result<(), AllocError>
+    ensures { OnOk result (out.new ≡ out.old ++ flat_map (sheet_rows court.now cases.now.named) sheets.now) }
 {
     for sheet in sheets {
-        push_sheet(out, court, sheet)?;
+        push_sheet(out, court, cases, sheet)?;
     }
     Ok(())
 }
 
 #[tactic(auto, unfolding(crate::specs::Script::sheet_rows))]
-fn push_sheet(out: &mut Script, court: &Court, sheet: &Sheet) -> Result<(), AllocError>
-    ensures { OnOk result (out.new ≡ out.old ++ sheet_rows court.now sheet.now) }
+fn push_sheet(
+    out: &mut Script,
+    court: &Court,
+    cases: &Cases,
+    sheet: &Sheet,
+) -> Result<(), AllocError>
+    ensures { OnOk result (out.new ≡ out.old ++ sheet_rows court.now cases.now.named sheet.now) }
 {
-    push_case(out, sheet)?;
+    push_case(out, cases, sheet)?;
     push_deadlines(out, court.clock(), sheet.case, sheet.deadlines.as_slice())?;
     push_motions(out, court, sheet.case, sheet.motions.as_slice())
 }
 
 #[tactic(auto, unfolding(crate::specs::Script::case_row))]
-fn push_case(out: &mut Script, sheet: &Sheet) -> Result<(), AllocError>
-    ensures { OnOk result (out.new ≡ out.old ++ case_row sheet.now) }
+fn push_case(out: &mut Script, cases: &Cases, sheet: &Sheet) -> Result<(), AllocError>
+    ensures { OnOk result (out.new ≡ out.old ++ case_row cases.now.named sheet.now) }
 {
     out.begin_row("cases", u64::from(sheet.case))?;
     out.day(sheet.filed)?;
+    push_name(out, cases, sheet.case)?;
     out.end_row()
+}
+
+/// Adds the name of a case, where the court's file has names.
+fn push_name(out: &mut Script, cases: &Cases, case: u32) -> Result<(), AllocError>
+    ensures { OnOk result (AddsValues out.old out.new (name_values cases.now.named case)) }
+{
+    if cases.named().is_empty() {
+        return Ok(());
+    }
+    match cases.name_of(case) {
+        Some(name) => out.text(name),
+        None => out.null(),
+    }
 }
 
 /// Adds each deadline of a case.

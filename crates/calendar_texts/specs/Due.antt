@@ -1,8 +1,9 @@
 -- What is due, by day.
 use Rattle.std.specs.Prelude.{ℕ, ℤ, Bool, false, List, [], ◌∷◌, ◌++◌, Option, Some, None, codes, if◌then◌else◌}
-use Rattle.std.specs.Fmt.{decimal}
 use Rattle.std.specs.Option.{option_map_or}
 use Rattle.std.specs.Ordering.{int_eq}
+use Rattle.case_numbers.specs.Words.{case_text}
+use Rattle.case_numbers.specs.declared.names.NamedCase.{NamedCase}
 use Rattle.court_days.specs.Words.{CourtView}
 use Rattle.docket_selection.specs.declared.choice.Choice.{Choice}
 use Rattle.docket_selection.specs.declared.item.DueItem.{DueItem}
@@ -15,18 +16,18 @@ abbrev pub judge_words : CourtView → Option ℕ → List ℕ
 judge_words court (Some judge) = codes ", judge " ++ name_of court.judges judge
 judge_words court None = []
 
-abbrev pub case_words : Option ℕ → List ℕ
-case_words (Some case) = codes ", case " ++ decimal case
-case_words None = []
+abbrev pub case_words : List NamedCase → Option ℕ → List ℕ
+case_words named (Some case) = codes ", case " ++ case_text named case
+case_words named None = []
 
 -- `Mon 2025-09-01 to Sun 2025-09-07, judge Ames, case 3`
-unfoldable pub chosen_words : CourtView → Choice → List ℕ
-chosen_words court choice =
-    whole_day choice.from ++ codes " to " ++ whole_day choice.to ++ judge_words court choice.judge ++ case_words choice.case
+unfoldable pub chosen_words : CourtView → List NamedCase → Choice → List ℕ
+chosen_words court named choice =
+    whole_day choice.from ++ codes " to " ++ whole_day choice.to ++ judge_words court choice.judge ++ case_words named choice.case
 
 -- `Due from Mon 2025-09-01 to Sun 2025-09-07, judge Ames, case 3`
-unfoldable pub heading : CourtView → Choice → List ℕ
-heading court choice = codes "Due from " ++ chosen_words court choice ++ 10 ∷ []
+unfoldable pub heading : CourtView → List NamedCase → Choice → List ℕ
+heading court named choice = codes "Due from " ++ chosen_words court named choice ++ 10 ∷ []
 
 unfoldable pub closing_front : List ℕ
 closing_front = codes "Filing on paper ends at "
@@ -47,14 +48,14 @@ abbrev pub day_line_if_new : (before : Option ℤ) → (day : ℤ) → List ℕ
 day_line_if_new before day = if is_day_of before day then [] else codes "\n" ++ whole_day day ++ codes "\n"
 
 -- a line for each item, in the order of the list, and one for each day before the first item of it
-unfoldable pub lines_after : CourtView → (before : Option ℤ) → List DueItem → List ℕ
-lines_after court before [] = []
-lines_after court before (item ∷ items) = day_line_if_new before item.day ++ item_line court item ++ lines_after court (Some item.day) items
+unfoldable pub lines_after : CourtView → List NamedCase → (before : Option ℤ) → List DueItem → List ℕ
+lines_after court named before [] = []
+lines_after court named before (item ∷ items) = day_line_if_new before item.day ++ item_line court named item ++ lines_after court named (Some item.day) items
 
-abbrev pub lines_or_none : CourtView → List DueItem → List ℕ
-lines_or_none court [] = codes "\nNothing is due.\n"
-lines_or_none court (item ∷ items) = lines_after court None (item ∷ items)
+abbrev pub lines_or_none : CourtView → List NamedCase → List DueItem → List ℕ
+lines_or_none court named [] = codes "\nNothing is due.\n"
+lines_or_none court named (item ∷ items) = lines_after court named None (item ∷ items)
 
 -- what was chosen, and then the items by day
-unfoldable pub due_text : CourtView → Choice → List DueItem → List ℕ
-due_text court choice items = heading court choice ++ closing_line court ++ lines_or_none court items
+unfoldable pub due_text : CourtView → List NamedCase → Choice → List DueItem → List ℕ
+due_text court named choice items = heading court named choice ++ closing_line court ++ lines_or_none court named items

@@ -1,6 +1,8 @@
 -- The line of a deadline or a hearing.
 use Rattle.std.specs.Prelude.{ℕ, ◌+◌, ◌*◌, List, [], ◌∷◌, ◌++◌, codes}
 use Rattle.std.specs.Fmt.{decimal}
+use Rattle.case_numbers.specs.Words.{case_text}
+use Rattle.case_numbers.specs.declared.names.NamedCase.{NamedCase}
 use Rattle.court_days.specs.Words.{CourtView}
 use Rattle.rule6.specs.declared.timeliness.Shown.{Shown}
 use Rattle.rule6.specs.declared.timeliness.Shown.TheVariants as shown
@@ -53,7 +55,7 @@ abbrev pub matter_words : CourtView → (number : ℕ) → Matter → List ℕ
 matter_words court number (Deadline d) = deadline_words number d
 matter_words court number (Hearing h) = hearing_words court number h.hearing
 
--- `  to midnight  case 1 deadline 3: 59e`
-unfoldable pub item_line : CourtView → DueItem → List ℕ
-item_line court item =
-    codes "  " ++ time_words item.second item.matter ++ codes "  case " ++ decimal item.case ++ matter_words court item.number item.matter ++ 10 ∷ []
+-- `  to midnight  case 1 deadline 3: 59e`; a case that has a name is called by it
+unfoldable pub item_line : CourtView → List NamedCase → DueItem → List ℕ
+item_line court named item =
+    codes "  " ++ time_words item.second item.matter ++ codes "  case " ++ case_text named item.case ++ matter_words court item.number item.matter ++ 10 ∷ []

@@ -8,47 +8,59 @@ ghost use Rattle.calendar_texts.specs.Due.{case_words, chosen_words, closing_bac
 use crate::days::push_whole_day;
 use crate::items::push_item;
 use crate::numbers::push_minute;
+use case_numbers::{Cases, push_case_text};
 use court_clock::{Clock, Day};
 use court_days::Court;
 use docket_selection::{Choice, DueItem};
-use office_texts::{judge_name, push_number};
+use office_texts::judge_name;
 use std::alloc::AllocError;
 
-/// Adds what was chosen, and the items by day, a line each. `Err` says that memory ran out.
+/// Adds what was chosen, and the items by day, a line each. `cases` has the names of cases. `Err` says that memory ran out.
 #[tactic(auto, unfolding(crate::specs::Due::due_text))]
 pub fn push_due(
     text: &mut String,
     court: &Court,
+    cases: &Cases,
     choice: &Choice,
     items: &[DueItem],
 ) -> Result<(), AllocError>
-    ensures { OnOk result (AddsText text.old text.new (due_text court.now choice.now items.now)) }
+    ensures { OnOk result (AddsText text.old text.new (due_text court.now cases.now.named choice.now items.now)) }
 {
-    push_heading(text, court, choice)?;
+    push_heading(text, court, cases, choice)?;
     push_closing(text, court)?;
-    push_lines(text, court, items)
+    push_lines(text, court, cases, items)
 }
 
 /// Adds the line that says what was chosen.
 #[tactic(auto, unfolding(crate::specs::Due::heading))]
-fn push_heading(text: &mut String, court: &Court, choice: &Choice) -> Result<(), AllocError>
-    ensures { OnOk result (AddsText text.old text.new (heading court.now choice.now)) }
+fn push_heading(
+    text: &mut String,
+    court: &Court,
+    cases: &Cases,
+    choice: &Choice,
+) -> Result<(), AllocError>
+    ensures { OnOk result (AddsText text.old text.new (heading court.now cases.now.named choice.now)) }
 {
     text.push_str("Due from ")?;
-    push_chosen(text, court, choice)?;
+    push_chosen(text, court, cases, choice)?;
     text.push_str("\n")
 }
 
 /// Adds which days, which judge and which case were chosen. `Err` says that memory ran out.
 #[tactic(auto, unfolding(crate::specs::Due::chosen_words))]
-pub fn push_chosen(text: &mut String, court: &Court, choice: &Choice) -> Result<(), AllocError>
-    ensures { OnOk result (AddsText text.old text.new (chosen_words court.now choice.now)) }
+pub fn push_chosen(
+    text: &mut String,
+    court: &Court,
+    cases: &Cases,
+    choice: &Choice,
+) -> Result<(), AllocError>
+    ensures { OnOk result (AddsText text.old text.new (chosen_words court.now cases.now.named choice.now)) }
 {
     push_whole_day(text, choice.from)?;
     text.push_str(" to ")?;
     push_whole_day(text, choice.to)?;
     push_judge(text, court, choice.judge)?;
-    push_case(text, choice.case)
+    push_case(text, cases, choice.case)
 }
 
 fn push_judge(text: &mut String, court: &Court, judge: Option<u8>) -> Result<(), AllocError>
@@ -63,13 +75,13 @@ fn push_judge(text: &mut String, court: &Court, judge: Option<u8>) -> Result<(),
     }
 }
 
-fn push_case(text: &mut String, case: Option<u32>) -> Result<(), AllocError>
-    ensures { OnOk result (AddsText text.old text.new (case_words case)) }
+fn push_case(text: &mut String, cases: &Cases, case: Option<u32>) -> Result<(), AllocError>
+    ensures { OnOk result (AddsText text.old text.new (case_words cases.now.named case)) }
 {
     match case {
         Some(case) => {
             text.push_str(", case ")?;
-            push_number(text, u64::from(case))
+            push_case_text(text, cases, case)
         }
         None => Ok(()),
     }
@@ -106,23 +118,33 @@ fn push_closing_time(text: &mut String, clock: &Clock) -> Result<(), AllocError>
 }
 
 /// Adds the items by day, or that there are none.
-fn push_lines(text: &mut String, court: &Court, items: &[DueItem]) -> Result<(), AllocError>
-    ensures { OnOk result (AddsText text.old text.new (lines_or_none court.now items.now)) }
+fn push_lines(
+    text: &mut String,
+    court: &Court,
+    cases: &Cases,
+    items: &[DueItem],
+) -> Result<(), AllocError>
+    ensures { OnOk result (AddsText text.old text.new (lines_or_none court.now cases.now.named items.now)) }
 {
     if items.is_empty() {
         return text.push_str("\nNothing is due.\n");
     }
-    push_items(text, court, items)
+    push_items(text, court, cases, items)
 }
 
 /// Adds each item, with the day before the first of each day.
-fn push_items(text: &mut String, court: &Court, items: &[DueItem]) -> Result<(), AllocError>
-    ensures { OnOk result (AddsText text.old text.new (lines_after court.now None items.now)) }
+fn push_items(
+    text: &mut String,
+    court: &Court,
+    cases: &Cases,
+    items: &[DueItem],
+) -> Result<(), AllocError>
+    ensures { OnOk result (AddsText text.old text.new (lines_after court.now cases.now.named None items.now)) }
 {
     let mut before = None;
     for item in items {
         push_day_if_new(text, before, item.day)?;
-        push_item(text, court, item)?;
+        push_item(text, court, cases, item)?;
         before = Some(item.day);
     }
     Ok(())

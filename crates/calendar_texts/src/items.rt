@@ -7,6 +7,7 @@ ghost use Rattle.calendar_texts.specs.Items.{deadline_words, end_words, hearing_
 use crate::judges::push_panel;
 use crate::numbers::{push_minute, push_second};
 use crate::periods::push_period;
+use case_numbers::{Cases, push_case_text};
 use court_days::Court;
 use docket_rows::{Hearing, State};
 use docket_selection::{DueDeadline, DueItem, Matter};
@@ -14,15 +15,20 @@ use office_texts::{push_number, room_name};
 use rule6::Shown;
 use std::alloc::AllocError;
 
-/// Adds the line of a deadline or a hearing.
+/// Adds the line of a deadline or a hearing, with the name of its case where it has one.
 #[tactic(auto, unfolding(crate::specs::Items::item_line))]
-pub(crate) fn push_item(text: &mut String, court: &Court, item: &DueItem) -> Result<(), AllocError>
-    ensures { OnOk result (AddsText text.old text.new (item_line court.now item.now)) }
+pub(crate) fn push_item(
+    text: &mut String,
+    court: &Court,
+    cases: &Cases,
+    item: &DueItem,
+) -> Result<(), AllocError>
+    ensures { OnOk result (AddsText text.old text.new (item_line court.now cases.now.named item.now)) }
 {
     text.push_str("  ")?;
     push_time(text, item.second, &item.matter)?;
     text.push_str("  case ")?;
-    push_number(text, u64::from(item.case))?;
+    push_case_text(text, cases, item.case)?;
     push_matter(text, court, item.number, &item.matter)?;
     text.push_str("\n")
 }

@@ -2,12 +2,12 @@
 use Rattle.std.specs.Prelude.{ℕ, ℤ, List, [], ◌∷◌, ◌++◌, codes, drop, nat_eq, Option, Some, None, if◌then◌else◌}
 use Rattle.std.specs.List.{starts_with}
 use Rattle.std.specs.Fmt.{decimal}
-use Rattle.court_days.specs.Words.{CourtView}
 use Rattle.docket_rows.specs.Words.{parts_of}
 use Rattle.row_line.specs.declared.line.Line.{Line}
 use Rattle.row_line.specs.declared.line.Line.TheVariants as says
 use Rattle.row_line.specs.Words.{line_read}
 use Rattle.office_rows.specs.Words.{names_of}
+use Rattle.docket_entries.specs.declared.standing.Standing.{Standing}
 use Rattle.docket_entries.specs.Words.{answers, cases_of, docketed_by, leaves, most_clerks, next_number, reading_at, within}
 use Rattle.careful_rows.specs.Warnings.{warnings_on}
 
@@ -16,13 +16,13 @@ abbrev pub after_mark : (line : List ℕ) → Option (List ℕ)
 after_mark line = if starts_with nat_eq line (codes "!") then Some (drop 1 line) else None
 
 -- what a clerk is warned of a line that says this, by what is docketed before it
-abbrev pub warnings_said : CourtView → (today : Option ℤ) → (kept : List (List ℕ)) → Line → List ℕ
-warnings_said court today kept says.Blank = []
-warnings_said court today kept (says.Fault cause) = []
-warnings_said court today kept (says.Row row) = warnings_on court (cases_of court kept).named (parts_of (docketed_by court kept)) today row.work
+abbrev pub warnings_said : Standing → (today : Option ℤ) → (kept : List (List ℕ)) → Line → List ℕ
+warnings_said under today kept says.Blank = []
+warnings_said under today kept (says.Fault cause) = []
+warnings_said under today kept (says.Row row) = warnings_on under (cases_of under kept).named (parts_of (docketed_by under kept)) today row.work
 
-unfoldable pub warnings_at : CourtView → (today : Option ℤ) → (kept : List (List ℕ)) → (line : List ℕ) → List ℕ
-warnings_at court today kept line = warnings_said court today kept (within kept (line_read most_clerks (names_of court) (reading_at court kept line).text))
+unfoldable pub warnings_at : Standing → (today : Option ℤ) → (kept : List (List ℕ)) → (line : List ℕ) → List ℕ
+warnings_at under today kept line = warnings_said under today kept (within kept (line_read most_clerks (names_of under.court) (reading_at under kept line).text))
 
 -- what is answered where there are warnings, and the next row has this number
 unfoldable pub held_first : (number : ℕ) → List ℕ
@@ -40,21 +40,21 @@ line_taken line (Some rest) warnings = Some rest
 line_taken line None [] = Some line
 line_taken line None (byte ∷ bytes) = None
 
-unfoldable pub taken_at : CourtView → (today : Option ℤ) → (kept : List (List ℕ)) → (line : List ℕ) → Option (List ℕ)
-taken_at court today kept line = line_taken line (after_mark line) (warnings_at court today kept line)
+unfoldable pub taken_at : Standing → (today : Option ℤ) → (kept : List (List ℕ)) → (line : List ℕ) → Option (List ℕ)
+taken_at under today kept line = line_taken line (after_mark line) (warnings_at under today kept line)
 
 -- what a line leaves: what the line leaves that is taken, if one is
-abbrev pub left_by_taken : CourtView → (kept : List (List ℕ)) → Option (List ℕ) → List (List ℕ)
-left_by_taken court kept None = []
-left_by_taken court kept (Some line) = leaves court kept line
+abbrev pub left_by_taken : Standing → (kept : List (List ℕ)) → Option (List ℕ) → List (List ℕ)
+left_by_taken under kept None = []
+left_by_taken under kept (Some line) = leaves under kept line
 
-abbrev pub careful_leaves : CourtView → (today : Option ℤ) → (kept : List (List ℕ)) → (line : List ℕ) → List (List ℕ)
-careful_leaves court today kept line = left_by_taken court kept (taken_at court today kept line)
+abbrev pub careful_leaves : Standing → (today : Option ℤ) → (kept : List (List ℕ)) → (line : List ℕ) → List (List ℕ)
+careful_leaves under today kept line = left_by_taken under kept (taken_at under today kept line)
 
 -- what it is answered: as that line, or its warnings
-abbrev pub told_of_taken : CourtView → (kept : List (List ℕ)) → (warnings : List ℕ) → Option (List ℕ) → List ℕ
-told_of_taken court kept warnings None = held_text (next_number kept) warnings
-told_of_taken court kept warnings (Some line) = answers court kept line
+abbrev pub told_of_taken : Standing → (kept : List (List ℕ)) → (warnings : List ℕ) → Option (List ℕ) → List ℕ
+told_of_taken under kept warnings None = held_text (next_number kept) warnings
+told_of_taken under kept warnings (Some line) = answers under kept line
 
-abbrev pub careful_answers : CourtView → (today : Option ℤ) → (kept : List (List ℕ)) → (line : List ℕ) → List ℕ
-careful_answers court today kept line = told_of_taken court kept (warnings_at court today kept line) (taken_at court today kept line)
+abbrev pub careful_answers : Standing → (today : Option ℤ) → (kept : List (List ℕ)) → (line : List ℕ) → List ℕ
+careful_answers under today kept line = told_of_taken under kept (warnings_at under today kept line) (taken_at under today kept line)

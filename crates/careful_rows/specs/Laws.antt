@@ -1,6 +1,5 @@
 -- What these definitions come to.
 use Rattle.std.specs.Prelude.{◌≡◌, ℕ, ℤ, List, [], ◌∷◌, ◌++◌, Option, Some, None}
-use Rattle.court_days.specs.Words.{CourtView}
 use Rattle.docket_rows.specs.declared.command.Command.{Command as CommandOf}
 use Rattle.docket_rows.specs.declared.refusal.Refusal.{Refusal}
 use Rattle.docket_rows.specs.Words.{parts_of, refusal, setup_of}
@@ -10,7 +9,9 @@ use Rattle.office_rows.specs.Words.{names_of}
 use Rattle.row_line.specs.declared.line.Line.TheVariants as says
 use Rattle.row_line.specs.Words.{line_read}
 use Rattle.durable_session.specs.Words.{left_by}
-use Rattle.docket_entries.specs.Words.{IsHistory, SaysCourt, docketed_by, leaves, most_clerks, reading_at, standing_file, within}
+use Rattle.retired_numbers.specs.Words.{placed_command}
+use Rattle.docket_entries.specs.declared.standing.Standing.{Standing}
+use Rattle.docket_entries.specs.Words.{IsHistory, StandsAfter, docketed_by, leaves, most_clerks, reading_at, within}
 use Rattle.careful_rows.specs.Careful.{after_mark, careful_leaves, taken_at}
 
 -- the lines that are taken, each after what those before it leave
@@ -18,24 +19,24 @@ abbrev pub with_taken : Option (List ℕ) → List (List ℕ) → List (List ℕ
 with_taken None lines = lines
 with_taken (Some line) lines = line ∷ lines
 
-unfoldable pub lines_taken : CourtView → (today : Option ℤ) → (kept : List (List ℕ)) → List (List ℕ) → List (List ℕ)
-lines_taken court today kept [] = []
-lines_taken court today kept (line ∷ lines) =
-    with_taken (taken_at court today kept line) (lines_taken court today (kept ++ careful_leaves court today kept line) lines)
+unfoldable pub lines_taken : Standing → (today : Option ℤ) → (kept : List (List ℕ)) → List (List ℕ) → List (List ℕ)
+lines_taken under today kept [] = []
+lines_taken under today kept (line ∷ lines) =
+    with_taken (taken_at under today kept line) (lines_taken under today (kept ++ careful_leaves under today kept line) lines)
 
 -- Lines leave what the lines that are taken of them would leave without warnings.
 abbrev pub WarningsKeepNothing : Type 0
-WarningsKeepNothing = (court : CourtView) (today : Option ℤ) (kept lines : List (List ℕ))
-    → left_by (careful_leaves court today) kept lines ≡ left_by (leaves court) kept (lines_taken court today kept lines)
+WarningsKeepNothing = (under : Standing) (today : Option ℤ) (kept lines : List (List ℕ))
+    → left_by (careful_leaves under today) kept lines ≡ left_by (leaves under) kept (lines_taken under today kept lines)
 
--- So what they leave after a history is a history with it, under the court that stands, and the same court stands after them.
+-- So what they leave after a history is a history with it, under what stands, and the same stands after them.
 abbrev pub CarefulIsHistory : Type 0
-CarefulIsHistory = (court : CourtView) (today : Option ℤ) (kept lines : List (List ℕ)) → IsHistory kept → SaysCourt (standing_file kept) court
-    → IsHistory (kept ++ left_by (careful_leaves court today) kept lines) × SaysCourt (standing_file (kept ++ left_by (careful_leaves court today) kept lines)) court
+CarefulIsHistory = (under : Standing) (today : Option ℤ) (kept lines : List (List ℕ)) → IsHistory kept → StandsAfter kept under
+    → IsHistory (kept ++ left_by (careful_leaves under today) kept lines) × StandsAfter (kept ++ left_by (careful_leaves under today) kept lines) under
 
 -- A command that would be refused by what is docketed before it is taken with a '!' before it alone.
 abbrev pub RefusedAreHeld : Type 0
-RefusedAreHeld = (court : CourtView) (today : Option ℤ) (kept : List (List ℕ)) (line : List ℕ) (row : Row) (command : CommandOf) (refused : Refusal)
-    → within kept (line_read most_clerks (names_of court) (reading_at court kept line).text) ≡ says.Row row → row.work ≡ Command command
-    → refusal (setup_of court) (parts_of (docketed_by court kept)) command ≡ Some refused
-    → after_mark line ≡ None → taken_at court today kept line ≡ None
+RefusedAreHeld = (under : Standing) (today : Option ℤ) (kept : List (List ℕ)) (line : List ℕ) (row : Row) (asked : CommandOf) (refused : Refusal)
+    → within kept (line_read most_clerks (names_of under.court) (reading_at under kept line).text) ≡ says.Row row → row.work ≡ Command asked
+    → refusal (setup_of under.court) (parts_of (docketed_by under kept)) (placed_command under.corrections.retired asked) ≡ Some refused
+    → after_mark line ≡ None → taken_at under today kept line ≡ None

@@ -7,7 +7,7 @@ pub fn warnings_keep_nothing()
     ensures { WarningsKeepNothing }
 {}
 
-/// What they leave after a history is a history with it, under the same court.
+/// What they leave after a history is a history with it, and the same stands after it.
 #[tactic(auto, using(crate::proofs::CarefulLemmas::careful_history))]
 pub fn careful_is_history()
     ensures { CarefulIsHistory }

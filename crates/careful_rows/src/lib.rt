@@ -12,5 +12,5 @@ mod start;
 mod warnings;
 
 pub use laws::{careful_is_history, refused_are_held, warnings_keep_nothing};
-pub use register::{CarefulCourt, CarefulRegister};
+pub use register::{CarefulRegister, CarefulStanding};
 pub use warnings::warnings_on;

@@ -1,19 +1,16 @@
 //! What a clerk is warned of a command that would be refused.
 
-ghost use Rattle.std.specs.Prelude.{◌≡◌, ◌++◌, OnOk, string_bytes};
+ghost use Rattle.std.specs.Prelude.{◌≡◌, ◌++◌, IfOk, OnOk, string_bytes};
 ghost use Rattle.docket_rows.specs.Words.{setup_of};
 ghost use Rattle.docket_core.specs.Words.{parts_held};
-ghost use Rattle.refusal_texts.specs.Words.{motion_of_refusal};
-ghost use Rattle.refused_commands.specs.Words.{why_refused};
-ghost use Rattle.named_answers.specs.Words.{motion_called};
-ghost use Rattle.careful_rows.specs.Warnings.{if_refused, refused_line};
+ghost use Rattle.careful_rows.specs.Warnings.{called_in, if_refused, refused_line};
 
 use crate::hearings::push_kept;
 use crate::instead::push_instead;
 use case_numbers::Cases;
 use court_clock::Clock;
-use court_days::Court;
 use docket_core::Docket;
+use docket_entries::Standing;
 use docket_rows::{Answer, Command, Refusal};
 use named_answers::{push_motion_called, push_named_answer};
 use refusal_texts::motion_of_refusal;
@@ -25,17 +22,29 @@ use std::alloc::{AllocError, Global};
 pub(crate) fn push_refused(
     alloc: Global,
     text: &mut String,
-    court: &Court,
+    under: &Standing,
     cases: &Cases,
     docket: &Docket,
+    asked: &Command,
     command: &Command,
     refusal: &Refusal,
 ) -> Result<(), AllocError>
-    ensures { docket.now.setup ≡ setup_of court.now → OnOk result (string_bytes text.new ≡ string_bytes text.old ++ if_refused court.now cases.now.named (parts_held docket.now) command.now refusal.now) }
+    ensures { docket.now.setup ≡ setup_of under.now.court → OnOk result (string_bytes text.new ≡ string_bytes text.old ++ if_refused under.now cases.now.named (parts_held docket.now) asked.now command.now refusal.now) }
 {
-    push_refused_line(text, court.clock(), cases, refusal)?;
-    push_why(alloc, text, court, cases, docket, command, refusal)?;
-    push_kept(alloc, text, court, cases, docket, command, refusal)?;
+    let court = &under.court;
+    let numbered = under.corrections.retired().number_refusal(*refusal);
+    let called = called_in(alloc, cases, asked, &numbered)?;
+    push_refused_line(text, court.clock(), cases, &numbered)?;
+    push_why_refused(
+        alloc,
+        text,
+        court,
+        docket,
+        command,
+        called.as_str(),
+        refusal,
+    )?;
+    push_kept(alloc, text, under, cases, docket, command, refusal)?;
     push_instead(alloc, text, docket, command, refusal)
 }
 
@@ -53,27 +62,16 @@ fn push_refused_line(
     text.push_str("\n")
 }
 
-/// Adds why a command is refused, with the name of the case of the motion that this rests on.
-fn push_why(
+/// What the motion is called on which a refusal of what was asked rests.
+fn called_in(
     alloc: Global,
-    text: &mut String,
-    court: &Court,
     cases: &Cases,
-    docket: &Docket,
-    command: &Command,
-    refusal: &Refusal,
-) -> Result<(), AllocError>
-    ensures { docket.now.setup ≡ setup_of court.now → OnOk result (string_bytes text.new ≡ string_bytes text.old ++ why_refused court.now (parts_held docket.now) command.now (motion_called cases.now.named (motion_of_refusal command.now refusal.now)) refusal.now) }
+    asked: &Command,
+    numbered: &Refusal,
+) -> Result<String, AllocError>
+    ensures { IfOk result (λ called. string_bytes called ≡ called_in cases.now.named asked.now numbered.now) }
 {
     let mut called = String::new(alloc);
-    push_motion_called(&mut called, cases, motion_of_refusal(command, refusal))?;
-    push_why_refused(
-        alloc,
-        text,
-        court,
-        docket,
-        command,
-        called.as_str(),
-        refusal,
-    )
+    push_motion_called(&mut called, cases, motion_of_refusal(asked, numbered))?;
+    Ok(called)
 }

@@ -5,9 +5,8 @@ ghost use Rattle.careful_rows.specs.Careful.{after_mark, held_first, held_last, 
 
 use crate::warnings::warnings_on;
 use court_clock::Day;
-use court_days::Court;
 use csv::StringRecord;
-use docket_entries::{DocketRegister, read_named};
+use docket_entries::{DocketRegister, Standing, read_named};
 use docket_rows::{Command, Query};
 use durable_session::Register;
 use office_rows::{Row, RowCause, Work};
@@ -15,11 +14,11 @@ use row_line::Line;
 use rule_periods::{Grant, Request};
 use std::alloc::{AllocError, Global};
 
-/// The court by which rows go, and the day that counts as today, if one does.
+/// What stands when rows are entered, and the day that counts as today, if one does.
 #[derive(Drop)]
-pub struct CarefulCourt {
-    /// The court.
-    pub court: Court,
+pub struct CarefulStanding {
+    /// What stands: the court, and what strikes come to.
+    pub standing: Standing,
     /// The day, for the warning of an event that lies far from it.
     pub today: Option<Day>,
 }
@@ -58,19 +57,19 @@ impl CarefulRegister {
     fn warnings_at(
         &self,
         alloc: Global,
-        setup: &CarefulCourt,
+        setup: &CarefulStanding,
         line: &[u8],
     ) -> Result<String, AllocError>
-        ensures { (kept : List (List ℕ)) → StandsAt setup.now.court self.now.register kept → IfOk result (λ text. string_bytes text ≡ warnings_at setup.now.court setup.now.today kept line.now) }
+        ensures { (kept : List (List ℕ)) → StandsAt setup.now.standing self.now.register kept → IfOk result (λ text. string_bytes text ≡ warnings_at setup.now.standing setup.now.today kept line.now) }
     {
         let _types: RowTypes = None;
         let mut fields = StringRecord::new(alloc);
         let cases = self.register.cases();
-        let (said, _) = read_named(alloc, &setup.court, cases, line, &mut fields)?;
+        let (said, _) = read_named(alloc, &setup.standing.court, cases, line, &mut fields)?;
         match said {
             Line::Row(row) if self.register.has_room() => warnings_on(
                 alloc,
-                &setup.court,
+                &setup.standing,
                 cases,
                 self.register.docket(),
                 setup.today,
@@ -121,31 +120,35 @@ fn push_held(
 }
 
 impl Register for CarefulRegister {
-    type Setup = CarefulCourt;
+    type Setup = CarefulStanding;
 
-    ghost use Rattle.docket_entries.specs.Words.{StandsAt};
+    ghost use Rattle.docket_entries.specs.Words.{IsReadyAt};
     ghost use Rattle.careful_rows.specs.Careful.{careful_answers, careful_leaves};
 
-    ghost stands = { λ setup careful kept. StandsAt setup.court careful.register kept };
+    ghost stands = { λ setup careful kept. IsReadyAt setup.standing careful.register kept };
 
-    ghost leaves = { λ setup kept line. careful_leaves setup.court setup.today kept line };
+    ghost leaves = { λ setup kept line. careful_leaves setup.standing setup.today kept line };
 
-    ghost answers = { λ setup kept line. careful_answers setup.court setup.today kept line };
+    ghost answers = { λ setup kept line. careful_answers setup.standing setup.today kept line };
 
     fn take(
         &mut self,
-        setup: &CarefulCourt,
+        setup: &CarefulStanding,
         alloc: Global,
         line: &[u8],
         batch: &mut Vec<Vec<u8>>,
         text: &mut Vec<u8>,
     ) -> Result<(), AllocError> {
         if let Some(rest) = after_mark(line) {
-            return self.register.take(&setup.court, alloc, rest, batch, text);
+            return self
+                .register
+                .take(&setup.standing, alloc, rest, batch, text);
         }
         let warnings = self.warnings_at(alloc, setup, line)?;
         if are_none(warnings.as_str()) {
-            return self.register.take(&setup.court, alloc, line, batch, text);
+            return self
+                .register
+                .take(&setup.standing, alloc, line, batch, text);
         }
         push_held(alloc, text, self.register.next_number(), warnings.as_str())
     }

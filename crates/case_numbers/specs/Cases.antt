@@ -30,7 +30,7 @@ case_text named number = unwrap_or (name_of named number) (decimal number)
 abbrev pub last_number : ℕ
 last_number = 4096
 
--- the least of so many numbers, from the first on, that isn't among these
+-- the least of this many numbers, from the first on, that isn't among these
 unfoldable pub first_free : (opened : List ℕ) → (first count : ℕ) → Option ℕ
 first_free opened first zero = None
 first_free opened first (suc count) = if list_any (nat_eq first) opened then first_free opened (first + 1) count else Some first

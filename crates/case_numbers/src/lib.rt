@@ -6,9 +6,11 @@ mod laws;
 mod name;
 mod name_line;
 mod names;
+mod texts;
 
 pub use cases::Cases;
 pub use laws::{names_stay_apart, shown_is_read_back};
 pub use name::{CaseName, case_read};
 pub use name_line::{after_name, name_before, push_name_line};
 pub use names::NamedCase;
+pub use texts::push_case_text;

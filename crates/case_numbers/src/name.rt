@@ -22,7 +22,7 @@ impl Model for CaseName {
 }
 
 impl CaseName {
-    /// By what cases are told apart: the office, the year, the kind and five digits.
+    /// The key that tells cases apart: the office, the year, the kind and five digits.
     pub fn key(&self) -> &[u8]
         ensures { result.now ≡ self.now.key }
     {

@@ -1,21 +1,24 @@
 -- What a docket's desk keeps and promises.
-use Rattle.std.proofs.Common.{◌≡◌, ◌⊎◌, inl, inr, ℕ, List, [], ◌∷◌, ◌++◌, Bool, IfSome, None, Option, Some, length, take, refl, sym, arith, subst}
+use Rattle.std.proofs.Common.{◌≡◌, ◌⊎◌, inl, inr, ℕ, List, [], ◌∷◌, ◌++◌, Bool, IfSome, None, Ok, Option, Some, length, take, refl, sym, arith, subst}
 use Rattle.std.specs.Prelude.{Vec}
 use Rattle.std.specs.declared.alloc.Global.{Global}
 use Rattle.durable_journal.specs.Words.{IsKept, StandsFor, batch_of}
 use Rattle.durable_journal.proofs.CallerLemmas.{one_list, rest_kept}
 use Rattle.durable_session.specs.Words.{IsAllOrNone, IsPromised, IsServed, left_by, lines_of, numbered_lines, unfinished_of}
-use Rattle.docket_entries.specs.Words.{IsHistory, SaysCourt, StandsAt, answers, faults_of, later_file, leaves, standing_file}
+use Rattle.row_strikes.specs.declared.strike.Strike.{Strike}
+use Rattle.row_strikes.specs.Words.{strike_entry}
+use Rattle.docket_entries.specs.declared.standing.Standing.{Standing}
+use Rattle.docket_entries.specs.Words.{IsHistory, IsReadyAt, StandsAfter, answers, faults_of, later_file, leaves, strike_for}
 use Rattle.docket_entries.proofs.CallerLemmas.{left_docketed, left_history}
 use Rattle.desk_program.specs.declared.desk.Desk.{Desk}
-use Rattle.desk_program.specs.Desk.{IsPromisedDocket, KeepsDocket, court_at, disk_under, docketed_at}
+use Rattle.desk_program.specs.Desk.{IsPromisedDocket, KeepsDocket, disk_under, docketed_at, standing_at}
 use Rattle.desk_program.specs.Together.{IsDocketAllOrNone, KeepsTogether}
 
 module _ {D : Type 0} (seen : D → List ℕ) (may_leave : D → List ℕ → Type 0) (is_usable : D → Bool) (before after : Desk D) (kept : List (List ℕ)) where
   -- lines that are served, of a docket
-  pub served_docket : KeepsDocket seen may_leave is_usable kept before → court_at after ≡ court_at before → (lines : List (List ℕ)) (old new : Option (List ℕ))
-      → IsServed (leaves (court_at before)) (answers (court_at before)) (λ entries. IsKept seen may_leave is_usable entries after.journal) (StandsAt (court_at before) after.register) kept lines old new
-      → IsServed (leaves (court_at before)) (answers (court_at before)) (λ entries. KeepsDocket seen may_leave is_usable entries after) (λ entries. court_at after ≡ court_at before) kept lines old new
+  pub served_docket : KeepsDocket seen may_leave is_usable kept before → standing_at after ≡ standing_at before → (lines : List (List ℕ)) (old new : Option (List ℕ))
+      → IsServed (leaves (standing_at before)) (answers (standing_at before)) (λ entries. IsKept seen may_leave is_usable entries after.journal) (IsReadyAt (standing_at before) after.register) kept lines old new
+      → IsServed (leaves (standing_at before)) (answers (standing_at before)) (λ entries. KeepsDocket seen may_leave is_usable entries after) (λ entries. standing_at after ≡ standing_at before) kept lines old new
   served_docket keeps same lines old new served = record {
     keeps = record { kept = served.keeps; docketed = left_docketed (docketed_at before) (docketed_at after) kept lines keeps.docketed same served.stands };
     stands = same;
@@ -23,39 +26,39 @@ module _ {D : Type 0} (seen : D → List ℕ) (may_leave : D → List ℕ → Ty
   }
 
   -- the same of an input that is kept together
-  pub kept_together : KeepsDocket seen may_leave is_usable kept before → court_at after ≡ court_at before → (input : List ℕ) (old new : Option (List ℕ))
-      → faults_of (court_at before) kept (numbered_lines input) ≡ [] → unfinished_of input ≡ []
-      → IsServed (leaves (court_at before)) (answers (court_at before)) (λ entries. IsKept seen may_leave is_usable entries after.journal) (StandsAt (court_at before) after.register) kept (lines_of input) old new
-      → KeepsTogether (court_at before) kept input old new (λ entries. KeepsDocket seen may_leave is_usable entries after)
+  pub kept_together : KeepsDocket seen may_leave is_usable kept before → standing_at after ≡ standing_at before → (input : List ℕ) (old new : Option (List ℕ))
+      → faults_of (standing_at before) kept (numbered_lines input) ≡ [] → unfinished_of input ≡ []
+      → IsServed (leaves (standing_at before)) (answers (standing_at before)) (λ entries. IsKept seen may_leave is_usable entries after.journal) (IsReadyAt (standing_at before) after.register) kept (lines_of input) old new
+      → KeepsTogether (standing_at before) kept input old new (λ entries. KeepsDocket seen may_leave is_usable entries after)
   kept_together keeps same input old new faultless finished served =
       let all = served_docket keeps same (lines_of input) old new served in
       record { faultless = faultless; finished = finished; keeps = all.keeps; told = all.told }
 
   -- lines that are promised, of a docket
   pub promised_docket : KeepsDocket seen may_leave is_usable kept before → (lines : List (List ℕ)) (old new : Option (List ℕ)) (HasWritten : Type 0) (MayLeave : List ℕ → Type 0)
-      → IsPromised (leaves (court_at before)) (answers (court_at before)) kept lines old new HasWritten MayLeave
-      → IsPromisedDocket (court_at before) kept lines old new HasWritten MayLeave
+      → IsPromised (leaves (standing_at before)) (answers (standing_at before)) kept lines old new HasWritten MayLeave
+      → IsPromisedDocket (standing_at before) kept lines old new HasWritten MayLeave
   promised_docket keeps lines old new HasWritten MayLeave promised = record {
     promised = promised;
     opens = λ file may.
         let (n, later, stands) = promised.lasts file may in
-        let both = left_history (court_at before) kept (take n lines) keeps.docketed.history keeps.docketed.court in
-        (kept ++ left_by (leaves (court_at before)) kept (take n lines), stands, both.0, both.1);
+        let both = left_history (standing_at before) kept (take n lines) keeps.docketed.history keeps.docketed.standing in
+        (kept ++ left_by (leaves (standing_at before)) kept (take n lines), stands, both.0, both.1);
   }
 
   -- lines that are kept together, of a docket
   pub all_or_none_docket : KeepsDocket seen may_leave is_usable kept before → (lines : List (List ℕ)) (MayLeave : List ℕ → Type 0)
-      → IsAllOrNone (leaves (court_at before)) kept lines MayLeave → IsDocketAllOrNone (court_at before) kept lines MayLeave
+      → IsAllOrNone (leaves (standing_at before)) kept lines MayLeave → IsDocketAllOrNone (standing_at before) kept lines MayLeave
   all_or_none_docket keeps lines MayLeave either = record { all_or_none = either; opens = λ file may. by file (either file may) }
     where
-      by : (file : List ℕ) → StandsFor file kept ⊎ StandsFor file (kept ++ left_by (leaves (court_at before)) kept lines) → (entries : List (List ℕ)) × StandsFor file entries × IsHistory entries × SaysCourt (standing_file entries) (court_at before)
-      by file (inl stands) = (kept, stands, keeps.docketed.history, keeps.docketed.court)
+      by : (file : List ℕ) → StandsFor file kept ⊎ StandsFor file (kept ++ left_by (leaves (standing_at before)) kept lines) → (entries : List (List ℕ)) × StandsFor file entries × IsHistory entries × StandsAfter entries (standing_at before)
+      by file (inl stands) = (kept, stands, keeps.docketed.history, keeps.docketed.standing)
       by file (inr stands) =
-          let both = left_history (court_at before) kept lines keeps.docketed.history keeps.docketed.court in
-          (kept ++ left_by (leaves (court_at before)) kept lines, stands, both.0, both.1)
+          let both = left_history (standing_at before) kept lines keeps.docketed.history keeps.docketed.standing in
+          (kept ++ left_by (leaves (standing_at before)) kept lines, stands, both.0, both.1)
 
   -- and where nothing was done
-  pub none_docket : KeepsDocket seen may_leave is_usable kept before → (lines : List (List ℕ)) → IsDocketAllOrNone (court_at before) kept lines (may_leave (disk_under before))
+  pub none_docket : KeepsDocket seen may_leave is_usable kept before → (lines : List (List ℕ)) → IsDocketAllOrNone (standing_at before) kept lines (may_leave (disk_under before))
   none_docket keeps lines =
       all_or_none_docket keeps lines (may_leave (disk_under before)) (λ file may. inl (rest_kept seen may_leave is_usable before.journal kept keeps.kept file may))
 
@@ -73,11 +76,22 @@ pub no_entries : (entries : List (Vec ℕ Global)) → 0 ≡ length entries → 
 no_entries [] h = refl
 no_entries (entry ∷ entries) h = absurd (omega (arith, h))
 
--- what is appended is one court's file
-pub one_file : (c : List ℕ) (entries batch : List (List ℕ)) (file entry : List ℕ) → batch ≡ entry ∷ [] → later_file entry ≡ Some file → StandsFor c entries ⊎ StandsFor c (entries ++ batch)
+-- what is appended is one entry
+pub one_more : (c : List ℕ) (entries batch : List (List ℕ)) (entry : List ℕ) → batch ≡ entry ∷ [] → StandsFor c entries ⊎ StandsFor c (entries ++ batch) → StandsFor c entries ⊎ StandsFor c (entries ++ entry ∷ [])
+one_more c entries batch entry is (inl stands) = inl stands
+one_more c entries batch entry is (inr stands) = inr (subst (λ (b : List (List ℕ)). StandsFor c (entries ++ b)) is stands)
+
+-- which is a court's file
+pub one_file : (c : List ℕ) (entries : List (List ℕ)) (file entry : List ℕ) → later_file entry ≡ Some file → StandsFor c entries ⊎ StandsFor c (entries ++ entry ∷ [])
     → StandsFor c entries ⊎ ((e : List ℕ) × (later_file e ≡ Some file) × StandsFor c (entries ++ e ∷ []))
-one_file c entries batch file entry is says (inl stands) = inl stands
-one_file c entries batch file entry is says (inr stands) = inr (entry, says, subst (λ (b : List (List ℕ)). StandsFor c (entries ++ b)) is stands)
+one_file c entries file entry says (inl stands) = inl stands
+one_file c entries file entry says (inr stands) = inr (entry, says, stands)
+
+-- or a strike
+pub one_strike : (c : List ℕ) (under : Standing) (entries : List (List ℕ)) (row : ℕ) (strike : Strike) (remark : List ℕ) → strike_for under entries row ≡ Ok strike → StandsFor c entries ⊎ StandsFor c (entries ++ strike_entry strike remark ∷ [])
+    → StandsFor c entries ⊎ ((s : Strike) × (strike_for under entries row ≡ Ok s) × StandsFor c (entries ++ strike_entry s remark ∷ []))
+one_strike c under entries row strike remark is (inl stands) = inl stands
+one_strike c under entries row strike remark is (inr stands) = inr (strike, is, stands)
 
 -- what is appended is a docket's first court's file
 pub first_file : (c : List ℕ) (entries batch : List (List ℕ)) (file : List ℕ) → entries ≡ [] → batch ≡ file ∷ [] → StandsFor c [] ⊎ StandsFor c ([] ++ batch)

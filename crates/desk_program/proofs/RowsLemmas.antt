@@ -1,31 +1,44 @@
 -- The rows of entries and the changes to answers, written one after another.
-use Rattle.std.proofs.Common.{◌≡◌, ◌∙◌, ◌+◌, ◌<◌, ℕ, List, [], ◌∷◌, ◌++◌, length, map, take, refl, sym, ap, append_assoc, append-nil}
-use Rattle.std.specs.Prelude.{Vec, get_or}
+use Rattle.std.proofs.Common.{◌≡◌, ◌∙◌, ◌+◌, ◌<◌, ℕ, List, [], ◌∷◌, ◌++◌, length, length-append, map, take, refl, sym, ap, append_assoc, append-nil, arith}
+use Rattle.std.specs.Prelude.{Option, None, Some, Vec, false, get_or, is_none, is_some, option_map, true}
 use Rattle.std.specs.declared.alloc.Global.{Global}
 use Rattle.std.proofs.lemmas.Grind.{flat_map-append}
 use Rattle.std.proofs.lemmas.List.{map-append, take_more}
 use Rattle.durable_journal.specs.Words.{batch_of}
-use Rattle.office_rows.specs.Words.{CourtNames}
 use Rattle.docket_entries.specs.declared.review.Difference.{Difference}
-use Rattle.docket_entries.specs.Words.{change_in, later_file, row_entries, row_only, row_shown}
-use Rattle.docket_entries.proofs.CallerLemmas.{no_rows_first, row_entries-more}
-use Rattle.desk_program.specs.Rows.{change_text, changes_text, rows_shown}
+use Rattle.docket_entries.specs.declared.standing.Standing.{Standing}
+use Rattle.docket_entries.specs.Words.{Note, change_in, next_number, note_in, row_entries, row_only, row_written, rows_written}
+use Rattle.docket_entries.proofs.CallerLemmas.{no_rows_first, row_entries-more, rows_written-append}
+use Rattle.desk_program.specs.Rows.{change_text, changes_text}
 
 -- what is written before the first row
-pub rows_first : (names : CourtNames) (head text : List ℕ) (entries : List (Vec ℕ Global)) → text ≡ [] ++ head → [] ++ text ≡ head ++ rows_shown names (row_entries (batch_of (take 1 entries)))
-rows_first names head text entries is = is ∙ sym (ap (λ (l : List (List ℕ)). head ++ rows_shown names l) (no_rows_first entries) ∙ append-nil head)
+pub rows_first : (under : Standing) (head text : List ℕ) (entries : List (Vec ℕ Global)) → text ≡ [] ++ head → [] ++ text ≡ head ++ rows_written under 1 (row_entries (batch_of (take 1 entries)))
+unfolding rows_written
+rows_first under head text entries is = is ∙ sym (ap (λ (l : List (List ℕ)). head ++ rows_written under 1 l) (no_rows_first entries) ∙ append-nil head)
+
+-- and the number of that row
+pub number_first : (entries : List (Vec ℕ Global)) → 1 ≡ next_number (batch_of (take 1 entries))
+number_first entries = sym (ap (λ (l : List (List ℕ)). length l + 1) (no_rows_first entries))
 
 -- what is written after one entry more
-pub rows_more : (names : CourtNames) (written text then front left head : List ℕ) (kept : List (List ℕ)) (entry : List ℕ) → 0 < length kept
-    → written ++ text ≡ head ++ rows_shown names (row_entries kept) → then ≡ text ++ rows_shown names (row_only (later_file entry) entry) → then ≡ front ++ left
-    → (written ++ front) ++ left ≡ head ++ rows_shown names (row_entries (kept ++ entry ∷ []))
-rows_more names written text then front left head kept entry begun so_far more parts =
+pub rows_more : (under : Standing) (written text then front left head : List ℕ) (kept : List (List ℕ)) (entry : List ℕ) (number : ℕ) → 0 < length kept → number ≡ next_number kept
+    → written ++ text ≡ head ++ rows_written under 1 (row_entries kept) → then ≡ text ++ rows_written under number (row_only (note_in entry) entry) → then ≡ front ++ left
+    → (written ++ front) ++ left ≡ head ++ rows_written under 1 (row_entries (kept ++ entry ∷ []))
+rows_more under written text then front left head kept entry number begun next so_far more parts =
+    let one = row_only (note_in entry) entry in
+    let here : 1 + length (row_entries kept) ≡ number = omega (arith, next) in
     append_assoc written front left
     ∙ ap (λ (l : List ℕ). written ++ l) (sym parts ∙ more)
-    ∙ sym (append_assoc written text (rows_shown names (row_only (later_file entry) entry)))
-    ∙ ap (λ (l : List ℕ). l ++ rows_shown names (row_only (later_file entry) entry)) so_far
-    ∙ append_assoc head (rows_shown names (row_entries kept)) (rows_shown names (row_only (later_file entry) entry))
-    ∙ ap (λ (l : List ℕ). head ++ l) (sym (flat_map-append (row_shown names) (row_entries kept) (row_only (later_file entry) entry)) ∙ ap (rows_shown names) (sym (row_entries-more kept entry begun)))
+    ∙ sym (append_assoc written text (rows_written under number one))
+    ∙ ap (λ (l : List ℕ). l ++ rows_written under number one) so_far
+    ∙ append_assoc head (rows_written under 1 (row_entries kept)) (rows_written under number one)
+    ∙ ap (λ (l : List ℕ). head ++ l)
+    (ap (λ (n : ℕ). rows_written under 1 (row_entries kept) ++ rows_written under n one) (sym here) ∙ sym (rows_written-append under 1 (row_entries kept) one) ∙ ap (rows_written under 1) (sym (row_entries-more kept entry begun)))
+
+-- and the number of the row after it
+pub number_more : (kept : List (List ℕ)) (entry : List ℕ) (number then : ℕ) → 0 < length kept → number ≡ next_number kept → then ≡ number + length (row_only (note_in entry) entry) → then ≡ next_number (kept ++ entry ∷ [])
+number_more kept entry number then begun next is =
+    omega (arith, next, is, ap length (row_entries-more kept entry begun), length-append (row_entries kept) (row_only (note_in entry) entry))
 
 -- the text of changes, after one more
 pub changes_text-more : (differences : List Difference) (i : ℕ) (difference : Difference) → i < length differences → difference ≡ get_or differences i difference
@@ -51,3 +64,40 @@ parts_more text line entry said answer first second third fourth one two three f
 pub no_changes : (differences : List Difference) → map change_in differences ≡ [] → differences ≡ []
 no_changes [] none = refl
 no_changes (difference ∷ differences) none = cc none
+
+-- there is something of what is there
+pub mapped_some : {A B : Type 0} (f : A → B) (o : Option A) → is_some o ≡ is_some (option_map f o)
+mapped_some f None = refl
+mapped_some f (Some a) = refl
+
+-- what is written of an entry that is no row, and of one that is
+pub no_row_written : (under : Standing) (number : ℕ) (entry : List ℕ) → is_none (note_in entry) ≡ false → rows_written under number (row_only (note_in entry) entry) ≡ []
+unfolding rows_written
+no_row_written under number entry noted = by (note_in entry) noted
+  where
+    by : (n : Option Note) → is_none n ≡ false → rows_written under number (row_only n entry) ≡ []
+    by None h = cc h
+    by (Some note) h = refl
+
+pub one_row_written : (under : Standing) (number : ℕ) (entry : List ℕ) → is_none (note_in entry) ≡ true → rows_written under number (row_only (note_in entry) entry) ≡ row_written under number entry
+unfolding rows_written
+one_row_written under number entry row = by (note_in entry) row
+  where
+    by : (n : Option Note) → is_none n ≡ true → rows_written under number (row_only n entry) ≡ row_written under number entry
+    by None h = append-nil (row_written under number entry)
+    by (Some note) h = cc h
+
+-- and how many rows it is
+pub none_counted : (entry : List ℕ) (number : ℕ) → is_none (note_in entry) ≡ false → number ≡ number + length (row_only (note_in entry) entry)
+none_counted entry number noted = by (note_in entry) noted
+  where
+    by : (n : Option Note) → is_none n ≡ false → number ≡ number + length (row_only n entry)
+    by None h = cc h
+    by (Some note) h = omega arith
+
+pub one_counted : (entry : List ℕ) (number : ℕ) → is_none (note_in entry) ≡ true → number + 1 ≡ number + length (row_only (note_in entry) entry)
+one_counted entry number row = by (note_in entry) row
+  where
+    by : (n : Option Note) → is_none n ≡ true → number + 1 ≡ number + length (row_only n entry)
+    by None h = omega arith
+    by (Some note) h = cc h

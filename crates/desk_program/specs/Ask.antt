@@ -1,14 +1,14 @@
 -- Questions on the docket to which entries come.
 use Rattle.std.specs.Prelude.{ℕ, List, [], Option}
 use Rattle.std.specs.Io.KnownBytes.{Appends}
-use Rattle.court_days.specs.Words.{CourtView}
 use Rattle.durable_session.specs.Words.{told_to}
-use Rattle.docket_entries.specs.Words.{IsHistory, SaysCourt, shown, standing_file}
+use Rattle.docket_entries.specs.declared.standing.Standing.{Standing}
+use Rattle.docket_entries.specs.Words.{IsHistory, StandsAfter, shown}
 
--- The entries are a history, and each line is answered as a question on the docket after them, under the court that stands
+-- The entries are a history, and each line is answered as a question on the docket after them, under what stands
 -- there. No line changes what the next is answered.
 pub record AnswersQuestions (entries lines : List (List ℕ)) (before after : Option (List ℕ)) : Type 0 where
   pub history : IsHistory entries
-  pub court : CourtView
-  pub stands : SaysCourt (standing_file entries) court
-  pub told : Appends before after (told_to (λ kept line. []) (shown court) entries lines)
+  pub under : Standing
+  pub stands : StandsAfter entries under
+  pub told : Appends before after (told_to (λ kept line. []) (shown under) entries lines)

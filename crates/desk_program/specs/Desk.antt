@@ -1,26 +1,27 @@
 -- A docket over a disk: what it keeps, and what a session on it promises.
 use Rattle.std.specs.Prelude.{◌≡◌, ◌≢◌, ℕ, List, Bool, Option, Err}
-use Rattle.court_days.specs.Words.{CourtView, court_in}
+use Rattle.court_days.specs.Words.{court_in}
 use Rattle.durable_journal.specs.Words.{IsKept, StandsFor, disk_of}
 use Rattle.durable_session.specs.Words.{IsPromised}
 use Rattle.docket_entries.specs.declared.docketed.Docketed.{Docketed}
-use Rattle.docket_entries.specs.Words.{IsDocketed, IsHistory, SaysCourt, answers, leaves, standing_file}
+use Rattle.docket_entries.specs.declared.standing.Standing.{Standing}
+use Rattle.docket_entries.specs.Words.{IsDocketed, IsHistory, StandsAfter, answers, leaves}
 use Rattle.office_streams.specs.Words.{court_part}
 use Rattle.desk_program.specs.declared.desk.Desk.{Desk}
 use Rattle.desk_program.specs.declared.fault.DeskFault.{DeskFault}
-use Rattle.desk_program.specs.declared.fault.DeskFault.TheVariants.{Busy, Court, Differs, Divided, Faults, File, Foreign, Journal, KeptCourt, LongInput, NoJournal, Other, OutOfMemory, Session, Taken, Unkept, Write}
+use Rattle.desk_program.specs.declared.fault.DeskFault.TheVariants.{BadStrike, Busy, Court, Differs, Divided, Faults, File, Foreign, Journal, KeptCourt, LongInput, NoJournal, Other, OutOfMemory, Session, Taken, Unkept, Unstruck, Write}
 
 -- the disk under a desk
 abbrev pub disk_under : {D : Type 0} → Desk D → D
 disk_under desk = disk_of desk.journal
 
--- the court by which it goes
-abbrev pub court_at : {D : Type 0} → Desk D → CourtView
-court_at desk = desk.court
+-- what stands there: the court by which it goes, and what strikes come to
+abbrev pub standing_at : {D : Type 0} → Desk D → Standing
+standing_at desk = desk.standing
 
--- the court and its docket
+-- what stands, and the docket
 abbrev pub docketed_at : {D : Type 0} → Desk D → Docketed
-docketed_at desk = record { court = desk.court; register = desk.register }
+docketed_at desk = record { standing = desk.standing; register = desk.register }
 
 -- The entries are kept on the disk, they are a history, and its docket is the one to which they come.
 pub record KeepsDocket {D : Type 0} (seen : D → List ℕ) (may_leave : D → List ℕ → Type 0) (is_usable : D → Bool) (entries : List (List ℕ)) (desk : Desk D) : Type 0 where
@@ -28,10 +29,10 @@ pub record KeepsDocket {D : Type 0} (seen : D → List ℕ) (may_leave : D → L
   pub docketed : IsDocketed (docketed_at desk) entries
 
 -- What a session promises of a docket, however it ends: what `IsPromised` says of its lines, each of which leaves its row
--- with its answer; and whatever a crash leaves is a history under the same court, so that the next opening takes it.
-pub record IsPromisedDocket (court : CourtView) (kept lines : List (List ℕ)) (before after : Option (List ℕ)) (HasWritten : Type 0) (MayLeave : List ℕ → Type 0) : Type 0 where
-  pub promised : IsPromised (leaves court) (answers court) kept lines before after HasWritten MayLeave
-  pub opens : (file : List ℕ) → MayLeave file → (entries : List (List ℕ)) × StandsFor file entries × IsHistory entries × SaysCourt (standing_file entries) court
+-- with its answer; and whatever a crash leaves is a history after which the same stands, so that the next opening takes it.
+pub record IsPromisedDocket (under : Standing) (kept lines : List (List ℕ)) (before after : Option (List ℕ)) (HasWritten : Type 0) (MayLeave : List ℕ → Type 0) : Type 0 where
+  pub promised : IsPromised (leaves under) (answers under) kept lines before after HasWritten MayLeave
+  pub opens : (file : List ℕ) → MayLeave file → (entries : List (List ℕ)) × StandsFor file entries × IsHistory entries × StandsAfter entries under
 
 -- why a file isn't taken as a court's
 abbrev pub HasCourtFault : (file : List ℕ) → DeskFault → Type 0
@@ -43,6 +44,8 @@ HasCourtFault file NoJournal = ⊥
 HasCourtFault file (KeptCourt number cause) = ⊥
 HasCourtFault file (Other number) = ⊥
 HasCourtFault file (Differs count) = ⊥
+HasCourtFault file (BadStrike number) = ⊥
+HasCourtFault file (Unstruck fault) = ⊥
 HasCourtFault file (Journal fault) = ⊥
 HasCourtFault file (Session fault) = ⊥
 HasCourtFault file (Unkept fault) = ⊥

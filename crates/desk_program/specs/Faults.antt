@@ -9,7 +9,7 @@ use Rattle.durable_session.specs.declared.fault.SessionFault.TheVariants as sess
 use Rattle.docket_entries.specs.declared.fault.HistoryFault.{HistoryFault}
 use Rattle.docket_entries.specs.declared.fault.HistoryFault.TheVariants as history
 use Rattle.desk_program.specs.declared.fault.DeskFault.{DeskFault}
-use Rattle.desk_program.specs.declared.fault.DeskFault.TheVariants.{Busy, Court, Differs, Divided, Faults, File, Foreign, Journal, KeptCourt, LongInput, NoJournal, Other, OutOfMemory, Session, Taken, Unkept, Write}
+use Rattle.desk_program.specs.declared.fault.DeskFault.TheVariants.{BadStrike, Busy, Court, Differs, Divided, Faults, File, Foreign, Journal, KeptCourt, LongInput, NoJournal, Other, OutOfMemory, Session, Taken, Unkept, Unstruck, Write}
 
 abbrev pub journal_fault : JournalFault → DeskFault
 journal_fault (journal.Damaged number) = Journal (journal.Damaged number)
@@ -23,14 +23,15 @@ abbrev pub history_fault : HistoryFault → DeskFault
 history_fault history.NoCourt = NoJournal
 history_fault (history.Court number cause) = KeptCourt number cause
 history_fault (history.Other number) = Other number
+history_fault (history.Strike number) = BadStrike number
 history_fault history.OutOfMemory = OutOfMemory
 
 -- the fault has the file's name and the error of the call on it
 abbrev pub IsNamed : (name : List ℕ) → Error → DeskFault → Type 0
 IsNamed name error fault = (held : String Global) × (string_bytes held ≡ name) × (fault ≡ File held error)
 
--- the status of a fault: 2 for the court's file, 3 for rows, 4 for files and streams, 5 for want of memory, 6 for the journal,
--- 7 for a court's file that isn't taken since answers would differ
+-- the status of a fault: 2 for the court's file, 3 for rows, and for one that can't be struck, 4 for files and streams, 5 for want of memory, 6 for the journal,
+-- 7 for a court's file or a strike that isn't taken since answers would differ
 abbrev pub desk_status : DeskFault → ℕ
 desk_status (Court court.OutOfMemory) = 5
 desk_status (Court _) = 2
@@ -39,7 +40,9 @@ desk_status Taken = 6
 desk_status NoJournal = 6
 desk_status (KeptCourt number cause) = 6
 desk_status (Other number) = 6
+desk_status (BadStrike number) = 6
 desk_status (Differs count) = 7
+desk_status (Unstruck fault) = 3
 desk_status (Journal journal.OutOfMemory) = 5
 desk_status (Journal _) = 6
 desk_status (Session session.Read) = 4

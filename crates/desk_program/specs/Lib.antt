@@ -6,7 +6,11 @@ pub mod Desk
 pub mod FaultWords
 pub mod Faults
 pub mod File
+pub mod NamesTable
+pub mod Note
 pub mod Rows
+pub mod Strike
+pub mod Struck
 pub mod Together
 pub mod Trial
 pub mod Words

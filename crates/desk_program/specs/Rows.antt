@@ -2,20 +2,22 @@
 use Rattle.std.specs.Prelude.{ℕ, List, [], ◌∷◌, ◌++◌, codes, if◌then◌else◌, nat_eq}
 use Rattle.std.specs.Fmt.{decimal}
 use Rattle.std.specs.List.{ends_with, flat_map}
-use Rattle.office_rows.specs.Words.{CourtNames}
-use Rattle.docket_entries.specs.Words.{Change, row_entries, row_shown, standing_file}
+use Rattle.case_numbers.specs.declared.names.NamedCase.{NamedCase}
+use Rattle.docket_entries.specs.declared.standing.Standing.{Standing}
+use Rattle.docket_entries.specs.Words.{Change, row_entries, rows_written, standing_file}
+use Rattle.desk_program.specs.NamesTable.{names_table}
 
 -- a court's file, with an end of its last line
 abbrev pub ended : List ℕ → List ℕ
 ended file = if ends_with nat_eq file (10 ∷ []) then file else file ++ 10 ∷ []
 
--- the rows of entries as CSV
-abbrev pub rows_shown : CourtNames → List (List ℕ) → List ℕ
-rows_shown names entries = flat_map (row_shown names) entries
+-- what comes before the rows: a court's file, the names of cases, and a line `%%`
+abbrev pub head_of : (file : List ℕ) → List NamedCase → List ℕ
+head_of file named = ended file ++ names_table file named ++ codes "%%\n"
 
--- what clerk_office reads: the court's file that stands, a line `%%` and all rows
-abbrev pub written_rows : CourtNames → (entries : List (List ℕ)) → List ℕ
-written_rows names entries = ended (standing_file entries) ++ codes "%%\n" ++ rows_shown names (row_entries entries)
+-- what clerk_office reads: the court's file that stands with the names of cases, a line `%%` and the rows that stand
+abbrev pub written_rows : Standing → List NamedCase → (entries : List (List ℕ)) → List ℕ
+written_rows under named entries = head_of (standing_file entries) named ++ rows_written under 1 (row_entries entries)
 
 -- a row that would be answered otherwise: its entry, which ends with the answer that it was given, and then the other one
 abbrev pub change_text : Change → List ℕ

@@ -3,10 +3,10 @@ use Rattle.std.specs.Prelude.{◌≡◌, ◌≢◌, ◌⊎◌, ℕ, List, [], �
 use Rattle.std.specs.Fmt.{decimal}
 use Rattle.std.specs.List.{flat_map}
 use Rattle.std.specs.Io.KnownBytes.{Appends}
-use Rattle.court_days.specs.Words.{CourtView}
 use Rattle.durable_journal.specs.Words.{StandsFor}
 use Rattle.durable_session.specs.Words.{IsAllOrNone, left_by, lines_of, numbered_lines, told_to, unfinished_of}
-use Rattle.docket_entries.specs.Words.{FaultyLine, IsHistory, SaysCourt, answers, faults_of, leaves, standing_file}
+use Rattle.docket_entries.specs.declared.standing.Standing.{Standing}
+use Rattle.docket_entries.specs.Words.{FaultyLine, IsHistory, StandsAfter, answers, faults_of, leaves}
 use Rattle.office_rows.specs.Words.{cause_text}
 use Rattle.desk_program.specs.FaultWords.{fault_words}
 
@@ -18,24 +18,24 @@ abbrev pub line_faults_text : List FaultyLine → List ℕ
 line_faults_text faults = flat_map line_fault_text faults
 
 -- No line of the input has a fault, and the last has an end. All rows are kept after the entries, and all are answered.
-pub record KeepsTogether (court : CourtView) (kept : List (List ℕ)) (input : List ℕ) (before after : Option (List ℕ)) (Keeps : List (List ℕ) → Type 0) : Type 0 where
-  pub faultless : faults_of court kept (numbered_lines input) ≡ []
+pub record KeepsTogether (under : Standing) (kept : List (List ℕ)) (input : List ℕ) (before after : Option (List ℕ)) (Keeps : List (List ℕ) → Type 0) : Type 0 where
+  pub faultless : faults_of under kept (numbered_lines input) ≡ []
   pub finished : unfinished_of input ≡ []
-  pub keeps : Keeps (kept ++ left_by (leaves court) kept (lines_of input))
-  pub told : Appends before after (told_to (leaves court) (answers court) kept (lines_of input))
+  pub keeps : Keeps (kept ++ left_by (leaves under) kept (lines_of input))
+  pub told : Appends before after (told_to (leaves under) (answers under) kept (lines_of input))
 
 -- Nothing is kept, since this many lines have a fault, which are written.
-pub record RefusesLines (court : CourtView) (kept : List (List ℕ)) (input : List ℕ) (count : ℕ) (before after : Option (List ℕ)) : Type 0 where
-  pub listed : Appends before after (line_faults_text (faults_of court kept (numbered_lines input)))
-  pub count_is : count ≡ length (faults_of court kept (numbered_lines input))
-  pub some : faults_of court kept (numbered_lines input) ≢ []
+pub record RefusesLines (under : Standing) (kept : List (List ℕ)) (input : List ℕ) (count : ℕ) (before after : Option (List ℕ)) : Type 0 where
+  pub listed : Appends before after (line_faults_text (faults_of under kept (numbered_lines input)))
+  pub count_is : count ≡ length (faults_of under kept (numbered_lines input))
+  pub some : faults_of under kept (numbered_lines input) ≢ []
 
 -- a line of the input has a fault, or the last has no end
-abbrev pub IsAtFault : CourtView → (kept : List (List ℕ)) → (input : List ℕ) → Type 0
-IsAtFault court kept input = (faults_of court kept (numbered_lines input) ≢ []) ⊎ (unfinished_of input ≢ [])
+abbrev pub IsAtFault : Standing → (kept : List (List ℕ)) → (input : List ℕ) → Type 0
+IsAtFault under kept input = (faults_of under kept (numbered_lines input) ≢ []) ⊎ (unfinished_of input ≢ [])
 
 -- Whatever a crash leaves stands for the entries before, or for these and all rows. Either is a history under the court, so
 -- the next opening takes it.
-pub record IsDocketAllOrNone (court : CourtView) (kept lines : List (List ℕ)) (MayLeave : List ℕ → Type 0) : Type 0 where
-  pub all_or_none : IsAllOrNone (leaves court) kept lines MayLeave
-  pub opens : (file : List ℕ) → MayLeave file → (entries : List (List ℕ)) × StandsFor file entries × IsHistory entries × SaysCourt (standing_file entries) court
+pub record IsDocketAllOrNone (under : Standing) (kept lines : List (List ℕ)) (MayLeave : List ℕ → Type 0) : Type 0 where
+  pub all_or_none : IsAllOrNone (leaves under) kept lines MayLeave
+  pub opens : (file : List ℕ) → MayLeave file → (entries : List (List ℕ)) × StandsFor file entries × IsHistory entries × StandsAfter entries under

@@ -1,15 +1,15 @@
 -- Rows that are tried: they are answered as if they were entered, and none is kept.
 use Rattle.std.specs.Prelude.{ℕ, List, Option}
 use Rattle.std.specs.Io.KnownBytes.{Appends}
-use Rattle.court_days.specs.Words.{CourtView}
 use Rattle.office_streams.specs.Words.{AppendsFront}
 use Rattle.durable_session.specs.Words.{told_to}
+use Rattle.docket_entries.specs.declared.standing.Standing.{Standing}
 use Rattle.docket_entries.specs.Words.{answers, leaves}
 
 -- Each line is answered after what the lines before it would leave: it is what `told` of `IsServed` says of lines that are kept.
-abbrev pub IsTried : (court : CourtView) → (kept lines : List (List ℕ)) → (before after : Option (List ℕ)) → Type 0
-IsTried court kept lines before after = Appends before after (told_to (leaves court) (answers court) kept lines)
+abbrev pub IsTried : (under : Standing) → (kept lines : List (List ℕ)) → (before after : Option (List ℕ)) → Type 0
+IsTried under kept lines before after = Appends before after (told_to (leaves under) (answers under) kept lines)
 
 -- what is written is a beginning of that
-abbrev pub IsTriedInPart : (court : CourtView) → (kept lines : List (List ℕ)) → (before after : Option (List ℕ)) → Type 0
-IsTriedInPart court kept lines before after = AppendsFront before after (told_to (leaves court) (answers court) kept lines)
+abbrev pub IsTriedInPart : (under : Standing) → (kept lines : List (List ℕ)) → (before after : Option (List ℕ)) → Type 0
+IsTriedInPart under kept lines before after = AppendsFront before after (told_to (leaves under) (answers under) kept lines)

@@ -3,8 +3,10 @@ pub use Rattle.desk_program.specs.Ask.{AnswersQuestions}
 pub use Rattle.desk_program.specs.Careful.{IsPromisedCarefully, IsTriedCarefully, IsTriedCarefullyInPart}
 pub use Rattle.desk_program.specs.Cases.{cases_text}
 pub use Rattle.desk_program.specs.Change.{RefusesFile, TakesFile}
-pub use Rattle.desk_program.specs.Desk.{IsPromisedDocket, KeepsDocket, court_at, disk_under}
+pub use Rattle.desk_program.specs.Desk.{IsPromisedDocket, KeepsDocket, disk_under, standing_at}
 pub use Rattle.desk_program.specs.Faults.{desk_status}
 pub use Rattle.desk_program.specs.Rows.{changes_text, written_rows}
+pub use Rattle.desk_program.specs.Strike.{IsStruck, RefusesStrike, StrikesRow}
+pub use Rattle.desk_program.specs.Struck.{struck_text}
 pub use Rattle.desk_program.specs.Together.{IsAtFault, IsDocketAllOrNone, KeepsTogether, RefusesLines, line_faults_text}
 pub use Rattle.desk_program.specs.Trial.{IsTried, IsTriedInPart}

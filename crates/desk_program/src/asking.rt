@@ -26,9 +26,9 @@ pub fn ask<R: Read, W: Write>(
     ensures { OnOk result (IfSome (R.remaining (watched reader.old)) (λ input.
         AnswersQuestions (batch_of entries.now) (lines_of input) (W.contents (watched writer.old)) (W.contents (watched writer.new)))) }
 {
-    let Docketed { court, register } = Docketed::of(alloc, entries)?;
+    let Docketed { standing, register } = Docketed::of(alloc, entries)?;
     let mut questions = Questions { register };
-    match answer(&court, alloc, &mut questions, reader, writer) {
+    match answer(&standing, alloc, &mut questions, reader, writer) {
         Ok(()) => Ok(()),
         Err(fault) => Err(DeskFault::Session(fault)),
     }

@@ -6,7 +6,7 @@ ghost use Rattle.careful_rows.specs.Words.{careful_answers, careful_leaves};
 ghost use Rattle.desk_program.specs.Careful.{IsPromisedCarefully, IsTriedCarefully, IsTriedCarefullyInPart};
 
 use crate::desk::Desk;
-use careful_rows::{CarefulCourt, CarefulRegister};
+use careful_rows::{CarefulRegister, CarefulStanding};
 use court_clock::Day;
 use durable_session::{SessionFault, answer, serve};
 use office_streams::Watched;
@@ -15,7 +15,7 @@ use std::alloc::Global;
 use std::io::{Read, Write};
 
 impl<D: Disk> Desk<D> {
-    ghost use Rattle.desk_program.specs.Desk.{KeepsDocket, court_at, disk_under};
+    ghost use Rattle.desk_program.specs.Desk.{KeepsDocket, disk_under, standing_at};
 
     /// Serves rows as `enter` does, except that a line whose row draws a warning is answered with its warnings, and not kept. A
     /// line that begins with a '!' is taken as what comes after it, without warnings. Where a day is given, it counts as today.
@@ -29,27 +29,27 @@ impl<D: Disk> Desk<D> {
         requires writer_works { has_failed writer.old ≡ false }
         ensures promised { (kept : List (List ℕ)) → KeepsDocket D.Disk.seen D.Disk.may_leave D.Disk.is_usable kept self →
             AfterBytes (R.remaining (watched reader.old)) (R.remaining (watched reader.new)) (λ bytes.
-            IsPromisedCarefully (court_at self) today kept (lines_of bytes) (W.contents (watched writer.old)) (W.contents (watched writer.new)) (has_failed writer.new ≡ false) (D.Disk.may_leave (disk_under result.1))) }
+            IsPromisedCarefully (standing_at self) today kept (lines_of bytes) (W.contents (watched writer.old)) (W.contents (watched writer.new)) (has_failed writer.new ≡ false) (D.Disk.may_leave (disk_under result.1))) }
         ensures served { (kept : List (List ℕ)) → KeepsDocket D.Disk.seen D.Disk.may_leave D.Disk.is_usable kept self → OnOk result.0
             (IfSome (R.remaining (watched reader.old)) (λ input.
-            IsServed (careful_leaves (court_at self) today) (careful_answers (court_at self) today) (λ entries. KeepsDocket D.Disk.seen D.Disk.may_leave D.Disk.is_usable entries result.1) (λ entries. court_at result.1 ≡ court_at self) kept (lines_of input) (W.contents (watched writer.old)) (W.contents (watched writer.new)))) }
+            IsServed (careful_leaves (standing_at self) today) (careful_answers (standing_at self) today) (λ entries. KeepsDocket D.Disk.seen D.Disk.may_leave D.Disk.is_usable entries result.1) (λ entries. standing_at result.1 ≡ standing_at self) kept (lines_of input) (W.contents (watched writer.old)) (W.contents (watched writer.new)))) }
         ensures finished { OnOk result.0 (IfSome (R.remaining (watched reader.old)) (λ input. unfinished_of input ≡ [])) }
     {
         let Desk {
             mut journal,
-            court,
+            standing,
             register,
         } = self;
-        let setup = CarefulCourt { court, today };
+        let setup = CarefulStanding { standing, today };
         let mut careful = CarefulRegister { register };
         let ended = serve(&setup, alloc, &mut journal, &mut careful, reader, writer);
-        let CarefulCourt { court, .. } = setup;
+        let CarefulStanding { standing, .. } = setup;
         let CarefulRegister { register } = careful;
         (
             ended,
             Desk {
                 journal,
-                court,
+                standing,
                 register,
             },
         )
@@ -66,19 +66,19 @@ impl<D: Disk> Desk<D> {
     ) -> (Result<(), SessionFault>, D)
         requires writer_works { has_failed writer.old ≡ false }
         ensures tried { (kept : List (List ℕ)) → KeepsDocket D.Disk.seen D.Disk.may_leave D.Disk.is_usable kept self → OnOk result.0
-            (IfSome (R.remaining (watched reader.old)) (λ input. IsTriedCarefully (court_at self) today kept (lines_of input) (W.contents (watched writer.old)) (W.contents (watched writer.new)))) }
+            (IfSome (R.remaining (watched reader.old)) (λ input. IsTriedCarefully (standing_at self) today kept (lines_of input) (W.contents (watched writer.old)) (W.contents (watched writer.new)))) }
         ensures front { (kept : List (List ℕ)) → KeepsDocket D.Disk.seen D.Disk.may_leave D.Disk.is_usable kept self →
             AfterBytes (R.remaining (watched reader.old)) (R.remaining (watched reader.new)) (λ bytes.
-            IsTriedCarefullyInPart (court_at self) today kept (lines_of bytes) (W.contents (watched writer.old)) (W.contents (watched writer.new))) }
+            IsTriedCarefullyInPart (standing_at self) today kept (lines_of bytes) (W.contents (watched writer.old)) (W.contents (watched writer.new))) }
         ensures finished { OnOk result.0 (IfSome (R.remaining (watched reader.old)) (λ input. unfinished_of input ≡ [])) }
         ensures untouched { result.1 ≡ disk_under self }
     {
         let Desk {
             journal,
-            court,
+            standing,
             register,
         } = self;
-        let setup = CarefulCourt { court, today };
+        let setup = CarefulStanding { standing, today };
         let mut careful = CarefulRegister { register };
         let ended = answer(&setup, alloc, &mut careful, reader, writer);
         (ended, journal.into_disk())

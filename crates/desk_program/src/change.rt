@@ -7,18 +7,16 @@ ghost use Rattle.std.specs.Io.KnownBytes.{Appends};
 ghost use Rattle.desk_program.specs.Rows.{change_text, changes_text};
 
 use crate::court::court_of;
-use crate::desk::{Desk, batch_with};
+use crate::desk::Desk;
 use crate::fault::DeskFault;
-use court_days::Court;
 use docket_entries::{
-    Difference, DocketRegister, MOST_ENTRIES, Review, court_entry, decided_again,
+    Difference, DocketRegister, MOST_ENTRIES, Review, Standing, court_entry, decided_again,
 };
 use durable_journal::JournalFault;
 use office_streams::{Watched, write_all};
 use sqlite_disk::Disk;
 use std::alloc::{AllocError, Global};
 use std::io::Write;
-use std::mem;
 
 // Adds what is written of a row that would be answered otherwise.
 fn push_change(alloc: Global, text: &mut Vec<u8>, difference: &Difference) -> Result<(), AllocError>
@@ -44,16 +42,8 @@ fn listed(alloc: Global, differences: &[Difference]) -> Result<Vec<u8>, AllocErr
     Ok(text)
 }
 
-// A batch of one entry, which is a court's file.
-fn file_batch(alloc: Global, file: &[u8]) -> Result<Vec<Vec<u8>>, AllocError>
-    ensures { IfOk result (λ batch. (entry : List ℕ) × (batch_of batch.items ≡ entry ∷ []) × (later_file entry ≡ Some file.now)) }
-{
-    let entry = court_entry(alloc, file)?;
-    batch_with(alloc, entry)
-}
-
 // Writes the rows that would be answered otherwise. `Differs` says that there are some, and no leave.
-fn list_changes<W: Write>(
+pub(crate) fn list_changes<W: Write>(
     alloc: Global,
     differences: &[Difference],
     accept: bool,
@@ -76,33 +66,36 @@ fn list_changes<W: Write>(
 }
 
 impl<D: Disk> Desk<D> {
-    ghost use Rattle.desk_program.specs.Desk.{KeepsDocket, disk_under};
+    ghost use Rattle.desk_program.specs.Desk.{KeepsDocket, disk_under, standing_at};
     ghost use Rattle.desk_program.specs.Change.{RefusesFile, TakesFile};
 
-    // Keeps a court's file as the next entry, and goes by it from here on.
+    // Keeps a court's file as the next entry, and goes by its court from here on.
     fn take_file(
         &mut self,
         alloc: Global,
-        court: Court,
-        mut register: DocketRegister,
+        standing: Standing,
+        register: DocketRegister,
         file: &[u8],
     ) -> Result<(), DeskFault>
-        ensures kept { (entries : List (List ℕ)) → KeepsDocket D.Disk.seen D.Disk.may_leave D.Disk.is_usable entries self.old → SaysCourt file.now court → StandsAt court register entries → length entries < most_entries
+        ensures kept { (entries : List (List ℕ)) → KeepsDocket D.Disk.seen D.Disk.may_leave D.Disk.is_usable entries self.old → SaysCourt file.now standing.court → standing.corrections ≡ (standing_at self.old).corrections → StandsAt standing register entries → length entries < most_entries
             → OnOk result ((entry : List ℕ) × (later_file entry ≡ Some file.now) × KeepsDocket D.Disk.seen D.Disk.may_leave D.Disk.is_usable (entries ++ entry ∷ []) self.new) }
         ensures crash { (entries : List (List ℕ)) → KeepsDocket D.Disk.seen D.Disk.may_leave D.Disk.is_usable entries self.old → (c : List ℕ) → D.Disk.may_leave (disk_under self.new) c
             → StandsFor c entries ⊎ ((entry : List ℕ) × (later_file entry ≡ Some file.now) × StandsFor c (entries ++ entry ∷ [])) }
         ensures fault { (count : ℕ) → result ≢ Err (DeskFault.Differs count) }
     {
-        let batch = file_batch(alloc, file)?;
-        match self.journal.append(&batch) {
-            Err(fault) => Err(DeskFault::from(fault)),
-            Ok(()) => {
-                register.pass_file();
-                drop(mem::replace(&mut self.court, court));
-                drop(mem::replace(&mut self.register, register));
-                Ok(())
-            }
-        }
+        let entry = court_entry(alloc, file)?;
+        self.take_note(alloc, standing, register, entry)
+    }
+
+    // What would stand by a court's file.
+    pub(crate) fn standing_by(&self, alloc: Global, file: &[u8]) -> Result<Standing, DeskFault>
+        ensures court { IfOk result (λ standing. SaysCourt file.now standing.court) }
+        ensures corrections { IfOk result (λ standing. standing.corrections ≡ (standing_at self.now).corrections) }
+        ensures fault { (count : ℕ) → result ≢ Err (DeskFault.Differs count) }
+    {
+        let court = court_of(alloc, file)?;
+        let corrections = self.standing.corrections.copy(alloc)?;
+        Ok(Standing { court, corrections })
     }
 
     /// Goes by another court's file from here on, which is kept as the next entry: the answers before stay those of the files
@@ -121,7 +114,7 @@ impl<D: Disk> Desk<D> {
         requires writer_works { has_failed writer.old ≡ false }
         ensures taken { KeepsDocket D.Disk.seen D.Disk.may_leave D.Disk.is_usable (batch_of entries.now) self.old → OnOk result
             (TakesFile (batch_of entries.now) file.now accept (W.contents (watched writer.old)) (W.contents (watched writer.new)) (λ kept. KeepsDocket D.Disk.seen D.Disk.may_leave D.Disk.is_usable kept self.new)) }
-        ensures refused { (count : ℕ) → result ≡ Err (DeskFault.Differs count)
+        ensures refused { (count : ℕ) → KeepsDocket D.Disk.seen D.Disk.may_leave D.Disk.is_usable (batch_of entries.now) self.old → result ≡ Err (DeskFault.Differs count)
             → RefusesFile (batch_of entries.now) file.now count (W.contents (watched writer.old)) (W.contents (watched writer.new)) × (self.new ≡ self.old) }
         ensures crash { KeepsDocket D.Disk.seen D.Disk.may_leave D.Disk.is_usable (batch_of entries.now) self.old → (c : List ℕ) → D.Disk.may_leave (disk_under self.new) c
             → StandsFor c (batch_of entries.now) ⊎ ((entry : List ℕ) × (later_file entry ≡ Some file.now) × StandsFor c (batch_of entries.now ++ entry ∷ [])) }
@@ -129,19 +122,19 @@ impl<D: Disk> Desk<D> {
         if entries.len() >= MOST_ENTRIES as usize {
             return Err(DeskFault::Journal(JournalFault::Full));
         }
-        let court = match court_of(alloc, file) {
-            Ok(court) => court,
+        let standing = match self.standing_by(alloc, file) {
+            Ok(standing) => standing,
             Err(fault) => return Err(fault),
         };
         let Review {
             register,
             differences,
-        } = match decided_again(alloc, &court, entries) {
+        } = match decided_again(alloc, &standing, entries) {
             Ok(review) => review,
             Err(_) => return Err(DeskFault::OutOfMemory),
         };
         match list_changes(alloc, &differences, accept, writer) {
-            Ok(()) => self.take_file(alloc, court, register, file),
+            Ok(()) => self.take_file(alloc, standing, register, file),
             Err(fault) => Err(fault),
         }
     }

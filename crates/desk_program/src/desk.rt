@@ -9,7 +9,7 @@ use crate::court::check_court;
 use crate::fault::DeskFault;
 use case_numbers::Cases;
 use court_days::Court;
-use docket_entries::{DocketRegister, Docketed};
+use docket_entries::{DocketRegister, Docketed, Standing};
 use durable_journal::Journal;
 use durable_session::{SessionFault, serve};
 use office_streams::Watched;
@@ -21,7 +21,7 @@ use std::io::{Read, Write};
 #[derive(Drop)]
 pub struct Desk<D: Disk> {
     pub(crate) journal: Journal<D>,
-    pub(crate) court: Court,
+    pub(crate) standing: Standing,
     pub(crate) register: DocketRegister,
 }
 
@@ -35,7 +35,7 @@ pub(crate) fn batch_with(alloc: Global, entry: Vec<u8>) -> Result<Vec<Vec<u8>>, 
 }
 
 impl<D: Disk> Desk<D> {
-    ghost use Rattle.desk_program.specs.Desk.{IsPromisedDocket, KeepsDocket, court_at, disk_under};
+    ghost use Rattle.desk_program.specs.Desk.{IsPromisedDocket, KeepsDocket, disk_under, standing_at};
 
     /// Opens the docket of a disk that a crash may have left, and gives the entries of its journal. Each row must have the
     /// answer that it gets under the court's file of its time. At an `Err` the disk is given back, and a crash leaves what
@@ -53,10 +53,10 @@ impl<D: Disk> Desk<D> {
             Err((fault, disk)) => return Err((DeskFault::from(fault), disk)),
         };
         match Docketed::of(alloc, &entries) {
-            Ok(Docketed { court, register }) => Ok((
+            Ok(Docketed { standing, register }) => Ok((
                 Desk {
                     journal,
-                    court,
+                    standing,
                     register,
                 },
                 entries,
@@ -120,14 +120,21 @@ impl<D: Disk> Desk<D> {
 
     /// The court by which the docket goes.
     pub fn court(&self) -> &Court
-        ensures { result.now ≡ court_at self.now }
+        ensures { result.now ≡ (standing_at self.now).court }
     {
-        &self.court
+        &self.standing.court
+    }
+
+    /// What stands: the court, and what strikes come to.
+    pub fn standing(&self) -> &Standing
+        ensures { result.now ≡ standing_at self.now }
+    {
+        &self.standing
     }
 
     /// The cases that were opened, with their names.
     pub fn cases(&self) -> &Cases
-        ensures { (kept : List (List ℕ)) → KeepsDocket D.Disk.seen D.Disk.may_leave D.Disk.is_usable kept self.now → result.now ≡ cases_of (court_at self.now) kept }
+        ensures { (kept : List (List ℕ)) → KeepsDocket D.Disk.seen D.Disk.may_leave D.Disk.is_usable kept self.now → result.now ≡ cases_of (standing_at self.now) kept }
     {
         self.register.cases()
     }
@@ -151,14 +158,14 @@ impl<D: Disk> Desk<D> {
         requires writer_works { has_failed writer.old ≡ false }
         ensures promised { (kept : List (List ℕ)) → KeepsDocket D.Disk.seen D.Disk.may_leave D.Disk.is_usable kept self.old →
             AfterBytes (R.remaining (watched reader.old)) (R.remaining (watched reader.new)) (λ bytes.
-            IsPromisedDocket (court_at self.old) kept (lines_of bytes) (W.contents (watched writer.old)) (W.contents (watched writer.new)) (has_failed writer.new ≡ false) (D.Disk.may_leave (disk_under self.new))) }
+            IsPromisedDocket (standing_at self.old) kept (lines_of bytes) (W.contents (watched writer.old)) (W.contents (watched writer.new)) (has_failed writer.new ≡ false) (D.Disk.may_leave (disk_under self.new))) }
         ensures served { (kept : List (List ℕ)) → KeepsDocket D.Disk.seen D.Disk.may_leave D.Disk.is_usable kept self.old → OnOk result
             (IfSome (R.remaining (watched reader.old)) (λ input.
-            IsServed (leaves (court_at self.old)) (answers (court_at self.old)) (λ entries. KeepsDocket D.Disk.seen D.Disk.may_leave D.Disk.is_usable entries self.new) (λ entries. court_at self.new ≡ court_at self.old) kept (lines_of input) (W.contents (watched writer.old)) (W.contents (watched writer.new)))) }
+            IsServed (leaves (standing_at self.old)) (answers (standing_at self.old)) (λ entries. KeepsDocket D.Disk.seen D.Disk.may_leave D.Disk.is_usable entries self.new) (λ entries. standing_at self.new ≡ standing_at self.old) kept (lines_of input) (W.contents (watched writer.old)) (W.contents (watched writer.new)))) }
         ensures finished { OnOk result (IfSome (R.remaining (watched reader.old)) (λ input. unfinished_of input ≡ [])) }
     {
         serve(
-            &self.court,
+            &self.standing,
             alloc,
             &mut self.journal,
             &mut self.register,

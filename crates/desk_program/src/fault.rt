@@ -3,7 +3,7 @@ ghost use Rattle.std.specs.Prelude.{◌≡◌};
 ghost use Rattle.desk_program.specs.declared.fault.DeskFault.TheVariants.{OutOfMemory};
 
 use court_file_text::CourtFault;
-use docket_entries::HistoryFault;
+use docket_entries::{HistoryFault, StrikeFault};
 use durable_journal::JournalFault;
 use durable_session::SessionFault;
 use std::alloc::{AllocError, AllocFailed};
@@ -24,15 +24,19 @@ pub enum DeskFault {
     KeptCourt(u32, CourtFault),
     /// The row of this number, counted from 1, has another answer than it gets.
     Other(u32),
-    /// So many rows would get other answers by the new court's file, which isn't taken.
+    /// The entry of this number, counted from 1, strikes a row that wasn't entered before it, or that is struck already.
+    BadStrike(u32),
+    /// This many rows would get other answers by the new court's file or the strike, which isn't taken.
     Differs(usize),
+    /// The row can't be struck.
+    Unstruck(StrikeFault),
     /// The journal can't be read or written.
     Journal(JournalFault),
     /// The session ended early.
     Session(SessionFault),
     /// A session of which nothing is kept ended early.
     Unkept(SessionFault),
-    /// So many lines have a fault, and none of the rows that were to be kept together is kept.
+    /// This many lines have a fault, and none of the rows that were to be kept together is kept.
     Faults(usize),
     /// There is more than can be kept together.
     LongInput,
@@ -86,6 +90,7 @@ impl From<HistoryFault> for DeskFault {
         match fault {
             HistoryFault::NoCourt => DeskFault::NoJournal,
             HistoryFault::Court(number, cause) => DeskFault::KeptCourt(number, cause),
+            HistoryFault::Strike(number) => DeskFault::BadStrike(number),
             HistoryFault::Other(number) => DeskFault::Other(number),
             HistoryFault::OutOfMemory => DeskFault::OutOfMemory,
         }

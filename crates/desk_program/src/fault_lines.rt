@@ -23,7 +23,7 @@ pub fn status_of(fault: &DeskFault) -> u8
         DeskFault::Unkept(SessionFault::Read | SessionFault::Write) | DeskFault::LongInput => 4,
         DeskFault::Session(SessionFault::OutOfMemory) => 5,
         DeskFault::Unkept(SessionFault::OutOfMemory) => 5,
-        DeskFault::Faults(_) => 3,
+        DeskFault::Faults(_) | DeskFault::Unstruck(_) => 3,
         DeskFault::Journal(JournalFault::OutOfMemory) | DeskFault::OutOfMemory => 5,
         DeskFault::Differs(_) => 7,
         _ => 6,
@@ -106,10 +106,18 @@ impl<'a> fmt::Display for DeskFaultLine<'a> {
                 f,
                 "row {number} has another answer than this program gives: open the folder with the program that wrote it"
             ),
+            DeskFault::BadStrike(number) => write!(
+                f,
+                "entry {number} of the journal strikes a row that isn't there, or is struck already"
+            ),
+            DeskFault::Differs(1) => f.write_str(
+                "an answer would differ: nothing is changed, unless --accept says so",
+            ),
             DeskFault::Differs(count) => write!(
                 f,
-                "{count} answers would differ: the court's file isn't taken, unless --accept says so"
+                "{count} answers would differ: nothing is changed, unless --accept says so"
             ),
+            DeskFault::Unstruck(fault) => write!(f, "nothing is struck: {fault}"),
             DeskFault::Journal(fault) => write!(f, "{fault}"),
             DeskFault::Session(fault) => write!(f, "{fault}"),
             DeskFault::Unkept(fault) => write_unkept(fault, f),

@@ -13,7 +13,11 @@ mod fault;
 mod fault_lines;
 mod fault_words;
 mod file;
+mod names_table;
+mod note;
 mod rows;
+mod strike;
+mod struck;
 mod together;
 mod trial;
 
@@ -25,3 +29,4 @@ pub use fault::DeskFault;
 pub use fault_lines::{DeskFaultLine, ended_by, status_of};
 pub use file::{file_fault, open_file};
 pub use rows::{write_count, write_rows};
+pub use struck::write_struck;

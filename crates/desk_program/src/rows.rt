@@ -1,16 +1,16 @@
 //! The rows of a docket, written as clerk_office reads them.
-ghost use Rattle.std.specs.Prelude.{◌≡◌, ◌++◌, [], ℕ, List, codes, false, OnOk};
+ghost use Rattle.std.specs.Prelude.{◌≡◌, ◌≤◌, ◌+◌, ◌++◌, [], ℕ, List, length, false, IfOk, OnOk};
 ghost use Rattle.std.specs.Io.KnownBytes.{Appends};
 ghost use Rattle.durable_journal.specs.Words.{batch_of};
-ghost use Rattle.office_rows.specs.Words.{names_of};
 ghost use Rattle.office_streams.specs.Words.{has_failed, watched};
-ghost use Rattle.docket_entries.specs.Words.{later_file, row_only};
-ghost use Rattle.desk_program.specs.Rows.{count_text, ended, rows_shown, written_rows};
+ghost use Rattle.docket_entries.specs.Words.{most_entries, note_in, row_only, rows_written};
+ghost use Rattle.desk_program.specs.Rows.{count_text, ended, head_of, written_rows};
 
 use crate::fault::DeskFault;
-use court_days::Court;
+use crate::names_table::push_names;
+use case_numbers::Cases;
 use csv::StringRecord;
-use docket_entries::{later_file, push_row, standing_file};
+use docket_entries::{Standing, is_row, push_row, standing_file};
 use office_streams::{Watched, write_all};
 use std::alloc::{AllocError, Global};
 use std::io::Write;
@@ -44,49 +44,81 @@ fn put_if_long<W: Write>(writer: &mut Watched<W>, text: &mut Vec<u8>) -> Result<
     put(writer, text)
 }
 
-// Adds a court's file, with an end of its last line, and a line `%%`.
-fn push_file(text: &mut Vec<u8>, file: &[u8]) -> Result<(), AllocError>
-    ensures { OnOk result (text.new.items ≡ text.old.items ++ (ended file.now ++ codes "%%\n")) }
+// Adds a court's file, with an end of its last line.
+fn push_ended(text: &mut Vec<u8>, file: &[u8]) -> Result<(), AllocError>
+    ensures { OnOk result (text.new.items ≡ text.old.items ++ ended file.now) }
 {
     text.extend_from_slice(file)?;
-    if !file.ends_with(b"\n") {
-        text.push(b'\n')?;
+    if file.ends_with(b"\n") {
+        return Ok(());
     }
+    text.push(b'\n')?;
+    Ok(())
+}
+
+// Adds a court's file, the names of cases, and a line `%%`.
+fn push_file(
+    alloc: Global,
+    text: &mut Vec<u8>,
+    file: &[u8],
+    cases: &Cases,
+) -> Result<(), AllocError>
+    ensures { OnOk result (text.new.items ≡ text.old.items ++ head_of file.now cases.now.named) }
+{
+    push_ended(text, file)?;
+    push_names(alloc, text, file, cases)?;
     text.extend_from_slice(b"%%\n")
 }
 
-// Adds the row of an entry, unless it is a court's file.
+// Adds what is written of the row that an entry is, which has this number if it is one, and gives the number of the next.
 fn push_entry(
     alloc: Global,
-    court: &Court,
+    under: &Standing,
+    number: u32,
     entry: &[u8],
     fields: &mut StringRecord,
     text: &mut Vec<u8>,
-) -> Result<(), AllocError>
-    ensures { OnOk result (text.new.items ≡ text.old.items ++ rows_shown (names_of court.now) (row_only (later_file entry.now) entry.now)) }
+) -> Result<u32, AllocError>
+    requires few { number ≤ most_entries }
+    ensures text { OnOk result (text.new.items ≡ text.old.items ++ rows_written under.now number (row_only (note_in entry.now) entry.now)) }
+    ensures next { IfOk result (λ next. next ≡ number + length (row_only (note_in entry.now) entry.now)) }
 {
-    match later_file(entry) {
-        Some(_) => Ok(()),
-        None => push_row(alloc, court, entry, fields, text),
+    if !is_row(entry) {
+        return Ok(number);
     }
+    push_row(alloc, under, number, entry, fields, text)?;
+    Ok(number + 1)
 }
 
-/// Writes a docket's entries as clerk_office reads them: the court's file that stands, a line `%%` and the rows as CSV. Where
-/// it has had one court's file only, clerk_office gives the answers that were given, with numbers in place of names.
+/// Writes a docket's entries as clerk_office reads them: the court's file that stands, a line `%%` and the rows that stand as
+/// CSV. After the court's file comes a table of the names that cases have, for programs that call them so; a court's file that
+/// has one of its own gets none. A row that is struck is left out, and the rows after it name deadlines and motions by their
+/// places among those that stand, as other programs count them. Where it has had one court's file only and nothing is struck,
+/// clerk_office gives the answers that were given, with numbers in place of names.
 pub fn write_rows<W: Write>(
     alloc: Global,
-    court: &Court,
+    under: &Standing,
+    cases: &Cases,
     entries: &[Vec<u8>],
     writer: &mut Watched<W>,
 ) -> Result<(), DeskFault>
+    requires few { length entries.now ≤ most_entries }
     requires works { has_failed writer.old ≡ false }
-    ensures written { OnOk result (Appends (W.contents (watched writer.old)) (W.contents (watched writer.new)) (written_rows (names_of court.now) (batch_of entries.now))) }
+    ensures written { OnOk result (Appends (W.contents (watched writer.old)) (W.contents (watched writer.new)) (written_rows under.now cases.now.named (batch_of entries.now))) }
 {
     let mut text = Vec::new(alloc);
-    push_file(&mut text, standing_file(entries))?;
+    push_file(alloc, &mut text, standing_file(entries), cases)?;
     let mut fields = StringRecord::new(alloc);
+    let mut number = 1;
     for place in 1..entries.len() {
-        push_entry(alloc, court, &entries[place], &mut fields, &mut text)?;
+        number = push_entry(
+            alloc,
+            under,
+            number,
+            &entries[place],
+            &mut fields,
+            &mut text,
+        )?;
         put_if_long(writer, &mut text)?;
     }
     put(writer, &mut text)

@@ -62,7 +62,7 @@ fn list_faults<W: Write>(
 }
 
 impl<D: Disk> Desk<D> {
-    ghost use Rattle.desk_program.specs.Desk.{KeepsDocket, court_at, disk_under};
+    ghost use Rattle.desk_program.specs.Desk.{KeepsDocket, disk_under, standing_at};
     ghost use Rattle.desk_program.specs.Together.{IsAtFault, IsDocketAllOrNone, KeepsTogether, RefusesLines};
 
     /// Keeps the rows of an input together, one in a line, and then answers them. If a line has a fault, each fault is written;
@@ -76,14 +76,14 @@ impl<D: Disk> Desk<D> {
     ) -> Result<(), DeskFault>
         requires writer_works { has_failed writer.old ≡ false }
         ensures kept { (kept : List (List ℕ)) → KeepsDocket D.Disk.seen D.Disk.may_leave D.Disk.is_usable kept self.old → OnOk result
-            (KeepsTogether (court_at self.old) kept input.now (W.contents (watched writer.old)) (W.contents (watched writer.new)) (λ entries. KeepsDocket D.Disk.seen D.Disk.may_leave D.Disk.is_usable entries self.new)) }
+            (KeepsTogether (standing_at self.old) kept input.now (W.contents (watched writer.old)) (W.contents (watched writer.new)) (λ entries. KeepsDocket D.Disk.seen D.Disk.may_leave D.Disk.is_usable entries self.new)) }
         ensures refused { (kept : List (List ℕ)) (count : ℕ) → KeepsDocket D.Disk.seen D.Disk.may_leave D.Disk.is_usable kept self.old → result ≡ Err (DeskFault.Faults count)
-            → RefusesLines (court_at self.old) kept input.now count (W.contents (watched writer.old)) (W.contents (watched writer.new)) }
-        ensures untouched { (kept : List (List ℕ)) → KeepsDocket D.Disk.seen D.Disk.may_leave D.Disk.is_usable kept self.old → IsAtFault (court_at self.old) kept input.now → self.new ≡ self.old }
+            → RefusesLines (standing_at self.old) kept input.now count (W.contents (watched writer.old)) (W.contents (watched writer.new)) }
+        ensures untouched { (kept : List (List ℕ)) → KeepsDocket D.Disk.seen D.Disk.may_leave D.Disk.is_usable kept self.old → IsAtFault (standing_at self.old) kept input.now → self.new ≡ self.old }
         ensures crash { (kept : List (List ℕ)) → KeepsDocket D.Disk.seen D.Disk.may_leave D.Disk.is_usable kept self.old
-            → IsDocketAllOrNone (court_at self.old) kept (lines_of input.now) (D.Disk.may_leave (disk_under self.new)) }
+            → IsDocketAllOrNone (standing_at self.old) kept (lines_of input.now) (D.Disk.may_leave (disk_under self.new)) }
     {
-        let faults = match self.register.line_faults(alloc, &self.court, input) {
+        let faults = match self.register.line_faults(alloc, &self.standing, input) {
             Ok(faults) => faults,
             Err(_) => return Err(DeskFault::OutOfMemory),
         };
@@ -95,7 +95,7 @@ impl<D: Disk> Desk<D> {
             return Err(DeskFault::Unkept(SessionFault::Unfinished));
         }
         match serve_together(
-            &self.court,
+            &self.standing,
             alloc,
             &mut self.journal,
             &mut self.register,

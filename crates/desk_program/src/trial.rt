@@ -12,7 +12,7 @@ use std::alloc::Global;
 use std::io::{Read, Write};
 
 impl<D: Disk> Desk<D> {
-    ghost use Rattle.desk_program.specs.Desk.{KeepsDocket, court_at, disk_under};
+    ghost use Rattle.desk_program.specs.Desk.{KeepsDocket, disk_under, standing_at};
 
     /// Answers rows, one in a line, as `enter` would answer them, until the input ends. None is kept: the disk is given back
     /// as it was. However it ends, what is written is a beginning of the answers to the lines that were read.
@@ -24,19 +24,19 @@ impl<D: Disk> Desk<D> {
     ) -> (Result<(), SessionFault>, D)
         requires writer_works { has_failed writer.old ≡ false }
         ensures tried { (kept : List (List ℕ)) → KeepsDocket D.Disk.seen D.Disk.may_leave D.Disk.is_usable kept self → OnOk result.0
-            (IfSome (R.remaining (watched reader.old)) (λ input. IsTried (court_at self) kept (lines_of input) (W.contents (watched writer.old)) (W.contents (watched writer.new)))) }
+            (IfSome (R.remaining (watched reader.old)) (λ input. IsTried (standing_at self) kept (lines_of input) (W.contents (watched writer.old)) (W.contents (watched writer.new)))) }
         ensures front { (kept : List (List ℕ)) → KeepsDocket D.Disk.seen D.Disk.may_leave D.Disk.is_usable kept self →
             AfterBytes (R.remaining (watched reader.old)) (R.remaining (watched reader.new)) (λ bytes.
-            IsTriedInPart (court_at self) kept (lines_of bytes) (W.contents (watched writer.old)) (W.contents (watched writer.new))) }
+            IsTriedInPart (standing_at self) kept (lines_of bytes) (W.contents (watched writer.old)) (W.contents (watched writer.new))) }
         ensures finished { OnOk result.0 (IfSome (R.remaining (watched reader.old)) (λ input. unfinished_of input ≡ [])) }
         ensures untouched { result.1 ≡ disk_under self }
     {
         let Desk {
             journal,
-            court,
+            standing,
             mut register,
         } = self;
-        let ended = answer(&court, alloc, &mut register, reader, writer);
+        let ended = answer(&standing, alloc, &mut register, reader, writer);
         (ended, journal.into_disk())
     }
 }

@@ -3,11 +3,12 @@ ghost use Rattle.std.specs.Prelude.{◌≡◌, false};
 ghost use Rattle.office_streams.specs.Words.{has_failed};
 
 use crate::folder::{copied_beside, entries_beside, journal_name, make_folder, opened, read_file};
-use crate::words::Task;
+use crate::words::{Struck, Task};
 use crate::written::{enter_written, plain, try_written};
 use court_clock::Day;
 use desk_program::{
     Desk, DeskFault, ask, check_court, open_file, write_cases, write_count, write_rows,
+    write_struck,
 };
 use durable_session::SessionFault;
 use office_streams::{OfficeFault, Watched, read_all};
@@ -140,12 +141,12 @@ fn ask_folder<W: Write>(
     ask(rt.alloc(), &entries, &mut reader, writer)
 }
 
-// Writes the court's file, a line `%%` and all rows.
+// Writes the court's file, the names of cases, a line `%%` and the rows that stand.
 fn rows<W: Write>(rt: &HostRuntime, writer: &mut Watched<W>, folder: &str) -> Result<(), DeskFault>
     requires { has_failed writer.old ≡ false }
 {
     let (desk, entries) = opened(rt, folder)?;
-    let ended = write_rows(rt.alloc(), desk.court(), &entries, writer);
+    let ended = write_rows(rt.alloc(), desk.standing(), desk.cases(), &entries, writer);
     drop(desk.into_disk());
     ended
 }
@@ -186,6 +187,41 @@ fn change<W: Write>(
     ended
 }
 
+// Strikes a row.
+fn strike<W: Write>(
+    rt: &HostRuntime,
+    writer: &mut Watched<W>,
+    folder: &str,
+    struck: &Struck,
+) -> Result<(), DeskFault>
+    requires { has_failed writer.old ≡ false }
+{
+    let (mut desk, entries) = opened(rt, folder)?;
+    let remark = struck.remark.as_bytes();
+    let ended = desk.strike(
+        rt.alloc(),
+        &entries,
+        struck.row,
+        remark,
+        struck.accept,
+        writer,
+    );
+    drop(desk.into_disk());
+    ended
+}
+
+// Writes the rows that are struck, beside a program that may enter rows.
+fn list_struck<W: Write>(
+    rt: &HostRuntime,
+    writer: &mut Watched<W>,
+    folder: &str,
+) -> Result<(), DeskFault>
+    requires { has_failed writer.old ≡ false }
+{
+    let entries = entries_beside(rt, folder)?;
+    write_struck(rt.alloc(), &entries, writer)
+}
+
 /// Does what is asked for.
 pub fn done<W: Write>(
     rt: &HostRuntime,
@@ -210,5 +246,7 @@ pub fn done<W: Write>(
         Task::Cases => cases(rt, writer, folder),
         Task::Check => check(rt, writer, folder),
         Task::Court(court, accept) => change(rt, writer, folder, court.as_str(), *accept),
+        Task::Strike(struck) => strike(rt, writer, folder, struck),
+        Task::Struck => list_struck(rt, writer, folder),
     }
 }

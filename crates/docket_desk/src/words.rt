@@ -37,7 +37,14 @@ const TASKS: &str = "Tasks:
                                   are
   court FOLDER FILE [--accept]    list the answers that another court's file
                                   would change, and take it if there are none
-                                  or with --accept";
+                                  or with --accept
+  strike FOLDER ROW --reason TEXT --by NAME --today DAY [--accept]
+                                  list the answers that would change without
+                                  this row, and strike it if there are none or
+                                  with --accept. The row stays in the journal,
+                                  and so does why, by whom and when
+  struck FOLDER                   list the rows that are struck; also while
+                                  another program enters rows";
 
 const OPEN_WORDS: &str = "'open' needs the court's file: open FOLDER --court FILE";
 
@@ -53,6 +60,13 @@ const WARN_WORDS: &str =
     "--warn is for 'enter' and for 'try', without --all-or-nothing and --as-written; --today is for it";
 
 const COURT_WORDS: &str = "'court' needs another court's file: court FOLDER FILE [--accept]";
+
+const STRIKE_WORDS: &str =
+    "'strike' needs a row and why, by whom and when: strike FOLDER ROW --reason TEXT --by NAME --today DAY [--accept]";
+
+const STRIKE_ALONE: &str = "--reason and --by are for 'strike'";
+
+const STRIKE_TEXT: &str = "--reason and --by take a text of one line";
 
 /// What is asked for, of a folder.
 #[derive(Debug, Drop)]
@@ -85,6 +99,21 @@ pub enum Task {
     Check,
     /// Another court's file, of this name, and whether it is taken though answers differ.
     Court(String, bool),
+    /// A row that is struck.
+    Strike(Struck),
+    /// The rows that are struck.
+    Struck,
+}
+
+/// A row that is struck, and what is said of that.
+#[derive(Debug, Drop)]
+pub struct Struck {
+    /// The row's number, counted from 1.
+    pub row: u32,
+    /// When, by whom and why, as one line with its end.
+    pub remark: String,
+    /// Whether it is struck though answers differ.
+    pub accept: bool,
 }
 
 /// How rows are written, and how their faults are.
@@ -97,20 +126,22 @@ pub struct Style {
 }
 
 // What the words say, before it is known whether it fits the task.
-#[derive(Drop)]
-struct Said {
-    file: Option<String>,
-    court: Option<String>,
-    dates: Option<String>,
+#[derive(Clone, Copy)]
+struct Said<'a> {
+    file: Option<&'a str>,
+    court: Option<&'a str>,
+    dates: Option<&'a str>,
     accept: bool,
     together: bool,
     written: bool,
     json: bool,
     warn: bool,
-    today: Option<String>,
+    today: Option<&'a str>,
+    reason: Option<&'a str>,
+    by: Option<&'a str>,
 }
 
-impl Said {
+impl<'a> Said<'a> {
     // Whether it says how rows are written.
     fn has_style(&self) -> bool {
         self.dates.is_some() || self.written || self.json
@@ -119,6 +150,11 @@ impl Said {
     // Whether it says that rows are held back, or by which day.
     fn has_warnings(&self) -> bool {
         self.warn || self.today.is_some()
+    }
+
+    // Whether it says why a row is struck, or by whom.
+    fn has_strike(&self) -> bool {
+        self.reason.is_some() || self.by.is_some()
     }
 
     // Whether it says what belongs to no task that takes rows.
@@ -136,72 +172,72 @@ fn text_argument<'a>(alloc: Global, name: &'a str, value: &'a str, help: &'a str
 
 // The task, the folder and the files that a task takes.
 fn command_of_files<'a>(alloc: Global) -> Result<Command<'a>, AllocError> {
-    let task = text_argument(alloc, "task", "TASK", "What is to be done").required(true);
-    let folder = text_argument(alloc, "folder", "FOLDER", "The folder with the journal").required(
-        true,
-    );
     Command::new(alloc, "docket_desk")
         .no_binary_name(true)
         .version("0.1.0")
         .about(ABOUT)
         .after_help(TASKS)
-        .arg(task)?
-        .arg(folder)?
-        .arg(text_argument(alloc, "file", "FILE", "Another court's file, for 'court'"))?
+        .arg(text_argument(alloc, "task", "TASK", "What is to be done").required(true))?
+        .arg(text_argument(alloc, "folder", "FOLDER", "The folder with the journal").required(
+            true,
+        ))?
+        .arg(text_argument(
+            alloc,
+            "file",
+            "FILE|ROW",
+            "Another court's file, for 'court', or a row's number, for 'strike'",
+        ))?
         .arg(text_argument(alloc, "court", "FILE", "The court's file, for 'open'").long("court"))
 }
 
-fn command<'a>(alloc: Global) -> Result<Command<'a>, AllocError> {
-    let accept = Arg::new(alloc, "accept")
-        .long("accept")
+// The command with one more option that takes nothing.
+fn with_flag<'a>(
+    alloc: Global,
+    command: Command<'a>,
+    name: &'a str,
+    option: &'a str,
+    help: &'a str,
+) -> Result<Command<'a>, AllocError> {
+    let flag = Arg::new(alloc, name)
+        .long(option)
         .action(ArgAction::SetTrue)
-        .help("Take another court's file though answers differ");
-    let together = Arg::new(alloc, "together")
-        .long("all-or-nothing")
-        .action(ArgAction::SetTrue)
-        .help("Keep all rows of 'enter', or none if a line has a fault");
-    let written = Arg::new(alloc, "written")
-        .long("as-written")
-        .action(ArgAction::SetTrue)
-        .help("Take rows as people write them");
-    let json = Arg::new(alloc, "json")
-        .long("json")
-        .action(ArgAction::SetTrue)
-        .help("Write their faults as JSON");
-    let warn = Arg::new(alloc, "warn")
-        .long("warn")
-        .action(ArgAction::SetTrue)
-        .help("Keep no row that draws a warning");
-    let today = text_argument(
-        alloc,
-        "today",
-        "DAY",
-        "The day that counts as today, for --warn",
-    )
-    .long("today");
-    let dates = text_argument(
-        alloc,
-        "dates",
-        "ORDER",
-        "month-first or day-first, for 9/2/2025",
-    )
-    .long("dates");
-    command_of_files(alloc)?
-        .arg(accept)?
-        .arg(together)?
-        .arg(warn)?
-        .arg(today)?
-        .arg(written)?
-        .arg(dates)?
-        .arg(json)
+        .help(help);
+    command.arg(flag)
 }
 
-// The text of an argument, if it was given.
-fn given(alloc: Global, matches: &ArgMatches<'_>, id: &str) -> Result<Option<String>, AllocError> {
-    match matches.get_str(id) {
-        Some(text) => Ok(Some(String::from_str(alloc, text)?)),
-        None => Ok(None),
-    }
+// The command with one more option that takes a text.
+fn with_text<'a>(
+    alloc: Global,
+    command: Command<'a>,
+    name: &'a str,
+    value: &'a str,
+    help: &'a str,
+) -> Result<Command<'a>, AllocError> {
+    command.arg(text_argument(alloc, name, value, help).long(name))
+}
+
+// The options that say how rows are taken.
+fn with_rows<'a>(alloc: Global, command: Command<'a>) -> Result<Command<'a>, AllocError> {
+    let together = "Keep all rows of 'enter', or none if a line has a fault";
+    let command = with_flag(alloc, command, "together", "all-or-nothing", together)?;
+    let warn = "Keep no row that draws a warning";
+    let command = with_flag(alloc, command, "warn", "warn", warn)?;
+    let today = "The day that counts as today, for --warn and 'strike'";
+    let command = with_text(alloc, command, "today", "DAY", today)?;
+    let written = "Take rows as people write them";
+    let command = with_flag(alloc, command, "written", "as-written", written)?;
+    let dates = "month-first or day-first, for 9/2/2025";
+    let command = with_text(alloc, command, "dates", "ORDER", dates)?;
+    with_flag(alloc, command, "json", "json", "Write their faults as JSON")
+}
+
+fn command<'a>(alloc: Global) -> Result<Command<'a>, AllocError> {
+    let command = command_of_files(alloc)?;
+    let accept = "Take another court's file, or strike a row, though answers differ";
+    let command = with_flag(alloc, command, "accept", "accept", accept)?;
+    let command = with_rows(alloc, command)?;
+    let command = with_text(alloc, command, "reason", "TEXT", "Why a row is struck")?;
+    with_text(alloc, command, "by", "NAME", "By whom it is struck")
 }
 
 // What is wrong with the words.
@@ -213,40 +249,75 @@ fn wrong(alloc: Global, text: &str) -> OptionsFault {
 }
 
 // A new folder, which needs a court's file and nothing else.
-fn open_task(alloc: Global, said: Said) -> Result<Task, OptionsFault> {
+fn open_task(alloc: Global, said: &Said<'_>) -> Result<Task, OptionsFault> {
     if said.file.is_some() || said.accept || said.together || said.has_style() {
         return Err(wrong(alloc, OPEN_WORDS));
     }
     if said.has_warnings() {
         return Err(wrong(alloc, WARN_WORDS));
     }
-    let Said { court, .. } = said;
-    match court {
-        Some(court) => Ok(Task::Open(court)),
+    match said.court {
+        Some(court) => Ok(Task::Open(String::from_str(alloc, court)?)),
         None => Err(wrong(alloc, OPEN_WORDS)),
     }
 }
 
 // Another court's file, which is named after the folder.
-fn court_task(alloc: Global, said: Said) -> Result<Task, OptionsFault> {
+fn court_task(alloc: Global, said: &Said<'_>) -> Result<Task, OptionsFault> {
     if said.court.is_some() || said.together || said.has_style() {
         return Err(wrong(alloc, COURT_WORDS));
     }
     if said.has_warnings() {
         return Err(wrong(alloc, WARN_WORDS));
     }
-    let Said { file, accept, .. } = said;
-    match file {
-        Some(file) => Ok(Task::Court(file, accept)),
+    match said.file {
+        Some(file) => Ok(Task::Court(String::from_str(alloc, file)?, said.accept)),
         None => Err(wrong(alloc, COURT_WORDS)),
     }
 }
 
+// Whether a text is one line with something in it.
+fn is_line(text: &str) -> bool {
+    !text.is_empty() && !text.bytes().any(|byte| byte < b' ')
+}
+
+// When a row is struck, by whom and why.
+fn remark_of(alloc: Global, said: &Said<'_>) -> Result<String, OptionsFault> {
+    let (Some(reason), Some(by), Some(day)) = (said.reason, said.by, today_of(alloc, said)?) else {
+        return Err(wrong(alloc, STRIKE_WORDS));
+    };
+    if !is_line(reason) || !is_line(by) {
+        return Err(wrong(alloc, STRIKE_TEXT));
+    }
+    Ok(format!(in alloc; "struck {day} by {by}: {reason}\n")?)
+}
+
+// A row that is struck, which is named after the folder.
+fn strike_task(alloc: Global, said: &Said<'_>) -> Result<Task, OptionsFault> {
+    if said.court.is_some() || said.together || said.has_style() || said.warn {
+        return Err(wrong(alloc, STRIKE_WORDS));
+    }
+    let Some(text) = said.file else {
+        return Err(wrong(alloc, STRIKE_WORDS));
+    };
+    let Ok(row) = text.parse::<u32>() else {
+        return Err(wrong(
+            alloc,
+            "'strike' takes a row by its number, with which its answer begins",
+        ));
+    };
+    Ok(Task::Strike(Struck {
+        row,
+        remark: remark_of(alloc, said)?,
+        accept: said.accept,
+    }))
+}
+
 // How rows are written.
-fn style_of(alloc: Global, said: &Said) -> Result<Style, OptionsFault> {
-    let order = match &said.dates {
+fn style_of(alloc: Global, said: &Said<'_>) -> Result<Style, OptionsFault> {
+    let order = match said.dates {
         None => None,
-        Some(word) => match word.as_str() {
+        Some(word) => match word {
             "month-first" => Some(DateOrder::MonthFirst),
             "day-first" => Some(DateOrder::DayFirst),
             _ => return Err(wrong(alloc, DATES_WORDS)),
@@ -269,18 +340,18 @@ fn no_day(alloc: Global, text: &str) -> OptionsFault {
 }
 
 // The day that counts as today, if one does.
-fn today_of(alloc: Global, said: &Said) -> Result<Option<Day>, OptionsFault> {
-    let Some(text) = &said.today else {
+fn today_of(alloc: Global, said: &Said<'_>) -> Result<Option<Day>, OptionsFault> {
+    let Some(text) = said.today else {
         return Ok(None);
     };
-    match Day::from_text(text.as_str()) {
+    match Day::from_text(text) {
         Some(day) => Ok(Some(day)),
-        None => Err(no_day(alloc, text.as_str())),
+        None => Err(no_day(alloc, text)),
     }
 }
 
 // Rows that are held back if they draw a warning.
-fn careful_day(alloc: Global, said: &Said) -> Result<Option<Day>, OptionsFault> {
+fn careful_day(alloc: Global, said: &Said<'_>) -> Result<Option<Day>, OptionsFault> {
     if !said.warn || said.together || said.has_style() {
         return Err(wrong(alloc, WARN_WORDS));
     }
@@ -288,7 +359,7 @@ fn careful_day(alloc: Global, said: &Said) -> Result<Option<Day>, OptionsFault> 
 }
 
 // Rows that are kept, one after another or together.
-fn enter_task(alloc: Global, said: &Said) -> Result<Task, OptionsFault> {
+fn enter_task(alloc: Global, said: &Said<'_>) -> Result<Task, OptionsFault> {
     if said.has_file() {
         return Err(wrong(alloc, ENTER_WORDS));
     }
@@ -304,7 +375,7 @@ fn enter_task(alloc: Global, said: &Said) -> Result<Task, OptionsFault> {
 }
 
 // Rows that are not kept.
-fn trial_task(alloc: Global, said: &Said) -> Result<Task, OptionsFault> {
+fn trial_task(alloc: Global, said: &Said<'_>) -> Result<Task, OptionsFault> {
     if said.has_file() || said.together {
         return Err(wrong(alloc, "'try' takes a folder: rows come from standard input"));
     }
@@ -321,7 +392,7 @@ fn trial_task(alloc: Global, said: &Said) -> Result<Task, OptionsFault> {
 }
 
 // Rows that are only read.
-fn reading_task(alloc: Global, said: &Said) -> Result<Task, OptionsFault> {
+fn reading_task(alloc: Global, said: &Said<'_>) -> Result<Task, OptionsFault> {
     if said.has_file() || said.together || said.written {
         return Err(wrong(alloc, "'plain' takes a folder, --dates and --json"));
     }
@@ -332,7 +403,7 @@ fn reading_task(alloc: Global, said: &Said) -> Result<Task, OptionsFault> {
 }
 
 // A task to which nothing is said but the folder.
-fn plain_task(alloc: Global, name: &str, said: &Said) -> Result<Task, OptionsFault> {
+fn plain_task(alloc: Global, name: &str, said: &Said<'_>) -> Result<Task, OptionsFault> {
     if said.has_file() || said.together || said.has_style() {
         return Err(wrong(alloc, "this task takes a folder alone"));
     }
@@ -343,39 +414,48 @@ fn plain_task(alloc: Global, name: &str, said: &Said) -> Result<Task, OptionsFau
         "ask" => Ok(Task::Ask),
         "rows" => Ok(Task::Rows),
         "cases" => Ok(Task::Cases),
+        "struck" => Ok(Task::Struck),
         "check" => Ok(Task::Check),
         _ => Err(wrong(alloc, "there is no such task")),
     }
 }
 
 // The task of this name, where the rest of the words fits it.
-fn task_of(alloc: Global, name: &str, said: Said) -> Result<Task, OptionsFault> {
+fn task_of(alloc: Global, name: &str, said: &Said<'_>) -> Result<Task, OptionsFault> {
+    if said.has_strike() && name != "strike" {
+        return Err(wrong(alloc, STRIKE_ALONE));
+    }
     match name {
         "open" => open_task(alloc, said),
+        "strike" => strike_task(alloc, said),
         "court" => court_task(alloc, said),
-        "enter" => enter_task(alloc, &said),
-        "try" => trial_task(alloc, &said),
-        "plain" => reading_task(alloc, &said),
-        _ => plain_task(alloc, name, &said),
+        "enter" => enter_task(alloc, said),
+        "try" => trial_task(alloc, said),
+        "plain" => reading_task(alloc, said),
+        _ => plain_task(alloc, name, said),
     }
 }
 
 // What was matched, as a task and its folder.
 fn asked(alloc: Global, matches: &ArgMatches<'_>) -> Result<(Task, String), OptionsFault> {
     let said = Said {
-        file: given(alloc, matches, "file")?,
-        court: given(alloc, matches, "court")?,
-        dates: given(alloc, matches, "dates")?,
+        file: matches.get_str("file"),
+        court: matches.get_str("court"),
+        dates: matches.get_str("dates"),
         accept: matches.get_flag("accept"),
         together: matches.get_flag("together"),
         written: matches.get_flag("written"),
         json: matches.get_flag("json"),
         warn: matches.get_flag("warn"),
-        today: given(alloc, matches, "today")?,
+        today: matches.get_str("today"),
+        reason: matches.get_str("reason"),
+        by: matches.get_str("by"),
     };
-    let folder = given(alloc, matches, "folder")?;
-    match (matches.get_str("task"), folder) {
-        (Some(name), Some(folder)) => Ok((task_of(alloc, name, said)?, folder)),
+    match (matches.get_str("task"), matches.get_str("folder")) {
+        (Some(name), Some(folder)) => {
+            let folder = String::from_str(alloc, folder)?;
+            Ok((task_of(alloc, name, &said)?, folder))
+        }
         _ => Err(wrong(alloc, "a task and a folder are needed")),
     }
 }

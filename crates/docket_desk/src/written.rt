@@ -78,9 +78,9 @@ pub fn plain<W: Write>(
     requires { has_failed writer.old ≡ false }
 {
     let entries = entries_beside(rt, folder)?;
-    let Docketed { court, .. } = Docketed::of(rt.alloc(), &entries)?;
+    let Docketed { standing, .. } = Docketed::of(rt.alloc(), &entries)?;
     let input = whole_input(rt)?;
-    let rows = rows_read(rt.alloc(), &court, style, &input, writer)?;
+    let rows = rows_read(rt.alloc(), &standing.court, style, &input, writer)?;
     put(writer, &rows)
 }
 

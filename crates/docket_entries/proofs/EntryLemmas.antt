@@ -13,7 +13,8 @@ use Rattle.csv.specs.Records.{field_at}
 use Rattle.csv.specs.Writing.{default_writer, escaped, field_text, fields_text, is_blank, needs_byte, read_back, row_text}
 use Rattle.csv.specs.declared.parser.State.TheVariants as st
 use Rattle.csv.proofs.RoundTrip.{read-write}
-use Rattle.court_days.specs.Words.{CourtView}
+use Rattle.row_strikes.specs.Words.{strike_in}
+use Rattle.docket_entries.specs.declared.standing.Standing.{Standing}
 use Rattle.office_rows.specs.declared.fault.RowCause.{RowCause}
 use Rattle.office_rows.specs.declared.fault.RowCause.TheVariants.{BadClerk, NotText, TooManyRows, WrongCount}
 use Rattle.row_line.specs.declared.line.Line.{Line}
@@ -28,10 +29,10 @@ use Rattle.case_numbers.specs.Words.{CasesView, NameView, after_name, case_read,
 use Rattle.case_numbers.proofs.CallerLemmas.{name_of_line, no_name_line, no_name_past, rest_of_line}
 use Rattle.docket_entries.specs.Cases.{cases_of}
 use Rattle.docket_entries.specs.CaseLines.{case_in, fresh_for, lacks_third, named, named_if, newly, reading_of}
-use Rattle.docket_entries.specs.Entries.{later_file, most_clerks, most_entries}
+use Rattle.docket_entries.specs.Entries.{most_clerks, most_entries, note_in}
 use Rattle.docket_entries.specs.Rows.{answer_to, entry_of, follows, leaves, left_of, plain_leaves, reading_at, with_name, within}
 use Rattle.docket_entries.specs.Laws.{WhatIsLeftFollows}
-use Rattle.docket_entries.proofs.ListLemmas.{no_file}
+use Rattle.docket_entries.proofs.ListLemmas.{no_note}
 
 -- a text that doesn't begin with the first byte of a byte order mark has none
 no_mark : (b : ℕ) (bytes : List ℕ) → (b == 239) ≡ false → strip_bom (b ∷ bytes) ≡ b ∷ bytes
@@ -48,7 +49,7 @@ digit_is_other b digit = by (b == 239) refl
     by true e = grind (arith, common_steps)
     by false e = refl
 
--- nor the first of the line of a court's file
+-- nor the first of the line of a court's file, or of a strike
 digit_is_no_mark : (b : ℕ) → is_ascii_digit b ≡ true → nat_eq 37 b ≡ false
 digit_is_no_mark b digit = by (nat_eq 37 b) refl
   where
@@ -68,16 +69,16 @@ number_first (b ∷ x) more number = by (list_any (needs_byte default_writer) (b
     by true = no_mark 34 ((escaped default_writer (b ∷ x) ++ 34 ∷ []) ++ more) refl
     by false = no_mark b (x ++ more) (digit_is_other b digit)
 
-number_no_file : (x more : List ℕ) → is_number x ≡ true → later_file (field_text default_writer x ++ more) ≡ None
-number_no_file [] more number = cc number
-number_no_file (b ∷ x) more number = by (list_any (needs_byte default_writer) (b ∷ x))
+number_no_note : (x more : List ℕ) → is_number x ≡ true → note_in (field_text default_writer x ++ more) ≡ None
+number_no_note [] more number = cc number
+number_no_note (b ∷ x) more number = by (list_any (needs_byte default_writer) (b ∷ x))
   where
     digit : is_ascii_digit b ≡ true
     digit = grind (arith, common_steps)
 
-    by : (needs : Bool) → later_file (cond needs (34 ∷ (escaped default_writer (b ∷ x) ++ 34 ∷ [])) (b ∷ x) ++ more) ≡ None
-    by true = no_file 34 ((escaped default_writer (b ∷ x) ++ 34 ∷ []) ++ more) refl
-    by false = no_file b (x ++ more) (digit_is_no_mark b digit)
+    by : (needs : Bool) → note_in (cond needs (34 ∷ (escaped default_writer (b ∷ x) ++ 34 ∷ [])) (b ∷ x) ++ more) ≡ None
+    by true = no_note 34 ((escaped default_writer (b ∷ x) ++ 34 ∷ []) ++ more) refl
+    by false = no_note b (x ++ more) (digit_is_no_mark b digit)
 
 -- nor does it have the line of a name
 number_no_name : (x more : List ℕ) → is_number x ≡ true → name_before (field_text default_writer x ++ more) ≡ None
@@ -135,14 +136,14 @@ row_has_no_mark (x ∷ rest) tail many number =
     let parts : row_text default_writer (x ∷ rest) ++ tail ≡ field_text default_writer x ++ (fields_text default_writer rest ++ (ending ++ tail)) = simp append_assoc in
     ap strip_bom parts ∙ number_first x (fields_text default_writer rest ++ (ending ++ tail)) number ∙ sym parts
 
--- nor is it a court's file
-row_is_no_file : (fields : List (List ℕ)) (tail : List ℕ) → 2 ≤ length fields → is_number (column fields 1) ≡ true → later_file (row_text default_writer fields ++ tail) ≡ None
+-- nor is it a court's file or a strike
+row_is_no_note : (fields : List (List ℕ)) (tail : List ℕ) → 2 ≤ length fields → is_number (column fields 1) ≡ true → note_in (row_text default_writer fields ++ tail) ≡ None
 unfolding field_at
-row_is_no_file [] tail many number = absurd (omega (arith, many))
-row_is_no_file (x ∷ rest) tail many number =
+row_is_no_note [] tail many number = absurd (omega (arith, many))
+row_is_no_note (x ∷ rest) tail many number =
     let ending = cond (is_blank default_writer (x ∷ rest)) (34 ∷ 34 ∷ []) [] ++ 10 ∷ [] in
     let parts : row_text default_writer (x ∷ rest) ++ tail ≡ field_text default_writer x ++ (fields_text default_writer rest ++ (ending ++ tail)) = simp append_assoc in
-    ap later_file parts ∙ number_no_file x (fields_text default_writer rest ++ (ending ++ tail)) number
+    ap note_in parts ∙ number_no_note x (fields_text default_writer rest ++ (ending ++ tail)) number
 
 -- nor does it begin with the line of a name
 row_has_no_name : (fields : List (List ℕ)) (tail : List ℕ) → 2 ≤ length fields → is_number (column fields 1) ≡ true → name_before (row_text default_writer fields ++ tail) ≡ None
@@ -193,8 +194,8 @@ module _ (names : CourtNames) (fields : List (List ℕ)) (row : Row) (tail : Lis
   pub has_its_fields : fields_read (row_text default_writer fields ++ tail) ≡ fields
   has_its_fields = sym (has_fields most_clerks names (row_text default_writer fields ++ tail) fields there.0 there.1)
 
-  pub is_no_file : later_file (row_text default_writer fields ++ tail) ≡ None
-  is_no_file = let (many, number) = spells_row names fields row spelled in row_is_no_file fields tail many number
+  pub is_no_note : note_in (row_text default_writer fields ++ tail) ≡ None
+  is_no_note = let (many, number) = spells_row names fields row spelled in row_is_no_note fields tail many number
 
 -- a name is one that was read
 abbrev pub WasRead : Option NameView → Type 0
@@ -214,9 +215,10 @@ module _ (names : CourtNames) (fields : List (List ℕ)) (row : Row) (tail : Lis
   past_its_name None was = let (many, number) = spells_row names fields row spelled in row_past_name fields tail many number
   past_its_name (Some name) was = ap after_name (in_parts name) ∙ rest_of_line was.0 name was.1 (row_text default_writer fields ++ tail)
 
-  pub is_no_file_named : (name : Option NameView) → later_file (name_line name ++ (row_text default_writer fields ++ tail)) ≡ None
-  is_no_file_named None = is_no_file names fields row tail spelled
-  is_no_file_named (Some name) = refl
+  pub is_no_note_named : (name : Option NameView) → note_in (name_line name ++ (row_text default_writer fields ++ tail)) ≡ None
+  unfolding strike_in
+  is_no_note_named None = is_no_note names fields row tail spelled
+  is_no_note_named (Some name) = refl
 
 -- the new name of a line was read
 module _ (cases : CasesView) (line : List ℕ) (fields : List (List ℕ)) where
@@ -262,38 +264,38 @@ within_row kept (line.Row r) row h = by (ltb (length kept) most_entries) refl h
     by false e h = cc h
 
 -- what is made of a row leaves itself
-pub leaves_itself : (court : CourtView) (kept : List (List ℕ)) (fields : List (List ℕ)) (row : Row) → row_of most_clerks (names_of court) fields ≡ Ok row → ltb (length kept) most_entries ≡ true
-    → plain_leaves court kept (entry_of court kept fields row) ≡ entry_of court kept fields row ∷ []
+pub leaves_itself : (under : Standing) (kept : List (List ℕ)) (fields : List (List ℕ)) (row : Row) → row_of most_clerks (names_of under.court) fields ≡ Ok row → ltb (length kept) most_entries ≡ true
+    → plain_leaves under kept (entry_of under kept fields row) ≡ entry_of under kept fields row ∷ []
 unfolding plain_leaves
-leaves_itself court kept fields row spelled room =
-    ap (λ (l : Line). left_of court kept (fields_read (entry_of court kept fields row)) (within kept l)) (says_its_row (names_of court) fields row (answer_to court kept row) spelled)
-    ∙ ap (λ (f : List (List ℕ)). left_of court kept f (within kept (line.Row row))) (has_its_fields (names_of court) fields row (answer_to court kept row) spelled)
-    ∙ ap (λ (b : Bool). left_of court kept fields (cond b (line.Row row) (line.Fault TooManyRows))) room
+leaves_itself under kept fields row spelled room =
+    ap (λ (l : Line). left_of under kept (fields_read (entry_of under kept fields row)) (within kept l)) (says_its_row (names_of under.court) fields row (answer_to under kept row) spelled)
+    ∙ ap (λ (f : List (List ℕ)). left_of under kept f (within kept (line.Row row))) (has_its_fields (names_of under.court) fields row (answer_to under kept row) spelled)
+    ∙ ap (λ (b : Bool). left_of under kept fields (cond b (line.Row row) (line.Fault TooManyRows))) room
 
 -- and with a name it follows
-follows_named : (court : CourtView) (kept : List (List ℕ)) (fields : List (List ℕ)) (row : Row) (name : Option NameView) → WasRead name → row_of most_clerks (names_of court) fields ≡ Ok row → ltb (length kept) most_entries ≡ true
-    → follows court kept (name_line name ++ entry_of court kept fields row)
-follows_named court kept fields row name was spelled room =
-    let whole = name_line name ++ entry_of court kept fields row in
-    ap (λ (n : Option NameView). with_name n (plain_leaves court kept (after_name whole))) (its_name (names_of court) fields row (answer_to court kept row) spelled name was)
-    ∙ ap (λ (e : List ℕ). with_name name (plain_leaves court kept e)) (past_its_name (names_of court) fields row (answer_to court kept row) spelled name was)
-    ∙ ap (with_name name) (leaves_itself court kept fields row spelled room)
+follows_named : (under : Standing) (kept : List (List ℕ)) (fields : List (List ℕ)) (row : Row) (name : Option NameView) → WasRead name → row_of most_clerks (names_of under.court) fields ≡ Ok row → ltb (length kept) most_entries ≡ true
+    → follows under kept (name_line name ++ entry_of under kept fields row)
+follows_named under kept fields row name was spelled room =
+    let whole = name_line name ++ entry_of under kept fields row in
+    ap (λ (n : Option NameView). with_name n (plain_leaves under kept (after_name whole))) (its_name (names_of under.court) fields row (answer_to under kept row) spelled name was)
+    ∙ ap (λ (e : List ℕ). with_name name (plain_leaves under kept e)) (past_its_name (names_of under.court) fields row (answer_to under kept row) spelled name was)
+    ∙ ap (with_name name) (leaves_itself under kept fields row spelled room)
 
 -- the law
 pub left_follows : WhatIsLeftFollows
 unfolding leaves plain_leaves
-left_follows court kept bytes entry h = by (within kept (line_read most_clerks (names_of court) (reading_at court kept bytes).text)) refl h
+left_follows under kept bytes entry h = by (within kept (line_read most_clerks (names_of under.court) (reading_at under kept bytes).text)) refl h
   where
-    by : (l : Line) → within kept (line_read most_clerks (names_of court) (reading_at court kept bytes).text) ≡ l
-        → with_name (reading_at court kept bytes).name (left_of court kept (fields_read (reading_at court kept bytes).text) l) ≡ entry ∷ [] → (later_file entry ≡ None) × follows court kept entry
+    by : (l : Line) → within kept (line_read most_clerks (names_of under.court) (reading_at under kept bytes).text) ≡ l
+        → with_name (reading_at under kept bytes).name (left_of under kept (fields_read (reading_at under kept bytes).text) l) ≡ entry ∷ [] → (note_in entry ≡ None) × follows under kept entry
     by line.Blank same h = cc h
     by (line.Fault cause) same h = cc h
     by (line.Row row) same h =
-        let text = (reading_at court kept bytes).text in
-        let name = (reading_at court kept bytes).name in
-        let (said, room) = within_row kept (line_read most_clerks (names_of court) text) row same in
-        let is_entry : name_line name ++ entry_of court kept (fields_read text) row ≡ entry = cc h in
-        let spelled = says_row most_clerks (names_of court) text row said in (
-          ap later_file (sym is_entry) ∙ is_no_file_named (names_of court) (fields_read text) row (answer_to court kept row) spelled name,
-          subst (follows court kept) is_entry (follows_named court kept (fields_read text) row name (reading_read (names_of court) (cases_of court kept) bytes) spelled room),
+        let text = (reading_at under kept bytes).text in
+        let name = (reading_at under kept bytes).name in
+        let (said, room) = within_row kept (line_read most_clerks (names_of under.court) text) row same in
+        let is_entry : name_line name ++ entry_of under kept (fields_read text) row ≡ entry = cc h in
+        let spelled = says_row most_clerks (names_of under.court) text row said in (
+          ap note_in (sym is_entry) ∙ is_no_note_named (names_of under.court) (fields_read text) row (answer_to under kept row) spelled name,
+          subst (follows under kept) is_entry (follows_named under kept (fields_read text) row name (reading_read (names_of under.court) (cases_of under kept) bytes) spelled room),
         )

@@ -1,6 +1,6 @@
 -- Histories, after one entry more and after what lines leave.
-use Rattle.std.proofs.Common.{◌≡◌, ◌∙◌, ◌<◌, ℕ, List, [], ◌∷◌, ◌++◌, Option, Some, None, Err, length, length-append, refl, sym, ap, subst, append_assoc, append-nil, arith}
-use Rattle.std.specs.Prelude.{Vec, slice_get}
+use Rattle.std.proofs.Common.{◌≡◌, ◌∙◌, ◌<◌, ◌&&◌, ℕ, Bool, true, false, not, List, [], ◌∷◌, ◌++◌, Option, Some, None, Err, length, length-append, refl, sym, ap, subst, append_assoc, append-nil, arith}
+use Rattle.std.specs.Prelude.{IsSome, Vec, is_some, nat_lt, slice_get}
 use Rattle.std.specs.declared.alloc.Global.{Global}
 use Rattle.durable_journal.specs.Words.{batch_of}
 use Rattle.court_days.specs.Words.{CourtView, court_in}
@@ -10,17 +10,20 @@ use Rattle.office_rows.specs.Words.{names_of}
 use Rattle.row_line.specs.Words.{fields_read, line_read}
 use Rattle.durable_session.specs.Taken.{left_by}
 use Rattle.docket_entries.specs.declared.fault.HistoryFault.{HistoryFault}
-use Rattle.docket_entries.specs.declared.fault.HistoryFault.TheVariants.{Court, NoCourt, Other, OutOfMemory}
+use Rattle.docket_entries.specs.declared.fault.HistoryFault.TheVariants.{Court, NoCourt, Other, OutOfMemory, Strike}
 use Rattle.docket_entries.specs.Docketed.{HasHistoryFault, IsBadFile, IsDocketed}
 use Rattle.docket_entries.specs.declared.docketed.Docketed.{Docketed}
-use Rattle.docket_entries.specs.Entries.{file_after, later_file, most_clerks, next_number, standing_file}
-use Rattle.docket_entries.specs.History.{AllFollow, FollowsAs, IsHistory, MayFollow, SaysCourt}
+use Rattle.row_strikes.specs.declared.strike.Strike.{Strike as StrikeOf}
+use Rattle.row_strikes.specs.Words.{CorrectionsView, all_before, is_struck, no_corrections, with_strike}
+use Rattle.docket_entries.specs.declared.standing.Standing.{Standing}
+use Rattle.docket_entries.specs.Entries.{Note, can_strike, corrected, corrections_in, court_file, file_after, file_with, most_clerks, next_number, note_in, row_struck, standing_file}
+use Rattle.docket_entries.specs.History.{AllFollow, FollowsAs, IsHistory, MayFollow, SaysCourt, StandsAfter}
 use Rattle.docket_entries.specs.Laws.{WhatIsLeftIsHistory}
-use Rattle.docket_entries.specs.Register.{StandsAt}
+use Rattle.docket_entries.specs.Register.{IsReadyAt, StandsAt}
 use Rattle.case_numbers.specs.Words.{NameView, after_name, name_before}
 use Rattle.docket_entries.specs.Rows.{follows, leaves, left_again, left_of, plain_leaves, reading_at, with_name, within}
 use Rattle.docket_entries.proofs.EntryLemmas.{left_follows}
-use Rattle.docket_entries.proofs.ListLemmas.{standing_file-file, standing_file-row}
+use Rattle.docket_entries.proofs.ListLemmas.{before-note, before-row, before_strike, corrections_in-more, none_corrected, standing_file-file, standing_file-more}
 
 AllFollow-append : (kept some more : List (List ℕ)) → AllFollow kept some → AllFollow (kept ++ some) more → AllFollow kept (some ++ more)
 unfolding AllFollow
@@ -40,122 +43,188 @@ history_begins : (kept : List (List ℕ)) → IsHistory kept → 0 < length kept
 history_begins [] h = absurd h
 history_begins (file ∷ later) h = omega arith
 
-pub first_history : (file : List ℕ) (court : CourtView) → SaysCourt file court → IsHistory (file ∷ [])
+pub first_history : (first : List ℕ) (court : CourtView) → SaysCourt first court → IsHistory (first ∷ [])
 unfolding AllFollow
-first_history file court says = ((court, says), tt)
+first_history first court says = ((court, says), tt)
 
--- a row that follows under the court that stands
-row_follows : (court : CourtView) (kept : List (List ℕ)) (entry : List ℕ) → later_file entry ≡ None → SaysCourt (standing_file kept) court → follows court kept entry → MayFollow kept entry
-row_follows court kept entry none says may = subst (λ (f : Option (List ℕ)). FollowsAs f kept entry) (sym none) (court, says, may)
+-- a row that follows under what stands
+row_follows : (under : Standing) (kept : List (List ℕ)) (entry : List ℕ) → note_in entry ≡ None → StandsAfter kept under → follows under kept entry → MayFollow kept entry
+row_follows under kept entry none stands may = subst (λ (n : Option Note). FollowsAs n kept entry) (sym none) (under, stands, may)
 
 -- a later court's file
-file_follows : (court : CourtView) (kept : List (List ℕ)) (entry file : List ℕ) → later_file entry ≡ Some file → SaysCourt file court → MayFollow kept entry
-file_follows court kept entry file some says = subst (λ (f : Option (List ℕ)). FollowsAs f kept entry) (sym some) (court, says)
+file_follows : (court : CourtView) (kept : List (List ℕ)) (entry later : List ℕ) → note_in entry ≡ Some (court_file later) → SaysCourt later court → MayFollow kept entry
+file_follows court kept entry later some says = subst (λ (n : Option Note). FollowsAs n kept entry) (sym some) (court, says)
+
+-- a strike
+strike_follows : (kept : List (List ℕ)) (entry : List ℕ) (struck : StrikeOf) → note_in entry ≡ Some (row_struck struck) → can_strike kept struck ≡ true → MayFollow kept entry
+strike_follows kept entry struck some can = subst (λ (n : Option Note). FollowsAs n kept entry) (sym some) can
+
+-- what stands after a row is what stood
+stands_after_row : (under : Standing) (kept : List (List ℕ)) (entry : List ℕ) → 0 < length kept → note_in entry ≡ None → StandsAfter kept under → StandsAfter (kept ++ entry ∷ []) under
+stands_after_row under kept entry begun none stands = record {
+  court = subst (λ (f : List ℕ). SaysCourt f under.court) (sym (standing_file-more kept entry begun ∙ ap (file_with (standing_file kept)) none)) stands.court;
+  corrections = stands.corrections ∙ sym (corrections_in-more kept entry begun ∙ ap (corrected (corrections_in kept)) none);
+}
+
+-- what stands after a later court's file
+stands_after_file : (then : Standing) (kept : List (List ℕ)) (entry later : List ℕ) → 0 < length kept → note_in entry ≡ Some (court_file later) → SaysCourt later then.court → then.corrections ≡ corrections_in kept → StandsAfter (kept ++ entry ∷ []) then
+stands_after_file then kept entry later begun some says same = record {
+  court = subst (λ (f : List ℕ). SaysCourt f then.court) (sym (standing_file-more kept entry begun ∙ ap (file_with (standing_file kept)) some)) says;
+  corrections = same ∙ sym (corrections_in-more kept entry begun ∙ ap (corrected (corrections_in kept)) some);
+}
+
+-- and after a strike
+stands_after_strike : (under then : Standing) (kept : List (List ℕ)) (entry : List ℕ) (struck : StrikeOf) → 0 < length kept → note_in entry ≡ Some (row_struck struck) → StandsAfter kept under → SaysCourt (standing_file kept) then.court
+    → then.corrections ≡ with_strike under.corrections struck → StandsAfter (kept ++ entry ∷ []) then
+stands_after_strike under then kept entry struck begun some stands says more = record {
+  court = subst (λ (f : List ℕ). SaysCourt f then.court) (sym (standing_file-more kept entry begun ∙ ap (file_with (standing_file kept)) some)) says;
+  corrections = more ∙ ap (λ (c : CorrectionsView). with_strike c struck) stands.corrections ∙ sym (corrections_in-more kept entry begun ∙ ap (corrected (corrections_in kept)) some);
+}
 
 -- a line leaves one entry at most
-one_of : (court : CourtView) (kept : List (List ℕ)) (name : Option NameView) (fields : List (List ℕ)) (said : Line) (entry other : List ℕ) (more : List (List ℕ)) → with_name name (left_of court kept fields said) ≡ entry ∷ other ∷ more → ⊥
-one_of court kept name fields line.Blank entry other more h = cc h
-one_of court kept name fields (line.Fault cause) entry other more h = cc h
-one_of court kept name fields (line.Row row) entry other more h = cc h
+one_of : (under : Standing) (kept : List (List ℕ)) (name : Option NameView) (fields : List (List ℕ)) (said : Line) (entry other : List ℕ) (more : List (List ℕ)) → with_name name (left_of under kept fields said) ≡ entry ∷ other ∷ more → ⊥
+one_of under kept name fields line.Blank entry other more h = cc h
+one_of under kept name fields (line.Fault cause) entry other more h = cc h
+one_of under kept name fields (line.Row row) entry other more h = cc h
 
-one_at_most : (court : CourtView) (kept : List (List ℕ)) (bytes entry other : List ℕ) (more : List (List ℕ)) → leaves court kept bytes ≡ entry ∷ other ∷ more → ⊥
+one_at_most : (under : Standing) (kept : List (List ℕ)) (bytes entry other : List ℕ) (more : List (List ℕ)) → leaves under kept bytes ≡ entry ∷ other ∷ more → ⊥
 unfolding leaves plain_leaves
-one_at_most court kept bytes entry other more h =
-    one_of court kept (reading_at court kept bytes).name (fields_read (reading_at court kept bytes).text) (within kept (line_read most_clerks (names_of court) (reading_at court kept bytes).text)) entry other more h
+one_at_most under kept bytes entry other more h =
+    one_of under kept (reading_at under kept bytes).name (fields_read (reading_at under kept bytes).text) (within kept (line_read most_clerks (names_of under.court) (reading_at under kept bytes).text)) entry other more h
 
 -- and so does an entry whose row is entered again
-pub one_again : (court : CourtView) (kept : List (List ℕ)) (entry made other : List ℕ) (more : List (List ℕ)) → left_again court kept entry ≡ made ∷ other ∷ more → ⊥
+pub one_again : (under : Standing) (kept : List (List ℕ)) (entry made other : List ℕ) (more : List (List ℕ)) → left_again under kept entry ≡ made ∷ other ∷ more → ⊥
 unfolding plain_leaves
-one_again court kept entry made other more h = one_of court kept (name_before entry) (fields_read (after_name entry)) (within kept (line_read most_clerks (names_of court) (after_name entry))) made other more h
+one_again under kept entry made other more h = one_of under kept (name_before entry) (fields_read (after_name entry)) (within kept (line_read most_clerks (names_of under.court) (after_name entry))) made other more h
 
-abbrev StandsAfter : CourtView → List (List ℕ) → Type 0
-StandsAfter court kept = IsHistory kept × SaysCourt (standing_file kept) court
+-- a history, and what stands after it
+abbrev GoesOn : Standing → List (List ℕ) → Type 0
+GoesOn under kept = IsHistory kept × StandsAfter kept under
 
-line_history : (court : CourtView) (kept : List (List ℕ)) (bytes : List ℕ) → StandsAfter court kept → StandsAfter court (kept ++ leaves court kept bytes)
-line_history court kept bytes stands = by (leaves court kept bytes) refl
+line_history : (under : Standing) (kept : List (List ℕ)) (bytes : List ℕ) → GoesOn under kept → GoesOn under (kept ++ leaves under kept bytes)
+line_history under kept bytes stands = by (leaves under kept bytes) refl
   where
-    by : (left : List (List ℕ)) → leaves court kept bytes ≡ left → StandsAfter court (kept ++ left)
-    by [] is = subst (StandsAfter court) (sym (append-nil kept)) stands
+    by : (left : List (List ℕ)) → leaves under kept bytes ≡ left → GoesOn under (kept ++ left)
+    by [] is = subst (GoesOn under) (sym (append-nil kept)) stands
     by (entry ∷ []) is =
-        let (none, may) = left_follows court kept bytes entry is in (
-          history_more kept entry stands.0 (row_follows court kept entry none stands.1 may),
-          subst (λ (f : List ℕ). SaysCourt f court) (sym (standing_file-row kept entry (history_begins kept stands.0) none)) stands.1,
+        let (none, may) = left_follows under kept bytes entry is in (
+          history_more kept entry stands.0 (row_follows under kept entry none stands.1 may),
+          stands_after_row under kept entry (history_begins kept stands.0) none stands.1,
         )
-    by (entry ∷ other ∷ more) is = absurd (one_at_most court kept bytes entry other more is)
+    by (entry ∷ other ∷ more) is = absurd (one_at_most under kept bytes entry other more is)
 
-lines_history : (court : CourtView) (kept lines : List (List ℕ)) → StandsAfter court kept → StandsAfter court (kept ++ left_by (leaves court) kept lines)
+lines_history : (under : Standing) (kept lines : List (List ℕ)) → GoesOn under kept → GoesOn under (kept ++ left_by (leaves under) kept lines)
 unfolding left_by
-lines_history court kept [] stands = subst (StandsAfter court) (sym (append-nil kept)) stands
-lines_history court kept (bytes ∷ lines) stands =
-    subst (StandsAfter court) (append_assoc kept (leaves court kept bytes) (left_by (leaves court) (kept ++ leaves court kept bytes) lines))
-    (lines_history court (kept ++ leaves court kept bytes) lines (line_history court kept bytes stands))
+lines_history under kept [] stands = subst (GoesOn under) (sym (append-nil kept)) stands
+lines_history under kept (bytes ∷ lines) stands =
+    subst (GoesOn under) (append_assoc kept (leaves under kept bytes) (left_by (leaves under) (kept ++ leaves under kept bytes) lines))
+    (lines_history under (kept ++ leaves under kept bytes) lines (line_history under kept bytes stands))
 
 -- the law
 pub left_history : WhatIsLeftIsHistory
-left_history court kept lines history says = lines_history court kept lines (history, says)
+left_history under kept lines history stands = lines_history under kept lines (history, stands)
 
 -- what a docket comes to after a row
-pub docketed_row : (docketed after : Docketed) (before : List (List ℕ)) (entry : List ℕ) → IsDocketed docketed before → later_file entry ≡ None → follows docketed.court before entry
-    → after.court ≡ docketed.court → StandsAt docketed.court after.register (before ++ entry ∷ []) → IsDocketed after (before ++ entry ∷ [])
-docketed_row docketed after before entry is none may same stands = record {
-  history = history_more before entry is.history (row_follows docketed.court before entry none is.court may);
-  court = subst (λ (f : List ℕ). SaysCourt f after.court) (sym (standing_file-row before entry (history_begins before is.history) none)) (subst (λ (c : CourtView). SaysCourt (standing_file before) c) (sym same) is.court);
-  stands = subst (λ (c : CourtView). StandsAt c after.register (before ++ entry ∷ [])) (sym same) stands;
-}
+pub docketed_row : (docketed after : Docketed) (before : List (List ℕ)) (entry : List ℕ) → IsDocketed docketed before → note_in entry ≡ None → follows docketed.standing before entry
+    → after.standing ≡ docketed.standing → StandsAt docketed.standing after.register (before ++ entry ∷ []) → IsDocketed after (before ++ entry ∷ [])
+docketed_row docketed after before entry is none may same stands =
+    let begun = history_begins before is.history in
+    record {
+      history = history_more before entry is.history (row_follows docketed.standing before entry none is.standing may);
+      standing = subst (StandsAfter (before ++ entry ∷ [])) (sym same) (stands_after_row docketed.standing before entry begun none is.standing);
+      stands = subst (λ (u : Standing). IsReadyAt u after.register (before ++ entry ∷ [])) (sym same) (record { at = stands; before = before-row docketed.standing.corrections before entry begun none is.stands.before });
+    }
 
 -- and after a later court's file
-pub docketed_file : (docketed after : Docketed) (before : List (List ℕ)) (entry file : List ℕ) → IsDocketed docketed before → later_file entry ≡ Some file → SaysCourt file after.court
-    → StandsAt after.court after.register (before ++ entry ∷ []) → IsDocketed after (before ++ entry ∷ [])
-docketed_file docketed after before entry file is some says stands = record {
-  history = history_more before entry is.history (file_follows after.court before entry file some says);
-  court = subst (λ (f : List ℕ). SaysCourt f after.court) (sym (standing_file-file before entry file (history_begins before is.history) some)) says;
-  stands = stands;
-}
+pub docketed_file : (docketed after : Docketed) (before : List (List ℕ)) (entry later : List ℕ) → IsDocketed docketed before → note_in entry ≡ Some (court_file later) → SaysCourt later after.standing.court
+    → after.standing.corrections ≡ docketed.standing.corrections → StandsAt after.standing after.register (before ++ entry ∷ []) → IsDocketed after (before ++ entry ∷ [])
+docketed_file docketed after before entry later is some says same stands =
+    let begun = history_begins before is.history in
+    let noted : IsSome (note_in entry) = ap is_some some in
+    record {
+      history = history_more before entry is.history (file_follows after.standing.court before entry later some says);
+      standing = stands_after_file after.standing before entry later begun some says (same ∙ is.standing.corrections);
+      stands = record {
+        at = stands;
+        before = before-note after.standing.corrections before entry begun noted (ap (λ (c : CorrectionsView). all_before c (next_number before)) same ∙ is.stands.before);
+      };
+    }
+
+-- what a strike that can be made says of its row
+strikes_before : (kept : List (List ℕ)) (struck : StrikeOf) → can_strike kept struck ≡ true → nat_lt struck.row (next_number kept) ≡ true
+strikes_before kept struck can = by (nat_lt 0 struck.row) (nat_lt struck.row (next_number kept)) (is_struck (corrections_in kept) struck.row) can
+  where
+    by : (a b c : Bool) → (a && b && not c) ≡ true → b ≡ true
+    by true true c h = refl
+    by true false c h = cc h
+    by false b c h = cc h
+
+-- and after a strike
+pub docketed_strike : (docketed after : Docketed) (before : List (List ℕ)) (entry : List ℕ) (struck : StrikeOf) → IsDocketed docketed before → note_in entry ≡ Some (row_struck struck) → can_strike before struck ≡ true
+    → SaysCourt (standing_file before) after.standing.court → after.standing.corrections ≡ with_strike docketed.standing.corrections struck → StandsAt after.standing after.register (before ++ entry ∷ []) → IsDocketed after (before ++ entry ∷ [])
+docketed_strike docketed after before entry struck is some can says more stands =
+    let begun = history_begins before is.history in
+    let noted : IsSome (note_in entry) = ap is_some some in
+    record {
+      history = history_more before entry is.history (strike_follows before entry struck some can);
+      standing = stands_after_strike docketed.standing after.standing before entry struck begun some is.standing says more;
+      stands = record {
+        at = stands;
+        before = before-note after.standing.corrections before entry begun noted
+            (ap (λ (c : CorrectionsView). all_before c (next_number before)) more ∙ before_strike docketed.standing.corrections struck (next_number before) is.stands.before (strikes_before before struck can));
+      };
+    }
 
 -- what a docket comes to before its first row
-pub first_docketed : (docketed : Docketed) (file : List ℕ) → SaysCourt file docketed.court → StandsAt docketed.court docketed.register (file ∷ []) → IsDocketed docketed (file ∷ [])
+pub first_docketed : (docketed : Docketed) (first : List ℕ) → SaysCourt first docketed.standing.court → docketed.standing.corrections ≡ no_corrections → StandsAt docketed.standing docketed.register (first ∷ []) → IsDocketed docketed (first ∷ [])
 unfolding file_after
-first_docketed docketed file says stands = record { history = first_history file docketed.court says; court = says; stands = stands }
+first_docketed docketed first says none stands = record {
+  history = first_history first docketed.standing.court says;
+  standing = record { court = says; corrections = none ∙ sym (none_corrected first) };
+  stands = record { at = stands; before = ap (λ (c : CorrectionsView). all_before c (next_number (first ∷ []))) none };
+}
 
 -- and after lines
-pub left_docketed : (docketed after : Docketed) (kept lines : List (List ℕ)) → IsDocketed docketed kept → after.court ≡ docketed.court
-    → StandsAt docketed.court after.register (kept ++ left_by (leaves docketed.court) kept lines) → IsDocketed after (kept ++ left_by (leaves docketed.court) kept lines)
+pub left_docketed : (docketed after : Docketed) (kept lines : List (List ℕ)) → IsDocketed docketed kept → after.standing ≡ docketed.standing
+    → IsReadyAt docketed.standing after.register (kept ++ left_by (leaves docketed.standing) kept lines) → IsDocketed after (kept ++ left_by (leaves docketed.standing) kept lines)
 left_docketed docketed after kept lines is same stands =
-    let both = left_history docketed.court kept lines is.history is.court in
+    let both = left_history docketed.standing kept lines is.history is.standing in
     record {
       history = both.0;
-      court = subst (λ (c : CourtView). SaysCourt (standing_file (kept ++ left_by (leaves docketed.court) kept lines)) c) (sym same) both.1;
-      stands = subst (λ (c : CourtView). StandsAt c after.register (kept ++ left_by (leaves docketed.court) kept lines)) (sym same) stands;
+      standing = subst (StandsAfter (kept ++ left_by (leaves docketed.standing) kept lines)) (sym same) both.1;
+      stands = subst (λ (u : Standing). IsReadyAt u after.register (kept ++ left_by (leaves docketed.standing) kept lines)) (sym same) stands;
     }
 
 -- a file that is bad makes its entry's entries bad
-pub bad_file : (before : List (List ℕ)) (entry file : List ℕ) (number : ℕ) (fault : HistoryFault) → IsHistory before → later_file entry ≡ Some file → number ≡ length (before ++ entry ∷ []) → IsBadFile file number fault
+pub bad_file : (before : List (List ℕ)) (entry later : List ℕ) (number : ℕ) (fault : HistoryFault) → IsHistory before → note_in entry ≡ Some (court_file later) → number ≡ length (before ++ entry ∷ []) → IsBadFile later number fault
     → HasHistoryFault (before ++ entry ∷ []) fault
-bad_file before entry file number NoCourt history some counted bad = absurd bad
-bad_file before entry file number (Court n cause) history some counted bad = record {
+bad_file before entry later number NoCourt history some counted bad = absurd bad
+bad_file before entry later number (Court n cause) history some counted bad = record {
   before = before;
   entry = entry;
   after = [];
   parts = refl;
   number_is = bad.0 ∙ counted ∙ length-append before (entry ∷ []);
-  fault = subst (λ (f : List ℕ). court_in f ≡ Err cause) (sym (standing_file-file before entry file (history_begins before history) some)) bad.1;
+  fault = subst (λ (f : List ℕ). court_in f ≡ Err cause) (sym (standing_file-file before entry later (history_begins before history) some)) bad.1;
 }
-bad_file before entry file number (Other n) history some counted bad = absurd bad
-bad_file before entry file number OutOfMemory history some counted bad = tt
+bad_file before entry later number (Strike n) history some counted bad = absurd bad
+bad_file before entry later number (Other n) history some counted bad = absurd bad
+bad_file before entry later number OutOfMemory history some counted bad = tt
 
 -- the first file
-pub bad_first : (file : List ℕ) (later : List (List ℕ)) (fault : HistoryFault) → IsBadFile file 1 fault → HasHistoryFault (file ∷ later) fault
+pub bad_first : (first : List ℕ) (later : List (List ℕ)) (fault : HistoryFault) → IsBadFile first 1 fault → HasHistoryFault (first ∷ later) fault
 unfolding file_after
-bad_first file later NoCourt bad = absurd bad
-bad_first file later (Court n cause) bad = record { before = []; entry = file; after = later; parts = refl; number_is = bad.0; fault = bad.1 }
-bad_first file later (Other n) bad = absurd bad
-bad_first file later OutOfMemory bad = tt
+bad_first first later NoCourt bad = absurd bad
+bad_first first later (Court n cause) bad = record { before = []; entry = first; after = later; parts = refl; number_is = bad.0; fault = bad.1 }
+bad_first first later (Strike n) bad = absurd bad
+bad_first first later (Other n) bad = absurd bad
+bad_first first later OutOfMemory bad = tt
 
 -- what is wrong with the first entries is wrong with all
 pub fault_in_more : (some more : List (List ℕ)) (fault : HistoryFault) → 0 < length some → HasHistoryFault some fault → HasHistoryFault (some ++ more) fault
 fault_in_more [] more fault begun has = absurd (omega (arith, begun))
-fault_in_more (file ∷ some) more NoCourt begun has = cc has
-fault_in_more (file ∷ some) more (Court n cause) begun has = record {
+fault_in_more (first ∷ some) more NoCourt begun has = cc has
+fault_in_more (first ∷ some) more (Court n cause) begun has = record {
   before = has.before;
   entry = has.entry;
   after = has.after ++ more;
@@ -163,7 +232,18 @@ fault_in_more (file ∷ some) more (Court n cause) begun has = record {
   number_is = has.number_is;
   fault = has.fault;
 }
-fault_in_more (file ∷ some) more (Other n) begun has = record {
+fault_in_more (first ∷ some) more (Strike n) begun has = record {
+  before = has.before;
+  entry = has.entry;
+  after = has.after ++ more;
+  parts = ap (λ (l : List (List ℕ)). l ++ more) has.parts ∙ append_assoc has.before (has.entry ∷ has.after) more;
+  number_is = has.number_is;
+  history = has.history;
+  struck = has.struck;
+  note = has.note;
+  cannot = has.cannot;
+}
+fault_in_more (first ∷ some) more (Other n) begun has = record {
   before = has.before;
   entry = has.entry;
   after = has.after ++ more;
@@ -171,14 +251,14 @@ fault_in_more (file ∷ some) more (Other n) begun has = record {
   number_is = has.number_is;
   history = has.history;
   row = has.row;
-  court = has.court;
+  under = has.under;
   stands = has.stands;
   other = has.other;
 }
-fault_in_more (file ∷ some) more OutOfMemory begun has = tt
+fault_in_more (first ∷ some) more OutOfMemory begun has = tt
 
 -- a row with another answer
-pub other_answer : (docketed : Docketed) (before : List (List ℕ)) (entry : List ℕ) (number : ℕ) → IsDocketed docketed before → later_file entry ≡ None → number ≡ next_number before → (follows docketed.court before entry → ⊥)
+pub other_answer : (docketed : Docketed) (before : List (List ℕ)) (entry : List ℕ) (number : ℕ) → IsDocketed docketed before → note_in entry ≡ None → number ≡ next_number before → (follows docketed.standing before entry → ⊥)
     → HasHistoryFault (before ++ entry ∷ []) (Other number)
 other_answer docketed before entry number is none counted other = record {
   before = before;
@@ -188,9 +268,24 @@ other_answer docketed before entry number is none counted other = record {
   number_is = counted;
   history = is.history;
   row = none;
-  court = docketed.court;
-  stands = is.court;
+  under = docketed.standing;
+  stands = is.standing;
   other = other;
+}
+
+-- a strike that can't be made
+pub bad_strike : (docketed : Docketed) (before : List (List ℕ)) (entry : List ℕ) (struck : StrikeOf) (number : ℕ) → IsDocketed docketed before → note_in entry ≡ Some (row_struck struck) → number ≡ length (before ++ entry ∷ []) → can_strike before struck ≡ false
+    → HasHistoryFault (before ++ entry ∷ []) (Strike number)
+bad_strike docketed before entry struck number is some counted cannot = record {
+  before = before;
+  entry = entry;
+  after = [];
+  parts = refl;
+  number_is = counted ∙ length-append before (entry ∷ []);
+  history = is.history;
+  struck = struck;
+  note = some;
+  cannot = cannot;
 }
 
 -- the first file of entries
@@ -199,3 +294,10 @@ bad_first_of [] first fault is bad = cc is
 bad_first_of (entry ∷ entries) first fault is bad =
     let same : first ≡ entry = cc is in
     bad_first entry.items (batch_of entries) fault (subst (λ (v : Vec ℕ Global). IsBadFile v.items 1 fault) same bad)
+
+-- whether a row can be struck, as the docket sees it
+pub can_is : (docketed : Docketed) (kept : List (List ℕ)) (struck : StrikeOf) → IsDocketed docketed kept
+    → (nat_lt 0 struck.row && nat_lt struck.row docketed.register.number && not (is_struck docketed.standing.corrections struck.row)) ≡ can_strike kept struck
+can_is docketed kept struck is =
+    ap (λ (n : ℕ). nat_lt 0 struck.row && nat_lt struck.row n && not (is_struck docketed.standing.corrections struck.row)) is.stands.at.number
+    ∙ ap (λ (c : CorrectionsView). nat_lt 0 struck.row && nat_lt struck.row (next_number kept) && not (is_struck c struck.row)) is.standing.corrections

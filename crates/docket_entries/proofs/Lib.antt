@@ -2,10 +2,13 @@ pub mod CallerLemmas
 pub mod ChangeLemmas
 pub mod CaseLemmas
 pub mod EntryLemmas
+pub mod ExportLemmas
 pub mod FieldLemmas
 pub mod HistoryLemmas
 pub mod LineFaultLemmas
 pub mod ListLemmas
+pub mod NoteLemmas
 pub mod QuestionLemmas
 pub mod RegisterLemmas
 pub mod RunLemmas
+pub mod StrikingLemmas

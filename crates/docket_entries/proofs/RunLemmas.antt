@@ -12,7 +12,10 @@ use Rattle.office_rows.specs.Words.{names_of}
 use Rattle.row_line.specs.Words.{fields_read, line_read}
 use Rattle.row_line.proofs.CallerLemmas.{says_row}
 use Rattle.office_run.specs.Replies.{docketed_after}
-use Rattle.office_run.specs.Replies.{reply_to}
+use Rattle.office_run.specs.Replies.{docketed_then, reply_to}
+use Rattle.office_rows.specs.declared.row.Work.{Work}
+use Rattle.retired_numbers.specs.Words.{numbered}
+use Rattle.retired_numbers.proofs.CallerLemmas.{nothing_changes}
 use Rattle.office_run.specs.Text.{line_of, lines_from, run_text}
 use Rattle.office_run.specs.Words.{closing_text}
 use Rattle.durable_session.specs.Taken.{left_by, told_to}
@@ -23,51 +26,62 @@ use Rattle.named_answers.proofs.CallerLemmas.{without_names_as_before_lem}
 use Rattle.docket_entries.specs.CaseLines.{Reading, as_it_is, lacks_third}
 use Rattle.docket_entries.specs.Cases.{cases_after, cases_of, opened_in, with_opened}
 use Rattle.docket_entries.specs.Entries.{most_clerks, most_entries, next_number, rows_among}
-use Rattle.docket_entries.specs.Laws.{AnswersAreTheRuns, HasNoFault}
-use Rattle.docket_entries.specs.Rows.{answer_to, answers, docketed_by, entry_of, leaves, left_of, plain_answers, plain_leaves, reading_at, row_in, rows_in, told_of, with_name, within}
-use Rattle.docket_entries.proofs.CaseLemmas.{cases_of-row, reads_itself}
-use Rattle.docket_entries.proofs.EntryLemmas.{is_no_file, its_name, past_its_name, says_its_row}
+use Rattle.docket_entries.specs.Laws.{AnswersAreTheRuns, HasNoFault, plain}
+use Rattle.docket_entries.specs.Rows.{answer_to, answers, docketed_by, docketed_with, entry_of, leaves, left_of, plain_answers, plain_leaves, reading_at, reply_under, row_in, rows_in, rows_under, told_of, with_name, within}
+use Rattle.docket_entries.proofs.CaseLemmas.{cases_of-live, reads_itself}
+use Rattle.docket_entries.proofs.EntryLemmas.{is_no_note, its_name, past_its_name, says_its_row}
 use Rattle.docket_entries.proofs.ListLemmas.{next_number-row}
 use Rattle.docket_entries.proofs.RegisterLemmas.{docketed_by-more}
 
 -- what lines are answered after entries, and the docket after them, are those of their rows
 pub record IsRun (court : CourtView) (kept lines : List (List ℕ)) : Type 0 where
-  pub told : told_to (leaves court) (answers court) kept lines ≡ lines_from court (docketed_by court kept) (next_number kept) (rows_in (names_of court) lines)
-  pub docket : docketed_by court (kept ++ left_by (leaves court) kept lines) ≡ docketed_after (setup_of court) (docketed_by court kept) (rows_in (names_of court) lines)
+  pub told : told_to (leaves (plain court)) (answers (plain court)) kept lines ≡ lines_from court (docketed_by (plain court) kept) (next_number kept) (rows_in (names_of court) lines)
+  pub docket : docketed_by (plain court) (kept ++ left_by (leaves (plain court)) kept lines) ≡ docketed_after (setup_of court) (docketed_by (plain court) kept) (rows_in (names_of court) lines)
 
 none_run : (court : CourtView) (kept : List (List ℕ)) → IsRun court kept []
 unfolding told_to left_by lines_from rows_in docketed_after
-none_run court kept = record { told = refl; docket = ap (docketed_by court) (append-nil kept) }
+none_run court kept = record { told = refl; docket = ap (docketed_by (plain court)) (append-nil kept) }
 
 -- a line in which there is no fault is read as it is
-reads_plain : (court : CourtView) (kept : List (List ℕ)) (bytes : List ℕ) (said : Line) → line_read most_clerks (names_of court) bytes ≡ said → lacks_third said ≡ false → reading_at court kept bytes ≡ as_it_is bytes
-reads_plain court kept bytes said is third = reads_itself (names_of court) (cases_of court kept) bytes (ap lacks_third is ∙ third)
+reads_plain : (court : CourtView) (kept : List (List ℕ)) (bytes : List ℕ) (said : Line) → line_read most_clerks (names_of court) bytes ≡ said → lacks_third said ≡ false → reading_at (plain court) kept bytes ≡ as_it_is bytes
+reads_plain court kept bytes said is third = reads_itself (names_of court) (cases_of (plain court) kept) bytes (ap lacks_third is ∙ third)
 
 -- a line that says nothing
 blank_run : (court : CourtView) (kept lines : List (List ℕ)) (bytes : List ℕ) → line_read most_clerks (names_of court) bytes ≡ line.Blank → IsRun court kept lines → IsRun court kept (bytes ∷ lines)
 unfolding told_to left_by rows_in leaves answers plain_leaves plain_answers
 blank_run court kept lines bytes blank run =
-    let plain = reads_plain court kept bytes line.Blank blank refl in
-    let left : leaves court kept bytes ≡ [] =
-    ap (λ (r : Reading). with_name r.name (plain_leaves court kept r.text)) plain ∙ ap (λ (l : Line). with_name None (left_of court kept (fields_read bytes) (within kept l))) blank in
-    let told : answers court kept bytes ≡ [] = ap (λ (r : Reading). plain_answers court kept r.text) plain ∙ ap (λ (l : Line). told_of court kept (within kept l)) blank in
+    let as_is = reads_plain court kept bytes line.Blank blank refl in
+    let left : leaves (plain court) kept bytes ≡ [] =
+    ap (λ (r : Reading). with_name r.name (plain_leaves (plain court) kept r.text)) as_is ∙ ap (λ (l : Line). with_name None (left_of (plain court) kept (fields_read bytes) (within kept l))) blank in
+    let told : answers (plain court) kept bytes ≡ [] = ap (λ (r : Reading). plain_answers (plain court) kept r.text) as_is ∙ ap (λ (l : Line). told_of (plain court) kept (within kept l)) blank in
     let rows : rows_in (names_of court) (bytes ∷ lines) ≡ rows_in (names_of court) lines = ap (λ (l : Line). row_in l ++ rows_in (names_of court) lines) blank in
-    let same : kept ++ leaves court kept bytes ≡ kept = ap (λ (l : List (List ℕ)). kept ++ l) left ∙ append-nil kept in
+    let same : kept ++ leaves (plain court) kept bytes ≡ kept = ap (λ (l : List (List ℕ)). kept ++ l) left ∙ append-nil kept in
     record {
-      told = ap (λ (t : List ℕ). t ++ told_to (leaves court) (answers court) (kept ++ leaves court kept bytes) lines) told
-          ∙ ap (λ (k : List (List ℕ)). told_to (leaves court) (answers court) k lines) same ∙ run.told
-          ∙ ap (lines_from court (docketed_by court kept) (next_number kept)) (sym rows);
-      docket = ap (λ (l : List (List ℕ)). docketed_by court (kept ++ (l ++ left_by (leaves court) (kept ++ leaves court kept bytes) lines))) left
-          ∙ ap (λ (k : List (List ℕ)). docketed_by court (kept ++ left_by (leaves court) k lines)) same ∙ run.docket
-          ∙ ap (docketed_after (setup_of court) (docketed_by court kept)) (sym rows);
+      told = ap (λ (t : List ℕ). t ++ told_to (leaves (plain court)) (answers (plain court)) (kept ++ leaves (plain court) kept bytes) lines) told
+          ∙ ap (λ (k : List (List ℕ)). told_to (leaves (plain court)) (answers (plain court)) k lines) same ∙ run.told
+          ∙ ap (lines_from court (docketed_by (plain court) kept) (next_number kept)) (sym rows);
+      docket = ap (λ (l : List (List ℕ)). docketed_by (plain court) (kept ++ (l ++ left_by (leaves (plain court)) (kept ++ leaves (plain court) kept bytes) lines))) left
+          ∙ ap (λ (k : List (List ℕ)). docketed_by (plain court) (kept ++ left_by (leaves (plain court)) k lines)) same ∙ run.docket
+          ∙ ap (docketed_after (setup_of court) (docketed_by (plain court) kept)) (sym rows);
     }
 
+-- where nothing is retired a row is decided as it is, and its reply stays
+then_plain : (court : CourtView) (docketed : Rows) (work : Work) → docketed_with (plain court) docketed work ≡ docketed_then (setup_of court) docketed work
+then_plain court docketed work = ap (docketed_then (setup_of court) docketed) (nothing_changes work (reply_to (setup_of court) docketed work)).0
+
+reply_plain : (court : CourtView) (docketed : Rows) (work : Work) → reply_under (plain court) docketed work ≡ reply_to (setup_of court) docketed work
+reply_plain court docketed work =
+    let same = nothing_changes work (reply_to (setup_of court) docketed work) in
+    ap (λ (w : Work). numbered [] work (reply_to (setup_of court) docketed w)) same.0 ∙ same.1
+
 -- what a row is answered where no case has a name
-no_names_answer : (court : CourtView) (kept : List (List ℕ)) (row : Row) → (cases_of court kept).named ≡ [] → answer_to court kept row ≡ line_of court (next_number kept) row.clerk (reply_to (setup_of court) (docketed_by court kept) row.work)
+no_names_answer : (court : CourtView) (kept : List (List ℕ)) (row : Row) → (cases_of (plain court) kept).named ≡ [] → answer_to (plain court) kept row ≡ line_of court (next_number kept) row.clerk (reply_to (setup_of court) (docketed_by (plain court) kept) row.work)
 unfolding answer_to
 no_names_answer court kept row none =
-    let reply = reply_to (setup_of court) (docketed_by court kept) row.work in
-    ap (λ (n : List NamedCase). named_line_of court n (next_number kept) row.clerk reply) none ∙ without_names_as_before_lem court (next_number kept) row.clerk reply
+    let reply = reply_to (setup_of court) (docketed_by (plain court) kept) row.work in
+    ap (λ (n : List NamedCase). named_line_of court n (next_number kept) row.clerk (reply_under (plain court) (docketed_by (plain court) kept) row.work)) none
+    ∙ ap (named_line_of court [] (next_number kept) row.clerk) (reply_plain court (docketed_by (plain court) kept) row.work)
+    ∙ without_names_as_before_lem court (next_number kept) row.clerk reply
 
 -- and it leaves none
 still_no_names : (cases : CasesView) (number : Option ℕ) → cases.named ≡ [] → (with_opened cases number None).named ≡ []
@@ -76,52 +90,52 @@ still_no_names cases None none = none
 still_no_names cases (Some number) none = none
 
 -- a line that says a row
-row_run : (court : CourtView) (kept lines : List (List ℕ)) (bytes : List ℕ) (row : Row) → 0 < length kept → ltb (length kept) most_entries ≡ true → line_read most_clerks (names_of court) bytes ≡ line.Row row → (cases_of court kept).named ≡ []
-    → IsRun court (kept ++ entry_of court kept (fields_read bytes) row ∷ []) lines → IsRun court kept (bytes ∷ lines)
+row_run : (court : CourtView) (kept lines : List (List ℕ)) (bytes : List ℕ) (row : Row) → 0 < length kept → ltb (length kept) most_entries ≡ true → line_read most_clerks (names_of court) bytes ≡ line.Row row → (cases_of (plain court) kept).named ≡ []
+    → IsRun court (kept ++ entry_of (plain court) kept (fields_read bytes) row ∷ []) lines → IsRun court kept (bytes ∷ lines)
 unfolding told_to left_by rows_in leaves answers plain_leaves plain_answers lines_from docketed_after
 row_run court kept lines bytes row begun room said names run =
-    let plain = reads_plain court kept bytes (line.Row row) said refl in
-    let entry = entry_of court kept (fields_read bytes) row in
+    let as_is = reads_plain court kept bytes (line.Row row) said refl in
+    let entry = entry_of (plain court) kept (fields_read bytes) row in
     let spelled = says_row most_clerks (names_of court) bytes row said in
-    let none = is_no_file (names_of court) (fields_read bytes) row (answer_to court kept row) spelled in
+    let none = is_no_note (names_of court) (fields_read bytes) row (answer_to (plain court) kept row) spelled in
     let reads : line_read most_clerks (names_of court) (after_name entry) ≡ line.Row row =
-    ap (line_read most_clerks (names_of court)) (past_its_name (names_of court) (fields_read bytes) row (answer_to court kept row) spelled None tt) ∙ says_its_row (names_of court) (fields_read bytes) row (answer_to court kept row) spelled in
-    let after = docketed_by-more court kept entry row begun none reads in
+    ap (line_read most_clerks (names_of court)) (past_its_name (names_of court) (fields_read bytes) row (answer_to (plain court) kept row) spelled None tt) ∙ says_its_row (names_of court) (fields_read bytes) row (answer_to (plain court) kept row) spelled in
+    let after = docketed_by-more (plain court) kept entry row begun none refl reads ∙ then_plain court (docketed_by (plain court) kept) row.work in
     let number = next_number-row kept entry begun none in
     let is : within kept (line_read most_clerks (names_of court) bytes) ≡ line.Row row = ap (within kept) said ∙ rw room refl in
-    let left : leaves court kept bytes ≡ entry ∷ [] = ap (λ (r : Reading). with_name r.name (plain_leaves court kept r.text)) plain ∙ ap (λ (l : Line). with_name None (left_of court kept (fields_read bytes) l)) is in
-    let told : answers court kept bytes ≡ line_of court (next_number kept) row.clerk (reply_to (setup_of court) (docketed_by court kept) row.work) =
-    ap (λ (r : Reading). plain_answers court kept r.text) plain ∙ ap (told_of court kept) is ∙ no_names_answer court kept row names in
+    let left : leaves (plain court) kept bytes ≡ entry ∷ [] = ap (λ (r : Reading). with_name r.name (plain_leaves (plain court) kept r.text)) as_is ∙ ap (λ (l : Line). with_name None (left_of (plain court) kept (fields_read bytes) l)) is in
+    let told : answers (plain court) kept bytes ≡ line_of court (next_number kept) row.clerk (reply_to (setup_of court) (docketed_by (plain court) kept) row.work) =
+    ap (λ (r : Reading). plain_answers (plain court) kept r.text) as_is ∙ ap (told_of (plain court) kept) is ∙ no_names_answer court kept row names in
     let rows : rows_in (names_of court) (bytes ∷ lines) ≡ row ∷ rows_in (names_of court) lines = ap (λ (l : Line). row_in l ++ rows_in (names_of court) lines) said in
-    let then = docketed_by court (kept ++ entry ∷ []) in
+    let then = docketed_by (plain court) (kept ++ entry ∷ []) in
     let others = rows_in (names_of court) lines in
-    let answer = line_of court (next_number kept) row.clerk (reply_to (setup_of court) (docketed_by court kept) row.work) in
+    let answer = line_of court (next_number kept) row.clerk (reply_to (setup_of court) (docketed_by (plain court) kept) row.work) in
     record {
-      told = ap (λ (t : List ℕ). t ++ told_to (leaves court) (answers court) (kept ++ leaves court kept bytes) lines) told
-          ∙ ap (λ (l : List (List ℕ)). answer ++ told_to (leaves court) (answers court) (kept ++ l) lines) left
+      told = ap (λ (t : List ℕ). t ++ told_to (leaves (plain court)) (answers (plain court)) (kept ++ leaves (plain court) kept bytes) lines) told
+          ∙ ap (λ (l : List (List ℕ)). answer ++ told_to (leaves (plain court)) (answers (plain court)) (kept ++ l) lines) left
           ∙ ap (λ (t : List ℕ). answer ++ t) (run.told ∙ ap (λ (n : ℕ). lines_from court then n others) number ∙ ap (λ (d : Rows). lines_from court d (next_number kept + 1) others) after)
-          ∙ ap (lines_from court (docketed_by court kept) (next_number kept)) (sym rows);
-      docket = ap (λ (l : List (List ℕ)). docketed_by court (kept ++ (l ++ left_by (leaves court) (kept ++ l) lines))) left
-          ∙ ap (docketed_by court) (sym (append_assoc kept (entry ∷ []) (left_by (leaves court) (kept ++ entry ∷ []) lines)))
+          ∙ ap (lines_from court (docketed_by (plain court) kept) (next_number kept)) (sym rows);
+      docket = ap (λ (l : List (List ℕ)). docketed_by (plain court) (kept ++ (l ++ left_by (leaves (plain court)) (kept ++ l) lines))) left
+          ∙ ap (docketed_by (plain court)) (sym (append_assoc kept (entry ∷ []) (left_by (leaves (plain court)) (kept ++ entry ∷ []) lines)))
           ∙ run.docket ∙ ap (λ (d : Rows). docketed_after (setup_of court) d others) after
-          ∙ ap (docketed_after (setup_of court) (docketed_by court kept)) (sym rows);
+          ∙ ap (docketed_after (setup_of court) (docketed_by (plain court) kept)) (sym rows);
     }
 
 -- the cases after a row's entry without a name have none
-names_after : (court : CourtView) (kept : List (List ℕ)) (bytes : List ℕ) (row : Row) → 0 < length kept → line_read most_clerks (names_of court) bytes ≡ line.Row row → (cases_of court kept).named ≡ []
-    → (cases_of court (kept ++ entry_of court kept (fields_read bytes) row ∷ [])).named ≡ []
+names_after : (court : CourtView) (kept : List (List ℕ)) (bytes : List ℕ) (row : Row) → 0 < length kept → line_read most_clerks (names_of court) bytes ≡ line.Row row → (cases_of (plain court) kept).named ≡ []
+    → (cases_of (plain court) (kept ++ entry_of (plain court) kept (fields_read bytes) row ∷ [])).named ≡ []
 names_after court kept bytes row begun said names =
-    let entry = entry_of court kept (fields_read bytes) row in
+    let entry = entry_of (plain court) kept (fields_read bytes) row in
     let spelled = says_row most_clerks (names_of court) bytes row said in
-    let none = is_no_file (names_of court) (fields_read bytes) row (answer_to court kept row) spelled in
+    let none = is_no_note (names_of court) (fields_read bytes) row (answer_to (plain court) kept row) spelled in
     let opened = opened_in (line_read most_clerks (names_of court) (after_name entry)) in
-    ap (λ (c : CasesView). c.named) (cases_of-row court kept entry begun none)
-    ∙ ap (λ (n : Option NameView). (with_opened (cases_of court kept) opened n).named) (its_name (names_of court) (fields_read bytes) row (answer_to court kept row) spelled None tt)
-    ∙ still_no_names (cases_of court kept) opened names
+    ap (λ (c : CasesView). c.named) (cases_of-live (plain court) kept entry begun none refl)
+    ∙ ap (λ (n : Option NameView). (with_opened (cases_of (plain court) kept) opened n).named) (its_name (names_of court) (fields_read bytes) row (answer_to (plain court) kept row) spelled None tt)
+    ∙ still_no_names (cases_of (plain court) kept) opened names
 
 -- one line more
-line_run : (court : CourtView) (kept lines : List (List ℕ)) (bytes : List ℕ) → 0 < length kept → length kept + length (bytes ∷ lines) ≤ most_entries → (cases_of court kept).named ≡ [] → HasNoFault (names_of court) bytes
-    → ((then : List (List ℕ)) → 0 < length then → length then + length lines ≤ most_entries → (cases_of court then).named ≡ [] → IsRun court then lines) → IsRun court kept (bytes ∷ lines)
+line_run : (court : CourtView) (kept lines : List (List ℕ)) (bytes : List ℕ) → 0 < length kept → length kept + length (bytes ∷ lines) ≤ most_entries → (cases_of (plain court) kept).named ≡ [] → HasNoFault (names_of court) bytes
+    → ((then : List (List ℕ)) → 0 < length then → length then + length lines ≤ most_entries → (cases_of (plain court) then).named ≡ [] → IsRun court then lines) → IsRun court kept (bytes ∷ lines)
 line_run court kept lines bytes begun few names sound rest = by (line_read most_clerks (names_of court) bytes) refl
   where
     room : ltb (length kept) most_entries ≡ true
@@ -131,27 +145,27 @@ line_run court kept lines bytes begun few names sound rest = by (line_read most_
     by line.Blank is = blank_run court kept lines bytes is (rest kept begun (omega (arith, few)) names)
     by (line.Fault cause) is = absurd (sound cause is)
     by (line.Row row) is =
-        let entry = entry_of court kept (fields_read bytes) row in
+        let entry = entry_of (plain court) kept (fields_read bytes) row in
         let long = length-append kept (entry ∷ []) in
         row_run court kept lines bytes row begun room is names (rest (kept ++ entry ∷ []) (omega (arith, long)) (omega (arith, long, few)) (names_after court kept bytes row begun is names))
 
-lines_run : (court : CourtView) (kept lines : List (List ℕ)) → 0 < length kept → length kept + length lines ≤ most_entries → (cases_of court kept).named ≡ [] → All (HasNoFault (names_of court)) lines → IsRun court kept lines
+lines_run : (court : CourtView) (kept lines : List (List ℕ)) → 0 < length kept → length kept + length lines ≤ most_entries → (cases_of (plain court) kept).named ≡ [] → All (HasNoFault (names_of court)) lines → IsRun court kept lines
 lines_run court kept [] begun few names sound = none_run court kept
 lines_run court kept (bytes ∷ lines) begun few names sound =
     line_run court kept lines bytes begun few names (All-head (HasNoFault (names_of court)) bytes lines sound)
     (λ then first room none. lines_run court then lines first room none (All-tail (HasNoFault (names_of court)) bytes lines sound))
 
 -- no case has a name before the first row
-no_names_first : (court : CourtView) (file : List ℕ) → (cases_of court (file ∷ [])).named ≡ []
+no_names_first : (court : CourtView) (file : List ℕ) → (cases_of (plain court) (file ∷ [])).named ≡ []
 unfolding cases_of cases_after rows_among
 no_names_first court file = refl
 
 -- the docket before the first row
-opening : (court : CourtView) (file : List ℕ) → docketed_by court (file ∷ []) ≡ opening_rows (setup_of court)
-unfolding docketed_by rows_in docketed_after rows_among
+opening : (court : CourtView) (file : List ℕ) → docketed_by (plain court) (file ∷ []) ≡ opening_rows (setup_of court)
+unfolding docketed_by rows_under docketed_after rows_among
 opening court file = refl
 
-first_number : (file : List ℕ) → next_number (file ∷ []) ≡ 1
+pub first_number : (file : List ℕ) → next_number (file ∷ []) ≡ 1
 unfolding rows_among
 first_number file = refl
 
@@ -161,8 +175,8 @@ unfolding run_text
 answers_are_the_runs_lem court file lines sound few =
     let run = lines_run court (file ∷ []) lines (omega arith) (omega (arith, few)) (no_names_first court file) sound in
     let rows = rows_in (names_of court) lines in
-    let told : told_to (leaves court) (answers court) (file ∷ []) lines ≡ lines_from court (opening_rows (setup_of court)) 1 rows =
+    let told : told_to (leaves (plain court)) (answers (plain court)) (file ∷ []) lines ≡ lines_from court (opening_rows (setup_of court)) 1 rows =
     run.told ∙ ap (λ (d : Rows). lines_from court d (next_number (file ∷ [])) rows) (opening court file) ∙ ap (λ (n : ℕ). lines_from court (opening_rows (setup_of court)) n rows) (first_number file) in
     let docket = run.docket ∙ ap (λ (d : Rows). docketed_after (setup_of court) d rows) (opening court file) in
     ap (λ (t : List ℕ). t ++ closing_text court (parts_of (docketed_after (setup_of court) (opening_rows (setup_of court)) rows))) (sym told)
-    ∙ ap (λ (d : Rows). told_to (leaves court) (answers court) (file ∷ []) lines ++ closing_text court (parts_of d)) (sym docket)
+    ∙ ap (λ (d : Rows). told_to (leaves (plain court)) (answers (plain court)) (file ∷ []) lines ++ closing_text court (parts_of d)) (sym docket)

@@ -1,20 +1,17 @@
 -- The cases that entries opened, and the names of those that have one.
-use Rattle.std.specs.Prelude.{ℕ, List, [], ◌∷◌, Option, Some, None, map}
+use Rattle.std.specs.Prelude.{ℕ, ◌+◌, List, [], ◌∷◌, Option, Some, None, if◌then◌else◌}
 use Rattle.case_numbers.specs.Words.{CasesView, NameView, after_name, name_before, no_cases, with_case}
-use Rattle.court_days.specs.Words.{CourtView}
 use Rattle.docket_rows.specs.declared.command.Command.{Command as CommandOf}
 use Rattle.docket_rows.specs.declared.command.Command.TheVariants.{OpenCase}
 use Rattle.office_rows.specs.declared.row.Work.{Work}
 use Rattle.office_rows.specs.declared.row.Work.TheVariants.{Command, Query}
-use Rattle.office_rows.specs.Words.{CourtNames, names_of}
+use Rattle.office_rows.specs.Words.{names_of}
 use Rattle.row_line.specs.declared.line.Line.{Line}
 use Rattle.row_line.specs.declared.line.Line.TheVariants as line
 use Rattle.row_line.specs.Words.{line_read}
+use Rattle.row_strikes.specs.Words.{is_struck}
+use Rattle.docket_entries.specs.declared.standing.Standing.{Standing}
 use Rattle.docket_entries.specs.Entries.{most_clerks, row_entries}
-
--- the rows of entries with their answers, without the lines of names before them
-abbrev pub rows_of : (kept : List (List ℕ)) → List (List ℕ)
-rows_of kept = map after_name (row_entries kept)
 
 -- the case that a command opens
 abbrev pub opened_by : CommandOf → Option ℕ
@@ -37,11 +34,17 @@ abbrev pub with_opened : CasesView → Option ℕ → Option NameView → CasesV
 with_opened cases None name = cases
 with_opened cases (Some number) name = with_case cases number name
 
--- the cases after these entries, each a row with its answer
-unfoldable pub cases_after : CourtNames → CasesView → (entries : List (List ℕ)) → CasesView
-cases_after names cases [] = cases
-cases_after names cases (entry ∷ entries) = cases_after names (with_opened cases (opened_in (line_read most_clerks names (after_name entry))) (name_before entry)) entries
+-- the cases after the row of that number with its answer: one that is struck opens none
+abbrev pub cases_with : Standing → CasesView → (number : ℕ) → (entry : List ℕ) → CasesView
+cases_with under cases number entry =
+    if is_struck under.corrections number then cases
+    else with_opened cases (opened_in (line_read most_clerks (names_of under.court) (after_name entry))) (name_before entry)
+
+-- the cases after these entries, each a row with its answer, of which the first has this number
+unfoldable pub cases_after : Standing → CasesView → (number : ℕ) → (entries : List (List ℕ)) → CasesView
+cases_after under cases number [] = cases
+cases_after under cases number (entry ∷ entries) = cases_after under (cases_with under cases number entry) (number + 1) entries
 
 -- the cases that entries opened
-unfoldable pub cases_of : CourtView → (kept : List (List ℕ)) → CasesView
-cases_of court kept = cases_after (names_of court) no_cases (row_entries kept)
+unfoldable pub cases_of : Standing → (kept : List (List ℕ)) → CasesView
+cases_of under kept = cases_after under no_cases 1 (row_entries kept)

@@ -1,20 +1,28 @@
--- A journal's entries as a history: each row was answered under the court's file of its time.
-use Rattle.std.specs.Prelude.{◌≡◌, ⊤, ℕ, List, [], ◌∷◌, ◌++◌, Option, Some, None, Ok}
+-- A journal's entries as a history: each row was answered under what stood at its time.
+use Rattle.std.specs.Prelude.{◌≡◌, ⊤, ℕ, true, List, [], ◌∷◌, ◌++◌, Option, Some, None, Ok}
 use Rattle.court_days.specs.Words.{CourtView, court_in, file_of}
-use Rattle.docket_entries.specs.Entries.{later_file, standing_file}
+use Rattle.docket_entries.specs.declared.standing.Standing.{Standing}
+use Rattle.docket_entries.specs.Entries.{Note, can_strike, corrections_in, court_file, note_in, row_struck, standing_file}
 use Rattle.docket_entries.specs.Rows.{follows}
 
 -- a file says this court
 abbrev pub SaysCourt : (file : List ℕ) → CourtView → Type 0
 SaysCourt file court = court_in file ≡ Ok (file_of court)
 
--- an entry that may follow others: a later court's file, or a row with the answer that it gets under the file that stands
-abbrev pub FollowsAs : Option (List ℕ) → (kept : List (List ℕ)) → (entry : List ℕ) → Type 0
-FollowsAs (Some file) kept entry = (court : CourtView) × SaysCourt file court
-FollowsAs None kept entry = (court : CourtView) × SaysCourt (standing_file kept) court × follows court kept entry
+-- what stands after entries: the court of the file, and the corrections
+pub record StandsAfter (kept : List (List ℕ)) (under : Standing) : Type 0 where
+  pub court : SaysCourt (standing_file kept) under.court
+  pub corrections : under.corrections ≡ corrections_in kept
+
+-- An entry that may follow others: a later court's file, a strike of a row that was entered and isn't struck yet, or a row with
+-- the answer that it gets under what stands.
+abbrev pub FollowsAs : Option Note → (kept : List (List ℕ)) → (entry : List ℕ) → Type 0
+FollowsAs (Some (court_file later)) kept entry = (court : CourtView) × SaysCourt later court
+FollowsAs (Some (row_struck struck)) kept entry = can_strike kept struck ≡ true
+FollowsAs None kept entry = (under : Standing) × StandsAfter kept under × follows under kept entry
 
 abbrev pub MayFollow : (kept : List (List ℕ)) → (entry : List ℕ) → Type 0
-MayFollow kept entry = FollowsAs (later_file entry) kept entry
+MayFollow kept entry = FollowsAs (note_in entry) kept entry
 
 -- each of these entries may follow those before it
 unfoldable pub AllFollow : (kept : List (List ℕ)) → (later : List (List ℕ)) → Type 0

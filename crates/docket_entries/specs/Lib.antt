@@ -2,7 +2,9 @@ pub mod Entries
 pub mod Cases
 pub mod CaseLines
 pub mod Rows
+pub mod Export
 pub mod History
+pub mod Striking
 pub mod Register
 pub mod Differences
 pub mod Docketed

@@ -1,15 +1,16 @@
 -- What is wrong with the lines of an input.
-use Rattle.std.specs.Prelude.{◌≡◌, ◌<◌, ℕ, List, [], ◌∷◌, ◌++◌, length}
+use Rattle.std.specs.Prelude.{◌≡◌, ◌<◌, ℕ, true, List, [], ◌∷◌, ◌++◌, length}
 use Rattle.case_numbers.specs.Words.{CasesView}
-use Rattle.court_days.specs.Words.{CourtView}
 use Rattle.office_rows.specs.declared.fault.RowCause.{RowCause}
 use Rattle.office_rows.specs.Words.{names_of}
 use Rattle.row_line.specs.declared.line.Line.{Line}
 use Rattle.row_line.specs.declared.line.Line.TheVariants as says
 use Rattle.row_line.specs.Words.{line_read}
 use Rattle.docket_entries.specs.declared.line_faults.LineFault.{LineFault}
+use Rattle.row_strikes.specs.Words.{all_before}
+use Rattle.docket_entries.specs.declared.standing.Standing.{Standing}
 use Rattle.docket_entries.specs.Cases.{cases_of}
-use Rattle.docket_entries.specs.Entries.{most_clerks}
+use Rattle.docket_entries.specs.Entries.{most_clerks, next_number}
 use Rattle.docket_entries.specs.Rows.{leaves, reading_at, within}
 
 -- a line that has a fault: its number, what is wrong with it, and the line
@@ -27,14 +28,15 @@ fault_as number line says.Blank = []
 fault_as number line (says.Fault cause) = record { number = number; cause = cause; line = line } ∷ []
 fault_as number line (says.Row row) = []
 
--- there are as many entries, and they opened these cases
-pub record CountsAs (court : CourtView) (kept : List (List ℕ)) (count : ℕ) (cases : CasesView) : Type 0 where
+-- there are as many entries, they opened these cases, and each row that is struck is among them
+pub record CountsAs (under : Standing) (kept : List (List ℕ)) (count : ℕ) (cases : CasesView) : Type 0 where
   pub count_is : count ≡ length kept
-  pub cases_are : cases ≡ cases_of court kept
+  pub cases_are : cases ≡ cases_of under kept
   pub begun : 0 < length kept
+  pub before : all_before under.corrections (next_number kept) ≡ true
 
 -- the faults of lines with their numbers, each line after what those before it leave
-unfoldable pub faults_of : CourtView → (kept : List (List ℕ)) → List (ℕ × List ℕ) → List FaultyLine
-faults_of court kept [] = []
-faults_of court kept (line ∷ lines) =
-    fault_as line.0 line.1 (within kept (line_read most_clerks (names_of court) (reading_at court kept line.1).text)) ++ faults_of court (kept ++ leaves court kept line.1) lines
+unfoldable pub faults_of : Standing → (kept : List (List ℕ)) → List (ℕ × List ℕ) → List FaultyLine
+faults_of under kept [] = []
+faults_of under kept (line ∷ lines) =
+    fault_as line.0 line.1 (within kept (line_read most_clerks (names_of under.court) (reading_at under kept line.1).text)) ++ faults_of under (kept ++ leaves under kept line.1) lines

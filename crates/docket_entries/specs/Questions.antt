@@ -1,7 +1,6 @@
 -- What lines are answered by a docket of which only questions are asked.
 use Rattle.std.specs.Prelude.{ℕ, List, [], ◌++◌, codes}
 use Rattle.std.specs.Fmt.{decimal}
-use Rattle.court_days.specs.Words.{CourtView}
 use Rattle.row_line.specs.declared.line.Line.{Line}
 use Rattle.row_line.specs.declared.line.Line.TheVariants as line
 use Rattle.office_rows.specs.declared.row.Row.{Row}
@@ -10,6 +9,7 @@ use Rattle.office_rows.specs.declared.row.Work.TheVariants.{Command, Query}
 use Rattle.office_rows.specs.Words.{names_of}
 use Rattle.row_line.specs.Words.{line_read}
 use Rattle.docket_entries.specs.declared.questions.Questions.{Questions}
+use Rattle.docket_entries.specs.declared.standing.Standing.{Standing}
 use Rattle.docket_entries.specs.Entries.{most_clerks, next_number}
 use Rattle.docket_entries.specs.Register.{StandsAt}
 use Rattle.docket_entries.specs.Rows.{answer_to, reading_at, told_of, within}
@@ -19,18 +19,18 @@ abbrev pub command_text : (number : ℕ) → List ℕ
 command_text number = codes "row " ++ decimal number ++ codes " is a command: enter it with 'docket_desk enter'\n"
 
 -- a question is answered as it would be if it were entered next
-abbrev pub shown_for : CourtView → (kept : List (List ℕ)) → Row → Work → List ℕ
-shown_for court kept row (Command command) = command_text (next_number kept)
-shown_for court kept row (Query query) = answer_to court kept row
+abbrev pub shown_for : Standing → (kept : List (List ℕ)) → Row → Work → List ℕ
+shown_for under kept row (Command command) = command_text (next_number kept)
+shown_for under kept row (Query query) = answer_to under kept row
 
-abbrev pub shown_to : CourtView → (kept : List (List ℕ)) → Line → List ℕ
-shown_to court kept line.Blank = []
-shown_to court kept (line.Fault cause) = told_of court kept (line.Fault cause)
-shown_to court kept (line.Row row) = shown_for court kept row row.work
+abbrev pub shown_to : Standing → (kept : List (List ℕ)) → Line → List ℕ
+shown_to under kept line.Blank = []
+shown_to under kept (line.Fault cause) = told_of under kept (line.Fault cause)
+shown_to under kept (line.Row row) = shown_for under kept row row.work
 
-unfoldable pub shown : CourtView → (kept : List (List ℕ)) → (line : List ℕ) → List ℕ
-shown court kept line = shown_to court kept (within kept (line_read most_clerks (names_of court) (reading_at court kept line).text))
+unfoldable pub shown : Standing → (kept : List (List ℕ)) → (line : List ℕ) → List ℕ
+shown under kept line = shown_to under kept (within kept (line_read most_clerks (names_of under.court) (reading_at under kept line).text))
 
 -- its docket is that of the entries
-abbrev pub AsksOf : CourtView → Questions → (kept : List (List ℕ)) → Type 0
-AsksOf court questions kept = StandsAt court questions.register kept
+abbrev pub AsksOf : Standing → Questions → (kept : List (List ℕ)) → Type 0
+AsksOf under questions kept = StandsAt under questions.register kept

@@ -1,22 +1,27 @@
--- What rows leave in a journal and what they are answered, under a court; and the docket that entries come to.
-use Rattle.std.specs.Prelude.{◌≡◌, ℕ, List, [], ◌∷◌, ◌++◌, Option, length, map, nat_lt, if◌then◌else◌}
+-- What rows leave in a journal and what they are answered, under what stands; and the docket that entries come to.
+use Rattle.std.specs.Prelude.{◌≡◌, ◌+◌, ℕ, List, [], ◌∷◌, ◌++◌, Option, length, map, nat_lt, if◌then◌else◌}
 use Rattle.csv.specs.Writing.{default_writer, row_text}
 use Rattle.case_numbers.specs.Words.{NameView, after_name, name_before, name_line}
-use Rattle.court_days.specs.Words.{CourtView}
 use Rattle.docket_rows.specs.Words.{Rows, setup_of, opening_rows}
 use Rattle.office_rows.specs.declared.fault.RowCause.TheVariants.{TooManyRows}
 use Rattle.row_line.specs.declared.line.Line.{Line}
 use Rattle.row_line.specs.declared.line.Line.TheVariants as line
 use Rattle.office_rows.specs.declared.row.Row.{Row}
+use Rattle.office_rows.specs.declared.row.Work.{Work}
 use Rattle.office_rows.specs.Words.{CourtNames, names_of}
 use Rattle.row_line.specs.Words.{fields_read, line_read}
-use Rattle.office_run.specs.Words.{docketed_after, reply_to}
+use Rattle.office_run.specs.declared.reply.Reply.{Reply}
+use Rattle.office_run.specs.Words.{docketed_after, docketed_then, reply_to}
+use Rattle.retired_numbers.specs.declared.retired.Retired.{Retired}
+use Rattle.retired_numbers.specs.Words.{numbered, placed}
+use Rattle.row_strikes.specs.Words.{is_struck}
 use Rattle.named_answers.specs.Words.{named_line_of}
 use Rattle.office_streams.specs.declared.fault.OfficeFault.TheVariants.{Row as RowFault}
 use Rattle.office_streams.specs.Words.{told_line}
-use Rattle.docket_entries.specs.Cases.{cases_of, rows_of}
+use Rattle.docket_entries.specs.declared.standing.Standing.{Standing}
+use Rattle.docket_entries.specs.Cases.{cases_of}
 use Rattle.docket_entries.specs.CaseLines.{Reading, reading_of}
-use Rattle.docket_entries.specs.Entries.{most_clerks, most_entries, next_number}
+use Rattle.docket_entries.specs.Entries.{most_clerks, most_entries, next_number, row_entries}
 
 -- the row of a line that says one
 abbrev pub row_in : Line → List Row
@@ -29,9 +34,32 @@ unfoldable pub rows_in : CourtNames → List (List ℕ) → List Row
 rows_in names [] = []
 rows_in names (entry ∷ entries) = row_in (line_read most_clerks names entry) ++ rows_in names entries
 
--- what is docketed after entries under this court: all their rows are decided under it, from the first on
-unfoldable pub docketed_by : CourtView → (kept : List (List ℕ)) → Rows
-docketed_by court kept = docketed_after (setup_of court) (opening_rows (setup_of court)) (rows_in (names_of court) (rows_of kept))
+-- a row with the places of what it names
+abbrev pub placed_row : List Retired → Row → Row
+placed_row retired row = record row { work = placed retired row.work }
+
+-- the row of the entry of that number, unless it is struck
+abbrev pub row_under : Standing → (number : ℕ) → (entry : List ℕ) → List Row
+row_under under number entry =
+    if is_struck under.corrections number then []
+    else map (placed_row under.corrections.retired) (row_in (line_read most_clerks (names_of under.court) (after_name entry)))
+
+-- the rows of entries, of which the first has this number
+unfoldable pub rows_under : Standing → (number : ℕ) → (entries : List (List ℕ)) → List Row
+rows_under under number [] = []
+rows_under under number (entry ∷ entries) = row_under under number entry ++ rows_under under (number + 1) entries
+
+-- what is docketed after entries: all their rows but those that are struck are decided by one court, from the first on
+unfoldable pub docketed_by : Standing → (kept : List (List ℕ)) → Rows
+docketed_by under kept = docketed_after (setup_of under.court) (opening_rows (setup_of under.court)) (rows_under under 1 (row_entries kept))
+
+-- what is docketed after what a row asks for
+abbrev pub docketed_with : Standing → (docketed : Rows) → Work → Rows
+docketed_with under docketed asked = docketed_then (setup_of under.court) docketed (placed under.corrections.retired asked)
+
+-- the reply to it, with numbers
+abbrev pub reply_under : Standing → (docketed : Rows) → Work → Reply
+reply_under under docketed asked = numbered under.corrections.retired asked (reply_to (setup_of under.court) docketed (placed under.corrections.retired asked))
 
 -- What a line says after entries: where there are as many as a journal has, a row is one too many.
 abbrev pub within : (kept : List (List ℕ)) → Line → Line
@@ -40,61 +68,52 @@ within kept (line.Fault cause) = line.Fault cause
 within kept (line.Row row) = if nat_lt (length kept) most_entries then line.Row row else line.Fault TooManyRows
 
 -- what a row is answered, with the names that cases have by then
-unfoldable pub answer_to : CourtView → (kept : List (List ℕ)) → Row → List ℕ
-answer_to court kept row = named_line_of court (cases_of court kept).named (next_number kept) row.clerk (reply_to (setup_of court) (docketed_by court kept) row.work)
+unfoldable pub answer_to : Standing → (kept : List (List ℕ)) → Row → List ℕ
+answer_to under kept row = named_line_of under.court (cases_of under kept).named (next_number kept) row.clerk (reply_under under (docketed_by under kept) row.work)
 
 -- its entry: the row as CSV, from its fields, and then the answer
-abbrev pub entry_of : CourtView → (kept : List (List ℕ)) → (fields : List (List ℕ)) → Row → List ℕ
-entry_of court kept fields row = row_text default_writer fields ++ answer_to court kept row
+abbrev pub entry_of : Standing → (kept : List (List ℕ)) → (fields : List (List ℕ)) → Row → List ℕ
+entry_of under kept fields row = row_text default_writer fields ++ answer_to under kept row
 
 -- what a line leaves that says this
-abbrev pub left_of : CourtView → (kept : List (List ℕ)) → (fields : List (List ℕ)) → Line → List (List ℕ)
-left_of court kept fields line.Blank = []
-left_of court kept fields (line.Fault cause) = []
-left_of court kept fields (line.Row row) = entry_of court kept fields row ∷ []
+abbrev pub left_of : Standing → (kept : List (List ℕ)) → (fields : List (List ℕ)) → Line → List (List ℕ)
+left_of under kept fields line.Blank = []
+left_of under kept fields (line.Fault cause) = []
+left_of under kept fields (line.Row row) = entry_of under kept fields row ∷ []
 
 -- what it is answered
-abbrev pub told_of : CourtView → (kept : List (List ℕ)) → Line → List ℕ
-told_of court kept line.Blank = []
-told_of court kept (line.Fault cause) = told_line (RowFault (next_number kept) cause)
-told_of court kept (line.Row row) = answer_to court kept row
+abbrev pub told_of : Standing → (kept : List (List ℕ)) → Line → List ℕ
+told_of under kept line.Blank = []
+told_of under kept (line.Fault cause) = told_line (RowFault (next_number kept) cause)
+told_of under kept (line.Row row) = answer_to under kept row
 
 -- what a plain line leaves, and what it is answered
-unfoldable pub plain_leaves : CourtView → (kept : List (List ℕ)) → (line : List ℕ) → List (List ℕ)
-plain_leaves court kept line = left_of court kept (fields_read line) (within kept (line_read most_clerks (names_of court) line))
+unfoldable pub plain_leaves : Standing → (kept : List (List ℕ)) → (line : List ℕ) → List (List ℕ)
+plain_leaves under kept line = left_of under kept (fields_read line) (within kept (line_read most_clerks (names_of under.court) line))
 
-unfoldable pub plain_answers : CourtView → (kept : List (List ℕ)) → (line : List ℕ) → List ℕ
-plain_answers court kept line = told_of court kept (within kept (line_read most_clerks (names_of court) line))
+unfoldable pub plain_answers : Standing → (kept : List (List ℕ)) → (line : List ℕ) → List ℕ
+plain_answers under kept line = told_of under kept (within kept (line_read most_clerks (names_of under.court) line))
 
 -- entries with the line of a new name before them
 abbrev pub with_name : Option NameView → (entries : List (List ℕ)) → List (List ℕ)
 with_name name entries = map (λ entry. name_line name ++ entry) entries
 
 -- how a line is read after entries
-abbrev pub reading_at : CourtView → (kept : List (List ℕ)) → (line : List ℕ) → Reading
-reading_at court kept line = reading_of (names_of court) (cases_of court kept) line
+abbrev pub reading_at : Standing → (kept : List (List ℕ)) → (line : List ℕ) → Reading
+reading_at under kept line = reading_of (names_of under.court) (cases_of under kept) line
 
 -- A line leaves what the plain line leaves that stands for it, after the line of its name where that is new; and it is
 -- answered as that one is.
-unfoldable pub leaves : CourtView → (kept : List (List ℕ)) → (line : List ℕ) → List (List ℕ)
-leaves court kept line = let reading = reading_at court kept line in with_name reading.name (plain_leaves court kept reading.text)
+unfoldable pub leaves : Standing → (kept : List (List ℕ)) → (line : List ℕ) → List (List ℕ)
+leaves under kept line = let reading = reading_at under kept line in with_name reading.name (plain_leaves under kept reading.text)
 
-unfoldable pub answers : CourtView → (kept : List (List ℕ)) → (line : List ℕ) → List ℕ
-answers court kept line = plain_answers court kept (reading_at court kept line).text
+unfoldable pub answers : Standing → (kept : List (List ℕ)) → (line : List ℕ) → List ℕ
+answers under kept line = plain_answers under kept (reading_at under kept line).text
 
 -- what an entry leaves whose row is entered again, with its name
-abbrev pub left_again : CourtView → (kept : List (List ℕ)) → (entry : List ℕ) → List (List ℕ)
-left_again court kept entry = with_name (name_before entry) (plain_leaves court kept (after_name entry))
+abbrev pub left_again : Standing → (kept : List (List ℕ)) → (entry : List ℕ) → List (List ℕ)
+left_again under kept entry = with_name (name_before entry) (plain_leaves under kept (after_name entry))
 
--- An entry may follow others under this court: entered again, its row leaves that entry.
-abbrev pub follows : CourtView → (kept : List (List ℕ)) → (entry : List ℕ) → Type 0
-follows court kept entry = left_again court kept entry ≡ entry ∷ []
-
--- the row with which an entry begins, as CSV
-abbrev pub shown_as : Line → (fields : List (List ℕ)) → List ℕ
-shown_as line.Blank fields = []
-shown_as (line.Fault cause) fields = []
-shown_as (line.Row row) fields = row_text default_writer fields
-
-unfoldable pub row_shown : CourtNames → (entry : List ℕ) → List ℕ
-row_shown names entry = shown_as (line_read most_clerks names (after_name entry)) (fields_read (after_name entry))
+-- An entry may follow others under what stands: entered again, its row leaves that entry.
+abbrev pub follows : Standing → (kept : List (List ℕ)) → (entry : List ℕ) → Type 0
+follows under kept entry = left_again under kept entry ≡ entry ∷ []

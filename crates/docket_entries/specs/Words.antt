@@ -1,17 +1,20 @@
 -- The words for the crates above, from one place.
-pub use Rattle.docket_entries.specs.Entries.{court_line, most_clerks, later_file, most_entries, next_number, row_entries, row_only, standing_file}
-pub use Rattle.docket_entries.specs.Rows.{entry_of, follows, reading_at, with_name, within}
-unfoldable pub use Rattle.docket_entries.specs.Rows.{answer_to, answers, docketed_by, leaves, plain_answers, plain_leaves, row_shown, rows_in}
+pub use Rattle.docket_entries.specs.Entries.{Note, can_strike, corrected, corrections_in, court_file, court_line, file_with, most_clerks, later_file, most_entries, next_number, note_in, note_of, row_entries, row_only, row_struck, standing_file}
+pub use Rattle.docket_entries.specs.Rows.{docketed_with, entry_of, follows, placed_row, reading_at, reply_under, row_under, with_name, within}
+unfoldable pub use Rattle.docket_entries.specs.Rows.{answer_to, answers, docketed_by, leaves, plain_answers, plain_leaves, rows_in, rows_under}
 unfoldable pub use Rattle.docket_entries.specs.Cases.{cases_of}
 pub use Rattle.docket_entries.specs.CaseLines.{Reading, as_it_is, lacks_third}
 unfoldable pub use Rattle.docket_entries.specs.CaseLines.{reading_of}
-pub use Rattle.docket_entries.specs.History.{IsHistory, SaysCourt}
-pub use Rattle.docket_entries.specs.Register.{StandsAt}
+pub use Rattle.docket_entries.specs.History.{IsHistory, SaysCourt, StandsAfter}
+pub use Rattle.docket_entries.specs.Register.{IsReadyAt, StandsAt}
 pub use Rattle.docket_entries.specs.Differences.{Change, change_in, changes_by}
 pub use Rattle.docket_entries.specs.Docketed.{HasHistoryFault, IsDocketed}
-pub use Rattle.docket_entries.specs.Laws.{ACaseNumberIsOneCase, AnswersAreTheRuns, FaultlessLinesSayRows, OtherLinesAreReadAsTheyAre, WhatIsLeftFollows, WhatIsLeftIsHistory}
+pub use Rattle.docket_entries.specs.Laws.{ACaseNumberIsOneCase, AStruckRowIsLeftOut, AnswersAreTheRuns, FaultlessLinesSayRows, OtherLinesAreReadAsTheyAre, RowsAreWrittenAsTheyAre, WhatIsLeftFollows, WhatIsLeftIsHistory, plain}
 unfoldable pub use Rattle.docket_entries.specs.Laws.{AllSayRows}
 pub use Rattle.docket_entries.specs.Questions.{AsksOf, command_text}
 unfoldable pub use Rattle.docket_entries.specs.Questions.{shown}
 pub use Rattle.docket_entries.specs.LineFaults.{FaultyLine, fault_in}
 unfoldable pub use Rattle.docket_entries.specs.LineFaults.{faults_of}
+pub use Rattle.docket_entries.specs.Striking.{docketed_before, strike_as, strike_before, strike_said}
+unfoldable pub use Rattle.docket_entries.specs.Striking.{strike_for}
+unfoldable pub use Rattle.docket_entries.specs.Export.{row_written, rows_written}

@@ -1,5 +1,6 @@
 //! Lines in which a case has its number as the court writes it.
-ghost use Rattle.std.specs.Prelude.{◌≡◌, ◌≤◌, ◌++◌, [], ℕ, List, drop, length, take, unwrap_or, IfOk, OnOk};
+ghost use Rattle.std.specs.Prelude.{◌≡◌, ◌≤◌, ◌+◌, ◌++◌, ◌∷◌, [], ℕ, List, drop, length, take, unwrap_or, IfOk, OnOk};
+ghost use Rattle.std.specs.Fmt.{decimal};
 ghost use Rattle.csv.specs.Records.{field_at, fields_of, partial_of};
 ghost use Rattle.csv.specs.Writing.{default_writer, row_text};
 ghost use Rattle.docket_entries.specs.CaseLines.{IsRead, case_in, fresh_for, lacks_third, named, named_if, newly, read_as, with_number};
@@ -151,14 +152,27 @@ fn newly(
 fn numbered(alloc: Global, fields: &StringRecord, number: u32) -> Result<Vec<u8>, AllocError>
     ensures { IfOk result (λ text. text.items ≡ row_text default_writer (with_number (fields_of fields.now) number)) }
 {
+    let mut text = Vec::new(alloc);
+    push_row_text(&mut text, &with_field(alloc, fields, 2, number)?)?;
+    Ok(text)
+}
+
+// The fields with this number at a place, counted from 0.
+pub(crate) fn with_field(
+    alloc: Global,
+    fields: &StringRecord,
+    place: u8,
+    number: u32,
+) -> Result<StringRecord, AllocError>
+    ensures { IfOk result (λ row. fields_of row ≡ take place (fields_of fields.now) ++ decimal number ∷ drop (place + 1) (fields_of fields.now)) }
+{
+    let place = usize::from(place);
     let digits = format!(in alloc; "{number}")?;
     let mut row = StringRecord::new(alloc);
-    push_fields(&mut row, fields, 0, 2)?;
+    push_fields(&mut row, fields, 0, place)?;
     row.push_field(&digits)?;
-    push_fields(&mut row, fields, 3, fields.len())?;
-    let mut text = Vec::new(alloc);
-    push_row_text(&mut text, &row)?;
-    Ok(text)
+    push_fields(&mut row, fields, place + 1, fields.len())?;
+    Ok(row)
 }
 
 // Adds the fields from a place up to another.

@@ -1,7 +1,9 @@
 //! A court and its docket, made of a journal's entries.
-ghost use Rattle.std.specs.Prelude.{◌≡◌, ◌<◌, ◌≤◌, ◌+◌, ◌++◌, ◌∷◌, [], ℕ, List, length, take, None, Some, IfErr, IfOk, OnOk};
+ghost use Rattle.std.specs.Prelude.{◌≡◌, ◌<◌, ◌≤◌, ◌+◌, ◌&&◌, ◌++◌, ◌∷◌, [], ℕ, false, List, length, nat_lt, not, take, None, Some, IfErr, IfOk, OnOk};
 ghost use Rattle.durable_journal.specs.Words.{batch_of};
-ghost use Rattle.docket_entries.specs.Entries.{later_file, most_entries};
+ghost use Rattle.docket_entries.specs.Entries.{later_file, most_entries, note_in, row_struck};
+ghost use Rattle.row_strikes.specs.Words.{is_struck, no_corrections};
+ghost use Rattle.docket_entries.specs.Register.{StandsAt};
 ghost use Rattle.docket_entries.specs.Docketed.{IsBadFile};
 ghost use Rattle.docket_entries.specs.History.{SaysCourt};
 
@@ -9,17 +11,19 @@ use crate::entry::later_file;
 use crate::fault::HistoryFault;
 use crate::register::DocketRegister;
 use crate::review::{Review, decided_again};
+use crate::standing::Standing;
 use court_days::Court;
 use court_file_text::CourtFault;
-use std::alloc::Global;
+use row_strikes::{Corrections, Strike, strike_in};
+use std::alloc::{AllocError, Global};
 use std::mem;
 
 /// A court and its docket, as a journal's entries come to them.
 #[derive(Drop)]
 pub struct Docketed {
-    /// The court of the file that stands after the entries.
-    pub court: Court,
-    /// Its docket after the rows.
+    /// What stands after the entries: the court of the last file, and what strikes come to.
+    pub standing: Standing,
+    /// The docket after the rows.
     pub register: DocketRegister,
 }
 
@@ -35,6 +39,19 @@ fn court_of(alloc: Global, file: &[u8], number: u32) -> Result<Court, HistoryFau
     }
 }
 
+// A court and its docket before the first row, with nothing struck.
+fn before_rows(alloc: Global, court: Court) -> Result<Docketed, AllocError>
+    ensures standing { IfOk result (λ docketed. docketed.standing ≡ record { court = court; corrections = no_corrections }) }
+    ensures stands { (file : List ℕ) → IfOk result (λ docketed. StandsAt docketed.standing docketed.register (file ∷ [])) }
+{
+    let standing = Standing {
+        court,
+        corrections: Corrections::new(alloc),
+    };
+    let register = DocketRegister::new(alloc, &standing)?;
+    Ok(Docketed { standing, register })
+}
+
 impl Docketed {
     ghost use Rattle.docket_entries.specs.Docketed.{HasHistoryFault, IsDocketed};
 
@@ -44,8 +61,8 @@ impl Docketed {
         ensures cause { IfErr result (IsBadFile file.now 1) }
     {
         let court = court_of(alloc, file, 1)?;
-        let register = DocketRegister::new(alloc, &court)?;
-        Ok(Docketed { court, register })
+        let docketed = before_rows(alloc, court)?;
+        Ok(docketed)
     }
 
     // Goes by a later court's file from here on, which is in the last of these entries: their rows are decided again.
@@ -62,21 +79,58 @@ impl Docketed {
         ensures cause { IfErr result (IsBadFile file.now (length entries.now)) }
     {
         let court = court_of(alloc, file, entries.len() as u32)?;
-        let Review { register, .. } = decided_again(alloc, &court, entries)?;
-        drop(mem::replace(&mut self.court, court));
+        let standing = Standing {
+            court,
+            corrections: self.standing.corrections.copy(alloc)?,
+        };
+        let Review { register, .. } = decided_again(alloc, &standing, entries)?;
+        drop(mem::replace(&mut self.standing, standing));
         drop(mem::replace(&mut self.register, register));
         Ok(())
     }
 
-    // Takes an entry that no court's file begins, if its row has the answer that it gets.
+    // Whether a row can be struck: it was entered, and isn't struck yet.
+    fn can_strike(&self, strike: &Strike) -> bool
+        ensures { result ≡ (nat_lt 0 strike.now.row && nat_lt strike.now.row self.now.register.number && not (is_struck self.now.standing.corrections strike.now.row)) }
+    {
+        0 < strike.row
+            && strike.row < self.register.number
+            && !self.standing.corrections.is_struck(strike.row)
+    }
+
+    // Leaves out a row from here on, which the last of these entries strikes: the others are decided again.
+    fn strike(
+        &mut self,
+        alloc: Global,
+        strike: Strike,
+        entries: &[Vec<u8>],
+    ) -> Result<(), HistoryFault>
+        requires some { 0 < length entries.now }
+        requires few { length entries.now ≤ most_entries }
+        ensures docketed { (before : List (List ℕ)) (entry : List ℕ) → batch_of entries.now ≡ before ++ entry ∷ [] → note_in entry ≡ Some (row_struck strike) → IsDocketed self.old before
+            → OnOk result (IsDocketed self.new (before ++ entry ∷ [])) }
+        ensures cause { (before : List (List ℕ)) (entry : List ℕ) → batch_of entries.now ≡ before ++ entry ∷ [] → note_in entry ≡ Some (row_struck strike) → IsDocketed self.old before
+            → IfErr result (HasHistoryFault (before ++ entry ∷ [])) }
+    {
+        if !self.can_strike(&strike) {
+            return Err(HistoryFault::Strike(entries.len() as u32));
+        }
+        self.standing.corrections.add(strike)?;
+        let Review { register, .. } = decided_again(alloc, &self.standing, entries)?;
+        drop(mem::replace(&mut self.register, register));
+        Ok(())
+    }
+
+    // Takes an entry that is a row, if it has the answer that it gets.
     fn retake(&mut self, alloc: Global, entry: &[u8]) -> Result<(), HistoryFault>
-        requires row { later_file entry.now ≡ None }
+        requires row { note_in entry.now ≡ None }
         requires room { self.old.register.count < most_entries }
+        requires stays { is_struck self.old.standing.corrections self.old.register.number ≡ false }
         ensures docketed { (before : List (List ℕ)) → IsDocketed self.old before → OnOk result (IsDocketed self.new (before ++ entry.now ∷ [])) }
         ensures cause { (before : List (List ℕ)) → IsDocketed self.old before → IfErr result (HasHistoryFault (before ++ entry.now ∷ [])) }
     {
         let number = self.register.number;
-        let other = self.register.review(alloc, &self.court, entry)?;
+        let other = self.register.review(alloc, &self.standing, entry)?;
         if other.is_some() {
             return Err(HistoryFault::Other(number));
         }
@@ -93,12 +147,16 @@ impl Docketed {
         requires some { 0 < length entries.now }
         requires few { length entries.now ≤ most_entries }
         requires room { self.old.register.count < most_entries }
+        requires stays { is_struck self.old.standing.corrections self.old.register.number ≡ false }
         ensures docketed { (before : List (List ℕ)) → batch_of entries.now ≡ before ++ entry.now ∷ [] → IsDocketed self.old before → OnOk result (IsDocketed self.new (before ++ entry.now ∷ [])) }
         ensures cause { (before : List (List ℕ)) → batch_of entries.now ≡ before ++ entry.now ∷ [] → IsDocketed self.old before → IfErr result (HasHistoryFault (before ++ entry.now ∷ [])) }
     {
         match later_file(entry) {
             Some(file) => self.change(alloc, file, entries),
-            None => self.retake(alloc, entry),
+            None => match strike_in(entry) {
+                Some(strike) => self.strike(alloc, strike, entries),
+                None => self.retake(alloc, entry),
+            },
         }
     }
 
@@ -119,8 +177,8 @@ impl Docketed {
     }
 
     /// The court and its docket to which a journal's entries come, of which the first is a court's file. Each row must have
-    /// the answer that it gets under the court's file that stands before it; after a later file all rows so far are decided
-    /// again.
+    /// the answer that it gets under what stands before it, and each strike must be of a row before it that isn't struck
+    /// yet; after a later court's file, and after a strike, all rows so far are decided again.
     pub fn of(alloc: Global, entries: &[Vec<u8>]) -> Result<Docketed, HistoryFault>
         requires few { length entries.now ≤ most_entries }
         ensures docketed { IfOk result (λ docketed. IsDocketed docketed (batch_of entries.now)) }

@@ -1,21 +1,19 @@
-//! An entry: a row and its answer, or a later court's file.
-ghost use Rattle.std.specs.Prelude.{◌≡◌, ◌++◌, IfOk, OnOk, Some, option_map, string_bytes};
+//! An entry: a row and its answer, a later court's file, or a strike.
+ghost use Rattle.std.specs.Prelude.{◌≡◌, ◌++◌, IfOk, Some, is_none, option_map, string_bytes};
 ghost use Rattle.csv.specs.Records.{fields_of};
 ghost use Rattle.csv.specs.Writing.{default_writer, row_text};
-ghost use Rattle.office_rows.specs.Words.{names_of};
 ghost use Rattle.case_numbers.specs.Words.{name_line};
 ghost use Rattle.named_answers.specs.Words.{named_line_of};
 ghost use Rattle.durable_journal.specs.Words.{batch_of};
-ghost use Rattle.docket_entries.specs.Entries.{later_file, standing_file};
-ghost use Rattle.docket_entries.specs.Rows.{row_shown};
+ghost use Rattle.docket_entries.specs.Entries.{later_file, note_in, standing_file};
 
-use crate::register::{MOST_CLERKS, RowTypes};
-use case_numbers::{CaseName, Cases, after_name, push_name_line};
+use case_numbers::{CaseName, Cases, push_name_line};
 use court_days::Court;
 use csv::StringRecord;
 use named_answers::push_named_line;
 use office_run::Reply;
-use row_line::{Line, push_row_text, read_line};
+use row_line::push_row_text;
+use row_strikes::strike_in;
 use std::alloc::{AllocError, Global};
 
 /// The court's file that a later entry is, if it is one.
@@ -23,6 +21,14 @@ pub fn later_file(entry: &[u8]) -> Option<&[u8]>
     ensures { option_map (λ file. file.now) result ≡ later_file entry.now }
 {
     entry.strip_prefix(b"%%\n")
+}
+
+/// Whether an entry is a row: no court's file and no strike.
+#[tactic(auto, unfolding(row_strikes::specs::Words::strike_in))]
+pub fn is_row(entry: &[u8]) -> bool
+    ensures { result ≡ is_none (note_in entry.now) }
+{
+    later_file(entry).is_none() && strike_in(entry).is_none()
 }
 
 /// The court's file that stands after entries, of which the first is one as it is.
@@ -82,22 +88,4 @@ pub(crate) fn entry_of(
     push_row_text(&mut entry, fields)?;
     entry.extend_from_slice(answer.as_bytes())?;
     Ok(entry)
-}
-
-/// Adds the row with which an entry begins, with the end of its line: nothing where it begins with none. `Err` says that
-/// memory ran out.
-pub fn push_row(
-    alloc: Global,
-    court: &Court,
-    entry: &[u8],
-    fields: &mut StringRecord,
-    text: &mut Vec<u8>,
-) -> Result<(), AllocError>
-    ensures { OnOk result (text.new.items ≡ text.old.items ++ row_shown (names_of court.now) entry.now) }
-{
-    let _types: RowTypes = None;
-    match read_line(alloc, after_name(entry), MOST_CLERKS, court, fields)? {
-        Line::Row(_) => push_row_text(text, fields),
-        _ => Ok(()),
-    }
 }

@@ -1,19 +1,19 @@
 //! Laws of the definitions, the contracts of functions that do nothing.
-ghost use Rattle.docket_entries.specs.Laws.{ACaseNumberIsOneCase, AnswersAreTheRuns, FaultlessLinesSayRows, OtherLinesAreReadAsTheyAre, WhatIsLeftFollows, WhatIsLeftIsHistory};
+ghost use Rattle.docket_entries.specs.Laws.{ACaseNumberIsOneCase, AStruckRowIsLeftOut, AnswersAreTheRuns, FaultlessLinesSayRows, OtherLinesAreReadAsTheyAre, RowsAreWrittenAsTheyAre, WhatIsLeftFollows, WhatIsLeftIsHistory};
 
-/// What a line leaves may follow when the journal is opened again, and is no court's file.
+/// What a line leaves may follow when the journal is opened again, and is no court's file and no strike.
 #[tactic(auto, using(crate::proofs::EntryLemmas::left_follows))]
 pub fn what_is_left_follows()
     ensures { WhatIsLeftFollows }
 {}
 
-/// What lines leave after a history is a history with it, under the same court.
+/// What lines leave after a history is a history with it, and the same stands after them.
 #[tactic(auto, using(crate::proofs::HistoryLemmas::left_history))]
 pub fn what_is_left_is_history()
     ensures { WhatIsLeftIsHistory }
 {}
 
-/// The answers to lines one by one are those that a run of clerk_office writes of their rows together.
+/// With nothing struck, the answers to lines one by one are those that a run of clerk_office writes of their rows together.
 #[tactic(auto, using(crate::proofs::RunLemmas::answers_are_the_runs_lem))]
 pub fn answers_are_the_runs()
     ensures { AnswersAreTheRuns }
@@ -35,4 +35,15 @@ pub fn a_case_number_is_one_case()
 #[tactic(auto, using(crate::proofs::CaseLemmas::other_lines))]
 pub fn other_lines_are_read_as_they_are()
     ensures { OtherLinesAreReadAsTheyAre }
+{}
+
+/// A row that is struck changes neither what is docketed nor the cases.
+pub fn a_struck_row_is_left_out()
+    ensures { AStruckRowIsLeftOut }
+{}
+
+/// With nothing struck, each row is written for other programs as it is in its entry.
+#[tactic(auto, using(crate::proofs::ExportLemmas::rows_as_they_are))]
+pub fn rows_are_written_as_they_are()
+    ensures { RowsAreWrittenAsTheyAre }
 {}

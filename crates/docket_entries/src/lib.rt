@@ -1,26 +1,32 @@
-//! A court's docket as entries keep it: what a row leaves in a journal, what it is answered, and the court's files by which
-//! it goes.
+//! A court's docket as entries keep it: what a row leaves in a journal, what it is answered, the court's files by which it
+//! goes, and the strikes by which rows are taken out of it.
 #![tactic(auto)]
 
 mod case_line;
 mod docketed;
 mod entry;
+mod export;
 mod fault;
 mod laws;
 mod line_faults;
 mod questions;
 mod register;
 mod review;
+mod standing;
+mod striking;
 
 pub use case_line::read_named;
 pub use docketed::Docketed;
-pub use entry::{court_entry, later_file, push_row, standing_file};
-pub use fault::HistoryFault;
+pub use entry::{court_entry, is_row, later_file, standing_file};
+pub use export::push_row;
+pub use fault::{HistoryFault, StrikeFault};
 pub use laws::{
-    a_case_number_is_one_case, answers_are_the_runs, faultless_lines_say_rows,
-    other_lines_are_read_as_they_are, what_is_left_follows, what_is_left_is_history,
+    a_case_number_is_one_case, a_struck_row_is_left_out, answers_are_the_runs,
+    faultless_lines_say_rows, other_lines_are_read_as_they_are, rows_are_written_as_they_are,
+    what_is_left_follows, what_is_left_is_history,
 };
 pub use line_faults::LineFault;
 pub use questions::Questions;
 pub use register::{DocketRegister, MOST_CLERKS, MOST_ENTRIES};
 pub use review::{Difference, Review, decided_again};
+pub use standing::Standing;

@@ -9,8 +9,8 @@ ghost use Rattle.docket_entries.specs.Rows.{leaves, reading_at, within};
 
 use crate::case_line::{note_case, read_named};
 use crate::register::{DocketRegister, RowTypes, within};
+use crate::standing::Standing;
 use case_numbers::Cases;
-use court_days::Court;
 use csv::StringRecord;
 use durable_session::{number_after, split_line};
 use office_rows::RowCause;
@@ -67,16 +67,16 @@ impl Reading {
     fn read(
         &mut self,
         alloc: Global,
-        court: &Court,
+        under: &Standing,
         number: usize,
         line: &[u8],
     ) -> Result<(), AllocError>
-        ensures faults { (kept : List (List ℕ)) → CountsAs court.now kept self.old.count self.old.cases → OnOk result
-            (map fault_in self.new.faults.items ≡ map fault_in self.old.faults.items ++ fault_as number line.now (within kept (line_read most_clerks (names_of court.now) (reading_at court.now kept line.now).text))) }
-        ensures counts { (kept : List (List ℕ)) → CountsAs court.now kept self.old.count self.old.cases → OnOk result (CountsAs court.now (kept ++ leaves court.now kept line.now) self.new.count self.new.cases) }
+        ensures faults { (kept : List (List ℕ)) → CountsAs under.now kept self.old.count self.old.cases → OnOk result
+            (map fault_in self.new.faults.items ≡ map fault_in self.old.faults.items ++ fault_as number line.now (within kept (line_read most_clerks (names_of under.now.court) (reading_at under.now kept line.now).text))) }
+        ensures counts { (kept : List (List ℕ)) → CountsAs under.now kept self.old.count self.old.cases → OnOk result (CountsAs under.now (kept ++ leaves under.now kept line.now) self.new.count self.new.cases) }
     {
         let _types: RowTypes = None;
-        let (said, name) = read_named(alloc, court, &self.cases, line, &mut self.fields)?;
+        let (said, name) = read_named(alloc, &under.court, &self.cases, line, &mut self.fields)?;
         match within(said, self.count) {
             Line::Blank => Ok(()),
             Line::Fault(cause) => self.note(alloc, number, cause, line),
@@ -89,16 +89,16 @@ impl Reading {
 }
 
 impl DocketRegister {
-    ghost use Rattle.docket_entries.specs.Register.{StandsAt};
+    ghost use Rattle.docket_entries.specs.Register.{IsReadyAt};
 
     /// What is wrong with the lines of an input, if they come next. `Err` says that memory ran out.
     pub fn line_faults(
         &self,
         alloc: Global,
-        court: &Court,
+        under: &Standing,
         input: &[u8],
     ) -> Result<Vec<LineFault>, AllocError>
-        ensures { (kept : List (List ℕ)) → StandsAt court.now self.now kept → IfOk result (λ faults. map fault_in faults.items ≡ faults_of court.now kept (numbered_lines input.now)) }
+        ensures { (kept : List (List ℕ)) → IsReadyAt under.now self.now kept → IfOk result (λ faults. map fault_in faults.items ≡ faults_of under.now kept (numbered_lines input.now)) }
     {
         let mut reading = Reading {
             fields: StringRecord::new(alloc),
@@ -109,7 +109,7 @@ impl DocketRegister {
         let mut number = 1usize;
         let mut rest = input;
         while let Some(split) = split_line(rest) {
-            reading.read(alloc, court, number, split.line)?;
+            reading.read(alloc, under, number, split.line)?;
             number = number_after(number, split.end);
             rest = split.rest;
         }

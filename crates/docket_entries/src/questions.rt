@@ -3,7 +3,7 @@ ghost use Rattle.std.specs.Prelude.{◌≡◌, ◌++◌, ℕ, List, OnOk};
 ghost use Rattle.docket_entries.specs.Questions.{command_text};
 
 use crate::register::{DocketRegister, RowTypes, push_fault};
-use court_days::Court;
+use crate::standing::Standing;
 use durable_session::Register;
 use office_rows::Work;
 use row_line::Line;
@@ -26,34 +26,34 @@ fn push_command(alloc: Global, text: &mut Vec<u8>, number: u32) -> Result<(), Al
 }
 
 impl Register for Questions {
-    type Setup = Court;
+    type Setup = Standing;
 
     ghost use Rattle.std.specs.Prelude.{[]};
     ghost use Rattle.docket_entries.specs.Questions.{AsksOf, shown};
 
-    ghost stands = { λ court questions kept. AsksOf court questions kept };
+    ghost stands = { λ under questions kept. AsksOf under questions kept };
 
-    ghost leaves = { λ court kept line. [] };
+    ghost leaves = { λ under kept line. [] };
 
-    ghost answers = { λ court kept line. shown court kept line };
+    ghost answers = { λ under kept line. shown under kept line };
 
     fn take(
         &mut self,
-        court: &Court,
+        under: &Standing,
         alloc: Global,
         line: &[u8],
         _batch: &mut Vec<Vec<u8>>,
         text: &mut Vec<u8>,
     ) -> Result<(), AllocError> {
         let _types: RowTypes = None;
-        let (said, _) = self.register.heard(alloc, court, line)?;
+        let (said, _) = self.register.heard(alloc, under, line)?;
         match said {
             Line::Blank => Ok(()),
             Line::Fault(cause) => push_fault(alloc, text, self.register.next_number(), cause),
             Line::Row(row) => match &row.work {
                 Work::Command(_) => push_command(alloc, text, self.register.next_number()),
                 Work::Query(_) => {
-                    let answer = self.register.answered(alloc, court, &row)?;
+                    let answer = self.register.answered(alloc, under, &row)?;
                     text.extend_from_slice(answer.as_bytes())?;
                     Ok(())
                 }

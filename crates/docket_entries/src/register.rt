@@ -1,30 +1,31 @@
-//! The register of a court's rows.
-ghost use Rattle.std.specs.Prelude.{◌≡◌, ◌<◌, ◌≤◌, ◌+◌, ◌++◌, ◌∷◌, [], ℕ, List, length, None, IfOk, IsSome, MatchOption, OnOk, nat_lt, string_bytes};
+//! The register of rows.
+ghost use Rattle.std.specs.Prelude.{◌≡◌, ◌<◌, ◌≤◌, ◌+◌, ◌++◌, ◌∷◌, [], ℕ, false, List, length, None, IfOk, IsSome, MatchOption, OnOk, nat_lt, string_bytes};
 ghost use Rattle.csv.specs.Records.{fields_of};
 ghost use Rattle.office_rows.specs.Words.{names_of};
 ghost use Rattle.office_rows.specs.declared.row.Row.{Row as RowOf};
 ghost use Rattle.row_line.specs.Words.{fields_read, line_read};
 ghost use Rattle.row_line.specs.declared.line.Line.TheVariants as says;
 ghost use Rattle.office_streams.specs.Words.{told_line};
-ghost use Rattle.court_days.specs.Words.{CourtView};
 ghost use Rattle.docket_entries.specs.Differences.{IsOtherwise};
-ghost use Rattle.docket_entries.specs.Entries.{later_file, most_clerks, most_entries, next_number};
+ghost use Rattle.docket_entries.specs.Entries.{most_clerks, most_entries, next_number, note_in};
+ghost use Rattle.row_strikes.specs.Words.{is_struck};
 ghost use Rattle.docket_entries.specs.Cases.{cases_of};
+ghost use Rattle.docket_entries.specs.declared.standing.Standing.{Standing as StandingOf};
 ghost use Rattle.docket_rows.specs.Words.{setup_of};
-ghost use Rattle.office_run.specs.Words.{Holds, docketed_then};
-ghost use Rattle.docket_entries.specs.Rows.{answer_to, docketed_by, follows, within};
+ghost use Rattle.office_run.specs.Words.{Holds};
+ghost use Rattle.docket_entries.specs.Rows.{answer_to, docketed_by, docketed_with, follows, reply_under, within};
 
 use crate::case_line::{note_case, read_named};
 use crate::entry::{answer_of, entry_of};
+use crate::standing::Standing;
 use case_numbers::{CaseName, Cases, after_name, name_before};
 use court_clock::Day;
-use court_days::Court;
 use csv::StringRecord;
 use docket_core::Docket;
 use docket_rows::{Command, Query};
 use durable_session::Register;
 use office_rows::{Row, RowCause, Work};
-use office_run::reply_to;
+use office_run::{Reply, reply_to};
 use office_streams::{OfficeFault, fault_line};
 use row_line::{Line, read_line};
 use rule_periods::{Grant, Request};
@@ -51,7 +52,7 @@ pub struct DocketRegister {
     // The cases that were opened.
     pub(crate) cases: Cases,
     // The fields of the row that was read last.
-    fields: StringRecord,
+    pub(crate) fields: StringRecord,
     ghost numbered: { number ≤ count },
 }
 
@@ -59,12 +60,12 @@ impl DocketRegister {
     ghost use Rattle.docket_entries.specs.Register.{IsDone, IsHeard, StandsAt};
 
     // The register of a court before its first row.
-    pub(crate) fn new(alloc: Global, court: &Court) -> Result<DocketRegister, AllocError>
-        ensures stands { (file : List ℕ) → IfOk result (λ register. StandsAt court.now register (file ∷ [])) }
+    pub(crate) fn new(alloc: Global, under: &Standing) -> Result<DocketRegister, AllocError>
+        ensures stands { (file : List ℕ) → IfOk result (λ register. StandsAt under.now register (file ∷ [])) }
         ensures count { IfOk result (λ register. register.count ≡ 1) }
     {
         Ok(DocketRegister {
-            docket: Docket::new(alloc, court)?,
+            docket: Docket::new(alloc, &under.court)?,
             count: 1,
             number: 1,
             cases: Cases::new(alloc),
@@ -76,10 +77,10 @@ impl DocketRegister {
     pub(crate) fn said(
         &mut self,
         alloc: Global,
-        court: &Court,
+        under: &Standing,
         line: &[u8],
     ) -> Result<Line, AllocError>
-        ensures said { (kept : List (List ℕ)) → self.old.count ≡ length kept → IfOk result (λ said. said ≡ within kept (line_read most_clerks (names_of court.now) line.now)) }
+        ensures said { (kept : List (List ℕ)) → self.old.count ≡ length kept → IfOk result (λ said. said ≡ within kept (line_read most_clerks (names_of under.now.court) line.now)) }
         ensures fields { IfOk result (λ said. (row : RowOf) → said ≡ says.Row row → fields_of self.new.fields ≡ fields_read line.now) }
         ensures cases { self.new.cases ≡ self.old.cases }
         ensures docket { self.new.docket ≡ self.old.docket }
@@ -87,7 +88,7 @@ impl DocketRegister {
         ensures number { self.new.number ≡ self.old.number }
         ensures room { IfOk result (λ said. (row : RowOf) → said ≡ says.Row row → self.old.count < most_entries) }
     {
-        let said = read_line(alloc, line, MOST_CLERKS, court, &mut self.fields)?;
+        let said = read_line(alloc, line, MOST_CLERKS, &under.court, &mut self.fields)?;
         Ok(within(said, self.count))
     }
 
@@ -95,18 +96,37 @@ impl DocketRegister {
     pub(crate) fn heard(
         &mut self,
         alloc: Global,
-        court: &Court,
+        under: &Standing,
         line: &[u8],
     ) -> Result<(Line, Option<CaseName>), AllocError>
-        ensures said { (kept : List (List ℕ)) → StandsAt court.now self.old kept → IfOk result (IsHeard court.now kept line.now (fields_of self.new.fields)) }
+        ensures said { (kept : List (List ℕ)) → StandsAt under.now self.old kept → IfOk result (IsHeard under.now kept line.now (fields_of self.new.fields)) }
         ensures docket { self.new.docket ≡ self.old.docket }
         ensures cases { self.new.cases ≡ self.old.cases }
         ensures count { self.new.count ≡ self.old.count }
         ensures number { self.new.number ≡ self.old.number }
         ensures room { IfOk result (λ heard. (row : RowOf) → heard.0 ≡ says.Row row → self.old.count < most_entries) }
     {
-        let (said, name) = read_named(alloc, court, &self.cases, line, &mut self.fields)?;
+        let (said, name) = read_named(alloc, &under.court, &self.cases, line, &mut self.fields)?;
         Ok((within(said, self.count), name))
+    }
+
+    // Decides a row, and gives its reply, with numbers.
+    pub(crate) fn replied(
+        &mut self,
+        alloc: Global,
+        under: &Standing,
+        row: &Row,
+    ) -> Result<Reply, AllocError>
+        ensures reply { (kept : List (List ℕ)) → StandsAt under.now self.old kept → IfOk result (λ reply. reply ≡ reply_under under.now (docketed_by under.now kept) row.now.work) }
+        ensures docket { (kept : List (List ℕ)) → StandsAt under.now self.old kept → OnOk result (Holds (setup_of under.now.court) self.new.docket (docketed_with under.now (docketed_by under.now kept) row.now.work)) }
+        ensures count { self.new.count ≡ self.old.count }
+        ensures number { self.new.number ≡ self.old.number }
+        ensures cases { self.new.cases ≡ self.old.cases }
+        ensures fields { self.new.fields ≡ self.old.fields }
+    {
+        let retired = under.corrections.retired();
+        let reply = reply_to(alloc, &mut self.docket, &retired.place(&row.work))?;
+        Ok(retired.number_reply(&row.work, reply))
     }
 
     // Decides a row, and gives its answer.
@@ -114,33 +134,40 @@ impl DocketRegister {
     pub(crate) fn answered(
         &mut self,
         alloc: Global,
-        court: &Court,
+        under: &Standing,
         row: &Row,
     ) -> Result<String, AllocError>
-        ensures answer { (kept : List (List ℕ)) → StandsAt court.now self.old kept → IfOk result (λ answer. string_bytes answer ≡ answer_to court.now kept row.now) }
-        ensures docket { (kept : List (List ℕ)) → StandsAt court.now self.old kept → OnOk result (Holds (setup_of court.now) self.new.docket (docketed_then (setup_of court.now) (docketed_by court.now kept) row.now.work)) }
+        ensures answer { (kept : List (List ℕ)) → StandsAt under.now self.old kept → IfOk result (λ answer. string_bytes answer ≡ answer_to under.now kept row.now) }
+        ensures docket { (kept : List (List ℕ)) → StandsAt under.now self.old kept → OnOk result (Holds (setup_of under.now.court) self.new.docket (docketed_with under.now (docketed_by under.now kept) row.now.work)) }
         ensures count { self.new.count ≡ self.old.count }
         ensures number { self.new.number ≡ self.old.number }
         ensures cases { self.new.cases ≡ self.old.cases }
         ensures fields { self.new.fields ≡ self.old.fields }
     {
-        let reply = reply_to(alloc, &mut self.docket, &row.work)?;
-        answer_of(alloc, court, &self.cases, self.number, row.clerk, &reply)
+        let reply = self.replied(alloc, under, row)?;
+        answer_of(
+            alloc,
+            &under.court,
+            &self.cases,
+            self.number,
+            row.clerk,
+            &reply,
+        )
     }
 
     // Does a row, perhaps with a new name, and gives its answer and its entry.
     fn done(
         &mut self,
         alloc: Global,
-        court: &Court,
+        under: &Standing,
         row: &Row,
         name: Option<CaseName>,
     ) -> Result<(String, Vec<u8>), AllocError>
         requires { self.old.count < most_entries }
-        ensures done { (kept : List (List ℕ)) → StandsAt court.now self.old kept → IfOk result (IsDone court.now kept (fields_of self.old.fields) row.now name self.new) }
+        ensures done { (kept : List (List ℕ)) → StandsAt under.now self.old kept → IfOk result (IsDone under.now kept (fields_of self.old.fields) row.now name self.new) }
         ensures count { OnOk result (self.new.count ≡ self.old.count + 1) }
     {
-        let answer = self.answered(alloc, court, row)?;
+        let answer = self.answered(alloc, under, row)?;
         let entry = entry_of(alloc, &name, &self.fields, &answer)?;
         note_case(alloc, &mut self.cases, &row.work, name)?;
         self.count += 1;
@@ -150,41 +177,41 @@ impl DocketRegister {
 
     /// The number of the next row, counted from 1.
     pub fn next_number(&self) -> u32
-        ensures { (court : CourtView) (kept : List (List ℕ)) → StandsAt court self.now kept → result ≡ next_number kept }
+        ensures { (under : StandingOf) (kept : List (List ℕ)) → StandsAt under self.now kept → result ≡ next_number kept }
     {
         self.number
     }
 
     /// The docket, with what the rows of all entries have docketed.
     pub fn docket(&self) -> &Docket
-        ensures { (court : CourtView) (kept : List (List ℕ)) → StandsAt court self.now kept → Holds (setup_of court) result.now (docketed_by court kept) }
+        ensures { (under : StandingOf) (kept : List (List ℕ)) → StandsAt under self.now kept → Holds (setup_of under.court) result.now (docketed_by under kept) }
     {
         &self.docket
     }
 
     /// The cases that were opened, with their names.
     pub fn cases(&self) -> &Cases
-        ensures { (court : CourtView) (kept : List (List ℕ)) → StandsAt court self.now kept → result.now ≡ cases_of court kept }
+        ensures { (under : StandingOf) (kept : List (List ℕ)) → StandsAt under self.now kept → result.now ≡ cases_of under kept }
     {
         &self.cases
     }
 
     /// Whether the journal has room for another entry.
     pub fn has_room(&self) -> bool
-        ensures { (court : CourtView) (kept : List (List ℕ)) → StandsAt court self.now kept → result ≡ nat_lt (length kept) most_entries }
+        ensures { (under : StandingOf) (kept : List (List ℕ)) → StandsAt under self.now kept → result ≡ nat_lt (length kept) most_entries }
     {
         self.count < MOST_ENTRIES
     }
 
-    /// Passes over an entry that is a court's file.
-    pub fn pass_file(&mut self)
-        ensures { (court : CourtView) (kept : List (List ℕ)) (entry : List ℕ) → StandsAt court self.old kept → length kept < most_entries → IsSome (later_file entry) → StandsAt court self.new (kept ++ entry ∷ []) }
+    /// Passes over an entry that is no row.
+    pub fn pass_note(&mut self)
+        ensures { (under : StandingOf) (kept : List (List ℕ)) (entry : List ℕ) → StandsAt under self.old kept → length kept < most_entries → IsSome (note_in entry) → StandsAt under self.new (kept ++ entry ∷ []) }
     {
         self.count = self.count.saturating_add(1);
     }
 
-    // Passes over an entry that says no row of this court.
-    fn pass_row(&mut self)
+    // Passes over an entry that says no row of this court, or whose row is struck.
+    pub(crate) fn pass_row(&mut self)
         requires { self.old.count < most_entries }
         ensures docket { self.new.docket ≡ self.old.docket }
         ensures cases { self.new.cases ≡ self.old.cases }
@@ -199,20 +226,21 @@ impl DocketRegister {
     pub(crate) fn review(
         &mut self,
         alloc: Global,
-        court: &Court,
+        under: &Standing,
         entry: &[u8],
     ) -> Result<Option<Vec<u8>>, AllocError>
         requires room { self.old.count < most_entries }
-        ensures other { (kept : List (List ℕ)) → StandsAt court.now self.old kept → IfOk result (λ other.
-            MatchOption other (follows court.now kept entry.now) (λ answer. IsOtherwise court.now kept entry.now answer.items)) }
-        ensures stands { (kept : List (List ℕ)) → StandsAt court.now self.old kept → later_file entry.now ≡ None → OnOk result (StandsAt court.now self.new (kept ++ entry.now ∷ [])) }
+        requires stays { is_struck under.now.corrections self.old.number ≡ false }
+        ensures other { (kept : List (List ℕ)) → StandsAt under.now self.old kept → IfOk result (λ other.
+            MatchOption other (follows under.now kept entry.now) (λ answer. IsOtherwise under.now kept entry.now answer.items)) }
+        ensures stands { (kept : List (List ℕ)) → StandsAt under.now self.old kept → note_in entry.now ≡ None → OnOk result (StandsAt under.now self.new (kept ++ entry.now ∷ [])) }
         ensures count { OnOk result (self.new.count ≡ self.old.count + 1) }
     {
         let _types: RowTypes = None;
         let name = name_before(alloc, entry)?;
-        match self.said(alloc, court, after_name(entry))? {
+        match self.said(alloc, under, after_name(entry))? {
             Line::Row(row) => {
-                let (answer, again) = self.done(alloc, court, &row, name)?;
+                let (answer, again) = self.done(alloc, under, &row, name)?;
                 if again.as_slice() == entry {
                     Ok(None)
                 } else {
@@ -267,32 +295,32 @@ pub(crate) fn push_fault(
 }
 
 impl Register for DocketRegister {
-    type Setup = Court;
+    type Setup = Standing;
 
-    ghost use Rattle.docket_entries.specs.Register.{StandsAt};
+    ghost use Rattle.docket_entries.specs.Register.{IsReadyAt};
     ghost use Rattle.docket_entries.specs.Rows.{answers, leaves};
 
-    ghost stands = { λ court register kept. StandsAt court register kept };
+    ghost stands = { λ under register kept. IsReadyAt under register kept };
 
-    ghost leaves = { λ court kept line. leaves court kept line };
+    ghost leaves = { λ under kept line. leaves under kept line };
 
-    ghost answers = { λ court kept line. answers court kept line };
+    ghost answers = { λ under kept line. answers under kept line };
 
     fn take(
         &mut self,
-        court: &Court,
+        under: &Standing,
         alloc: Global,
         line: &[u8],
         batch: &mut Vec<Vec<u8>>,
         text: &mut Vec<u8>,
     ) -> Result<(), AllocError> {
         let _types: RowTypes = None;
-        let (said, name) = self.heard(alloc, court, line)?;
+        let (said, name) = self.heard(alloc, under, line)?;
         match said {
             Line::Blank => Ok(()),
             Line::Fault(cause) => push_fault(alloc, text, self.number, cause),
             Line::Row(row) => {
-                let (answer, entry) = self.done(alloc, court, &row, name)?;
+                let (answer, entry) = self.done(alloc, under, &row, name)?;
                 text.extend_from_slice(answer.as_bytes())?;
                 batch.push(entry)?;
                 Ok(())

@@ -1,13 +1,13 @@
-//! The rows of entries, decided again under a court.
+//! The rows of entries, decided again under what is to stand.
 ghost use Rattle.std.specs.Prelude.{◌≡◌, ◌<◌, ◌≤◌, ◌++◌, ◌∷◌, [], ℕ, List, length, map, IfOk, OnOk};
 ghost use Rattle.durable_journal.specs.Words.{batch_of};
 ghost use Rattle.docket_entries.specs.Differences.{change_as, change_in, changes_by};
-ghost use Rattle.docket_entries.specs.Entries.{later_file, most_entries};
+ghost use Rattle.docket_entries.specs.Entries.{most_entries, note_in};
 ghost use Rattle.docket_entries.specs.Register.{StandsAt};
 
-use crate::entry::later_file;
+use crate::entry::is_row;
 use crate::register::DocketRegister;
-use court_days::Court;
+use crate::standing::Standing;
 use std::alloc::{AllocError, Global};
 
 /// A row that would be answered otherwise.
@@ -21,7 +21,7 @@ pub struct Difference {
     pub answer: Vec<u8>,
 }
 
-/// A court's docket after the rows of entries, and which of them it answers otherwise.
+/// A docket after the rows of entries, and which of them it answers otherwise.
 #[derive(Drop)]
 pub struct Review {
     /// The docket.
@@ -30,25 +30,29 @@ pub struct Review {
     pub differences: Vec<Difference>,
 }
 
-// Decides the row of an entry again, unless it is a court's file.
-fn decide_entry(
+// Decides the row of an entry again, if it is one that isn't struck.
+pub(crate) fn decide_entry(
     alloc: Global,
-    court: &Court,
+    under: &Standing,
     register: &mut DocketRegister,
     entry: &[u8],
     differences: &mut Vec<Difference>,
 ) -> Result<(), AllocError>
     requires room { register.old.count < most_entries }
-    ensures stands { (kept : List (List ℕ)) → StandsAt court.now register.old kept → OnOk result (StandsAt court.now register.new (kept ++ entry.now ∷ [])) }
-    ensures changes { (kept : List (List ℕ)) → StandsAt court.now register.old kept → OnOk result
-        (map change_in differences.new.items ≡ map change_in differences.old.items ++ change_as (later_file entry.now) court.now kept entry.now) }
+    ensures stands { (kept : List (List ℕ)) → StandsAt under.now register.old kept → OnOk result (StandsAt under.now register.new (kept ++ entry.now ∷ [])) }
+    ensures changes { (kept : List (List ℕ)) → StandsAt under.now register.old kept → OnOk result
+        (map change_in differences.new.items ≡ map change_in differences.old.items ++ change_as (note_in entry.now) under.now kept entry.now) }
 {
-    if later_file(entry).is_some() {
-        register.pass_file();
+    if !is_row(entry) {
+        register.pass_note();
         return Ok(());
     }
     let number = register.number;
-    if let Some(answer) = register.review(alloc, court, entry)? {
+    if under.corrections.is_struck(number) {
+        register.pass_row();
+        return Ok(());
+    }
+    if let Some(answer) = register.review(alloc, under, entry)? {
         let entry = Vec::from_slice(alloc, entry)?;
         differences.push(Difference {
             number,
@@ -59,24 +63,24 @@ fn decide_entry(
     Ok(())
 }
 
-/// Decides all rows of entries again under a court, whichever files stood when they were answered. `Err` says that memory
-/// ran out.
+/// Decides all rows of entries again under a court and corrections, whatever stood when they were answered. A row that is
+/// struck is left out, and is no difference. `Err` says that memory ran out.
 pub fn decided_again(
     alloc: Global,
-    court: &Court,
+    under: &Standing,
     entries: &[Vec<u8>],
 ) -> Result<Review, AllocError>
     requires some { 0 < length entries.now }
     requires few { length entries.now ≤ most_entries }
-    ensures stands { IfOk result (λ review. StandsAt court.now review.register (batch_of entries.now)) }
-    ensures changes { IfOk result (λ review. map change_in review.differences.items ≡ changes_by court.now (batch_of entries.now)) }
+    ensures stands { IfOk result (λ review. StandsAt under.now review.register (batch_of entries.now)) }
+    ensures changes { IfOk result (λ review. map change_in review.differences.items ≡ changes_by under.now (batch_of entries.now)) }
 {
-    let mut register = DocketRegister::new(alloc, court)?;
+    let mut register = DocketRegister::new(alloc, under)?;
     let mut differences = Vec::new(alloc);
     for place in 1..entries.len() {
         decide_entry(
             alloc,
-            court,
+            under,
             &mut register,
             &entries[place],
             &mut differences,

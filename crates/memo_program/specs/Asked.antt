@@ -1,30 +1,27 @@
 -- What the words of the command line ask for.
-use Rattle.std.specs.Prelude.{◌≡◌, ◌&&◌, ℕ, Bool, true, false, List, [], ◌∷◌, Option, Some, None, codes, is_some, if◌then◌else◌}
+use Rattle.std.specs.Prelude.{◌≡◌, ◌&&◌, Bool, true, false, List, [], ◌∷◌, Option, Some, None, codes, is_some, if◌then◌else◌}
 use Rattle.std.specs.Option.{option_and_then}
-use Rattle.std.specs.Str.Parse.{ParsesUnsigned}
-use Rattle.std.specs.declared.num.ParseIntError.{ParseIntError}
 use Rattle.clap.specs.Kinds.{or_else}
-use Rattle.clap.specs.Matches.{ReadsOne}
-use Rattle.clap.specs.Words.{Kinds, Row, Text, fault_of, first_of, matches_of, one_of, takes}
+use Rattle.clap.specs.Words.{Kinds, Row, Text, fault_of, first_of, matches_of, takes}
 use Rattle.clap.specs.declared.error.kind.ErrorKind.TheVariants.{MissingRequiredArgument, ValueValidation}
+use Rattle.case_names.specs.Words.{case_called}
 use Rattle.court_clock.specs.Words.{day_of_text}
 use Rattle.memo_program.specs.declared.asked.Asked.{Asked}
 use Rattle.memo_program.specs.CommandLine.{command_line}
 
--- the number of 32 bits that the text of an option writes, where it is given and writes one
-abbrev pub IsNumberIn : (text : Option Text) → Option ℕ → Type 0
-IsNumberIn None number = number ≡ None
-IsNumberIn (Some text) number = ReadsOne {E = ParseIntError} (ParsesUnsigned 32 10) text number
-
--- what the options were given asks for that: the case is the number that its option writes, and the day the one that its text
--- writes
+-- what the options were given asks for that: the case and the day are those that the texts of their options write
 pub record IsAskedBy (given : List Row) (asked : Asked) : Type 0 where
-  pub case : IsNumberIn (one_of (codes "case") given) asked.case
+  pub case : asked.case ≡ option_and_then case_called (first_of (codes "case") given)
   pub today : asked.today ≡ option_and_then day_of_text (first_of (codes "today") given)
 
 -- the words ask for it
 abbrev pub IsAsked : List Text → Asked → Type 0
 IsAsked words asked = IsAskedBy (matches_of command_line words) asked
+
+-- the fault of a case that is given: its text is neither the number of a case nor a name
+abbrev pub faults_of_case : (case : Option Text) → Kinds
+faults_of_case None = []
+faults_of_case (Some text) = if is_some (case_called text) then [] else ValueValidation ∷ []
 
 -- the fault of a day that is given: it counts for a case alone, and its text writes a day
 abbrev pub faults_of_day : (today case : Option Text) → Kinds
@@ -32,12 +29,18 @@ faults_of_day None case = []
 faults_of_day (Some text) None = MissingRequiredArgument ∷ []
 faults_of_day (Some text) (Some number) = if is_some (day_of_text text) then [] else ValueValidation ∷ []
 
+-- the fault of the case, or else of the day
 abbrev pub faults_given : List Row → Kinds
-faults_given given = faults_of_day (first_of (codes "today") given) (first_of (codes "case") given)
+faults_given given = or_else (faults_of_case (first_of (codes "case") given)) (faults_of_day (first_of (codes "today") given) (first_of (codes "case") given))
 
--- the faults that words have: of the command line, or else of the day
+-- the faults that words have: of the command line, or else of what they give
 abbrev pub faults_of : List Text → Kinds
 faults_of words = or_else (fault_of command_line words) (faults_given (matches_of command_line words))
+
+-- a case is given that its text calls, or none is
+abbrev pub case_is_taken : (case : Option Text) → Bool
+case_is_taken None = true
+case_is_taken (Some text) = is_some (case_called text)
 
 -- a day is given that counts, or none is
 abbrev pub day_is_taken : (today case : Option Text) → Bool
@@ -46,8 +49,8 @@ day_is_taken (Some text) None = false
 day_is_taken (Some text) (Some number) = is_some (day_of_text text)
 
 abbrev pub are_given_taken : List Row → Bool
-are_given_taken given = day_is_taken (first_of (codes "today") given) (first_of (codes "case") given)
+are_given_taken given = case_is_taken (first_of (codes "case") given) && day_is_taken (first_of (codes "today") given) (first_of (codes "case") given)
 
--- the program takes the words: the command line does, and the day counts
+-- the program takes the words: the command line does, and the case and the day count
 abbrev pub are_taken : List Text → Bool
 are_taken words = takes command_line words && are_given_taken (matches_of command_line words)

@@ -1,6 +1,7 @@
 -- The memo of one case: its whole sheet, as it is after all rows.
 use Rattle.std.specs.Prelude.{ℕ, ℤ, List, ◌++◌, Option, codes}
-use Rattle.std.specs.Fmt.{decimal}
+use Rattle.case_numbers.specs.Words.{case_text}
+use Rattle.case_numbers.specs.declared.names.NamedCase.{NamedCase}
 use Rattle.court_days.specs.Words.{CourtView, DaysView}
 use Rattle.docket_rows.specs.declared.query.Query.TheVariants as query
 use Rattle.docket_rows.specs.declared.view.View.{View}
@@ -16,21 +17,21 @@ use Rattle.memo_program.specs.Sheets.{IsSheet}
 use Rattle.memo_program.specs.Texts.{Is}
 
 -- the line of a case that isn't open
-abbrev pub closed_line : (case : ℕ) → List ℕ
-closed_line case = codes "deadline_memo: case " ++ decimal case ++ codes " isn't open: no row has opened it\n"
+abbrev pub closed_line : List NamedCase → (case : ℕ) → List ℕ
+closed_line named case = codes "deadline_memo: case " ++ case_text named case ++ codes " isn't open: no row has opened it\n"
 
 -- the sheet of the case with that much detail, where the view is one
-abbrev pub IsCaseShown : CourtView → List NamedDay → DaysView → Detail → (case : ℕ) → View → List ℕ → Type 0
-IsCaseShown court names days detail case (view.Sheet sheet) = IsSheet court names days detail sheet
-IsCaseShown court names days detail case _ = Is (closed_line case)
+abbrev pub IsCaseShown : CourtView → List NamedDay → List NamedCase → DaysView → Detail → (case : ℕ) → View → List ℕ → Type 0
+IsCaseShown court names named days detail case (view.Sheet sheet) = IsSheet court names named days detail sheet
+IsCaseShown court names named days detail case _ = Is (closed_line named case)
 
 -- by what is docketed
-abbrev pub IsCaseOf : CourtView → List NamedDay → (docketed : Rows) → (case : ℕ) → Detail → List ℕ → Type 0
-IsCaseOf court names docketed case detail =
-    IsCaseShown court names docketed.days detail case (view_of (setup_of court) docketed (query.Sheet case))
+abbrev pub IsCaseOf : CourtView → List NamedDay → List NamedCase → (docketed : Rows) → (case : ℕ) → Detail → List ℕ → Type 0
+IsCaseOf court names named docketed case detail =
+    IsCaseShown court names named docketed.days detail case (view_of (setup_of court) docketed (query.Sheet case))
 
 -- the whole sheet after all rows, with what they did to the deadlines of the case
-abbrev pub IsCaseMemo : CourtView → List NamedDay → List Row → (case : ℕ) → (today : Option ℤ) → List ℕ → Type 0
-IsCaseMemo court names rows case today =
+abbrev pub IsCaseMemo : CourtView → List NamedDay → List NamedCase → List Row → (case : ℕ) → (today : Option ℤ) → List ℕ → Type 0
+IsCaseMemo court names named rows case today =
     let opening = opening_rows (setup_of court) in
-    IsCaseOf court names (docketed_after (setup_of court) opening rows) case (Whole today (sources_made (setup_of court) case opening 1 rows))
+    IsCaseOf court names named (docketed_after (setup_of court) opening rows) case (Whole today (sources_made (setup_of court) case opening 1 rows))

@@ -1,18 +1,12 @@
 -- What the program's command line may have, as `clap` reads it.
-use Rattle.std.specs.Prelude.{pos, Some, [], true, codes}
+use Rattle.std.specs.Prelude.{Some, [], true, codes}
 use Rattle.clap.specs.Words.{App, Rule, new_rule, with_rule}
 use Rattle.clap.specs.Simple.{new_shape}
 use Rattle.clap.specs.declared.builder.action.ArgAction.TheVariants.{Set}
-use Rattle.clap.specs.declared.builder.value_parser.ValueParser.TheVariants.{Signed}
 
--- `--case N`, once at most: the number of a case, of which the greatest is 4,096
+-- `--case N`, once at most
 abbrev pub case_rule : Rule
-case_rule = record (new_rule (codes "case")) {
-  long = Some (codes "case");
-  action = Some Set;
-  value_names = 1;
-  parser = Some (Signed (pos 1) (pos 4096));
-}
+case_rule = record (new_rule (codes "case")) { long = Some (codes "case"); action = Some Set; value_names = 1 }
 
 -- `--today DAY`, once at most
 abbrev pub today_rule : Rule

@@ -1,6 +1,7 @@
 -- The lines that say of an act by how much it was in time or late, of a refusal why it is one, and of an extension what a reader
 -- is warned of.
 use Rattle.std.specs.Prelude.{ℕ, List, [], Option, Some}
+use Rattle.case_numbers.specs.declared.names.NamedCase.{NamedCase}
 use Rattle.court_days.specs.Words.{CourtView}
 use Rattle.rule6.specs.declared.timeliness.Shown.{Shown}
 use Rattle.rule_periods.specs.declared.grant.Request.{Request}
@@ -18,8 +19,9 @@ use Rattle.office_run.specs.declared.reply.Reply.{Reply}
 use Rattle.office_run.specs.declared.reply.Reply.TheVariants.{Made, Viewed}
 use Rattle.act_margins.specs.Words.{recorded_lines}
 use Rattle.docket_notes.specs.Words.{extension_notes}
-use Rattle.refusal_texts.specs.Words.{deadline_asked, motion_called, motion_of_refusal, query_lines, request_asked}
+use Rattle.refusal_texts.specs.Words.{deadline_asked, motion_of_refusal, query_lines, request_asked}
 use Rattle.refused_commands.specs.Words.{deadline_at, why_refused}
+use Rattle.named_answers.specs.Words.{motion_called}
 
 -- what a reader is warned of an extension, by the deadline as it was left and the request for it
 abbrev pub notes_of_request : CourtView → Shown → Option DeadlineRowView → Option Request → List ℕ
@@ -27,14 +29,14 @@ notes_of_request court shown (Some row) (Some request) = extension_notes court.c
 notes_of_request court shown row request = []
 
 -- what is said of the answer to a command
-abbrev pub notes_of : CourtView → (docketed : Rows) → CommandOf → Answer → List ℕ
-notes_of court docketed command (answer.Filed timely) =
+abbrev pub notes_of : CourtView → List NamedCase → (docketed : Rows) → CommandOf → Answer → List ℕ
+notes_of court named docketed command (answer.Filed timely) =
     recorded_lines docketed.days court.clock (deadline_at (parts_of docketed) (deadline_asked command))
-notes_of court docketed command (answer.Extended shown) =
+notes_of court named docketed command (answer.Extended shown) =
     notes_of_request court shown (deadline_at (parts_of docketed) (deadline_asked command)) (request_asked command)
-notes_of court docketed command (answer.Refused refusal) =
-    why_refused court (parts_of docketed) command (motion_called (motion_of_refusal command refusal)) refusal
-notes_of court docketed command answer = []
+notes_of court named docketed command (answer.Refused refusal) =
+    why_refused court (parts_of docketed) command (motion_called named (motion_of_refusal command refusal)) refusal
+notes_of court named docketed command answer = []
 
 -- what is said of the view that answers a question
 abbrev pub notes_viewed : (docketed : Rows) → QueryOf → View → List ℕ
@@ -42,7 +44,7 @@ notes_viewed docketed query (view.Refused refusal) = query_lines docketed.days q
 notes_viewed docketed query v = []
 
 -- what is said of a reply
-abbrev pub notes_text : CourtView → (docketed : Rows) → Work → Reply → List ℕ
-notes_text court docketed (Command command) (Made answer) = notes_of court docketed command answer
-notes_text court docketed (Query query) (Viewed v) = notes_viewed docketed query v
-notes_text court docketed work reply = []
+abbrev pub notes_text : CourtView → List NamedCase → (docketed : Rows) → Work → Reply → List ℕ
+notes_text court named docketed (Command command) (Made answer) = notes_of court named docketed command answer
+notes_text court named docketed (Query query) (Viewed v) = notes_viewed docketed query v
+notes_text court named docketed work reply = []

@@ -1,5 +1,6 @@
 -- The replies to rows, with the reasons of each deadline that they show.
-use Rattle.std.specs.Prelude.{◌≡◌, ℕ, ◌+◌, Bool, true, false, List, [], ◌∷◌, Option, Some, None, codes, if◌then◌else◌}
+use Rattle.std.specs.Prelude.{◌≡◌, ℕ, ◌+◌, Bool, true, false, List, [], ◌∷◌, Option, Some, None, ◌++◌, codes, if◌then◌else◌}
+use Rattle.case_numbers.specs.declared.names.NamedCase.{NamedCase}
 use Rattle.court_days.specs.Words.{CourtView}
 use Rattle.rule_periods.specs.Words.{DeadlineRowView}
 use Rattle.docket_rows.specs.declared.answer.Answer.TheVariants as answer
@@ -15,7 +16,8 @@ use Rattle.office_rows.specs.declared.row.Work.{Work}
 use Rattle.office_rows.specs.declared.row.Work.TheVariants.{Command, Query}
 use Rattle.office_run.specs.declared.reply.Reply.{Reply}
 use Rattle.office_run.specs.declared.reply.Reply.TheVariants.{Made, Viewed}
-use Rattle.office_run.specs.Words.{Holds, docketed_then, reply_text, reply_to, row_numbers}
+use Rattle.office_run.specs.Words.{Holds, docketed_then, reply_to, row_numbers}
+use Rattle.named_answers.specs.Words.{named_line_of}
 use Rattle.reason_texts.specs.Words.{NamedDay}
 use Rattle.memo_program.specs.declared.detail.Detail.TheVariants.{Reasons}
 use Rattle.memo_program.specs.Notes.{notes_text}
@@ -77,25 +79,25 @@ abbrev pub sheet_replied : Reply → Option Sheet
 sheet_replied (Viewed (view.Sheet sheet)) = Some sheet
 sheet_replied reply = None
 
--- a sheet with the reasons of its deadlines, or the text of a reply, the reasons of the deadline that it tells, and what is
--- said of an act or a refusal
-abbrev pub IsReplyWith : CourtView → List NamedDay → (docketed : Rows) → Work → Reply → Option Sheet → List ℕ → Type 0
-IsReplyWith court names docketed work reply (Some sheet) = Then (Is (codes "sheet\n")) (IsSheet court names docketed.days Reasons sheet)
-IsReplyWith court names docketed work reply None =
-    Then (Is (reply_text court reply)) (Then (AreReasonsWith court names docketed work reply) (Is (notes_text court docketed work reply)))
+-- to the row of that number of that clerk a sheet with the reasons of its deadlines, or the text of a reply, the reasons of
+-- the deadline that it tells, and what is said of an act or a refusal
+abbrev pub IsReplyWith : CourtView → List NamedDay → List NamedCase → (docketed : Rows) → (number clerk : ℕ) → Work → Reply → Option Sheet → List ℕ → Type 0
+IsReplyWith court names named docketed number clerk work reply (Some sheet) =
+    Then (Is (row_numbers number clerk ++ codes "sheet\n")) (IsSheet court names named docketed.days Reasons sheet)
+IsReplyWith court names named docketed number clerk work reply None =
+    Then (Is (named_line_of court named number clerk reply)) (Then (AreReasonsWith court names docketed work reply) (Is (notes_text court named docketed work reply)))
 
-abbrev pub IsReply : CourtView → List NamedDay → (docketed : Rows) → Work → Reply → List ℕ → Type 0
-IsReply court names docketed work reply = IsReplyWith court names docketed work reply (sheet_replied reply)
+abbrev pub IsReply : CourtView → List NamedDay → List NamedCase → (docketed : Rows) → (number clerk : ℕ) → Work → Reply → List ℕ → Type 0
+IsReply court names named docketed number clerk work reply = IsReplyWith court names named docketed number clerk work reply (sheet_replied reply)
 
 -- the reply to a row, before which this is docketed: the row's number, its clerk's, and the reply
-abbrev pub IsRow : CourtView → List NamedDay → (docketed : Rows) → (number : ℕ) → Row → List ℕ → Type 0
-IsRow court names docketed number row =
-    Then (Is (row_numbers number row.clerk))
-    (IsReply court names (docketed_then (setup_of court) docketed row.work) row.work (reply_to (setup_of court) docketed row.work))
+abbrev pub IsRow : CourtView → List NamedDay → List NamedCase → (docketed : Rows) → (number : ℕ) → Row → List ℕ → Type 0
+IsRow court names named docketed number row =
+    IsReply court names named (docketed_then (setup_of court) docketed row.work) number row.clerk row.work (reply_to (setup_of court) docketed row.work)
 
 -- the replies to rows, the first of which has that number
-unfoldable pub AreReplies : CourtView → List NamedDay → (docketed : Rows) → (number : ℕ) → List Row → List ℕ → Type 0
-AreReplies court names docketed number [] = Is []
-AreReplies court names docketed number (row ∷ rows) =
-    Then (IsRow court names docketed number row)
-    (AreReplies court names (docketed_then (setup_of court) docketed row.work) (number + 1) rows)
+unfoldable pub AreReplies : CourtView → List NamedDay → List NamedCase → (docketed : Rows) → (number : ℕ) → List Row → List ℕ → Type 0
+AreReplies court names named docketed number [] = Is []
+AreReplies court names named docketed number (row ∷ rows) =
+    Then (IsRow court names named docketed number row)
+    (AreReplies court names named (docketed_then (setup_of court) docketed row.work) (number + 1) rows)

@@ -1,6 +1,7 @@
 -- A sheet with the reasons of its deadlines.
 use Rattle.std.specs.Prelude.{ℕ, ℤ, List, [], ◌++◌, Option, Some, None}
 use Rattle.std.specs.List.{flat_map}
+use Rattle.case_numbers.specs.declared.names.NamedCase.{NamedCase}
 use Rattle.court_clock.specs.Words.{ClockView}
 use Rattle.court_days.specs.Words.{CourtView, DaysView}
 use Rattle.docket_rows.specs.declared.sheet.Sheet.{Sheet}
@@ -12,7 +13,8 @@ use Rattle.docket_rows.specs.declared.sheet.State.TheVariants.{Pending}
 use Rattle.docket_rows.specs.declared.view.View.{View}
 use Rattle.docket_rows.specs.declared.view.View.TheVariants as view
 use Rattle.rule6.specs.declared.timeliness.Shown.{Shown}
-use Rattle.office_texts.specs.Words.{case_line, deadline_line, motion_lines}
+use Rattle.office_texts.specs.Words.{deadline_line, motion_lines}
+use Rattle.named_answers.specs.Words.{named_case_line}
 use Rattle.reason_texts.specs.Words.{NamedDay}
 use Rattle.act_margins.specs.Words.{ahead_line, recorded_lines}
 use Rattle.docket_notes.specs.Words.{deadline_notes, hearing_notes}
@@ -64,11 +66,11 @@ motions_text court days Reasons motions = flat_map (motion_lines court) motions
 motions_text court days (Whole today sources) motions = flat_map (whole_motion court days) motions
 
 -- the line of the case, then its deadlines, each with its reasons, then its motions
-abbrev pub IsSheet : CourtView → List NamedDay → DaysView → Detail → Sheet → List ℕ → Type 0
-IsSheet court names days detail sheet =
-    Then (Is (case_line sheet)) (Then (Each (IsDeadline court names days sheet.filed detail) sheet.deadlines) (Is (motions_text court days detail sheet.motions)))
+abbrev pub IsSheet : CourtView → List NamedDay → List NamedCase → DaysView → Detail → Sheet → List ℕ → Type 0
+IsSheet court names named days detail sheet =
+    Then (Is (named_case_line named sheet)) (Then (Each (IsDeadline court names days sheet.filed detail) sheet.deadlines) (Is (motions_text court days detail sheet.motions)))
 
 -- a case that isn't open shows none
-abbrev pub IsSheetShown : CourtView → List NamedDay → DaysView → View → List ℕ → Type 0
-IsSheetShown court names days (view.Sheet sheet) = IsSheet court names days Reasons sheet
-IsSheetShown court names days _ = Is []
+abbrev pub IsSheetShown : CourtView → List NamedDay → List NamedCase → DaysView → View → List ℕ → Type 0
+IsSheetShown court names named days (view.Sheet sheet) = IsSheet court names named days Reasons sheet
+IsSheetShown court names named days _ = Is []

@@ -12,9 +12,6 @@ use clap::{Arg, ArgAction, Command};
 use office_options::{OptionsFault, fault_from};
 use std::alloc::{AllocError, Global};
 
-// The greatest number of a case: `last_case` of docket_rows.
-const LAST_CASE: i64 = 4_096;
-
 // What the program is. `clap` breaks no lines, so they are broken here.
 const ABOUT: &str =
     "Why a deadline is the day that it is. It answers as clerk_office does, and gives
@@ -33,7 +30,8 @@ judge's calendar. 'ours' stands in place of a section where the Rules leave a
 choice; where another reading gives another end, a line says which. A holiday
 of the federal list is named by law. Another name, and those of the state's
 holidays, are read from a table [holiday_names] of the court's file, as
-2025-11-04 = \"Election Day\".
+2025-11-04 = \"Election Day\". A table [case_names] names cases, as
+3 = \"1:25-cv-01234-ABC\".
 
     deadline_memo < day.txt
 
@@ -54,8 +52,7 @@ fn case_argument<'a>(alloc: Global) -> Arg<'a>
         .long("case")
         .action(ArgAction::Set)
         .value_name("N")
-        .value_parser(clap::value_parser!(u32).range(1..=LAST_CASE))
-        .help("The sheet of this case alone, after all rows")
+        .help("The sheet of this case alone, after all rows, by its number or its name")
 }
 
 fn today_argument<'a>(alloc: Global) -> Arg<'a>
@@ -85,8 +82,8 @@ fn command<'a>(alloc: Global) -> Result<Command<'a>, AllocError>
     Ok(whole)
 }
 
-/// What the words ask for, which are those after the program's name. BadWords where `clap` refuses the words or the day has
-/// a fault, Help where they ask for the help or the version first, and OutOfMemory where memory runs out.
+/// What the words ask for, which are those after the program's name. BadWords where `clap` refuses the words or the case or
+/// the day has a fault, Help where they ask for the help or the version first, and OutOfMemory where memory runs out.
 pub(crate) fn asked_of(alloc: Global, words: &[&str]) -> Result<Asked, OptionsFault>
     ensures asked { IfOk result (λ asked. IsAsked (texts words.now) asked) }
     ensures faults { IsAnswerFor (faults_of (texts words.now)) result }

@@ -3,6 +3,7 @@
 #![tactic(auto)]
 
 mod asked;
+mod calendars;
 mod case;
 mod command;
 mod detail;

@@ -3,13 +3,14 @@
 ghost use Rattle.std.specs.Prelude.{string_bytes, IfOk};
 ghost use Rattle.memo_program.specs.Memo.{IsMemo};
 
+use crate::calendars::push_calendars;
 use crate::replies::push_replies;
 use crate::sheets::push_sheets;
+use case_numbers::Cases;
 use court_days::Court;
 use docket_core::Docket;
 use docket_rows::LAST_CASE;
 use office_rows::Row;
-use office_run::push_calendars;
 use reason_texts::HolidayName;
 use std::alloc::{AllocError, Global};
 
@@ -19,14 +20,15 @@ pub(crate) fn memo_text(
     alloc: Global,
     court: &Court,
     names: &[HolidayName],
+    cases: &Cases,
     rows: &[Row],
 ) -> Result<String, AllocError>
-    ensures { IfOk result (λ text. IsMemo court.now names.now rows.now (string_bytes text)) }
+    ensures { IfOk result (λ text. IsMemo court.now names.now cases.now.named rows.now (string_bytes text)) }
 {
     let mut docket = Docket::new(alloc, court)?;
     let mut text = String::new(alloc);
-    push_replies(alloc, &mut text, court, names, &mut docket, rows)?;
-    push_sheets(alloc, &mut text, court, names, &docket, 1, LAST_CASE)?;
-    push_calendars(&mut text, court, &docket, 0, court.judges())?;
+    push_replies(alloc, &mut text, court, names, cases, &mut docket, rows)?;
+    push_sheets(alloc, &mut text, court, names, cases, &docket, 1, LAST_CASE)?;
+    push_calendars(&mut text, court, cases, &docket, 0, court.judges())?;
     Ok(text)
 }

@@ -4,20 +4,21 @@ ghost use Rattle.std.specs.Prelude.{◌≡◌, ◌++◌, OnOk, option_copied, st
 ghost use Rattle.docket_rows.specs.Words.{CourtSetup, Rows, parts_of, setup_of};
 ghost use Rattle.office_run.specs.Words.{Holds};
 ghost use Rattle.act_margins.specs.Words.{recorded_lines};
-ghost use Rattle.refusal_texts.specs.Words.{deadline_asked, motion_called, motion_of_refusal, request_asked};
+ghost use Rattle.refusal_texts.specs.Words.{deadline_asked, motion_of_refusal, request_asked};
+ghost use Rattle.named_answers.specs.Words.{motion_called};
 ghost use Rattle.refused_commands.specs.Words.{deadline_at, why_refused};
 ghost use Rattle.memo_program.specs.Notes.{notes_of, notes_of_request, notes_text, notes_viewed};
 
 use act_margins::push_recorded;
+use case_numbers::Cases;
 use court_days::Court;
 use docket_core::Docket;
 use docket_notes::push_extension_notes;
 use docket_rows::{Answer, Command, Query, Refusal, View};
+use named_answers::push_motion_called;
 use office_rows::Work;
 use office_run::Reply;
-use refusal_texts::{
-    deadline_asked, motion_of_refusal, push_motion_called, push_query_refusal, request_asked,
-};
+use refusal_texts::{deadline_asked, motion_of_refusal, push_query_refusal, request_asked};
 use refused_commands::{deadline_at, push_why_refused};
 use rule_periods::{DeadlineRow, Request};
 use rule6::Shown;
@@ -29,15 +30,16 @@ pub(crate) fn push_notes(
     alloc: Global,
     text: &mut String,
     court: &Court,
+    cases: &Cases,
     docket: &Docket,
     work: &Work,
     reply: &Reply,
 ) -> Result<(), AllocError>
-    ensures { (docketed : Rows) → Holds (setup_of court.now) docket.now docketed → OnOk result (string_bytes text.new ≡ string_bytes text.old ++ notes_text court.now docketed work.now reply.now) }
+    ensures { (docketed : Rows) → Holds (setup_of court.now) docket.now docketed → OnOk result (string_bytes text.new ≡ string_bytes text.old ++ notes_text court.now cases.now.named docketed work.now reply.now) }
 {
     match (work, reply) {
         (Work::Command(command), Reply::Made(answer)) => push_notes_of(
-            alloc, text, court, docket, command, answer,
+            alloc, text, court, cases, docket, command, answer,
         ),
         (Work::Query(query), Reply::Viewed(view)) => push_notes_viewed(
             alloc, text, docket, query, view,
@@ -51,16 +53,19 @@ fn push_notes_of(
     alloc: Global,
     text: &mut String,
     court: &Court,
+    cases: &Cases,
     docket: &Docket,
     command: &Command,
     answer: &Answer,
 ) -> Result<(), AllocError>
-    ensures { (docketed : Rows) → Holds (setup_of court.now) docket.now docketed → OnOk result (string_bytes text.new ≡ string_bytes text.old ++ notes_of court.now docketed command.now answer.now) }
+    ensures { (docketed : Rows) → Holds (setup_of court.now) docket.now docketed → OnOk result (string_bytes text.new ≡ string_bytes text.old ++ notes_of court.now cases.now.named docketed command.now answer.now) }
 {
     match answer {
         Answer::Filed(_) => push_filed(alloc, text, court, docket, command),
         Answer::Extended(shown) => push_extended(text, court, docket, command, shown),
-        Answer::Refused(refusal) => push_refused(alloc, text, court, docket, command, refusal),
+        Answer::Refused(refusal) => push_refused(
+            alloc, text, court, cases, docket, command, refusal,
+        ),
         _ => Ok(()),
     }
 }
@@ -132,14 +137,15 @@ fn push_refused(
     alloc: Global,
     text: &mut String,
     court: &Court,
+    cases: &Cases,
     docket: &Docket,
     command: &Command,
     refusal: &Refusal,
 ) -> Result<(), AllocError>
-    ensures { (docketed : Rows) → Holds (setup_of court.now) docket.now docketed → OnOk result (string_bytes text.new ≡ string_bytes text.old ++ why_refused court.now (parts_of docketed) command.now (motion_called (motion_of_refusal command.now refusal.now)) refusal.now) }
+    ensures { (docketed : Rows) → Holds (setup_of court.now) docket.now docketed → OnOk result (string_bytes text.new ≡ string_bytes text.old ++ why_refused court.now (parts_of docketed) command.now (motion_called cases.now.named (motion_of_refusal command.now refusal.now)) refusal.now) }
 {
     let mut called = String::new(alloc);
-    push_motion_called(&mut called, motion_of_refusal(command, refusal))?;
+    push_motion_called(&mut called, cases, motion_of_refusal(command, refusal))?;
     push_why_refused(
         alloc,
         text,

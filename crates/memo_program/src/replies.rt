@@ -1,11 +1,12 @@
 //! The replies to rows, with the reasons of each deadline that they show.
 
-ghost use Rattle.std.specs.Prelude.{◌≡◌, option_copied, OnOk};
+ghost use Rattle.std.specs.Prelude.{◌≡◌, ◌++◌, codes, option_copied, OnOk};
 ghost use Rattle.rule6.specs.declared.timeliness.Shown.{Shown};
 ghost use Rattle.docket_rows.specs.declared.view.View.TheVariants.{Computed};
 ghost use Rattle.docket_rows.specs.Words.{Rows, setup_of, opening_rows, view_of};
 ghost use Rattle.office_run.specs.declared.reply.Reply.TheVariants.{Viewed};
-ghost use Rattle.office_run.specs.Words.{Holds, docketed_after, docketed_then};
+ghost use Rattle.office_run.specs.Words.{Holds, docketed_after, docketed_then, row_numbers};
+ghost use Rattle.office_texts.specs.Words.{AddsText};
 ghost use Rattle.memo_program.specs.Reasons.{AreReasonsIfAny};
 ghost use Rattle.memo_program.specs.Replies.{AreReasonsWith, AreReplies, HasAnswered, IsReply, IsRow, deadline_asked, deadline_extended, deadline_queried, deadline_started, deadline_told, is_computed, sheet_replied};
 ghost use Rattle.memo_program.specs.Texts.{Pushes};
@@ -14,11 +15,13 @@ use crate::detail::Detail;
 use crate::notes::push_notes;
 use crate::reasons::{push_docketed_reasons, push_started_reasons};
 use crate::sheets::push_sheet;
+use case_numbers::Cases;
 use court_days::Court;
 use docket_core::Docket;
 use docket_rows::{Answer, Command, Query, Sheet, View};
+use named_answers::push_named_line;
 use office_rows::{Row, Work};
-use office_run::{Reply, push_numbers, push_reply, reply_to};
+use office_run::{Reply, push_numbers, reply_to};
 use reason_texts::HolidayName;
 use std::alloc::{AllocError, Global};
 
@@ -28,16 +31,17 @@ pub(crate) fn push_replies(
     text: &mut String,
     court: &Court,
     names: &[HolidayName],
+    cases: &Cases,
     docket: &mut Docket,
     rows: &[Row],
 ) -> Result<(), AllocError>
     requires { Holds (setup_of court.now) docket.old (opening_rows (setup_of court.now)) }
-    ensures text { Pushes (AreReplies court.now names.now (opening_rows (setup_of court.now)) 1 rows.now) result text.old text.new }
+    ensures text { Pushes (AreReplies court.now names.now cases.now.named (opening_rows (setup_of court.now)) 1 rows.now) result text.old text.new }
     ensures docket { OnOk result (Holds (setup_of court.now) docket.new (docketed_after (setup_of court.now) (opening_rows (setup_of court.now)) rows.now)) }
 {
     let mut number = 1u64;
     for row in rows {
-        push_row(alloc, text, court, names, docket, number, row)?;
+        push_row(alloc, text, court, names, cases, docket, number, row)?;
         number += 1;
     }
     Ok(())
@@ -49,50 +53,64 @@ fn push_row(
     text: &mut String,
     court: &Court,
     names: &[HolidayName],
+    cases: &Cases,
     docket: &mut Docket,
     number: u64,
     row: &Row,
 ) -> Result<(), AllocError>
-    ensures text { (docketed : Rows) → Holds (setup_of court.now) docket.old docketed → Pushes (IsRow court.now names.now docketed number row.now) result text.old text.new }
+    ensures text { (docketed : Rows) → Holds (setup_of court.now) docket.old docketed → Pushes (IsRow court.now names.now cases.now.named docketed number row.now) result text.old text.new }
     ensures docket { (docketed : Rows) → Holds (setup_of court.now) docket.old docketed → OnOk result (Holds (setup_of court.now) docket.new (docketed_then (setup_of court.now) docketed row.now.work)) }
 {
     let reply = reply_to(alloc, docket, &row.work)?;
-    push_numbers(text, number, row.clerk)?;
-    push_explained(alloc, text, court, names, docket, &row.work, &reply)
+    push_explained(
+        alloc, text, court, names, cases, docket, number, row.clerk, &row.work, &reply,
+    )
 }
 
-/// Adds the reply to what was asked for, and the reasons of the deadlines that it shows, where the docket is as it was
-/// left.
+/// Adds the reply to what was asked for in the row of that number of that clerk, and the reasons of the deadlines that it
+/// shows, where the docket is as it was left.
 fn push_explained(
     alloc: Global,
     text: &mut String,
     court: &Court,
     names: &[HolidayName],
+    cases: &Cases,
     docket: &Docket,
+    number: u64,
+    clerk: u8,
     work: &Work,
     reply: &Reply,
 ) -> Result<(), AllocError>
-    ensures { (docketed : Rows) → HasAnswered court.now docket.now docketed work.now reply.now → Pushes (IsReply court.now names.now docketed work.now reply.now) result text.old text.new }
+    ensures { (docketed : Rows) → HasAnswered court.now docket.now docketed work.now reply.now → Pushes (IsReply court.now names.now cases.now.named docketed number clerk work.now reply.now) result text.old text.new }
 {
     match sheet_replied(reply) {
         Some(sheet) => {
-            text.push_str("sheet\n")?;
+            push_sheet_front(text, number, clerk)?;
             push_sheet(
                 alloc,
                 text,
                 court,
                 names,
+                cases,
                 docket.days(),
                 &Detail::Reasons,
                 sheet,
             )
         }
         None => {
-            push_reply(text, court, reply)?;
+            push_named_line(text, court, cases, number, clerk, reply)?;
             push_reasons_told(alloc, text, court, names, docket, work, reply)?;
-            push_notes(alloc, text, court, docket, work, reply)
+            push_notes(alloc, text, court, cases, docket, work, reply)
         }
     }
+}
+
+/// Adds what comes before a sheet that a reply shows.
+fn push_sheet_front(text: &mut String, number: u64, clerk: u8) -> Result<(), AllocError>
+    ensures { OnOk result (AddsText text.old text.new (row_numbers number clerk ++ codes "sheet\n")) }
+{
+    push_numbers(text, number, clerk)?;
+    text.push_str("sheet\n")
 }
 
 /// The sheet that a reply shows.

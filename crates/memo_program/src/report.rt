@@ -1,13 +1,17 @@
 //! What is asked for, as what is written of a run.
 
-ghost use Rattle.std.specs.Prelude.{IfOk, string_bytes};
-ghost use Rattle.memo_program.specs.Answer.{IsAnswer};
+ghost use Rattle.std.specs.Prelude.{◌≡◌, IfOk, string_bytes};
+ghost use Rattle.case_names.specs.Words.{case_names};
+ghost use Rattle.memo_program.specs.Answer.{IsAnswer, IsCalled, no_case};
 ghost use Rattle.memo_program.specs.Names.{holiday_names};
 
 use crate::asked::Asked;
 use crate::case::case_text;
 use crate::memo::memo_text;
 use crate::names::holiday_names;
+use case_names::{CaseCalled, case_names, number_called, push_called};
+use case_numbers::Cases;
+use court_clock::Day;
 use court_days::Court;
 use office_rows::Row;
 use office_streams::{CheckedInput, Report};
@@ -19,13 +23,14 @@ use std::thread::Threads;
 /// The reply to each row of one clerk with the reasons of each deadline that it shows, then the sheets of all open cases
 /// and the calendars of all judges; or the sheet of the case that is asked for.
 impl Report for Asked {
+    ghost use Rattle.case_names.specs.Words.{case_names};
     ghost use Rattle.memo_program.specs.Answer.{IsAnswerOf};
     ghost use Rattle.memo_program.specs.Names.{holiday_names};
 
     ghost clerk_count = { λ asked. 1 };
 
-    // Holidays have the names that the court's file gives them.
-    ghost is_text = { λ asked file. IsAnswerOf asked (holiday_names file) };
+    // Holidays and cases have the names that the court's file gives them.
+    ghost is_text = { λ asked file. IsAnswerOf asked (holiday_names file) (case_names file) };
 
     fn clerks(&self) -> u8 {
         1
@@ -49,14 +54,16 @@ fn checked_answer(
     file: &[u8],
     checked: &CheckedInput,
 ) -> Result<String, AllocError>
-    ensures { IfOk result (λ text. IsAnswer asked.now checked.now.court (holiday_names file.now) checked.now.rows.items (string_bytes text)) }
+    ensures { IfOk result (λ text. IsAnswer asked.now checked.now.court (holiday_names file.now) (case_names file.now) checked.now.rows.items (string_bytes text)) }
 {
     let names = holiday_names(alloc, file)?;
+    let cases = case_names(alloc, file)?;
     answer(
         alloc,
         asked,
         &checked.court,
         names.as_slice(),
+        &cases,
         checked.rows.as_slice(),
     )
 }
@@ -67,12 +74,42 @@ fn answer(
     asked: &Asked,
     court: &Court,
     names: &[HolidayName],
+    cases: &Cases,
     rows: &[Row],
 ) -> Result<String, AllocError>
-    ensures { IfOk result (λ text. IsAnswer asked.now court.now names.now rows.now (string_bytes text)) }
+    ensures { IfOk result (λ text. IsAnswer asked.now court.now names.now cases.now.named rows.now (string_bytes text)) }
 {
-    match asked.case {
-        Some(case) => case_text(alloc, court, names, rows, case, asked.today),
-        None => memo_text(alloc, court, names, rows),
+    match &asked.case {
+        Some(called) => called_text(alloc, court, names, cases, rows, called, asked.today),
+        None => memo_text(alloc, court, names, cases, rows),
     }
+}
+
+/// The memo of the case that is so called, or a line that says that the court's file doesn't name it.
+fn called_text(
+    alloc: Global,
+    court: &Court,
+    names: &[HolidayName],
+    cases: &Cases,
+    rows: &[Row],
+    called: &CaseCalled,
+    today: Option<Day>,
+) -> Result<String, AllocError>
+    ensures { IfOk result (λ text. IsCalled court.now names.now cases.now.named rows.now called.now today (string_bytes text)) }
+{
+    match number_called(cases, called) {
+        Some(case) => case_text(alloc, court, names, cases, rows, case, today),
+        None => no_case(alloc, called),
+    }
+}
+
+/// The line of a case that the court's file doesn't name.
+fn no_case(alloc: Global, called: &CaseCalled) -> Result<String, AllocError>
+    ensures { IfOk result (λ line. string_bytes line ≡ no_case called.now) }
+{
+    let mut line = String::new(alloc);
+    line.push_str("deadline_memo: no case is named '")?;
+    push_called(&mut line, called)?;
+    line.push_str("' in the court's file\n")?;
+    Ok(line)
 }

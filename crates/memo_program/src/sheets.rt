@@ -11,11 +11,13 @@ use crate::detail::Detail;
 use crate::reasons::push_deadline_reasons;
 use crate::sources::push_sources;
 use crate::whole::{push_all_motions, push_more};
+use case_numbers::Cases;
 use court_clock::Day;
 use court_days::{Court, Days};
 use docket_core::Docket;
 use docket_rows::{Query, Sheet, SheetDeadline, View};
-use office_texts::{push_case, push_deadline};
+use named_answers::push_case_line;
+use office_texts::push_deadline;
 use reason_texts::HolidayName;
 use std::alloc::{AllocError, Global};
 
@@ -26,13 +28,14 @@ pub(crate) fn push_sheet(
     text: &mut String,
     court: &Court,
     names: &[HolidayName],
+    cases: &Cases,
     days: &Days,
     detail: &Detail,
     sheet: &Sheet,
 ) -> Result<(), AllocError>
-    ensures { Pushes (IsSheet court.now names.now days.now detail.now sheet.now) result text.old text.new }
+    ensures { Pushes (IsSheet court.now names.now cases.now.named days.now detail.now sheet.now) result text.old text.new }
 {
-    push_case(text, sheet)?;
+    push_case_line(text, cases, sheet)?;
     push_deadlines(
         alloc,
         text,
@@ -108,16 +111,17 @@ pub(crate) fn push_sheets(
     text: &mut String,
     court: &Court,
     names: &[HolidayName],
+    cases: &Cases,
     docket: &Docket,
     first: u32,
     count: u32,
 ) -> Result<(), AllocError>
     requires numbers { first + count ≤ 5_000 }
-    ensures { (docketed : Rows) → Holds (setup_of court.now) docket.now docketed → Pushes (AreSheets court.now names.now docketed first count) result text.old text.new }
+    ensures { (docketed : Rows) → Holds (setup_of court.now) docket.now docketed → Pushes (AreSheets court.now names.now cases.now.named docketed first count) result text.old text.new }
 {
     for case in first..first + count {
         let view = docket.show(alloc, &Query::Sheet(case))?;
-        push_sheet_shown(alloc, text, court, names, docket.days(), &view)?;
+        push_sheet_shown(alloc, text, court, names, cases, docket.days(), &view)?;
     }
     Ok(())
 }
@@ -128,13 +132,23 @@ fn push_sheet_shown(
     text: &mut String,
     court: &Court,
     names: &[HolidayName],
+    cases: &Cases,
     days: &Days,
     view: &View,
 ) -> Result<(), AllocError>
-    ensures { Pushes (IsSheetShown court.now names.now days.now view.now) result text.old text.new }
+    ensures { Pushes (IsSheetShown court.now names.now cases.now.named days.now view.now) result text.old text.new }
 {
     match view {
-        View::Sheet(sheet) => push_sheet(alloc, text, court, names, days, &Detail::Reasons, sheet),
+        View::Sheet(sheet) => push_sheet(
+            alloc,
+            text,
+            court,
+            names,
+            cases,
+            days,
+            &Detail::Reasons,
+            sheet,
+        ),
         _ => Ok(()),
     }
 }

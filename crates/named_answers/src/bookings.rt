@@ -4,8 +4,7 @@ ghost use Rattle.std.specs.List.{flat_map};
 ghost use Rattle.office_texts.specs.Words.{AddsText};
 ghost use Rattle.named_answers.specs.Named.{named_booking, named_calendar};
 
-use crate::refusals::push_case;
-use case_numbers::Cases;
+use case_numbers::{Cases, push_case_text};
 use court_days::Court;
 use hearing_slots::Booking;
 use office_texts::{judge_name, push_span, room_name};
@@ -57,7 +56,7 @@ fn push_booking(
     let motion = booking.motion;
     push_span(text, booking.day, booking.first, booking.count)?;
     text.push_str(" case ")?;
-    push_case(text, cases, booking.case)?;
+    push_case_text(text, cases, booking.case)?;
     write!(text, " motion {motion} room ")?;
     text.push_str(room_name(court, booking.other))?;
     text.push_str("\n")

@@ -11,3 +11,4 @@ pub use bookings::push_named_calendar;
 pub use laws::without_names_as_before;
 pub use refusals::push_motion_called;
 pub use reply::{push_named_answer, push_named_line};
+pub use sheets::push_case_line;

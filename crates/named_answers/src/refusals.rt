@@ -1,24 +1,13 @@
-//! Refusals that name a case, and what is written for a case.
+//! Refusals that name a case.
 ghost use Rattle.std.specs.Prelude.{◌++◌, OnOk, codes};
-ghost use Rattle.case_numbers.specs.Words.{case_text};
 ghost use Rattle.office_texts.specs.Words.{AddsText};
 ghost use Rattle.named_answers.specs.Named.{motion_called, named_detail, named_motion, named_refusal};
 
-use case_numbers::Cases;
+use case_numbers::{Cases, push_case_text};
 use docket_rows::Refusal;
 use office_texts::push_number;
 use std::alloc::AllocError;
 use std::fmt::Write;
-
-// Adds what is written for a case: its name, or its number where it has none.
-pub(crate) fn push_case(text: &mut String, cases: &Cases, number: u32) -> Result<(), AllocError>
-    ensures { OnOk result (AddsText text.old text.new (case_text cases.now.named number)) }
-{
-    match cases.name_of(number) {
-        Some(name) => text.push_str(name),
-        None => push_number(text, u64::from(number)),
-    }
-}
 
 /// Adds what a motion is called by its case and its number: nothing where none is given. `Err` says that memory ran out.
 pub fn push_motion_called(
@@ -31,7 +20,7 @@ pub fn push_motion_called(
     match at {
         Some((case, number)) => {
             text.push_str("case ")?;
-            push_case(text, cases, case)?;
+            push_case_text(text, cases, case)?;
             write!(text, " motion {number}")
         }
         None => Ok(()),
@@ -73,7 +62,7 @@ fn push_motion(text: &mut String, cases: &Cases, case: u32, motion: u32) -> Resu
     ensures { OnOk result (AddsText text.old text.new (named_motion cases.now.named case motion)) }
 {
     text.push_str(" ")?;
-    push_case(text, cases, case)?;
+    push_case_text(text, cases, case)?;
     text.push_str(" ")?;
     push_number(text, u64::from(motion))
 }

@@ -3,8 +3,7 @@ ghost use Rattle.std.specs.Prelude.{OnOk};
 ghost use Rattle.office_texts.specs.Words.{AddsText};
 ghost use Rattle.named_answers.specs.Named.{named_case_line, named_sheet};
 
-use crate::refusals::push_case;
-use case_numbers::Cases;
+use case_numbers::{Cases, push_case_text};
 use court_days::Court;
 use docket_rows::Sheet;
 use office_texts::{push_deadlines, push_motions};
@@ -26,12 +25,12 @@ pub(crate) fn push_sheet(
     push_motions(text, court, sheet.motions.as_slice())
 }
 
-// Adds the line of the case.
-fn push_case_line(text: &mut String, cases: &Cases, sheet: &Sheet) -> Result<(), AllocError>
+/// Adds the line of the case, with its name where it has one. `Err` says that memory ran out.
+pub fn push_case_line(text: &mut String, cases: &Cases, sheet: &Sheet) -> Result<(), AllocError>
     ensures { OnOk result (AddsText text.old text.new (named_case_line cases.now.named sheet.now)) }
 {
     let filed = sheet.filed;
     text.push_str("case ")?;
-    push_case(text, cases, sheet.case)?;
+    push_case_text(text, cases, sheet.case)?;
     write!(text, " filed {filed}\n")
 }

@@ -1,7 +1,5 @@
 -- What a refused command asked for, and what its refusal is about.
-use Rattle.std.specs.Prelude.{ℕ, ℤ, List, [], ◌++◌, Option, Some, None, codes}
-use Rattle.std.specs.Fmt.{decimal}
-use Rattle.court_days.specs.declared.holiday_list.HolidayList.{HolidayList}
+use Rattle.std.specs.Prelude.{ℕ, Option, Some, None}
 use Rattle.rule_periods.specs.declared.grant.Request.{Request}
 use Rattle.docket_rows.specs.declared.command.Command.{Command}
 use Rattle.docket_rows.specs.declared.command.Command.TheVariants.{FileAct, Extend, Book, MoveHearing}
@@ -38,8 +36,3 @@ motion_of_refusal command (RoomBusy case motion) = Some (case, motion)
 motion_of_refusal command (HearingThatDay case motion) = Some (case, motion)
 motion_of_refusal command (NoticeLost case motion) = Some (case, motion)
 motion_of_refusal command refusal = motion_of_setting (setting_asked command)
-
--- what a motion is called by its case and its number: `case 1 motion 2`
-abbrev pub motion_called : Option (ℕ × ℕ) → List ℕ
-motion_called (Some at) = codes "case " ++ decimal at.0 ++ codes " motion " ++ decimal at.1
-motion_called None = []

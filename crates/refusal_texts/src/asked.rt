@@ -1,12 +1,10 @@
 //! What a refused command asked for, and what its refusal is about.
 
-ghost use Rattle.std.specs.Prelude.{◌≡◌, ◌++◌, OnOk, string_bytes};
-ghost use Rattle.refusal_texts.specs.Asked.{deadline_asked, motion_called, motion_of_refusal, motion_of_setting, request_asked, setting_asked};
+ghost use Rattle.std.specs.Prelude.{◌≡◌};
+ghost use Rattle.refusal_texts.specs.Asked.{deadline_asked, motion_of_refusal, motion_of_setting, request_asked, setting_asked};
 
 use docket_rows::{Command, Refusal, Setting};
 use rule_periods::Request;
-use std::alloc::AllocError;
-use std::fmt::Write;
 
 /// The case and the number of the deadline that a command is about.
 pub fn deadline_asked(command: &Command) -> Option<(u32, u32)>
@@ -60,15 +58,5 @@ fn motion_of_setting(setting: Option<Setting>) -> Option<(u32, u32)>
     match setting {
         Some(setting) => Some((setting.case, setting.motion)),
         None => None,
-    }
-}
-
-/// Adds what a motion is called by its case and its number: nothing where none is given. `Err` says that memory ran out.
-pub fn push_motion_called(text: &mut String, at: Option<(u32, u32)>) -> Result<(), AllocError>
-    ensures { OnOk result (string_bytes text.new ≡ string_bytes text.old ++ motion_called at) }
-{
-    match at {
-        Some((case, number)) => write!(text, "case {case} motion {number}"),
-        None => Ok(()),
     }
 }

@@ -7,6 +7,6 @@ mod hearings;
 mod lines;
 mod ranges;
 
-pub use asked::{deadline_asked, motion_of_refusal, push_motion_called, request_asked};
+pub use asked::{deadline_asked, motion_of_refusal, request_asked};
 pub use lines::push_refusal;
 pub use ranges::push_query_refusal;

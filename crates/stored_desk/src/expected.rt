@@ -1,7 +1,6 @@
 //! What a journal must hold, from its rows alone: they are taken one after another, with no journal and no disk.
 use anyhow::{Result, bail};
-use court_days::Court;
-use docket_entries::{DocketRegister, Docketed, HistoryFault};
+use docket_entries::{DocketRegister, Docketed, HistoryFault, Standing};
 use durable_session::Register;
 use std::alloc::Global;
 
@@ -68,7 +67,7 @@ fn take_batches(
     for batch in rows.split("--\n") {
         take_lines(
             alloc,
-            &docketed.court,
+            &docketed.standing,
             &mut docketed.register,
             batch,
             entries,
@@ -85,19 +84,19 @@ fn take_batches(
 // Takes the rows of a batch.
 fn take_lines(
     alloc: Global,
-    court: &Court,
+    standing: &Standing,
     register: &mut DocketRegister,
     batch: &str,
     entries: &mut Vec<Vec<u8>>,
     answers: &mut Vec<u8>,
 ) -> Result<()> {
     for line in batch.lines() {
-        register.take(court, alloc, line.as_bytes(), entries, answers)?;
+        register.take(standing, alloc, line.as_bytes(), entries, answers)?;
     }
     Ok(())
 }
 
-/// The court and the docket of entries. An error says that they make none, or that memory ran out.
+/// What stands, and the docket of entries. An error says that they make none, or that memory ran out.
 pub fn docket_of(alloc: Global, entries: &[Vec<u8>]) -> Result<Docketed> {
     if entries.len() > 1000 {
         bail!("more than 1000 entries");

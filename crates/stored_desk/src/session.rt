@@ -87,7 +87,7 @@ fn keep_batch(
     let mut reader = Watched::new(batch.as_bytes());
     let mut writer = Watched::new(Vec::new(alloc));
     let ended = serve(
-        &docketed.court,
+        &docketed.standing,
         alloc,
         journal,
         &mut docketed.register,

@@ -1,5 +1,5 @@
--- Case numbers as courts write them, in the fields of rows. The office reads no case numbers, so it is asked about the row with
--- a case's number in their place.
+-- Case numbers as courts write them, in the fields of rows. The office reads none, so it is asked about the row with the number 1
+-- in place of one.
 use Rattle.std.specs.Prelude.{ℕ, Bool, true, false, List, ◌∷◌, ◌++◌, codes, drop, take, Option, Some, None, if◌then◌else◌}
 use Rattle.case_numbers.specs.Words.{NameView, case_read}
 use Rattle.written_rows.specs.declared.columns.Column.{Column}
@@ -12,7 +12,7 @@ abbrev pub is_case : Column → Bool
 is_case Case = true
 is_case _ = false
 
--- the case number in the third field of a row with these columns, which is that of its case in each row that has one
+-- the case number in a row with these columns: in the third field, where that is the case's
 abbrev pub name_in : List Column → (fields : List (List ℕ)) → Option NameView
 name_in columns fields = if is_case (column_at columns 2) then case_read (word_at fields 2) else None
 

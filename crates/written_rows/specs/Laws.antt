@@ -26,6 +26,7 @@ pub record IsNamedRow (clerks : ℕ) (names : CourtNames) (text : List ℕ) (row
   pub case : case_read (word_at fields 2) ≡ Some name
   pub row_is : IsPlainRow clerks names (row_text default_writer (with_one fields)) row
 
+-- a text is a plain row, or one with a case number
 abbrev pub IsRow : (clerks : ℕ) → CourtNames → (text : List ℕ) → Row → Type 0
 IsRow clerks names text row = IsPlainRow clerks names text row ⊎ IsNamedRow clerks names text row
 

@@ -19,6 +19,7 @@ pub loop-row-preserved : goal.loop-row-preserved
 unfolding answers_from
 loop-row-preserved c =
     let court = c.args.court.now in
+    let named = c.args.cases.now.named in
     let setup = setup_of court in
     let rows = c.args.rows.now in
     let i = c.loop-row.row-index in
@@ -29,10 +30,10 @@ loop-row-preserved c =
     let replied = c.in_ok-reply.ensures setup docketed c.loop-row.invariant.holds in
     let more : docketed_after setup (opening_rows setup) (take (i + 1) rows) ≡ docketed_then setup docketed row.work =
     docketed_at setup (opening_rows setup) rows i row c.loop-row-test.true ∙ ap (λ r. docketed_then setup docketed r.work) (sym c.row-item.is) in
-    let value = λ (reply : Reply). answered_value court (record { number = n; clerk = row.clerk; reply = reply }) in
-    let later = answers_from court (docketed_then setup docketed row.work) (n + 1) (drop (i + 1) rows) in
+    let value = λ (reply : Reply). answered_value court named (record { number = n; clerk = row.clerk; reply = reply }) in
+    let later = answers_from court named (docketed_then setup docketed row.work) (n + 1) (drop (i + 1) rows) in
     let same : value c.in_ok-reply.reply ≡ value (reply_to setup docketed row.work) = ap value replied.0 in
-    let step : answers_from court docketed n (drop i rows) ≡ value (reply_to setup docketed row.work) ∷ later = at_drop_more (λ rest. answers_from court docketed n rest) rows i row c.loop-row-test.true ∙ ap (λ r. answers_from court docketed n (r ∷ drop (i + 1) rows)) (sym c.row-item.is) in
+    let step : answers_from court named docketed n (drop i rows) ≡ value (reply_to setup docketed row.work) ∷ later = at_drop_more (λ rest. answers_from court named docketed n rest) rows i row c.loop-row-test.true ∙ ap (λ r. answers_from court named docketed n (r ∷ drop (i + 1) rows)) (sym c.row-item.is) in
     record {
       number = omega arith;
       holds = subst (Holds setup c.reply_to.new.docket) (sym more) replied.1;
@@ -44,16 +45,18 @@ pub returns-clause-lines : goal.returns-clause-lines
 unfolding answers_from
 returns-clause-lines c =
     let court = c.args.court.now in
+    let named = c.args.cases.now.named in
     let setup = setup_of court in
     let past : length c.args.rows.now ≤ c.loop-row.row-index = omega (arith, c.loop-row-test.false) in
-    let none = at_drop_all (λ rest. flat_map line_of (answers_from court (docketed_after setup (opening_rows setup) (take c.loop-row.row-index c.args.rows.now)) c.loop-row.number rest)) c.args.rows.now c.loop-row.row-index past in
+    let none = at_drop_all (λ rest. flat_map line_of (answers_from court named (docketed_after setup (opening_rows setup) (take c.loop-row.row-index c.args.rows.now)) c.loop-row.number rest)) c.args.rows.now c.loop-row.row-index past in
     sym (append-nil _) ∙ rw none at c.loop-row.invariant.so_far
 
 pub returns-clause-read : goal.returns-clause-read
 unfolding answers_from
 returns-clause-read c =
     let court = c.args.court.now in
+    let named = c.args.cases.now.named in
     let setup = setup_of court in
     let past : length c.args.rows.now ≤ c.loop-row.row-index = omega (arith, c.loop-row-test.false) in
-    let none = at_drop_all (λ rest. answers_from court (docketed_after setup (opening_rows setup) (take c.loop-row.row-index c.args.rows.now)) c.loop-row.number rest) c.args.rows.now c.loop-row.row-index past in
+    let none = at_drop_all (λ rest. answers_from court named (docketed_after setup (opening_rows setup) (take c.loop-row.row-index c.args.rows.now)) c.loop-row.number rest) c.args.rows.now c.loop-row.row-index past in
     c.loop-row.invariant.read (subst (All ReadsBack) (sym none) (All-nil ReadsBack))

@@ -19,7 +19,7 @@ returns c = λ docketed stands.
     let outages : c.outages.result.now ≡ docketed.days.outages = c.outages.ensures ∙ ap (λ (days : DaysView). days.outages) (c.days.ensures ∙ held) in
     let sheets : c.deref.result.now ≡ open_sheets (setup_of court) docketed =
     c.deref.ensures.value ∙ c.in_ok-sheets.ensures docketed stands ∙ ap (λ setup. open_sheets setup docketed) c.requires.court in
-    let cases : List Sheet → List ℕ = λ ss. flat_map (sheet_rows court) ss in
+    let cases : List Sheet → List ℕ = λ ss. flat_map (sheet_rows court c.args.cases.now.named) ss in
     c.in_ok-push_sheets.ensures
     ∙ ap (λ t. t ++ cases c.deref.result.now) c.in_ok-push_outages.ensures
     ∙ append_assoc before (numbered outage_row 1 c.outages.result.now) (cases c.deref.result.now)

@@ -9,8 +9,8 @@ use Rattle.desk_program.proofs.asking.ask.Goals as goal
 
 pub returns-in-Ok : goal.returns-in-Ok
 returns-in-Ok g c =
-    let docketed = c.in_ok-court.ensures.docketed in
+    let docketed = c.in_ok-standing.ensures.docketed in
     some_weaker (g.R.Read.remaining (watched c.args.reader.now))
-    (λ input. Appends (g.W.Write.contents (watched c.args.writer.now)) (g.W.Write.contents (watched c.answer.new.writer)) (told_to (λ kept line. []) (shown c.in_ok-court.field-0.court) (batch_of c.args.entries.now) (lines_of input))) _
-    (λ input told. record { history = docketed.history; court = c.in_ok-court.field-0.court; stands = docketed.court; told = told })
-    (c.in-Ok.ensures.answered (batch_of c.args.entries.now) docketed.stands)
+    (λ input. Appends (g.W.Write.contents (watched c.args.writer.now)) (g.W.Write.contents (watched c.answer.new.writer)) (told_to (λ kept line. []) (shown c.in_ok-standing.field-0.standing) (batch_of c.args.entries.now) (lines_of input))) _
+    (λ input told. record { history = docketed.history; under = c.in_ok-standing.field-0.standing; stands = docketed.standing; told = told })
+    (c.in-Ok.ensures.answered (batch_of c.args.entries.now) docketed.stands.at)

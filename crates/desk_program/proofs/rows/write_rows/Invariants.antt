@@ -1,11 +1,9 @@
 use Rattle.std.proofs.Common.{◌≡◌, ◌≤◌, ◌++◌, ℕ, List, false, take}
-use Rattle.std.specs.Prelude.{codes}
 use Rattle.std.specs.Io.KnownBytes.{Appends}
 use Rattle.durable_journal.specs.Words.{batch_of}
-use Rattle.docket_entries.specs.Words.{row_entries, standing_file}
-use Rattle.office_rows.specs.Words.{names_of}
+use Rattle.docket_entries.specs.Words.{next_number, row_entries, rows_written, standing_file}
 use Rattle.office_streams.specs.Words.{has_failed, watched}
-use Rattle.desk_program.specs.Rows.{ended, rows_shown}
+use Rattle.desk_program.specs.Rows.{head_of}
 use Rattle.desk_program.proofs.rows.write_rows.Given as goal
 
 -- what was written and gathered are the rows so far
@@ -14,4 +12,5 @@ invariant-loop-place g l =
     (1 ≤ l.place)
     × (has_failed l.writer ≡ false)
     × (written : List ℕ) × Appends (g.W.Write.contents (watched l.fn.writer)) (g.W.Write.contents (watched l.writer)) written
-    × (written ++ l.text.items ≡ (ended (standing_file (batch_of l.entries)) ++ codes "%%\n") ++ rows_shown (names_of l.court) (row_entries (batch_of (take l.place l.entries))))
+    × (written ++ l.text.items ≡ head_of (standing_file (batch_of l.entries)) l.cases.named ++ rows_written l.under 1 (row_entries (batch_of (take l.place l.entries))))
+    × (l.number ≡ next_number (batch_of (take l.place l.entries)))

@@ -1,7 +1,7 @@
 use Rattle.std.proofs.Common.{◌≡◌, ◌∙◌, ◌+◌, ◌<◌, ◌++◌, ◌∷◌, ℕ, List, [], ap, length, sym, arith, take}
 use Rattle.durable_journal.specs.Words.{batch_of}
 use Rattle.docket_entries.specs.Entries.{later_file, standing_file}
-use Rattle.docket_entries.proofs.ListLemmas.{begun_batch, first_batch, standing_file-file, standing_file-row, standing_first, take_batch}
+use Rattle.docket_entries.proofs.ListLemmas.{begun_batch, file_noted, first_batch, standing_file-file, standing_file-other, standing_first, take_batch}
 use Rattle.docket_entries.proofs.entry.standing_file.Goals.{in-Some-later_file, in_default-later_file}
 use Rattle.docket_entries.proofs.entry.standing_file.Goals as goal
 
@@ -20,10 +20,10 @@ loop-place-preserved c =
     elim c.match-later_file.branch [
       | in-Some-later_file w ↦ record {
         begun = omega arith;
-        file = ap (λ t. t.now) w.file-is ∙ sym (standing_file-file kept entry w.in-Some-later_file.later.now begun (ap later_file (sym c.deref.ensures.value) ∙ sym w.in-Some-later_file.ensures)) ∙ ap standing_file (sym more);
+        file = ap (λ t. t.now) w.file-is ∙ sym (standing_file-file kept entry w.in-Some-later_file.later.now begun (file_noted entry w.in-Some-later_file.later.now (ap later_file (sym c.deref.ensures.value) ∙ sym w.in-Some-later_file.ensures))) ∙ ap standing_file (sym more);
       }
       | in_default-later_file w ↦ record {
         begun = omega arith;
-        file = ap (λ t. t.now) w.file-is ∙ c.loop-place.invariant.file ∙ sym (standing_file-row kept entry begun (ap later_file (sym c.deref.ensures.value) ∙ sym w.in_default-later_file.ensures)) ∙ ap standing_file (sym more);
+        file = ap (λ t. t.now) w.file-is ∙ c.loop-place.invariant.file ∙ sym (standing_file-other kept entry begun (ap later_file (sym c.deref.ensures.value) ∙ sym w.in_default-later_file.ensures)) ∙ ap standing_file (sym more);
       }
     ]

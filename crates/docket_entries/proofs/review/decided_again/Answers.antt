@@ -1,7 +1,7 @@
 use Rattle.std.proofs.Common.{◌≡◌, ◌∙◌, ◌+◌, ◌<◌, ◌++◌, ◌∷◌, ℕ, List, [], ap, length, map, sym, subst, arith, take}
 use Rattle.durable_journal.specs.Words.{batch_of}
 use Rattle.docket_entries.specs.Differences.{Change, change_as, change_in, changes_by}
-use Rattle.docket_entries.specs.Entries.{later_file}
+use Rattle.docket_entries.specs.Entries.{note_in}
 use Rattle.docket_entries.specs.Register.{StandsAt}
 use Rattle.docket_entries.proofs.ChangeLemmas.{changes_by-more, none_first}
 use Rattle.docket_entries.proofs.ListLemmas.{begun_batch, some_first, take_batch}
@@ -12,8 +12,8 @@ loop-place-init c =
     let (first, is) = some_first c.args.entries.now c.requires.some in
     record {
       begun = omega arith;
-      stands = subst (StandsAt c.args.court.now c.in_ok-register.register) (sym is) (c.in_ok-register.ensures.stands first);
-      changes = ap (map change_in) c.new-differences.ensures.items ∙ sym (ap (changes_by c.args.court.now) is ∙ none_first c.args.court.now first);
+      stands = subst (StandsAt c.args.under.now c.in_ok-register.register) (sym is) (c.in_ok-register.ensures.stands first);
+      changes = ap (map change_in) c.new-differences.ensures.items ∙ sym (ap (changes_by c.args.under.now) is ∙ none_first c.args.under.now first);
     }
 
 pub loop-place-preserved : goal.loop-place-preserved
@@ -25,9 +25,9 @@ loop-place-preserved c =
     let then : kept ++ c.deref.result.now ∷ [] ≡ batch_of (take (c.loop-place.place + 1) c.args.entries.now) = ap (λ (e : List ℕ). kept ++ e ∷ []) c.deref.ensures.value ∙ sym more in
     record {
       begun = omega arith;
-      stands = subst (StandsAt c.args.court.now c.decide_entry.new.register) then (c.in_ok-decide_entry.ensures.stands kept c.loop-place.invariant.stands);
+      stands = subst (StandsAt c.args.under.now c.decide_entry.new.register) then (c.in_ok-decide_entry.ensures.stands kept c.loop-place.invariant.stands);
       changes = c.in_ok-decide_entry.ensures.changes kept c.loop-place.invariant.stands
-          ∙ ap (λ (l : List Change). l ++ change_as (later_file c.deref.result.now) c.args.court.now kept c.deref.result.now) c.loop-place.invariant.changes
-          ∙ sym (changes_by-more c.args.court.now kept c.deref.result.now begun)
-          ∙ ap (changes_by c.args.court.now) then;
+          ∙ ap (λ (l : List Change). l ++ change_as (note_in c.deref.result.now) c.args.under.now kept c.deref.result.now) c.loop-place.invariant.changes
+          ∙ sym (changes_by-more c.args.under.now kept c.deref.result.now begun)
+          ∙ ap (changes_by c.args.under.now) then;
     }

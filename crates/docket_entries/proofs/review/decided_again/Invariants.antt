@@ -8,6 +8,6 @@ use Rattle.docket_entries.proofs.review.decided_again.Given as goal
 abbrev pub invariant-loop-place : goal.invariant-loop-place
 invariant-loop-place l = record {
   begun : 1 ≤ l.place;
-  stands : StandsAt l.court l.register (batch_of (take l.place l.entries));
-  changes : map change_in l.differences.items ≡ changes_by l.court (batch_of (take l.place l.entries));
+  stands : StandsAt l.under l.register (batch_of (take l.place l.entries));
+  changes : map change_in l.differences.items ≡ changes_by l.under (batch_of (take l.place l.entries));
 }

@@ -1,28 +1,51 @@
-use Rattle.std.proofs.Common.{◌∙◌, codes}
-use Rattle.clap.specs.Words.{found_of, one_of, rows_of}
-use Rattle.clap.proofs.WalkLemmas.{first_value-rows, one_text-rows}
-use Rattle.memo_program.proofs.AskedLemmas.{case_read}
+-- The fault of the case comes first, and then that of the day.
+use Rattle.std.proofs.Common.{◌≡◌, ◌∙◌, [], codes}
+use Rattle.std.proofs.lemmas.Bool.{and_parts}
+use Rattle.clap.specs.Words.{first_of, found_of, rows_of}
+use Rattle.clap.proofs.WalkLemmas.{first_value-rows}
+use Rattle.memo_program.specs.Asked.{case_is_taken, day_is_taken, faults_of_case, faults_of_day}
+use Rattle.memo_program.proofs.AskedLemmas.{first_fault}
 use Rattle.memo_program.proofs.asked.asked_by.Goals as goal
-
-pub returns-in-Ok-clause-asked : goal.returns-in-Ok-clause-asked
-returns-in-Ok-clause-asked c =
-    let given = found_of c.args.given.now in
-    record {
-      case = case_read (one_of (codes "case") (rows_of given)) c.get_one.result (λ none. c.get_one.ensures.none (one_text-rows given (codes "case") ∙ none)) (λ t some. c.get_one.ensures.value t (one_text-rows given (codes "case") ∙ some));
-      today = rw (c.get_str.ensures ∙ first_value-rows given (codes "today")) at c.in-Ok.ensures.day;
-    }
-
-pub returns-in-Ok-clause-faults : goal.returns-in-Ok-clause-faults
-returns-in-Ok-clause-faults c =
-    let given = found_of c.args.given.now in
-    rw (c.get_str.ensures ∙ first_value-rows given (codes "today"), c.get_str-2.ensures ∙ first_value-rows given (codes "case")) at c.in-Ok.ensures.faults
 
 pub returns-in-Err-clause-faults : goal.returns-in-Err-clause-faults
 returns-in-Err-clause-faults c =
-    let given = found_of c.args.given.now in
-    rw (c.get_str.ensures ∙ first_value-rows given (codes "today"), c.get_str-2.ensures ∙ first_value-rows given (codes "case")) at c.in-Err.ensures.faults
+    let found = found_of c.args.given.now in
+    let given = rows_of found in
+    first_fault (faults_of_case (first_of (codes "case") given)) (faults_of_day (first_of (codes "today") given) (first_of (codes "case") given)) c.in-Err.fault
+    (rw (c.get_str.ensures ∙ first_value-rows found (codes "case")) at c.in-Err.ensures.faults)
 
 pub returns-in-Err-clause-taken : goal.returns-in-Err-clause-taken
-returns-in-Err-clause-taken c =
-    let given = found_of c.args.given.now in
-    rw (c.get_str.ensures ∙ first_value-rows given (codes "today"), c.get_str-2.ensures ∙ first_value-rows given (codes "case")) at c.in-Err.ensures.taken
+returns-in-Err-clause-taken c taken =
+    let found = found_of c.args.given.now in
+    let given = rows_of found in
+    let memory = rw (c.get_str.ensures ∙ first_value-rows found (codes "case")) at c.in-Err.ensures.taken in
+    memory (and_parts (case_is_taken (first_of (codes "case") given)) _ taken).0
+
+pub returns-in-Ok-day_asked-clause-asked : goal.returns-in-Ok-day_asked-clause-asked
+returns-in-Ok-day_asked-clause-asked c =
+    let found = found_of c.args.given.now in
+    record {
+      case = rw (c.get_str.ensures ∙ first_value-rows found (codes "case")) at c.in-Ok.ensures.case;
+      today = rw (c.get_str-2.ensures ∙ first_value-rows found (codes "today")) at c.in-Ok-day_asked.ensures.day;
+    }
+
+pub returns-in-Ok-day_asked-clause-faults : goal.returns-in-Ok-day_asked-clause-faults
+returns-in-Ok-day_asked-clause-faults c =
+    let found = found_of c.args.given.now in
+    let given = rows_of found in
+    let none : faults_of_case (first_of (codes "case") given) ≡ [] = rw (c.get_str.ensures ∙ first_value-rows found (codes "case")) at c.in-Ok.ensures.faults in
+    rw none (rw (c.get_str-2.ensures ∙ first_value-rows found (codes "today"), c.get_str-3.ensures ∙ first_value-rows found (codes "case")) at c.in-Ok-day_asked.ensures.faults)
+
+pub returns-in-Err-day_asked-clause-faults : goal.returns-in-Err-day_asked-clause-faults
+returns-in-Err-day_asked-clause-faults c =
+    let found = found_of c.args.given.now in
+    let given = rows_of found in
+    let none : faults_of_case (first_of (codes "case") given) ≡ [] = rw (c.get_str.ensures ∙ first_value-rows found (codes "case")) at c.in-Ok.ensures.faults in
+    rw none (rw (c.get_str-2.ensures ∙ first_value-rows found (codes "today"), c.get_str-3.ensures ∙ first_value-rows found (codes "case")) at c.in-Err-day_asked.ensures.faults)
+
+pub returns-in-Err-day_asked-clause-taken : goal.returns-in-Err-day_asked-clause-taken
+returns-in-Err-day_asked-clause-taken c taken =
+    let found = found_of c.args.given.now in
+    let given = rows_of found in
+    let memory = rw (c.get_str-2.ensures ∙ first_value-rows found (codes "today"), c.get_str-3.ensures ∙ first_value-rows found (codes "case")) at c.in-Err-day_asked.ensures.taken in
+    memory (and_parts (case_is_taken (first_of (codes "case") given)) (day_is_taken (first_of (codes "today") given) (first_of (codes "case") given)) taken).1

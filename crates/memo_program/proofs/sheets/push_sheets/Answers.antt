@@ -18,11 +18,11 @@ loop-case-preserved c =
       leads = λ docketed new holds rest.
           let days = c.days.ensures ∙ days_held setup c.args.docket.now docketed holds in
           let view = c.in_ok-view.ensures.rows docketed holds.stands ∙ ap (λ b. view_of b docketed (query.Sheet case)) holds.setup_is in
-          let shown : Adds (IsSheetOf court c.args.names.now docketed case) (string_bytes c.loop-case.text) _ = rw view at (rw days at c.in_ok-push_sheet_shown.ensures) in
-          c.loop-case.invariant.leads docketed new holds (adds_range (IsSheetOf court c.args.names.now docketed) case end (string_bytes c.loop-case.text) _ new (omega (arith, c.loop-case-test.true)) shown rest);
+          let shown : Adds (IsSheetOf court c.args.names.now c.args.cases.now.named docketed case) (string_bytes c.loop-case.text) _ = rw view at (rw days at c.in_ok-push_sheet_shown.ensures) in
+          c.loop-case.invariant.leads docketed new holds (adds_range (IsSheetOf court c.args.names.now c.args.cases.now.named docketed) case end (string_bytes c.loop-case.text) _ new (omega (arith, c.loop-case-test.true)) shown rest);
     }
 
 pub returns : goal.returns
 returns c docketed holds =
     let none : c.args.first + c.args.count - c.loop-case.case ≡ 0 = omega (arith, c.loop-case-test.false) in
-    c.loop-case.invariant.leads docketed (string_bytes c.loop-case.text) holds (rw none (adds_range_end (IsSheetOf c.args.court.now c.args.names.now docketed) c.loop-case.case (string_bytes c.loop-case.text)))
+    c.loop-case.invariant.leads docketed (string_bytes c.loop-case.text) holds (rw none (adds_range_end (IsSheetOf c.args.court.now c.args.names.now c.args.cases.now.named docketed) c.loop-case.case (string_bytes c.loop-case.text)))

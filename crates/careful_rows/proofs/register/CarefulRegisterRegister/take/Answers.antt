@@ -8,34 +8,34 @@ use Rattle.careful_rows.proofs.register.CarefulRegisterRegister.take.Goals as go
 
 pub returns-in-Some : goal.returns-in-Some
 returns-in-Some c = λ kept stands.
-    let court = c.args.setup.now.court in
+    let under = c.args.setup.now.standing in
     let today = c.args.setup.now.today in
     on_ok_weaker c.take.result
-    (λ takes. as_taken court today c.take.new.self kept c.args.line.now (batch_of c.args.batch.now.items) (batch_of c.take.new.batch.items) c.args.text.now.items c.take.new.text.items c.in-Some.rest.now
-    (taken_marked court today kept c.args.line.now c.in-Some.rest.now (sym c.in-Some.ensures)) takes)
+    (λ takes. as_taken under today c.take.new.self kept c.args.line.now (batch_of c.args.batch.now.items) (batch_of c.take.new.batch.items) c.args.text.now.items c.take.new.text.items c.in-Some.rest.now
+    (taken_marked under today kept c.args.line.now c.in-Some.rest.now (sym c.in-Some.ensures)) takes)
     (c.take.ensures kept stands)
 
 pub returns-then-are_none : goal.returns-then-are_none
 returns-then-are_none c = λ kept stands.
-    let court = c.args.setup.now.court in
+    let under = c.args.setup.now.standing in
     let today = c.args.setup.now.today in
     let line = c.args.line.now in
-    let none = sym (c.in_ok-warnings.ensures kept stands) ∙ sym c.as_str.ensures.value ∙ c.are_none.ensures.none c.if-are_none.true in
+    let none = sym (c.in_ok-warnings.ensures kept stands.at) ∙ sym c.as_str.ensures.value ∙ c.are_none.ensures.none c.if-are_none.true in
     on_ok_weaker c.take-then-are_none.result
-    (λ takes. as_taken court today c.take-then-are_none.new.self kept line (batch_of c.args.batch.now.items) (batch_of c.take-then-are_none.new.batch.items) c.args.text.now.items c.take-then-are_none.new.text.items line
-    (taken_plain court today kept line (sym c.in_default.ensures) none) takes)
+    (λ takes. as_taken under today c.take-then-are_none.new.self kept line (batch_of c.args.batch.now.items) (batch_of c.take-then-are_none.new.batch.items) c.args.text.now.items c.take-then-are_none.new.text.items line
+    (taken_plain under today kept line (sym c.in_default.ensures) none) takes)
     (c.take-then-are_none.ensures kept stands)
 
 pub returns : goal.returns
 returns c = λ kept stands.
-    let court = c.args.setup.now.court in
+    let under = c.args.setup.now.standing in
     let today = c.args.setup.now.today in
     let line = c.args.line.now in
     let text = c.args.text.now.items in
-    let told = c.in_ok-warnings.ensures kept stands in
+    let told = c.in_ok-warnings.ensures kept stands.at in
     on_ok_weaker c.push_held.result
-    (λ added. held_back court today c.args.self.now.register kept line (batch_of c.args.batch.now.items) (batch_of c.args.batch.now.items) text c.push_held.new.text.items
-    (taken_none court today kept line (sym c.in_default.ensures) (λ e. c.are_none.ensures.some c.if-are_none.false (c.as_str.ensures.value ∙ told ∙ e))) stands refl
-    (added ∙ ap (λ (n : ℕ). text ++ held_text n c.as_str-2.result.now) (c.next_number.ensures court kept stands)
+    (λ added. held_back under today c.args.self.now.register kept line (batch_of c.args.batch.now.items) (batch_of c.args.batch.now.items) text c.push_held.new.text.items
+    (taken_none under today kept line (sym c.in_default.ensures) (λ e. c.are_none.ensures.some c.if-are_none.false (c.as_str.ensures.value ∙ told ∙ e))) stands refl
+    (added ∙ ap (λ (n : ℕ). text ++ held_text n c.as_str-2.result.now) (c.next_number.ensures under kept stands.at)
     ∙ ap (λ (w : List ℕ). text ++ held_text (next_number kept) w) (c.as_str-2.ensures.value ∙ told)))
     c.push_held.ensures

@@ -13,28 +13,30 @@ use Rattle.desk_program.proofs.desk.Desk.change.Goals as goal
 pub returns-in-Ok-list_changes-clause-taken : goal.returns-in-Ok-list_changes-clause-taken
 returns-in-Ok-list_changes-clause-taken g c = λ keeps.
     let entries : List (List ℕ) = batch_of c.args.entries.now in
-    let same : map change_in c.deref.result.now ≡ changes_by c.in-Ok.court entries = ap (map change_in) c.deref.ensures.value ∙ c.in-Ok-decided_again.ensures.changes in
+    let same : map change_in c.deref.result.now ≡ changes_by c.in-Ok.standing entries = ap (map change_in) c.deref.ensures.value ∙ c.in-Ok-decided_again.ensures.changes in
     let short : length entries < most_entries = omega (arith, c.if-entries.false, length_batch c.args.entries.now) in
     on_ok_weaker c.take_file.result
     (λ taken. record {
-      court = c.in-Ok.court;
+      under = c.in-Ok.standing;
       says = c.in-Ok.ensures.court;
+      corrections = c.in-Ok.ensures.corrections ∙ keeps.docketed.standing.corrections;
       listed = subst (λ (l : List Change). Appends (g.W.Write.contents (watched c.args.writer.now)) (g.W.Write.contents (watched c.list_changes.new.writer)) (changes_text l)) same c.in-Ok-list_changes.ensures.listed;
       without_leave = λ none. sym same ∙ ap (map change_in) (c.in-Ok-list_changes.ensures.without_leave none);
       entry = taken.0;
       is_file = taken.1;
       keeps = taken.2;
     })
-    (c.take_file.ensures.kept entries keeps c.in-Ok.ensures.court c.in-Ok-decided_again.ensures.stands short)
+    (c.take_file.ensures.kept entries keeps c.in-Ok.ensures.court c.in-Ok.ensures.corrections c.in-Ok-decided_again.ensures.stands short)
 
 pub returns-in-Err-list_changes-clause-refused : goal.returns-in-Err-list_changes-clause-refused
-returns-in-Err-list_changes-clause-refused g c = λ count is.
+returns-in-Err-list_changes-clause-refused g c = λ count keeps is.
     let entries : List (List ℕ) = batch_of c.args.entries.now in
-    let same : map change_in c.deref.result.now ≡ changes_by c.in-Ok.court entries = ap (map change_in) c.deref.ensures.value ∙ c.in-Ok-decided_again.ensures.changes in
+    let same : map change_in c.deref.result.now ≡ changes_by c.in-Ok.standing entries = ap (map change_in) c.deref.ensures.value ∙ c.in-Ok-decided_again.ensures.changes in
     let (many, some, listed) = c.in-Err-list_changes.ensures.differs count is in (
       record {
-        court = c.in-Ok.court;
+        under = c.in-Ok.standing;
         says = c.in-Ok.ensures.court;
+        corrections = c.in-Ok.ensures.corrections ∙ keeps.docketed.standing.corrections;
         listed = subst (λ (l : List Change). Appends (g.W.Write.contents (watched c.args.writer.now)) (g.W.Write.contents (watched c.list_changes.new.writer)) (changes_text l)) same listed;
         count_is = many ∙ sym (length-map c.deref.result.now change_in) ∙ ap length same;
         some = λ none. some (no_changes c.deref.result.now (same ∙ none));

@@ -2,10 +2,10 @@ use Rattle.std.proofs.Common.{refl}
 use Rattle.std.proofs.lemmas.Result.{on_ok_weaker}
 use Rattle.durable_journal.specs.Words.{IsKept}
 use Rattle.durable_session.specs.Words.{IsServed, lines_of}
-use Rattle.docket_entries.specs.Words.{StandsAt}
+use Rattle.docket_entries.specs.Words.{IsReadyAt}
 use Rattle.office_streams.specs.Words.{watched}
 use Rattle.careful_rows.specs.Words.{careful_answers, careful_leaves}
-use Rattle.desk_program.specs.Desk.{court_at}
+use Rattle.desk_program.specs.Desk.{standing_at}
 use Rattle.desk_program.proofs.CarefulLemmas.{promised_carefully, served_carefully}
 use Rattle.desk_program.proofs.DeskLemmas.{some_weaker}
 use Rattle.desk_program.proofs.desk.Desk.enter_carefully.Goals as goal
@@ -17,12 +17,12 @@ returns-clause-promised g c = λ kept keeps.
 
 pub returns-clause-served : goal.returns-clause-served
 returns-clause-served g c = λ kept keeps.
-    let court = court_at c.args.self in
+    let under = standing_at c.args.self in
     let today = c.args.today in
     let before = g.W.Write.contents (watched c.args.writer.now) in
     let after = g.W.Write.contents (watched c.serve-ended.new.writer) in
     on_ok_weaker c.serve-ended.result
     (λ served. some_weaker (g.R.Read.remaining (watched c.args.reader.now))
-    (λ input. IsServed (careful_leaves court today) (careful_answers court today) (λ entries. IsKept g.D.Disk.seen g.D.Disk.may_leave g.D.Disk.is_usable entries c.serve-ended.new.journal) (StandsAt court c.serve-ended.new.register.register) kept (lines_of input) before after) _
+    (λ input. IsServed (careful_leaves under today) (careful_answers under today) (λ entries. IsKept g.D.Disk.seen g.D.Disk.may_leave g.D.Disk.is_usable entries c.serve-ended.new.journal) (IsReadyAt under c.serve-ended.new.register.register) kept (lines_of input) before after) _
     (λ input all. served_carefully g.D.Disk.seen g.D.Disk.may_leave g.D.Disk.is_usable c.args.self _ today kept keeps refl (lines_of input) before after all) served)
     (c.serve-ended.ensures.served kept keeps.kept keeps.docketed.stands)

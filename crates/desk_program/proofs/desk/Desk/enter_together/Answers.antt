@@ -3,10 +3,10 @@ use Rattle.std.proofs.lemmas.List.{length-map}
 use Rattle.std.specs.Io.KnownBytes.{Appends}
 use Rattle.durable_journal.specs.Words.{IsKept}
 use Rattle.durable_session.specs.Words.{IsServed, lines_of, numbered_lines}
-use Rattle.docket_entries.specs.Words.{FaultyLine, StandsAt, answers, fault_in, faults_of, leaves}
+use Rattle.docket_entries.specs.Words.{FaultyLine, IsReadyAt, answers, fault_in, faults_of, leaves}
 use Rattle.office_streams.specs.declared.watched.Watched.{Watched}
 use Rattle.office_streams.specs.Words.{watched}
-use Rattle.desk_program.specs.Desk.{court_at}
+use Rattle.desk_program.specs.Desk.{standing_at}
 use Rattle.desk_program.specs.Together.{line_faults_text}
 use Rattle.desk_program.proofs.DeskLemmas.{all_or_none_docket, kept_together, none_docket}
 use Rattle.desk_program.proofs.TogetherLemmas.{none_at_fault, some_at_fault}
@@ -20,10 +20,10 @@ returns-then-not-is_finished-clause-crash g c = λ kept keeps. none_docket g.D.D
 
 pub returns-in-Ok-serve_together-clause-kept : goal.returns-in-Ok-serve_together-clause-kept
 returns-in-Ok-serve_together-clause-kept g c = λ kept keeps.
-    let court = court_at c.args.self.now in
+    let under = standing_at c.args.self.now in
     let none = none_at_fault c.deref.result.now _ (ap (map fault_in) c.deref.ensures.value ∙ c.in-Ok.ensures kept keeps.docketed.stands) c.in-Ok-list_faults.ensures.none.0 in
     kept_together g.D.Disk.seen g.D.Disk.may_leave g.D.Disk.is_usable c.args.self.now _ kept keeps refl c.args.input.now _ _ none (c.is_finished.ensures.0 c.if-not-is_finished.false)
-    (subst (λ (w : Watched g.row.W.Denot). IsServed (leaves court) (answers court) (λ entries. IsKept g.D.Disk.seen g.D.Disk.may_leave g.D.Disk.is_usable entries c.serve_together.new.journal) (StandsAt court c.serve_together.new.register) kept (lines_of c.args.input.now) (g.W.Write.contents (watched w)) (g.W.Write.contents (watched c.serve_together.new.writer)))
+    (subst (λ (w : Watched g.row.W.Denot). IsServed (leaves under) (answers under) (λ entries. IsKept g.D.Disk.seen g.D.Disk.may_leave g.D.Disk.is_usable entries c.serve_together.new.journal) (IsReadyAt under c.serve_together.new.register) kept (lines_of c.args.input.now) (g.W.Write.contents (watched w)) (g.W.Write.contents (watched c.serve_together.new.writer)))
     c.in-Ok-list_faults.ensures.none.1 (c.in-Ok-serve_together.ensures.served kept keeps.kept keeps.docketed.stands))
 
 pub returns-in-Ok-serve_together-clause-crash : goal.returns-in-Ok-serve_together-clause-crash
@@ -40,7 +40,7 @@ returns-clause-crash g c = λ kept keeps.
 
 pub returns-in-Err-list_faults-clause-refused : goal.returns-in-Err-list_faults-clause-refused
 returns-in-Err-list_faults-clause-refused g c = λ kept count keeps is.
-    let all : List FaultyLine = faults_of (court_at c.args.self.now) kept (numbered_lines c.args.input.now) in
+    let all : List FaultyLine = faults_of (standing_at c.args.self.now) kept (numbered_lines c.args.input.now) in
     let same : map fault_in c.deref.result.now ≡ all = ap (map fault_in) c.deref.ensures.value ∙ c.in-Ok.ensures kept keeps.docketed.stands in
     let (many, some, listed) = c.in-Err-list_faults.ensures.some count is in
     record {

@@ -2,7 +2,9 @@ use Rattle.std.proofs.Common.{◌≡◌, ◌∙◌, ◌+◌, ◌<◌, ◌++◌, 
 use Rattle.durable_journal.specs.Words.{batch_of}
 use Rattle.docket_entries.specs.Docketed.{HasHistoryFault, IsDocketed}
 use Rattle.docket_entries.proofs.HistoryLemmas.{fault_in_more}
-use Rattle.docket_entries.proofs.ListLemmas.{parted, take_batch}
+use Rattle.row_strikes.specs.Words.{is_struck}
+use Rattle.docket_entries.specs.Entries.{next_number}
+use Rattle.docket_entries.proofs.ListLemmas.{not_struck, parted, take_batch}
 use Rattle.docket_entries.proofs.docketed.Docketed.take_later.Goals as goal
 
 pub returns-in-Err-clause-cause : goal.returns-in-Err-clause-cause
@@ -26,3 +28,8 @@ loop-place-preserved c =
       begun = omega arith;
       is = subst (IsDocketed c.take_entry.new.self) (sym then) (c.in-Ok.ensures.docketed kept (ap batch_of c.split_at.ensures.front ∙ then) c.loop-place.invariant.is);
     }
+
+pub take_entry-requires-clause-stays : goal.take_entry-requires-clause-stays
+take_entry-requires-clause-stays c =
+    let ready = c.loop-place.invariant.is.stands in
+    ap (is_struck c.loop-place.self.standing.corrections) ready.at.number ∙ not_struck c.loop-place.self.standing.corrections (next_number (batch_of (take c.loop-place.place c.args.entries.now))) ready.before

@@ -9,20 +9,20 @@ use Rattle.docket_entries.proofs.line_faults.Reading.read.Goals as goal
 
 pub returns-in-Blank-clause-counts : goal.returns-in-Blank-clause-counts
 returns-in-Blank-clause-counts c = λ kept counts.
-    let is = sym (said_at c.args.court.now kept c.args.line.now c.args.self.now.cases c.in_ok-said.said counts.cases_are c.in_ok-said.ensures.said) ∙ sym (c.within.ensures.said kept counts.count_is) ∙ c.in-Blank.is in
-    counts_same c.args.court.now kept c.args.line.now says.Blank c.args.self.now.count c.args.self.now.cases is refl counts
+    let is = sym (said_at c.args.under.now kept c.args.line.now c.args.self.now.cases c.in_ok-said.said counts.cases_are c.in_ok-said.ensures.said) ∙ sym (c.within.ensures.said kept counts.count_is) ∙ c.in-Blank.is in
+    counts_same c.args.under.now kept c.args.line.now says.Blank c.args.self.now.count c.args.self.now.cases is refl counts
 
 pub returns-in-Fault-clause-counts : goal.returns-in-Fault-clause-counts
 returns-in-Fault-clause-counts c = λ kept counts.
-    let is = sym (said_at c.args.court.now kept c.args.line.now c.args.self.now.cases c.in_ok-said.said counts.cases_are c.in_ok-said.ensures.said) ∙ sym (c.within.ensures.said kept counts.count_is) ∙ c.in-Fault.is in
+    let is = sym (said_at c.args.under.now kept c.args.line.now c.args.self.now.cases c.in_ok-said.said counts.cases_are c.in_ok-said.ensures.said) ∙ sym (c.within.ensures.said kept counts.count_is) ∙ c.in-Fault.is in
     on_ok_weaker c.note.result
-    (λ noted. rw (c.note.ensures.count, c.note.ensures.cases) (counts_same c.args.court.now kept c.args.line.now (says.Fault c.in-Fault.cause) c.args.self.now.count c.args.self.now.cases is refl counts))
+    (λ noted. rw (c.note.ensures.count, c.note.ensures.cases) (counts_same c.args.under.now kept c.args.line.now (says.Fault c.in-Fault.cause) c.args.self.now.count c.args.self.now.cases is refl counts))
     c.note.ensures.faults
 
 pub returns-in-Row-clause-counts : goal.returns-in-Row-clause-counts
 returns-in-Row-clause-counts c = λ kept counts.
-    let is = sym (said_at c.args.court.now kept c.args.line.now c.args.self.now.cases c.in_ok-said.said counts.cases_are c.in_ok-said.ensures.said) ∙ sym (c.within.ensures.said kept counts.count_is) ∙ c.in-Row.is in
-    let name = c.in_ok-said.ensures.name ∙ ap (λ (k : CasesView). (reading_of (names_of c.args.court.now) k c.args.line.now).name) counts.cases_are in
+    let is = sym (said_at c.args.under.now kept c.args.line.now c.args.self.now.cases c.in_ok-said.said counts.cases_are c.in_ok-said.ensures.said) ∙ sym (c.within.ensures.said kept counts.count_is) ∙ c.in-Row.is in
+    let name = c.in_ok-said.ensures.name ∙ ap (λ (k : CasesView). (reading_of (names_of c.args.under.now.court) k c.args.line.now).name) counts.cases_are in
     on_ok_weaker c.note_case.result
-    (λ opened. counts_more c.args.court.now kept c.args.line.now c.in-Row.row c.args.self.now.count (c.args.self.now.count + 1) c.args.self.now.cases c.note_case.new.cases is counts refl c.in_ok-said.name name opened)
+    (λ opened. counts_more c.args.under.now kept c.args.line.now c.in-Row.row c.args.self.now.count (c.args.self.now.count + 1) c.args.self.now.cases c.note_case.new.cases is counts refl c.in_ok-said.name name opened)
     c.note_case.ensures

@@ -11,12 +11,12 @@ loop-split-preserved c = (
       (number_within c.loop-split.number c.loop-split.rest.now c.in-Some.split.line.now c.in-Some.split.end c.in-Some.split.rest.now (length c.args.input.now + 1) c.in-Some.ensures c.loop-split.invariant.0),
   λ kept stands.
       let (then, count, so_far) = c.loop-split.invariant.1 kept stands in
-      let court = c.args.court.now in
+      let under = c.args.under.now in
       let line = c.in-Some.split.line.now in (
-        then ++ leaves court then line,
+        then ++ leaves under then line,
         c.in_ok-read.ensures.counts then count,
-        subst (λ (n : ℕ). map fault_in c.read.new.self.faults.items ++ faults_of court (then ++ leaves court then line) (numbered_from n [] c.in-Some.split.rest.now) ≡ faults_of court kept (numbered_lines c.args.input.now)) (sym c.number_after-number.ensures)
-            (faults_more court then c.loop-split.number c.loop-split.rest.now line c.in-Some.split.end c.in-Some.split.rest.now (map fault_in c.loop-split.reading.faults.items) (map fault_in c.read.new.self.faults.items) (faults_of court kept (numbered_lines c.args.input.now)) c.in-Some.ensures so_far
+        subst (λ (n : ℕ). map fault_in c.read.new.self.faults.items ++ faults_of under (then ++ leaves under then line) (numbered_from n [] c.in-Some.split.rest.now) ≡ faults_of under kept (numbered_lines c.args.input.now)) (sym c.number_after-number.ensures)
+            (faults_more under then c.loop-split.number c.loop-split.rest.now line c.in-Some.split.end c.in-Some.split.rest.now (map fault_in c.loop-split.reading.faults.items) (map fault_in c.read.new.self.faults.items) (faults_of under kept (numbered_lines c.args.input.now)) c.in-Some.ensures so_far
             (c.in_ok-read.ensures.faults then count)),
       ),
 )
@@ -24,4 +24,4 @@ loop-split-preserved c = (
 pub returns : goal.returns
 returns c = λ kept stands.
     let (then, count, so_far) = c.loop-split.invariant.1 kept stands in
-    faults_all c.args.court.now then c.loop-split.number c.loop-split.rest.now (map fault_in c.loop-split.reading.faults.items) (faults_of c.args.court.now kept (numbered_lines c.args.input.now)) c.in_default.ensures so_far
+    faults_all c.args.under.now then c.loop-split.number c.loop-split.rest.now (map fault_in c.loop-split.reading.faults.items) (faults_of c.args.under.now kept (numbered_lines c.args.input.now)) c.in_default.ensures so_far

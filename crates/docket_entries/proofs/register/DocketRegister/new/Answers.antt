@@ -4,13 +4,13 @@ use Rattle.docket_laws.proofs.CallerLemmas.{sound_opening}
 use Rattle.office_run.specs.Words.{docketed_after}
 use Rattle.docket_entries.specs.Cases.{cases_after, cases_of}
 use Rattle.docket_entries.specs.Entries.{rows_among}
-use Rattle.docket_entries.specs.Rows.{docketed_by, rows_in}
+use Rattle.docket_entries.specs.Rows.{docketed_by, rows_under}
 use Rattle.docket_entries.proofs.register.DocketRegister.new.Goals as goal
 
 pub returns-clause-stands : goal.returns-clause-stands
-unfolding docketed_by rows_in docketed_after rows_among cases_of cases_after
+unfolding docketed_by rows_under docketed_after rows_among cases_of cases_after
 returns-clause-stands c = λ file. record {
-  docket = record { setup_is = c.in_ok-new.ensures.setup; sound = sound_opening (setup_of c.args.court.now); stands = c.in_ok-new.ensures.rows };
+  docket = record { setup_is = c.in_ok-new.ensures.setup; sound = sound_opening (setup_of c.args.under.now.court); stands = c.in_ok-new.ensures.rows };
   cases = c.new-2.ensures;
   number = refl;
   count = refl;

@@ -1,0 +1,4 @@
+pub mod Called
+pub mod Table
+pub mod Laws
+pub mod Words

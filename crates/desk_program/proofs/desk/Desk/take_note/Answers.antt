@@ -1,0 +1,28 @@
+use Rattle.std.proofs.Common.{◌∙◌, ◌++◌, ◌∷◌, [], ℕ, List, ap, sym, subst}
+use Rattle.durable_journal.specs.Words.{IsKept, batch_of}
+use Rattle.docket_entries.specs.declared.register.DocketRegister.{DocketRegister}
+use Rattle.docket_entries.specs.Words.{StandsAt}
+use Rattle.desk_program.proofs.DeskLemmas.{one_more}
+use Rattle.desk_program.proofs.FaultLemmas.{never_differs}
+use Rattle.desk_program.proofs.desk.Desk.take_note.Goals as goal
+
+pub returns-in-Err-clause-crash : goal.returns-in-Err-clause-crash
+returns-in-Err-clause-crash g c = λ entries keeps x left.
+    one_more x entries (batch_of c.deref.result.now) c.args.entry.items (ap batch_of c.deref.ensures.value ∙ c.in_ok-batch.ensures) (c.append.ensures.crash entries keeps.kept x left)
+
+pub returns-in-Ok-clause-kept : goal.returns-in-Ok-clause-kept
+returns-in-Ok-clause-kept g c = λ entries keeps stands short some comes.
+    let entry : List ℕ = c.args.entry.items in
+    record {
+      kept = subst (λ (b : List (List ℕ)). IsKept g.D.Disk.seen g.D.Disk.may_leave g.D.Disk.is_usable (entries ++ b) c.append.new.self) (ap batch_of c.deref.ensures.value ∙ c.in_ok-batch.ensures) (c.in-Ok.ensures.kept entries keeps.kept);
+      docketed = comes _ c.replace.ensures.after
+          (subst (λ (register : DocketRegister). StandsAt c.args.standing register (entries ++ entry ∷ [])) (sym c.replace-in-Ok.ensures.after)
+          (c.pass_note.ensures c.args.standing entries entry stands short some));
+    }
+
+pub returns-in-Ok-clause-crash : goal.returns-in-Ok-clause-crash
+returns-in-Ok-clause-crash g c = λ entries keeps x left.
+    one_more x entries (batch_of c.deref.result.now) c.args.entry.items (ap batch_of c.deref.ensures.value ∙ c.in_ok-batch.ensures) (c.append.ensures.crash entries keeps.kept x left)
+
+pub returns-in-Err-clause-fault : goal.returns-in-Err-clause-fault
+returns-in-Err-clause-fault g c = λ count is. never_differs c.in-Err.fault c.from.result count c.from.ensures is

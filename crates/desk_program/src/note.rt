@@ -1,0 +1,43 @@
+//! An entry that is no row: it is kept, and what stands after it goes on from there.
+ghost use Rattle.std.specs.Prelude.{◌≡◌, ◌≢◌, ◌<◌, ◌⊎◌, ◌++◌, ◌∷◌, [], ℕ, List, length, Err, IsSome, OnOk};
+ghost use Rattle.durable_journal.specs.Words.{StandsFor};
+ghost use Rattle.docket_entries.specs.Words.{StandsAt, most_entries, note_in};
+
+use crate::desk::{Desk, batch_with};
+use crate::fault::DeskFault;
+use docket_entries::{DocketRegister, Standing};
+use sqlite_disk::Disk;
+use std::alloc::Global;
+use std::mem;
+
+impl<D: Disk> Desk<D> {
+    ghost use Rattle.desk_program.specs.Desk.{KeepsDocket, disk_under};
+    ghost use Rattle.desk_program.specs.Note.{ComesTo};
+
+    // Keeps a court's file or a strike as the next entry. After it this stands, and this is the docket.
+    pub(crate) fn take_note(
+        &mut self,
+        alloc: Global,
+        standing: Standing,
+        mut register: DocketRegister,
+        entry: Vec<u8>,
+    ) -> Result<(), DeskFault>
+        ensures kept { (entries : List (List ℕ)) → KeepsDocket D.Disk.seen D.Disk.may_leave D.Disk.is_usable entries self.old → StandsAt standing register entries → length entries < most_entries
+            → IsSome (note_in entry.items) → ComesTo standing (entries ++ entry.items ∷ [])
+            → OnOk result (KeepsDocket D.Disk.seen D.Disk.may_leave D.Disk.is_usable (entries ++ entry.items ∷ []) self.new) }
+        ensures crash { (entries : List (List ℕ)) → KeepsDocket D.Disk.seen D.Disk.may_leave D.Disk.is_usable entries self.old → (c : List ℕ) → D.Disk.may_leave (disk_under self.new) c
+            → StandsFor c entries ⊎ StandsFor c (entries ++ entry.items ∷ []) }
+        ensures fault { (count : ℕ) → result ≢ Err (DeskFault.Differs count) }
+    {
+        let batch = batch_with(alloc, entry)?;
+        match self.journal.append(&batch) {
+            Err(fault) => Err(DeskFault::from(fault)),
+            Ok(()) => {
+                register.pass_note();
+                drop(mem::replace(&mut self.standing, standing));
+                drop(mem::replace(&mut self.register, register));
+                Ok(())
+            }
+        }
+    }
+}

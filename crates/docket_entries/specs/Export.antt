@@ -1,0 +1,65 @@
+-- The rows of the docket that stands, as they are written for other programs: no row that is struck, and deadlines and motions
+-- by their places, as those programs count them.
+use Rattle.std.specs.Prelude.{ℕ, ◌+◌, List, [], ◌∷◌, ◌++◌, Option, Some, None, drop, nat_eq, take, if◌then◌else◌}
+use Rattle.std.specs.Fmt.{decimal}
+use Rattle.csv.specs.Writing.{default_writer, row_text}
+use Rattle.case_numbers.specs.Words.{after_name}
+use Rattle.docket_rows.specs.declared.command.Command.{Command as CommandOf}
+use Rattle.docket_rows.specs.declared.command.Command.TheVariants.{Book, Cancel, Extend, FileAct, MoveHearing}
+use Rattle.office_rows.specs.declared.row.Work.{Work}
+use Rattle.office_rows.specs.declared.row.Work.TheVariants.{Command, Query}
+use Rattle.office_rows.specs.Words.{names_of}
+use Rattle.retired_numbers.specs.declared.retired.Retired.{Retired}
+use Rattle.retired_numbers.specs.Words.{placed}
+use Rattle.row_line.specs.declared.line.Line.{Line}
+use Rattle.row_line.specs.declared.line.Line.TheVariants as line
+use Rattle.row_line.specs.Words.{fields_read, line_read}
+use Rattle.row_strikes.specs.Words.{is_struck}
+use Rattle.docket_entries.specs.declared.standing.Standing.{Standing}
+use Rattle.docket_entries.specs.Entries.{most_clerks}
+
+-- the number of the deadline or the motion that a command names, which is the fourth field of its row
+abbrev pub number_in : CommandOf → Option ℕ
+number_in (FileAct case deadline filing) = Some deadline
+number_in (Extend case deadline request) = Some deadline
+number_in (Book setting) = Some setting.motion
+number_in (MoveHearing setting) = Some setting.motion
+number_in (Cancel case motion) = Some motion
+number_in command = None
+
+abbrev pub number_asked : Work → Option ℕ
+number_asked (Command command) = number_in command
+number_asked (Query query) = None
+
+-- A row with these fields that names this number, where what has the number is at this place: with the place in the fourth
+-- field, where it is another. A number that is retired has no place, and its row, which was refused, is left out.
+abbrev pub row_placed : (number place : Option ℕ) → (fields : List (List ℕ)) → List ℕ
+row_placed None place fields = row_text default_writer fields
+row_placed (Some number) None fields = row_text default_writer fields
+row_placed (Some number) (Some place) fields =
+    if nat_eq number place then row_text default_writer fields
+    else if nat_eq place 0 then []
+    else row_text default_writer (take 3 fields ++ decimal place ∷ drop 4 fields)
+
+-- what is written of a line that says this
+abbrev pub said_placed : List Retired → Line → (fields : List (List ℕ)) → List ℕ
+said_placed retired line.Blank fields = []
+said_placed retired (line.Fault cause) fields = []
+said_placed retired (line.Row row) fields = row_placed (number_asked row.work) (number_asked (placed retired row.work)) fields
+
+-- what is written of the row of that number, whose entry this is
+unfoldable pub row_written : Standing → (number : ℕ) → (entry : List ℕ) → List ℕ
+row_written under number entry =
+    if is_struck under.corrections number then []
+    else said_placed under.corrections.retired (line_read most_clerks (names_of under.court) (after_name entry)) (fields_read (after_name entry))
+
+-- what is written of rows, of which the first has this number
+unfoldable pub rows_written : Standing → (number : ℕ) → (entries : List (List ℕ)) → List ℕ
+rows_written under number [] = []
+rows_written under number (entry ∷ entries) = row_written under number entry ++ rows_written under (number + 1) entries
+
+-- the row with which an entry begins, as CSV
+abbrev pub shown_as : Line → (fields : List (List ℕ)) → List ℕ
+shown_as line.Blank fields = []
+shown_as (line.Fault cause) fields = []
+shown_as (line.Row row) fields = row_text default_writer fields

@@ -1,0 +1,5 @@
+pub mod Numbers
+pub mod Retired
+pub mod Numbered
+pub mod Laws
+pub mod Words

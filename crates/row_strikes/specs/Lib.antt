@@ -1,0 +1,4 @@
+pub mod Strike
+pub mod Corrections
+pub mod Laws
+pub mod Words
