@@ -4,11 +4,12 @@
     strike_check.py DESK CLERK_OFFICE [SEED [COUNT]]
 
 COUNT dockets (100 without it) are entered. Then one to three rows of each are struck, one after another, with rows entered in
-between. In the replay each deadline and each motion has a number of its own: the next that no other of its case has and that
-isn't retired. After each strike these are compared with it: the answers that the desk lists as changed, the sheets of all
-cases and the calendars of all judges, the answers to later rows, and what clerk_office makes of the rows that the desk
-writes. Without --accept a strike that changes an answer changes nothing, and a row is struck once. It needs Python 3.8 or
-later.
+between, and sometimes with another court's file. In the replay the number of a deadline or a motion belongs to the row that
+gave it: the row gives the same whenever it is decided again, and a row that gives one for the first time gives the next after
+all that were ever given in its case. After each strike these are compared with it: the answers that the desk lists as changed,
+the sheets of all cases and the calendars of all judges, the answers to later rows, and what clerk_office makes of the rows that
+the desk writes. Without --accept a strike that changes an answer changes nothing, and a row is struck once. It needs Python 3.8
+or later.
 """
 import random
 import sys
@@ -44,26 +45,37 @@ def drawn_row(draw):
     ]).encode() + b"\n"
 
 
-class Replay:
-    """The docket of the rows that aren't struck, in which deadlines and motions have numbers that are never given again."""
+def opened(draw):
+    """Rows that open most of the cases."""
+    return [b"1,open,%d,2025-02-03\n" % case for case in CASES if draw.random() < 0.8]
 
-    def __init__(self, court, rows, struck, retired):
-        self.court, self.struck, self.retired = court, struck, retired
-        self.docket, self.count, self.answers, self.given = opening(court), 0, [], []
+
+def chosen_row(draw, lines):
+    """The number of a row to strike: often one that opens a case, on which all others of the case rest."""
+    opens = [number for number, line in enumerate(lines, 1) if b",open," in line]
+    return draw.choice(opens) if opens and draw.random() < 0.3 else draw.randint(1, len(lines))
+
+
+class Replay:
+    """The docket of the rows that aren't struck. `given` has the number that each row ever gave, with its word and its case."""
+
+    def __init__(self, court, rows, struck, given):
+        self.court, self.struck, self.given = court, struck, dict(given)
+        self.docket, self.count, self.answers = opening(court), 0, []
         for row in rows:
             self.take(row)
 
-    def fresh(self, items, case, word):
-        number = max([item.number for item in items if item.case == case], default=0) + 1
-        while (word, case, number) in self.retired:
-            number += 1
-        return number
+    def number_of(self, row, word, case):
+        """The number that a row gives: its own, or the next of its case."""
+        if row not in self.given:
+            number = 1 + max([number for other, of, number in self.given.values() if (other, of) == (word, case)], default=0)
+            self.given[row] = (word, case, number)
+        return self.given[row][2]
 
-    def numbered(self, before, word, case):
-        """The docket after a row that gave its deadline or its motion a number by its place, with its own number."""
+    def numbered(self, word, case):
+        """Gives the deadline or the motion of the row that was decided last its number in place of its place."""
         kind = "deadlines" if word == "start" else "motions"
-        old, items = getattr(before, kind), getattr(self.docket, kind)
-        number = self.fresh(old, case, word)
+        items, number = getattr(self.docket, kind), self.number_of(self.count, word, case)
         self.docket = self.docket._replace(**{kind: items[:-1] + [items[-1]._replace(number=number)]})
         return number
 
@@ -73,19 +85,14 @@ class Replay:
         row, = rows_of(line, 64, self.court)
         if self.count in self.struck:
             self.answers.append(None)
-            self.given.append(None)
             return None
-        given = None
         if row.work[0] in STEPS:
-            before = self.docket
-            self.docket, answer = step(self.court, before, row.work)
+            self.docket, answer = step(self.court, self.docket, row.work)
             if answer[0] in ("started", "motion"):
-                number = self.numbered(before, row.work[0], row.work[1])
-                given, answer = (row.work[0], row.work[1], number), (answer[0], number) + answer[2:]
+                answer = (answer[0], self.numbered(row.work[0], row.work[1])) + answer[2:]
         else:
             answer = view(self.court, self.docket, row.work)
         self.answers.append(self.lines(row, answer))
-        self.given.append(given)
         return self.answers[-1]
 
     def lines(self, row, answer):
@@ -132,19 +139,31 @@ def compare(desk, clerk, replay, what):
     assert ended.status == 0 and ended.output.endswith(closing), (what, ended, closing)
 
 
+def other_court(draw):
+    """The court's file with another holiday: deadlines move by it, and hearings may be refused."""
+    return SHORT_COURT.replace(b'"2025-07-04"', b'"2025-07-04", "2025-%02d-%02d"' % (draw.randint(3, 9), draw.randint(1, 28)))
+
+
 def check_docket(programs, draw):
-    """One docket, of which one to three rows are struck. Gives how many answers changed."""
+    """One docket, of which one to three rows are struck. Gives how many rows those are, and how many answers changed."""
     with tempfile.TemporaryDirectory() as parent:
         desk, court = Desk(programs, parent, SHORT_COURT), court_of(SHORT_COURT)
-        lines, struck, retired, many = [], set(), set(), 0
+        lines, struck, given, many = [], set(), {}, 0
         for _ in range(draw.randint(1, 3)):
-            more = [drawn_row(draw) for _ in range(draw.randint(5, 25))]
-            replay = Replay(court, lines, struck, retired)
+            if draw.random() < 0.3:
+                file = other_court(draw)
+                court = court_of(file)
+                after = Replay(court, lines, struck, given)
+                ended = desk.take_court(file)
+                assert ended.status == 0 and ended.output == changed(rows_kept(desk.read()), after), (file, ended)
+                given = after.given
+            more = opened(draw) + [drawn_row(draw) for _ in range(draw.randint(5, 25))]
+            replay = Replay(court, lines, struck, given)
             answers = b"".join(replay.take(line) for line in more)
             lines += more
             assert desk.enter(more) == answers, (more, answers)
-            kept = rows_kept(desk.read())
-            row = draw.randint(1, len(lines))
+            given, kept = replay.given, rows_kept(desk.read())
+            row = chosen_row(draw, lines)
             before, ended = desk.journal.read_bytes(), desk.call("strike", row, *WHO)
             if row in struck:
                 assert ended.status == FAULT and b"struck already" in ended.errors, ended
@@ -152,10 +171,7 @@ def check_docket(programs, draw):
             if lines[row - 1].split(b",")[1] == b"sheet":
                 assert ended.status == FAULT and b"no command" in ended.errors, ended
                 continue
-            then = struck | {row}
-            given = replay.given[row - 1]
-            gone = retired | ({given} if given else set())
-            after = Replay(court, lines, then, gone)
+            after = Replay(court, lines, struck | {row}, given)
             text = changed(kept, after)
             assert ended.output == text, (row, ended, text)
             assert ended.status == (DIFFERS if text else 0), ended
@@ -164,9 +180,11 @@ def check_docket(programs, draw):
                 assert desk.journal.read_bytes() == before, "a strike that isn't taken changed the journal"
                 ended = desk.call("strike", row, "--accept", *WHO)
                 assert ended.status == 0 and ended.output == text, (row, ended, text)
-            struck, retired = then, gone
+            struck, given = struck | {row}, after.given
             compare(desk, programs.clerk_office, after, (lines, row))
             assert b"rows kept: %d," % len(lines) in desk.call("check").output
+        numbers = list(given.values())
+        assert len(set(numbers)) == len(numbers), "a number was given twice"
         listed = desk.call("struck").output
         assert listed.count(b"\n") == len(struck) and all(b"row %d struck 2025-09-02 by R. Ames: entered twice\n" % row in listed for row in struck), listed
         return len(struck), many

@@ -103,6 +103,13 @@ class Desk:
     def call(self, *words, given=b"", **how):
         return run(self.words(*words), given, **how)
 
+    def take_court(self, court):
+        """Goes by another court's file, also where answers differ."""
+        file = self.folder.parent / "court.toml"
+        file.write_bytes(court)
+        self.court = court
+        return self.call("court", file, "--accept")
+
     def session(self, *words, **how):
         """A session of its own, which reads rows from a pipe and answers to one."""
         return subprocess.Popen(self.words("enter", *words), stdin=subprocess.PIPE, stdout=subprocess.PIPE,

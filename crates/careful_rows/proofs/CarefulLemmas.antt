@@ -5,10 +5,12 @@ use Rattle.docket_rows.specs.declared.command.Command.{Command as CommandOf}
 use Rattle.docket_rows.specs.declared.refusal.Refusal.{Refusal}
 use Rattle.docket_rows.specs.Words.{Parts, parts_of, refusal, setup_of}
 use Rattle.durable_session.specs.Words.{TakesLine, left_by}
-use Rattle.docket_entries.specs.Words.{IsHistory, IsReadyAt, StandsAfter, answers, cases_of, docketed_by, leaves, next_number}
+use Rattle.docket_entries.specs.Words.{IsHistory, IsReadyAt, StandsAfter, answers, cases_of, docketed_by, leaves, next_number, run_by}
 use Rattle.docket_entries.specs.declared.register.DocketRegister.{DocketRegister}
 use Rattle.docket_entries.specs.declared.standing.Standing.{Standing}
-use Rattle.retired_numbers.specs.Words.{placed_command}
+use Rattle.court_days.specs.Words.{CourtView}
+use Rattle.kept_numbers.specs.declared.moved.Moved.{Moved}
+use Rattle.kept_numbers.specs.Words.{placed_command}
 use Rattle.docket_entries.proofs.CallerLemmas.{left_history}
 use Rattle.careful_rows.specs.Careful.{after_mark, careful_answers, careful_leaves, held_text, left_by_taken, line_taken, taken_at, told_of_taken, warnings_at}
 use Rattle.careful_rows.specs.Laws.{CarefulIsHistory, RefusedAreHeld, WarningsKeepNothing, lines_taken, with_taken}
@@ -77,12 +79,12 @@ unfolding taken_at
 taken_none under today kept line is some = ap (λ (m : Option (List ℕ)). line_taken line m (warnings_at under today kept line)) is ∙ some_held line (warnings_at under today kept line) some
 
 -- a command that is refused draws a warning
-refused_warned : (under : Standing) (named : List NamedCase) (parts : Parts) (today : Option ℤ) (asked command : CommandOf) (refused : Refusal) → refusal (setup_of under.court) parts command ≡ Some refused → warnings_of under named parts today asked command ≡ [] → ⊥
+refused_warned : (court : CourtView) (moved : List Moved) (named : List NamedCase) (parts : Parts) (today : Option ℤ) (asked command : CommandOf) (refused : Refusal) → refusal (setup_of court) parts command ≡ Some refused → warnings_of court moved named parts today asked command ≡ [] → ⊥
 unfolding warnings_of if_refused
-refused_warned under named parts today asked command refused is none = absurd cc (rw is at none)
+refused_warned court moved named parts today asked command refused is none = absurd cc (rw is at none)
 
 pub refused_held : RefusedAreHeld
 unfolding warnings_at
 refused_held under today kept line row asked refused says work is unmarked =
     taken_none under today kept line unmarked
-    (λ none. refused_warned under (cases_of under kept).named (parts_of (docketed_by under kept)) today asked (placed_command under.corrections.retired asked) refused is (rw (says, work) at none))
+    (λ none. refused_warned under.court (run_by under kept).numbers.moved (cases_of under kept).named (parts_of (docketed_by under kept)) today asked (placed_command (run_by under kept).numbers.moved asked) refused is (rw (says, work) at none))

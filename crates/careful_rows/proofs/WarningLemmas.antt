@@ -12,30 +12,31 @@ use Rattle.docket_rows.specs.declared.part.PartId.{PartId}
 use Rattle.docket_rows.specs.Words.{Parts, part_value}
 use Rattle.office_rows.specs.declared.row.Work.{Work}
 use Rattle.refused_commands.proofs.CallerLemmas.{parts_same}
-use Rattle.docket_entries.specs.declared.standing.Standing.{Standing}
+use Rattle.court_days.specs.Words.{CourtView}
+use Rattle.kept_numbers.specs.declared.moved.Moved.{Moved}
 use Rattle.careful_rows.specs.Warnings.{if_made, warnings_on}
 
 -- a command of another kind that isn't refused draws none
-pub none_made : (under : Standing) (named : List NamedCase) (parts : Parts) (today : Option ℤ) (asked : CommandOf)
+pub none_made : (court : CourtView) (moved : List Moved) (named : List NamedCase) (parts : Parts) (today : Option ℤ) (asked : CommandOf)
     → ((case : ℕ) (period : Period) (event : EventView) (second : Option ℤ) (service : Option ServiceKind) → asked ≡ command.Start case period event second service → ⊥)
     → ((case deadline : ℕ) (filing : Filing) → asked ≡ command.FileAct case deadline filing → ⊥)
     → ((case deadline : ℕ) (request : Request) → asked ≡ command.Extend case deadline request → ⊥)
     → ((day : ℤ) (from to : ℕ) → asked ≡ command.Inaccessible day from to → ⊥)
-    → if_made under named parts today asked ≡ []
-none_made under named parts today (command.Start case period event second service) start act request outage = absurd (start case period event second service refl)
-none_made under named parts today (command.FileAct case deadline filing) start act request outage = absurd (act case deadline filing refl)
-none_made under named parts today (command.Extend case deadline r) start act request outage = absurd (request case deadline r refl)
-none_made under named parts today (command.Inaccessible day from to) start act request outage = absurd (outage day from to refl)
-none_made under named parts today (command.OpenCase case filed) start act request outage = refl
-none_made under named parts today (command.Motion case served need) start act request outage = refl
-none_made under named parts today (command.Book s) start act request outage = refl
-none_made under named parts today (command.MoveHearing s) start act request outage = refl
-none_made under named parts today (command.Cancel case motion) start act request outage = refl
-none_made under named parts today (command.Holiday day list) start act request outage = refl
+    → if_made court moved named parts today asked ≡ []
+none_made court moved named parts today (command.Start case period event second service) start act request outage = absurd (start case period event second service refl)
+none_made court moved named parts today (command.FileAct case deadline filing) start act request outage = absurd (act case deadline filing refl)
+none_made court moved named parts today (command.Extend case deadline r) start act request outage = absurd (request case deadline r refl)
+none_made court moved named parts today (command.Inaccessible day from to) start act request outage = absurd (outage day from to refl)
+none_made court moved named parts today (command.OpenCase case filed) start act request outage = refl
+none_made court moved named parts today (command.Motion case served need) start act request outage = refl
+none_made court moved named parts today (command.Book s) start act request outage = refl
+none_made court moved named parts today (command.MoveHearing s) start act request outage = refl
+none_made court moved named parts today (command.Cancel case motion) start act request outage = refl
+none_made court moved named parts today (command.Holiday day list) start act request outage = refl
 
 -- parts that hold the same draw the same warnings
-pub warned_on : (under : Standing) (named : List NamedCase) (p q : Parts) → ((part : PartId) → part_value p part ≡ part_value q part) → (today : Option ℤ) (work : Work) → warnings_on under named p today work ≡ warnings_on under named q today work
-warned_on under named p q same today work = ap (λ (parts : Parts). warnings_on under named parts today work) (parts_same p q same)
+pub warned_on : (court : CourtView) (moved : List Moved) (named : List NamedCase) (p q : Parts) → ((part : PartId) → part_value p part ≡ part_value q part) → (today : Option ℤ) (work : Work) → warnings_on court moved named p today work ≡ warnings_on court moved named q today work
+warned_on court moved named p q same today work = ap (λ (parts : Parts). warnings_on court moved named parts today work) (parts_same p q same)
 
 -- a text after four parts more
 pub four_parts : (t0 t1 t2 t3 t4 a b c d : List ℕ) → t1 ≡ t0 ++ a → t2 ≡ t1 ++ b → t3 ≡ t2 ++ c → t4 ≡ t3 ++ d → t4 ≡ t0 ++ (((a ++ b) ++ c) ++ d)

@@ -8,7 +8,7 @@ use Rattle.row_line.specs.declared.line.Line.TheVariants as says
 use Rattle.row_line.specs.Words.{line_read}
 use Rattle.office_rows.specs.Words.{names_of}
 use Rattle.docket_entries.specs.declared.standing.Standing.{Standing}
-use Rattle.docket_entries.specs.Words.{answers, cases_of, docketed_by, leaves, most_clerks, next_number, reading_at, within}
+use Rattle.docket_entries.specs.Words.{answers, cases_of, docketed_by, leaves, most_clerks, next_number, reading_at, run_by, within}
 use Rattle.careful_rows.specs.Warnings.{warnings_on}
 
 -- what comes after the '!' with which a line begins, if it does: that is taken without warnings
@@ -19,7 +19,7 @@ after_mark line = if starts_with nat_eq line (codes "!") then Some (drop 1 line)
 abbrev pub warnings_said : Standing → (today : Option ℤ) → (kept : List (List ℕ)) → Line → List ℕ
 warnings_said under today kept says.Blank = []
 warnings_said under today kept (says.Fault cause) = []
-warnings_said under today kept (says.Row row) = warnings_on under (cases_of under kept).named (parts_of (docketed_by under kept)) today row.work
+warnings_said under today kept (says.Row row) = warnings_on under.court (run_by under kept).numbers.moved (cases_of under kept).named (parts_of (docketed_by under kept)) today row.work
 
 unfoldable pub warnings_at : Standing → (today : Option ℤ) → (kept : List (List ℕ)) → (line : List ℕ) → List ℕ
 warnings_at under today kept line = warnings_said under today kept (within kept (line_read most_clerks (names_of under.court) (reading_at under kept line).text))

@@ -9,9 +9,9 @@ use Rattle.office_rows.specs.Words.{names_of}
 use Rattle.row_line.specs.declared.line.Line.TheVariants as says
 use Rattle.row_line.specs.Words.{line_read}
 use Rattle.durable_session.specs.Words.{left_by}
-use Rattle.retired_numbers.specs.Words.{placed_command}
+use Rattle.kept_numbers.specs.Words.{placed_command}
 use Rattle.docket_entries.specs.declared.standing.Standing.{Standing}
-use Rattle.docket_entries.specs.Words.{IsHistory, StandsAfter, docketed_by, leaves, most_clerks, reading_at, within}
+use Rattle.docket_entries.specs.Words.{IsHistory, StandsAfter, docketed_by, leaves, most_clerks, reading_at, run_by, within}
 use Rattle.careful_rows.specs.Careful.{after_mark, careful_leaves, taken_at}
 
 -- the lines that are taken, each after what those before it leave
@@ -38,5 +38,5 @@ CarefulIsHistory = (under : Standing) (today : Option ℤ) (kept lines : List (L
 abbrev pub RefusedAreHeld : Type 0
 RefusedAreHeld = (under : Standing) (today : Option ℤ) (kept : List (List ℕ)) (line : List ℕ) (row : Row) (asked : CommandOf) (refused : Refusal)
     → within kept (line_read most_clerks (names_of under.court) (reading_at under kept line).text) ≡ says.Row row → row.work ≡ Command asked
-    → refusal (setup_of under.court) (parts_of (docketed_by under kept)) (placed_command under.corrections.retired asked) ≡ Some refused
+    → refusal (setup_of under.court) (parts_of (docketed_by under kept)) (placed_command (run_by under kept).numbers.moved asked) ≡ Some refused
     → after_mark line ≡ None → taken_at under today kept line ≡ None

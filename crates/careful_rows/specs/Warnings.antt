@@ -1,5 +1,5 @@
--- What a clerk is warned of before a row is kept, by what stands and the docket before it, in which these cases have names. No
--- deadline depends on a warning.
+-- What a clerk is warned of before a row is kept, by the court and the docket before it, in which these cases have names and this
+-- isn't at the place of its number. No deadline depends on a warning.
 use Rattle.std.specs.Prelude.{ℕ, ℤ, List, [], ◌∷◌, ◌++◌, length, map, Option, Some, None, codes}
 use Rattle.std.specs.List.{flat_map, range_with_len}
 use Rattle.std.specs.Option.{option_map_or}
@@ -23,8 +23,8 @@ use Rattle.refused_commands.specs.Words.{why_refused}
 use Rattle.office_rows.specs.declared.row.Work.{Work}
 use Rattle.office_rows.specs.declared.row.Work.TheVariants.{Command, Query}
 use Rattle.named_answers.specs.Words.{motion_called, named_answer, named_calendar}
-use Rattle.retired_numbers.specs.Words.{numbered_booking, numbered_refusal, placed_command}
-use Rattle.docket_entries.specs.declared.standing.Standing.{Standing}
+use Rattle.kept_numbers.specs.declared.moved.Moved.{Moved}
+use Rattle.kept_numbers.specs.Words.{numbered_booking, numbered_refusal, placed_command}
 use Rattle.careful_rows.specs.Instead.{instead}
 
 -- on a deadline, as it would start in the case: the notes that the memo of the case would have on it
@@ -50,12 +50,12 @@ hearings_before court named judge [] = []
 hearings_before court named judge (b ∷ bs) = named_calendar court named judge (b ∷ bs)
 
 -- those of the docket, with the numbers of their motions
-abbrev pub hearings_of : Standing → List NamedCase → Parts → (day : ℤ) → (judge : ℕ) → List ℕ
-hearings_of under named parts day judge = hearings_before under.court named judge (map (numbered_booking under.corrections.retired) (on_day day (parts.judge judge)))
+abbrev pub hearings_of : CourtView → List Moved → List NamedCase → Parts → (day : ℤ) → (judge : ℕ) → List ℕ
+hearings_of court moved named parts day judge = hearings_before court named judge (map (numbered_booking moved) (on_day day (parts.judge judge)))
 
 -- the hearings of all judges on a day
-unfoldable pub hearings_on : Standing → List NamedCase → Parts → (day : ℤ) → List ℕ
-hearings_on under named parts day = flat_map (hearings_of under named parts day) (range_with_len 0 (length under.court.judges))
+unfoldable pub hearings_on : CourtView → List Moved → List NamedCase → Parts → (day : ℤ) → List ℕ
+hearings_on court moved named parts day = flat_map (hearings_of court moved named parts day) (range_with_len 0 (length court.judges))
 
 -- what is said of them, after a line of why they matter
 abbrev pub said_of : (day : ℤ) → (why hearings : List ℕ) → List ℕ
@@ -63,24 +63,24 @@ said_of day why [] = []
 said_of day why (byte ∷ bytes) = note (Some day) why ++ (byte ∷ bytes)
 
 -- on a command that isn't refused
-abbrev pub if_made : Standing → List NamedCase → Parts → (today : Option ℤ) → CommandOf → List ℕ
-if_made under named parts today (command.Start case period event second service) =
-    at_start under.court parts today (parts.case case) (started period event second service)
-if_made under named parts today (command.FileAct case deadline filing) = on_act (deadline_in parts case deadline) filing
-if_made under named parts today (command.Extend case deadline request) = on_request under.court parts (deadline_in parts case deadline) request
-if_made under named parts today (command.Inaccessible day from to) =
-    said_of day (codes "these hearings stay set on this day") (hearings_on under named parts day)
-if_made under named parts today command = []
+abbrev pub if_made : CourtView → List Moved → List NamedCase → Parts → (today : Option ℤ) → CommandOf → List ℕ
+if_made court moved named parts today (command.Start case period event second service) =
+    at_start court parts today (parts.case case) (started period event second service)
+if_made court moved named parts today (command.FileAct case deadline filing) = on_act (deadline_in parts case deadline) filing
+if_made court moved named parts today (command.Extend case deadline request) = on_request court parts (deadline_in parts case deadline) request
+if_made court moved named parts today (command.Inaccessible day from to) =
+    said_of day (codes "these hearings stay set on this day") (hearings_on court moved named parts day)
+if_made court moved named parts today command = []
 
 -- `  would be refused 17 NotACourtDay`: the words that it would be answered
 abbrev pub refused_line : ClockView → List NamedCase → Refusal → List ℕ
 refused_line clock named refusal = codes "  would be " ++ named_answer clock named (answer.Refused refusal) ++ 10 ∷ []
 
 -- a holiday is refused where hearings are set that day, and its refusal names one of them: here are all
-abbrev pub hearings_kept : Standing → List NamedCase → Parts → CommandOf → Refusal → List ℕ
-hearings_kept under named parts (command.Holiday day list) (HearingThatDay case motion) =
-    said_of day (codes "refused while these hearings are set on this day") (hearings_on under named parts day)
-hearings_kept under named parts command refusal = []
+abbrev pub hearings_kept : CourtView → List Moved → List NamedCase → Parts → CommandOf → Refusal → List ℕ
+hearings_kept court moved named parts (command.Holiday day list) (HearingThatDay case motion) =
+    said_of day (codes "refused while these hearings are set on this day") (hearings_on court moved named parts day)
+hearings_kept court moved named parts command refusal = []
 
 -- what the motion is called on which a refusal of what was asked rests; the refusal names it by its number
 abbrev pub called_in : List NamedCase → (asked : CommandOf) → (numbered : Refusal) → List ℕ
@@ -88,19 +88,19 @@ called_in named asked numbered = motion_called named (motion_of_refusal asked nu
 
 -- on a command that is refused: that it is, why, and what would do instead; the docket is asked for the command, which names a
 -- deadline or a motion by its place, where what was asked names it by its number
-unfoldable pub if_refused : Standing → List NamedCase → Parts → (asked command : CommandOf) → Refusal → List ℕ
-if_refused under named parts asked command refusal =
-    refused_line under.court.clock named (numbered_refusal under.corrections.retired refusal)
-    ++ why_refused under.court parts command (called_in named asked (numbered_refusal under.corrections.retired refusal)) refusal
-    ++ hearings_kept under named parts command refusal
-    ++ instead (setup_of under.court) parts command refusal
+unfoldable pub if_refused : CourtView → List Moved → List NamedCase → Parts → (asked command : CommandOf) → Refusal → List ℕ
+if_refused court moved named parts asked command refusal =
+    refused_line court.clock named (numbered_refusal moved refusal)
+    ++ why_refused court parts command (called_in named asked (numbered_refusal moved refusal)) refusal
+    ++ hearings_kept court moved named parts command refusal
+    ++ instead (setup_of court) parts command refusal
 
 -- on what was asked, and the command for which the docket is asked
-unfoldable pub warnings_of : Standing → List NamedCase → Parts → (today : Option ℤ) → (asked command : CommandOf) → List ℕ
-warnings_of under named parts today asked command =
-    option_map_or (if_refused under named parts asked command) (refusal (setup_of under.court) parts command) (if_made under named parts today command)
+unfoldable pub warnings_of : CourtView → List Moved → List NamedCase → Parts → (today : Option ℤ) → (asked command : CommandOf) → List ℕ
+warnings_of court moved named parts today asked command =
+    option_map_or (if_refused court moved named parts asked command) (refusal (setup_of court) parts command) (if_made court moved named parts today command)
 
 -- what a clerk is warned of what a row asks for, where a day may count as today; a question draws none
-abbrev pub warnings_on : Standing → List NamedCase → Parts → (today : Option ℤ) → Work → List ℕ
-warnings_on under named parts today (Command asked) = warnings_of under named parts today asked (placed_command under.corrections.retired asked)
-warnings_on under named parts today (Query query) = []
+abbrev pub warnings_on : CourtView → List Moved → List NamedCase → Parts → (today : Option ℤ) → Work → List ℕ
+warnings_on court moved named parts today (Command asked) = warnings_of court moved named parts today asked (placed_command moved asked)
+warnings_on court moved named parts today (Query query) = []

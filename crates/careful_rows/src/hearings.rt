@@ -9,9 +9,9 @@ use case_numbers::Cases;
 use court_clock::Day;
 use court_days::Court;
 use docket_core::Docket;
-use docket_entries::Standing;
 use docket_rows::{Command, Refusal};
 use hearing_slots::Booking;
+use kept_numbers::MovedNumbers;
 use named_answers::push_named_calendar;
 use reason_texts::push_note;
 use std::alloc::{AllocError, Global};
@@ -20,17 +20,19 @@ use std::alloc::{AllocError, Global};
 pub(crate) fn push_outage(
     alloc: Global,
     text: &mut String,
-    under: &Standing,
+    court: &Court,
+    moved: &MovedNumbers,
     cases: &Cases,
     docket: &Docket,
     day: Day,
 ) -> Result<(), AllocError>
-    ensures { docket.now.setup ≡ setup_of under.now.court → OnOk result (string_bytes text.new ≡ string_bytes text.old ++ said_of day (codes "these hearings stay set on this day") (hearings_on under.now cases.now.named (parts_held docket.now) day)) }
+    ensures { docket.now.setup ≡ setup_of court.now → OnOk result (string_bytes text.new ≡ string_bytes text.old ++ said_of day (codes "these hearings stay set on this day") (hearings_on court.now moved.now cases.now.named (parts_held docket.now) day)) }
 {
     push_said(
         alloc,
         text,
-        under,
+        court,
+        moved,
         cases,
         docket,
         day,
@@ -42,19 +44,21 @@ pub(crate) fn push_outage(
 pub(crate) fn push_kept(
     alloc: Global,
     text: &mut String,
-    under: &Standing,
+    court: &Court,
+    moved: &MovedNumbers,
     cases: &Cases,
     docket: &Docket,
     command: &Command,
     refusal: &Refusal,
 ) -> Result<(), AllocError>
-    ensures { docket.now.setup ≡ setup_of under.now.court → OnOk result (string_bytes text.new ≡ string_bytes text.old ++ hearings_kept under.now cases.now.named (parts_held docket.now) command.now refusal.now) }
+    ensures { docket.now.setup ≡ setup_of court.now → OnOk result (string_bytes text.new ≡ string_bytes text.old ++ hearings_kept court.now moved.now cases.now.named (parts_held docket.now) command.now refusal.now) }
 {
     match (command, refusal) {
         (Command::Holiday { day, .. }, Refusal::HearingThatDay(_, _)) => push_said(
             alloc,
             text,
-            under,
+            court,
+            moved,
             cases,
             docket,
             *day,
@@ -68,15 +72,16 @@ pub(crate) fn push_kept(
 fn push_said(
     alloc: Global,
     text: &mut String,
-    under: &Standing,
+    court: &Court,
+    moved: &MovedNumbers,
     cases: &Cases,
     docket: &Docket,
     day: Day,
     why: &str,
 ) -> Result<(), AllocError>
-    ensures { docket.now.setup ≡ setup_of under.now.court → OnOk result (string_bytes text.new ≡ string_bytes text.old ++ said_of day why.now (hearings_on under.now cases.now.named (parts_held docket.now) day)) }
+    ensures { docket.now.setup ≡ setup_of court.now → OnOk result (string_bytes text.new ≡ string_bytes text.old ++ said_of day why.now (hearings_on court.now moved.now cases.now.named (parts_held docket.now) day)) }
 {
-    let hearings = hearings_on(alloc, under, cases, docket, day)?;
+    let hearings = hearings_on(alloc, court, moved, cases, docket, day)?;
     if hearings.is_empty() {
         return Ok(());
     }
@@ -88,16 +93,17 @@ fn push_said(
 #[tactic(auto, unfolding(crate::specs::Warnings::hearings_on))]
 fn hearings_on(
     alloc: Global,
-    under: &Standing,
+    court: &Court,
+    moved: &MovedNumbers,
     cases: &Cases,
     docket: &Docket,
     day: Day,
 ) -> Result<String, AllocError>
-    ensures { docket.now.setup ≡ setup_of under.now.court → IfOk result (λ text. string_bytes text ≡ hearings_on under.now cases.now.named (parts_held docket.now) day) }
+    ensures { docket.now.setup ≡ setup_of court.now → IfOk result (λ text. string_bytes text ≡ hearings_on court.now moved.now cases.now.named (parts_held docket.now) day) }
 {
     let mut text = String::new(alloc);
-    for judge in 0..under.court.judges() {
-        push_judge(alloc, &mut text, under, cases, docket, judge, day)?;
+    for judge in 0..court.judges() {
+        push_judge(alloc, &mut text, court, moved, cases, docket, judge, day)?;
     }
     Ok(text)
 }
@@ -106,20 +112,21 @@ fn hearings_on(
 fn push_judge(
     alloc: Global,
     text: &mut String,
-    under: &Standing,
+    court: &Court,
+    moved: &MovedNumbers,
     cases: &Cases,
     docket: &Docket,
     judge: u8,
     day: Day,
 ) -> Result<(), AllocError>
-    requires judge { judge < length under.now.court.judges }
-    ensures { docket.now.setup ≡ setup_of under.now.court → OnOk result (string_bytes text.new ≡ string_bytes text.old ++ hearings_of under.now cases.now.named (parts_held docket.now) day judge) }
+    requires judge { judge < length court.now.judges }
+    ensures { docket.now.setup ≡ setup_of court.now → OnOk result (string_bytes text.new ≡ string_bytes text.old ++ hearings_of court.now moved.now cases.now.named (parts_held docket.now) day judge) }
 {
     match docket.calendar(judge) {
         Some(calendar) => {
             let bookings = calendar.on_day(alloc, day)?;
-            let bookings = under.corrections.retired().number_bookings(bookings);
-            push_if_some(text, &under.court, cases, judge, bookings.as_slice())
+            let bookings = moved.number_bookings(bookings);
+            push_if_some(text, court, cases, judge, bookings.as_slice())
         }
         None => Ok(()),
     }

@@ -9,9 +9,10 @@ use crate::hearings::push_kept;
 use crate::instead::push_instead;
 use case_numbers::Cases;
 use court_clock::Clock;
+use court_days::Court;
 use docket_core::Docket;
-use docket_entries::Standing;
 use docket_rows::{Answer, Command, Refusal};
+use kept_numbers::MovedNumbers;
 use named_answers::{push_motion_called, push_named_answer};
 use refusal_texts::motion_of_refusal;
 use refused_commands::push_why_refused;
@@ -22,17 +23,17 @@ use std::alloc::{AllocError, Global};
 pub(crate) fn push_refused(
     alloc: Global,
     text: &mut String,
-    under: &Standing,
+    court: &Court,
+    moved: &MovedNumbers,
     cases: &Cases,
     docket: &Docket,
     asked: &Command,
     command: &Command,
     refusal: &Refusal,
 ) -> Result<(), AllocError>
-    ensures { docket.now.setup ≡ setup_of under.now.court → OnOk result (string_bytes text.new ≡ string_bytes text.old ++ if_refused under.now cases.now.named (parts_held docket.now) asked.now command.now refusal.now) }
+    ensures { docket.now.setup ≡ setup_of court.now → OnOk result (string_bytes text.new ≡ string_bytes text.old ++ if_refused court.now moved.now cases.now.named (parts_held docket.now) asked.now command.now refusal.now) }
 {
-    let court = &under.court;
-    let numbered = under.corrections.retired().number_refusal(*refusal);
+    let numbered = moved.number_refusal(*refusal);
     let called = called_in(alloc, cases, asked, &numbered)?;
     push_refused_line(text, court.clock(), cases, &numbered)?;
     push_why_refused(
@@ -44,7 +45,7 @@ pub(crate) fn push_refused(
         called.as_str(),
         refusal,
     )?;
-    push_kept(alloc, text, under, cases, docket, command, refusal)?;
+    push_kept(alloc, text, court, moved, cases, docket, command, refusal)?;
     push_instead(alloc, text, docket, command, refusal)
 }
 

@@ -69,7 +69,8 @@ impl CarefulRegister {
         match said {
             Line::Row(row) if self.register.has_room() => warnings_on(
                 alloc,
-                &setup.standing,
+                &setup.standing.court,
+                self.register.numbers().moved(),
                 cases,
                 self.register.docket(),
                 setup.today,

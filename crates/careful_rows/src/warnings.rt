@@ -12,9 +12,10 @@ use crate::refused::push_refused;
 use crate::start::push_start;
 use case_numbers::Cases;
 use court_clock::Day;
+use court_days::Court;
 use docket_core::Docket;
-use docket_entries::Standing;
 use docket_rows::Command;
+use kept_numbers::MovedNumbers;
 use office_rows::Work;
 use std::alloc::{AllocError, Global};
 
@@ -23,21 +24,24 @@ use std::alloc::{AllocError, Global};
 fn push_warnings(
     alloc: Global,
     text: &mut String,
-    under: &Standing,
+    court: &Court,
+    moved: &MovedNumbers,
     cases: &Cases,
     docket: &Docket,
     today: Option<Day>,
     asked: &Command,
     command: &Command,
 ) -> Result<(), AllocError>
-    ensures { docket.now.setup ≡ setup_of under.now.court → OnOk result (string_bytes text.new ≡ string_bytes text.old ++ warnings_of under.now cases.now.named (parts_held docket.now) today asked.now command.now) }
+    ensures { docket.now.setup ≡ setup_of court.now → OnOk result (string_bytes text.new ≡ string_bytes text.old ++ warnings_of court.now moved.now cases.now.named (parts_held docket.now) today asked.now command.now) }
 {
     let refused = docket.refusal(alloc, command)?;
     match refused {
         Some(refusal) => {
-            push_refused(alloc, text, under, cases, docket, asked, command, &refusal)
+            push_refused(
+                alloc, text, court, moved, cases, docket, asked, command, &refusal,
+            )
         }
-        None => push_if_made(alloc, text, under, cases, docket, today, command),
+        None => push_if_made(alloc, text, court, moved, cases, docket, today, command),
     }
 }
 
@@ -45,13 +49,14 @@ fn push_warnings(
 fn push_if_made(
     alloc: Global,
     text: &mut String,
-    under: &Standing,
+    court: &Court,
+    moved: &MovedNumbers,
     cases: &Cases,
     docket: &Docket,
     today: Option<Day>,
     command: &Command,
 ) -> Result<(), AllocError>
-    ensures { docket.now.setup ≡ setup_of under.now.court → refusal (setup_of under.now.court) (parts_held docket.now) command.now ≡ None → OnOk result (string_bytes text.new ≡ string_bytes text.old ++ if_made under.now cases.now.named (parts_held docket.now) today command.now) }
+    ensures { docket.now.setup ≡ setup_of court.now → refusal (setup_of court.now) (parts_held docket.now) command.now ≡ None → OnOk result (string_bytes text.new ≡ string_bytes text.old ++ if_made court.now moved.now cases.now.named (parts_held docket.now) today command.now) }
 {
     match command {
         Command::Start {
@@ -61,16 +66,7 @@ fn push_if_made(
             second,
             service,
         } => push_start(
-            alloc,
-            text,
-            &under.court,
-            docket,
-            today,
-            *case,
-            period,
-            event,
-            second,
-            service,
+            alloc, text, court, docket, today, *case, period, event, second, service,
         ),
         Command::FileAct {
             case,
@@ -81,8 +77,10 @@ fn push_if_made(
             case,
             deadline,
             request,
-        } => push_request(text, &under.court, docket, *case, *deadline, request),
-        Command::Inaccessible { day, .. } => push_outage(alloc, text, under, cases, docket, *day),
+        } => push_request(text, court, docket, *case, *deadline, request),
+        Command::Inaccessible { day, .. } => push_outage(
+            alloc, text, court, moved, cases, docket, *day,
+        ),
         _ => Ok(()),
     }
 }
@@ -91,18 +89,21 @@ fn push_if_made(
 fn push_warnings_on(
     alloc: Global,
     text: &mut String,
-    under: &Standing,
+    court: &Court,
+    moved: &MovedNumbers,
     cases: &Cases,
     docket: &Docket,
     today: Option<Day>,
     work: &Work,
 ) -> Result<(), AllocError>
-    ensures { docket.now.setup ≡ setup_of under.now.court → OnOk result (string_bytes text.new ≡ string_bytes text.old ++ warnings_on under.now cases.now.named (parts_held docket.now) today work.now) }
+    ensures { docket.now.setup ≡ setup_of court.now → OnOk result (string_bytes text.new ≡ string_bytes text.old ++ warnings_on court.now moved.now cases.now.named (parts_held docket.now) today work.now) }
 {
     match work {
         Work::Command(asked) => {
-            let command = under.corrections.retired().place_command(asked);
-            push_warnings(alloc, text, under, cases, docket, today, asked, &command)
+            let command = moved.place_command(asked);
+            push_warnings(
+                alloc, text, court, moved, cases, docket, today, asked, &command,
+            )
         }
         Work::Query(_) => Ok(()),
     }
@@ -112,15 +113,16 @@ fn push_warnings_on(
 /// asks a question. `Err` says that memory ran out.
 pub fn warnings_on(
     alloc: Global,
-    under: &Standing,
+    court: &Court,
+    moved: &MovedNumbers,
     cases: &Cases,
     docket: &Docket,
     today: Option<Day>,
     work: &Work,
 ) -> Result<String, AllocError>
-    ensures { (docketed : Rows) → Holds (setup_of under.now.court) docket.now docketed → IfOk result (λ text. string_bytes text ≡ warnings_on under.now cases.now.named (parts_of docketed) today work.now) }
+    ensures { (docketed : Rows) → Holds (setup_of court.now) docket.now docketed → IfOk result (λ text. string_bytes text ≡ warnings_on court.now moved.now cases.now.named (parts_of docketed) today work.now) }
 {
     let mut text = String::new(alloc);
-    push_warnings_on(alloc, &mut text, under, cases, docket, today, work)?;
+    push_warnings_on(alloc, &mut text, court, moved, cases, docket, today, work)?;
     Ok(text)
 }

@@ -1,10 +1,10 @@
 -- What a docket comes to after an entry that is no row.
 use Rattle.std.proofs.Common.{◌≡◌, ◌∙◌, ◌++◌, ◌∷◌, [], ℕ, List, Option, Some, true, ap, sym, subst}
 use Rattle.row_strikes.specs.declared.strike.Strike.{Strike}
-use Rattle.row_strikes.specs.Words.{strike_in, with_strike}
+use Rattle.row_strikes.specs.Words.{strike_in, struck_with}
 use Rattle.docket_entries.specs.declared.docketed.Docketed.{Docketed}
 use Rattle.docket_entries.specs.declared.standing.Standing.{Standing}
-use Rattle.docket_entries.specs.Words.{IsDocketed, SaysCourt, StandsAt, can_strike, court_file, later_file, note_in, note_of, row_struck, standing_file}
+use Rattle.docket_entries.specs.Words.{IsDocketed, SaysCourt, StandsAt, can_strike, corrections_then, court_file, later_file, note_in, note_of, row_struck, standing_file}
 use Rattle.docket_entries.proofs.CallerLemmas.{docketed_file, docketed_strike}
 use Rattle.desk_program.specs.Note.{ComesTo}
 
@@ -13,7 +13,7 @@ file_noted entry file is = ap (λ (f : Option (List ℕ)). note_of f (strike_in 
 
 -- after a court's file
 pub comes_by_file : (docketed : Docketed) (standing : Standing) (before : List (List ℕ)) (entry file : List ℕ) → IsDocketed docketed before → note_in entry ≡ Some (court_file file) → SaysCourt file standing.court
-    → standing.corrections ≡ docketed.standing.corrections → ComesTo standing (before ++ entry ∷ [])
+    → standing.corrections ≡ corrections_then docketed.standing before docketed.standing.corrections.struck → ComesTo standing (before ++ entry ∷ [])
 comes_by_file docketed standing before entry file is noted says same after stands register =
     docketed_file docketed after before entry file is noted
     (subst (λ (s : Standing). SaysCourt file s.court) (sym stands) says)
@@ -22,7 +22,7 @@ comes_by_file docketed standing before entry file is noted says same after stand
 
 -- after a strike
 pub comes_by_strike : (docketed : Docketed) (standing : Standing) (before : List (List ℕ)) (entry : List ℕ) (strike : Strike) → IsDocketed docketed before → note_in entry ≡ Some (row_struck strike) → can_strike before strike ≡ true
-    → SaysCourt (standing_file before) standing.court → standing.corrections ≡ with_strike docketed.standing.corrections strike → ComesTo standing (before ++ entry ∷ [])
+    → SaysCourt (standing_file before) standing.court → standing.corrections ≡ corrections_then docketed.standing before (struck_with docketed.standing.corrections.struck strike.row) → ComesTo standing (before ++ entry ∷ [])
 comes_by_strike docketed standing before entry strike is noted can says more after stands register =
     docketed_strike docketed after before entry strike is noted can
     (subst (λ (s : Standing). SaysCourt (standing_file before) s.court) (sym stands) says)

@@ -3,6 +3,7 @@ use Rattle.std.specs.Prelude.{ℕ, List, [], ◌∷◌, ◌++◌, codes, if◌th
 use Rattle.std.specs.Fmt.{decimal}
 use Rattle.std.specs.List.{ends_with, flat_map}
 use Rattle.case_numbers.specs.declared.names.NamedCase.{NamedCase}
+use Rattle.kept_numbers.specs.declared.moved.Moved.{Moved}
 use Rattle.docket_entries.specs.declared.standing.Standing.{Standing}
 use Rattle.docket_entries.specs.Words.{Change, row_entries, rows_written, standing_file}
 use Rattle.desk_program.specs.NamesTable.{names_table}
@@ -15,9 +16,10 @@ ended file = if ends_with nat_eq file (10 ∷ []) then file else file ++ 10 ∷ 
 abbrev pub head_of : (file : List ℕ) → List NamedCase → List ℕ
 head_of file named = ended file ++ names_table file named ++ codes "%%\n"
 
--- what clerk_office reads: the court's file that stands with the names of cases, a line `%%` and the rows that stand
-abbrev pub written_rows : Standing → List NamedCase → (entries : List (List ℕ)) → List ℕ
-written_rows under named entries = head_of (standing_file entries) named ++ rows_written under 1 (row_entries entries)
+-- what clerk_office reads: the court's file that stands with the names of cases, a line `%%` and the rows that stand, where this
+-- isn't at the place of its number
+abbrev pub written_rows : Standing → List Moved → List NamedCase → (entries : List (List ℕ)) → List ℕ
+written_rows under moved named entries = head_of (standing_file entries) named ++ rows_written under moved 1 (row_entries entries)
 
 -- a row that would be answered otherwise: its entry, which ends with the answer that it was given, and then the other one
 abbrev pub change_text : Change → List ℕ

@@ -2,16 +2,16 @@
 use Rattle.std.specs.Prelude.{◌≡◌, ◌≢◌, ℕ, Bool, false, List, [], ◌∷◌, ◌++◌, Ok, Option, length}
 use Rattle.std.specs.Io.KnownBytes.{Appends}
 use Rattle.row_strikes.specs.declared.strike.Strike.{Strike}
-use Rattle.row_strikes.specs.Words.{strike_entry, with_strike}
+use Rattle.row_strikes.specs.Words.{strike_entry, struck_with}
 use Rattle.docket_entries.specs.declared.standing.Standing.{Standing}
-use Rattle.docket_entries.specs.Words.{SaysCourt, changes_by, standing_file, strike_for}
+use Rattle.docket_entries.specs.Words.{SaysCourt, changes_by, corrections_then, standing_file, strike_for}
 use Rattle.desk_program.specs.Rows.{changes_text}
 
--- what stands once a row is struck by this strike: the same court, and the corrections with it
+-- what stands once a row is struck by this strike: the same court, and the corrections with it, in which rows keep their numbers
 pub record IsStruck (under : Standing) (entries : List (List ℕ)) (row : ℕ) (strike : Strike) (then : Standing) : Type 0 where
   pub strike_is : strike_for under entries row ≡ Ok strike
   pub court : SaysCourt (standing_file entries) then.court
-  pub corrections : then.corrections ≡ with_strike under.corrections strike
+  pub corrections : then.corrections ≡ corrections_then under entries (struck_with under.corrections.struck strike.row)
 
 -- The strike is kept after the entries. The rows that are answered otherwise without the row are written, and without leave
 -- there are none.

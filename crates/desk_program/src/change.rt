@@ -1,7 +1,8 @@
 //! Another court's file for a docket.
 ghost use Rattle.std.specs.Prelude.{◌≡◌, ◌≢◌, ◌≤◌, ◌<◌, ◌⊎◌, ◌++◌, ◌∷◌, [], ℕ, List, length, map, false, Err, Some, IfOk, OnOk};
+ghost use Rattle.docket_entries.specs.declared.fault.StrikeFault.{StrikeFault as StrikeFaultOf};
 ghost use Rattle.durable_journal.specs.Words.{StandsFor, batch_of};
-ghost use Rattle.docket_entries.specs.Words.{SaysCourt, StandsAt, change_in, later_file, most_entries};
+ghost use Rattle.docket_entries.specs.Words.{SaysCourt, StandsAt, change_in, changes_by, corrections_then, later_file, most_entries};
 ghost use Rattle.office_streams.specs.Words.{has_failed, watched};
 ghost use Rattle.std.specs.Io.KnownBytes.{Appends};
 ghost use Rattle.desk_program.specs.Rows.{change_text, changes_text};
@@ -43,7 +44,7 @@ fn listed(alloc: Global, differences: &[Difference]) -> Result<Vec<u8>, AllocErr
 }
 
 // Writes the rows that would be answered otherwise. `Differs` says that there are some, and no leave.
-pub(crate) fn list_changes<W: Write>(
+fn list_changes<W: Write>(
     alloc: Global,
     differences: &[Difference],
     accept: bool,
@@ -54,6 +55,7 @@ pub(crate) fn list_changes<W: Write>(
     ensures without_leave { accept ≡ false → OnOk result (differences.now ≡ []) }
     ensures differs { (count : ℕ) → result ≡ Err (DeskFault.Differs count) → (count ≡ length differences.now) × (differences.now ≢ [])
         × Appends (W.contents (watched writer.old)) (W.contents (watched writer.new)) (changes_text (map change_in differences.now)) }
+    ensures unstruck { (fault : StrikeFaultOf) → result ≢ Err (DeskFault.Unstruck fault) }
 {
     let text = listed(alloc, differences)?;
     if write_all(writer, &text).is_err() {
@@ -63,6 +65,38 @@ pub(crate) fn list_changes<W: Write>(
         return Err(DeskFault::Differs(differences.len()));
     }
     Ok(())
+}
+
+// The docket that entries come to under what is to stand. The rows that would be answered otherwise are written, each with both
+// answers. `Differs` says that there are some, and no leave.
+pub(crate) fn reviewed<W: Write>(
+    alloc: Global,
+    standing: &Standing,
+    entries: &[Vec<u8>],
+    accept: bool,
+    writer: &mut Watched<W>,
+) -> Result<DocketRegister, DeskFault>
+    requires some { 0 < length entries.now }
+    requires few { length entries.now ≤ most_entries }
+    requires writer_works { has_failed writer.old ≡ false }
+    ensures stands { IfOk result (λ register. StandsAt standing.now register (batch_of entries.now)) }
+    ensures listed { OnOk result (Appends (W.contents (watched writer.old)) (W.contents (watched writer.new)) (changes_text (changes_by standing.now (batch_of entries.now)))) }
+    ensures without_leave { accept ≡ false → OnOk result (changes_by standing.now (batch_of entries.now) ≡ []) }
+    ensures differs { (count : ℕ) → result ≡ Err (DeskFault.Differs count) → (count ≡ length (changes_by standing.now (batch_of entries.now))) × (changes_by standing.now (batch_of entries.now) ≢ [])
+        × Appends (W.contents (watched writer.old)) (W.contents (watched writer.new)) (changes_text (changes_by standing.now (batch_of entries.now))) }
+    ensures unstruck { (fault : StrikeFaultOf) → result ≢ Err (DeskFault.Unstruck fault) }
+{
+    let Review {
+        register,
+        differences,
+    } = match decided_again(alloc, standing, entries) {
+        Ok(review) => review,
+        Err(_) => return Err(DeskFault::OutOfMemory),
+    };
+    match list_changes(alloc, &differences, accept, writer) {
+        Ok(()) => Ok(register),
+        Err(fault) => Err(fault),
+    }
 }
 
 impl<D: Disk> Desk<D> {
@@ -77,11 +111,12 @@ impl<D: Disk> Desk<D> {
         register: DocketRegister,
         file: &[u8],
     ) -> Result<(), DeskFault>
-        ensures kept { (entries : List (List ℕ)) → KeepsDocket D.Disk.seen D.Disk.may_leave D.Disk.is_usable entries self.old → SaysCourt file.now standing.court → standing.corrections ≡ (standing_at self.old).corrections → StandsAt standing register entries → length entries < most_entries
+        ensures kept { (entries : List (List ℕ)) → KeepsDocket D.Disk.seen D.Disk.may_leave D.Disk.is_usable entries self.old → SaysCourt file.now standing.court → standing.corrections ≡ corrections_then (standing_at self.old) entries (standing_at self.old).corrections.struck → StandsAt standing register entries → length entries < most_entries
             → OnOk result ((entry : List ℕ) × (later_file entry ≡ Some file.now) × KeepsDocket D.Disk.seen D.Disk.may_leave D.Disk.is_usable (entries ++ entry ∷ []) self.new) }
         ensures crash { (entries : List (List ℕ)) → KeepsDocket D.Disk.seen D.Disk.may_leave D.Disk.is_usable entries self.old → (c : List ℕ) → D.Disk.may_leave (disk_under self.new) c
             → StandsFor c entries ⊎ ((entry : List ℕ) × (later_file entry ≡ Some file.now) × StandsFor c (entries ++ entry ∷ [])) }
         ensures fault { (count : ℕ) → result ≢ Err (DeskFault.Differs count) }
+        ensures unstruck { (fault : StrikeFaultOf) → result ≢ Err (DeskFault.Unstruck fault) }
     {
         let entry = court_entry(alloc, file)?;
         self.take_note(alloc, standing, register, entry)
@@ -90,11 +125,12 @@ impl<D: Disk> Desk<D> {
     // What would stand by a court's file.
     pub(crate) fn standing_by(&self, alloc: Global, file: &[u8]) -> Result<Standing, DeskFault>
         ensures court { IfOk result (λ standing. SaysCourt file.now standing.court) }
-        ensures corrections { IfOk result (λ standing. standing.corrections ≡ (standing_at self.now).corrections) }
+        ensures corrections { (entries : List (List ℕ)) → KeepsDocket D.Disk.seen D.Disk.may_leave D.Disk.is_usable entries self.now → IfOk result (λ standing. standing.corrections ≡ corrections_then (standing_at self.now) entries (standing_at self.now).corrections.struck) }
         ensures fault { (count : ℕ) → result ≢ Err (DeskFault.Differs count) }
+        ensures unstruck { (fault : StrikeFaultOf) → result ≢ Err (DeskFault.Unstruck fault) }
     {
+        let corrections = self.register.corrections(alloc, &self.standing)?;
         let court = court_of(alloc, file)?;
-        let corrections = self.standing.corrections.copy(alloc)?;
         Ok(Standing { court, corrections })
     }
 
@@ -113,9 +149,9 @@ impl<D: Disk> Desk<D> {
         requires few { length entries.now ≤ most_entries }
         requires writer_works { has_failed writer.old ≡ false }
         ensures taken { KeepsDocket D.Disk.seen D.Disk.may_leave D.Disk.is_usable (batch_of entries.now) self.old → OnOk result
-            (TakesFile (batch_of entries.now) file.now accept (W.contents (watched writer.old)) (W.contents (watched writer.new)) (λ kept. KeepsDocket D.Disk.seen D.Disk.may_leave D.Disk.is_usable kept self.new)) }
+            (TakesFile (standing_at self.old) (batch_of entries.now) file.now accept (W.contents (watched writer.old)) (W.contents (watched writer.new)) (λ kept. KeepsDocket D.Disk.seen D.Disk.may_leave D.Disk.is_usable kept self.new)) }
         ensures refused { (count : ℕ) → KeepsDocket D.Disk.seen D.Disk.may_leave D.Disk.is_usable (batch_of entries.now) self.old → result ≡ Err (DeskFault.Differs count)
-            → RefusesFile (batch_of entries.now) file.now count (W.contents (watched writer.old)) (W.contents (watched writer.new)) × (self.new ≡ self.old) }
+            → RefusesFile (standing_at self.old) (batch_of entries.now) file.now count (W.contents (watched writer.old)) (W.contents (watched writer.new)) × (self.new ≡ self.old) }
         ensures crash { KeepsDocket D.Disk.seen D.Disk.may_leave D.Disk.is_usable (batch_of entries.now) self.old → (c : List ℕ) → D.Disk.may_leave (disk_under self.new) c
             → StandsFor c (batch_of entries.now) ⊎ ((entry : List ℕ) × (later_file entry ≡ Some file.now) × StandsFor c (batch_of entries.now ++ entry ∷ [])) }
     {
@@ -126,15 +162,8 @@ impl<D: Disk> Desk<D> {
             Ok(standing) => standing,
             Err(fault) => return Err(fault),
         };
-        let Review {
-            register,
-            differences,
-        } = match decided_again(alloc, &standing, entries) {
-            Ok(review) => review,
-            Err(_) => return Err(DeskFault::OutOfMemory),
-        };
-        match list_changes(alloc, &differences, accept, writer) {
-            Ok(()) => self.take_file(alloc, standing, register, file),
+        match reviewed(alloc, &standing, entries, accept, writer) {
+            Ok(register) => self.take_file(alloc, standing, register, file),
             Err(fault) => Err(fault),
         }
     }

@@ -2,7 +2,7 @@
 ghost use Rattle.std.specs.Prelude.{◌≡◌, ◌⊎◌, ◌<◌, ◌≤◌, ◌∷◌, [], ℕ, List, length, false, IsTrue, IfErr, IfOk, IfSome, OnOk};
 ghost use Rattle.durable_journal.specs.Words.{IsDurable, IsKept, StandsFor, batch_of, disk_of};
 ghost use Rattle.durable_session.specs.Words.{AfterBytes, IsServed, lines_of, unfinished_of};
-ghost use Rattle.docket_entries.specs.Words.{IsHistory, answers, cases_of, leaves, row_entries};
+ghost use Rattle.docket_entries.specs.Words.{IsHistory, answers, cases_of, leaves, row_entries, run_by};
 ghost use Rattle.office_streams.specs.Words.{has_failed, watched};
 
 use crate::court::check_court;
@@ -12,6 +12,7 @@ use court_days::Court;
 use docket_entries::{DocketRegister, Docketed, Standing};
 use durable_journal::Journal;
 use durable_session::{SessionFault, serve};
+use kept_numbers::MovedNumbers;
 use office_streams::Watched;
 use sqlite_disk::Disk;
 use std::alloc::{AllocError, Global};
@@ -137,6 +138,13 @@ impl<D: Disk> Desk<D> {
         ensures { (kept : List (List ℕ)) → KeepsDocket D.Disk.seen D.Disk.may_leave D.Disk.is_usable kept self.now → result.now ≡ cases_of (standing_at self.now) kept }
     {
         self.register.cases()
+    }
+
+    /// What has another number than its place in its case, by which other programs count it.
+    pub fn moved(&self) -> &MovedNumbers
+        ensures { (kept : List (List ℕ)) → KeepsDocket D.Disk.seen D.Disk.may_leave D.Disk.is_usable kept self.now → result.now ≡ (run_by (standing_at self.now) kept).numbers.moved }
+    {
+        self.register.numbers().moved()
     }
 
     /// How many rows are kept.

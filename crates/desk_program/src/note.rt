@@ -1,5 +1,6 @@
 //! An entry that is no row: it is kept, and what stands after it goes on from there.
 ghost use Rattle.std.specs.Prelude.{◌≡◌, ◌≢◌, ◌<◌, ◌⊎◌, ◌++◌, ◌∷◌, [], ℕ, List, length, Err, IsSome, OnOk};
+ghost use Rattle.docket_entries.specs.declared.fault.StrikeFault.{StrikeFault as StrikeFaultOf};
 ghost use Rattle.durable_journal.specs.Words.{StandsFor};
 ghost use Rattle.docket_entries.specs.Words.{StandsAt, most_entries, note_in};
 
@@ -28,6 +29,7 @@ impl<D: Disk> Desk<D> {
         ensures crash { (entries : List (List ℕ)) → KeepsDocket D.Disk.seen D.Disk.may_leave D.Disk.is_usable entries self.old → (c : List ℕ) → D.Disk.may_leave (disk_under self.new) c
             → StandsFor c entries ⊎ StandsFor c (entries ++ entry.items ∷ []) }
         ensures fault { (count : ℕ) → result ≢ Err (DeskFault.Differs count) }
+        ensures unstruck { (fault : StrikeFaultOf) → result ≢ Err (DeskFault.Unstruck fault) }
     {
         let batch = batch_with(alloc, entry)?;
         match self.journal.append(&batch) {

@@ -11,6 +11,7 @@ use crate::names_table::push_names;
 use case_numbers::Cases;
 use csv::StringRecord;
 use docket_entries::{Standing, is_row, push_row, standing_file};
+use kept_numbers::MovedNumbers;
 use office_streams::{Watched, write_all};
 use std::alloc::{AllocError, Global};
 use std::io::Write;
@@ -74,19 +75,20 @@ fn push_file(
 fn push_entry(
     alloc: Global,
     under: &Standing,
+    moved: &MovedNumbers,
     number: u32,
     entry: &[u8],
     fields: &mut StringRecord,
     text: &mut Vec<u8>,
 ) -> Result<u32, AllocError>
     requires few { number ≤ most_entries }
-    ensures text { OnOk result (text.new.items ≡ text.old.items ++ rows_written under.now number (row_only (note_in entry.now) entry.now)) }
+    ensures text { OnOk result (text.new.items ≡ text.old.items ++ rows_written under.now moved.now number (row_only (note_in entry.now) entry.now)) }
     ensures next { IfOk result (λ next. next ≡ number + length (row_only (note_in entry.now) entry.now)) }
 {
     if !is_row(entry) {
         return Ok(number);
     }
-    push_row(alloc, under, number, entry, fields, text)?;
+    push_row(alloc, under, moved, number, entry, fields, text)?;
     Ok(number + 1)
 }
 
@@ -98,13 +100,14 @@ fn push_entry(
 pub fn write_rows<W: Write>(
     alloc: Global,
     under: &Standing,
+    moved: &MovedNumbers,
     cases: &Cases,
     entries: &[Vec<u8>],
     writer: &mut Watched<W>,
 ) -> Result<(), DeskFault>
     requires few { length entries.now ≤ most_entries }
     requires works { has_failed writer.old ≡ false }
-    ensures written { OnOk result (Appends (W.contents (watched writer.old)) (W.contents (watched writer.new)) (written_rows under.now cases.now.named (batch_of entries.now))) }
+    ensures written { OnOk result (Appends (W.contents (watched writer.old)) (W.contents (watched writer.new)) (written_rows under.now moved.now cases.now.named (batch_of entries.now))) }
 {
     let mut text = Vec::new(alloc);
     push_file(alloc, &mut text, standing_file(entries), cases)?;
@@ -114,6 +117,7 @@ pub fn write_rows<W: Write>(
         number = push_entry(
             alloc,
             under,
+            moved,
             number,
             &entries[place],
             &mut fields,

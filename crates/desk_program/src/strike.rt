@@ -1,17 +1,16 @@
 //! A row that is struck.
 ghost use Rattle.std.specs.Prelude.{◌≡◌, ◌≢◌, ◌<◌, ◌≤◌, ◌⊎◌, ◌++◌, ◌∷◌, [], ℕ, List, length, false, Err, Ok, IfOk, OnOk};
+ghost use Rattle.docket_entries.specs.declared.fault.StrikeFault.{StrikeFault as StrikeFaultOf};
 ghost use Rattle.durable_journal.specs.Words.{StandsFor, batch_of};
-ghost use Rattle.docket_entries.specs.Words.{SaysCourt, StandsAt, most_entries, standing_file, strike_for};
+ghost use Rattle.docket_entries.specs.Words.{SaysCourt, StandsAt, corrections_then, most_entries, standing_file, strike_for};
 ghost use Rattle.office_streams.specs.Words.{has_failed, watched};
-ghost use Rattle.row_strikes.specs.Words.{strike_entry, with_strike};
+ghost use Rattle.row_strikes.specs.Words.{strike_entry, struck_with};
 ghost use Rattle.row_strikes.specs.declared.strike.Strike.{Strike as StrikeOf};
 
-use crate::change::list_changes;
+use crate::change::reviewed;
 use crate::desk::Desk;
 use crate::fault::DeskFault;
-use docket_entries::{
-    DocketRegister, MOST_ENTRIES, Review, Standing, decided_again, standing_file,
-};
+use docket_entries::{DocketRegister, MOST_ENTRIES, Standing, standing_file};
 use durable_journal::JournalFault;
 use office_streams::Watched;
 use row_strikes::{Strike, strike_entry};
@@ -29,6 +28,7 @@ impl<D: Disk> Desk<D> {
         requires few { length entries.now ≤ most_entries }
         ensures strike { KeepsDocket D.Disk.seen D.Disk.may_leave D.Disk.is_usable (batch_of entries.now) self.now → IfOk result (λ strike. strike_for (standing_at self.now) (batch_of entries.now) row ≡ Ok strike) }
         ensures fault { (count : ℕ) → result ≢ Err (DeskFault.Differs count) }
+        ensures unstruck { (fault : StrikeFaultOf) → KeepsDocket D.Disk.seen D.Disk.may_leave D.Disk.is_usable (batch_of entries.now) self.now → result ≡ Err (DeskFault.Unstruck fault) → strike_for (standing_at self.now) (batch_of entries.now) row ≡ Err fault }
     {
         match self
             .register
@@ -47,11 +47,12 @@ impl<D: Disk> Desk<D> {
         strike: Strike,
     ) -> Result<Standing, DeskFault>
         ensures court { IfOk result (λ standing. SaysCourt (standing_file (batch_of entries.now)) standing.court) }
-        ensures corrections { IfOk result (λ standing. standing.corrections ≡ with_strike (standing_at self.now).corrections strike) }
+        ensures corrections { KeepsDocket D.Disk.seen D.Disk.may_leave D.Disk.is_usable (batch_of entries.now) self.now → IfOk result (λ standing. standing.corrections ≡ corrections_then (standing_at self.now) (batch_of entries.now) (struck_with (standing_at self.now).corrections.struck strike.row)) }
         ensures fault { (count : ℕ) → result ≢ Err (DeskFault.Differs count) }
+        ensures unstruck { (fault : StrikeFaultOf) → result ≢ Err (DeskFault.Unstruck fault) }
     {
         let mut standing = self.standing_by(alloc, standing_file(entries))?;
-        standing.corrections.add(strike)?;
+        standing.corrections.strike(strike.row)?;
         Ok(standing)
     }
 
@@ -65,18 +66,19 @@ impl<D: Disk> Desk<D> {
         remark: &[u8],
     ) -> Result<(), DeskFault>
         ensures kept { (entries : List (List ℕ)) (row : ℕ) → KeepsDocket D.Disk.seen D.Disk.may_leave D.Disk.is_usable entries self.old → strike_for (standing_at self.old) entries row ≡ Ok strike.now
-            → SaysCourt (standing_file entries) standing.court → standing.corrections ≡ with_strike (standing_at self.old).corrections strike.now → StandsAt standing register entries → length entries < most_entries
+            → SaysCourt (standing_file entries) standing.court → standing.corrections ≡ corrections_then (standing_at self.old) entries (struck_with (standing_at self.old).corrections.struck strike.now.row) → StandsAt standing register entries → length entries < most_entries
             → OnOk result (KeepsDocket D.Disk.seen D.Disk.may_leave D.Disk.is_usable (entries ++ strike_entry strike.now remark.now ∷ []) self.new) }
         ensures crash { (entries : List (List ℕ)) → KeepsDocket D.Disk.seen D.Disk.may_leave D.Disk.is_usable entries self.old → (c : List ℕ) → D.Disk.may_leave (disk_under self.new) c
             → StandsFor c entries ⊎ StandsFor c (entries ++ strike_entry strike.now remark.now ∷ []) }
         ensures fault { (count : ℕ) → result ≢ Err (DeskFault.Differs count) }
+        ensures unstruck { (fault : StrikeFaultOf) → result ≢ Err (DeskFault.Unstruck fault) }
     {
         let entry = strike_entry(alloc, strike, remark)?;
         self.take_note(alloc, standing, register, entry)
     }
 
-    /// Strikes a row, which is counted from 1: from here on the docket is that of the other rows. A deadline or a motion that
-    /// the row made has a number, which is given no more, and all others keep theirs. The strike is kept as the next entry,
+    /// Strikes a row, which is counted from 1: from here on the docket is that of the other rows. Each deadline and each motion
+    /// keeps the number that its row gave it, and no number is given again. The strike is kept as the next entry,
     /// with a remark, and the row's entry stays. The rows that are answered otherwise without it are written, each with both
     /// answers. If there are some, the row is struck only with leave; without it, at `Differs`, the journal is as it was.
     pub fn strike<W: Write>(
@@ -95,6 +97,7 @@ impl<D: Disk> Desk<D> {
             (StrikesRow (standing_at self.old) (batch_of entries.now) row remark.now accept (W.contents (watched writer.old)) (W.contents (watched writer.new)) (λ kept. KeepsDocket D.Disk.seen D.Disk.may_leave D.Disk.is_usable kept self.new)) }
         ensures refused { (count : ℕ) → KeepsDocket D.Disk.seen D.Disk.may_leave D.Disk.is_usable (batch_of entries.now) self.old → result ≡ Err (DeskFault.Differs count)
             → RefusesStrike (standing_at self.old) (batch_of entries.now) row count (W.contents (watched writer.old)) (W.contents (watched writer.new)) × (self.new ≡ self.old) }
+        ensures unstruck { (fault : StrikeFaultOf) → KeepsDocket D.Disk.seen D.Disk.may_leave D.Disk.is_usable (batch_of entries.now) self.old → result ≡ Err (DeskFault.Unstruck fault) → strike_for (standing_at self.old) (batch_of entries.now) row ≡ Err fault }
         ensures crash { KeepsDocket D.Disk.seen D.Disk.may_leave D.Disk.is_usable (batch_of entries.now) self.old → (c : List ℕ) → D.Disk.may_leave (disk_under self.new) c
             → StandsFor c (batch_of entries.now) ⊎ ((strike : StrikeOf) × (strike_for (standing_at self.old) (batch_of entries.now) row ≡ Ok strike) × StandsFor c (batch_of entries.now ++ strike_entry strike remark.now ∷ [])) }
     {
@@ -109,15 +112,8 @@ impl<D: Disk> Desk<D> {
             Ok(standing) => standing,
             Err(fault) => return Err(fault),
         };
-        let Review {
-            register,
-            differences,
-        } = match decided_again(alloc, &standing, entries) {
-            Ok(review) => review,
-            Err(_) => return Err(DeskFault::OutOfMemory),
-        };
-        match list_changes(alloc, &differences, accept, writer) {
-            Ok(()) => self.take_strike(alloc, standing, register, &strike, remark),
+        match reviewed(alloc, &standing, entries, accept, writer) {
+            Ok(register) => self.take_strike(alloc, standing, register, &strike, remark),
             Err(fault) => Err(fault),
         }
     }

@@ -1,7 +1,9 @@
 //! A clerk's desk: rows from standard input are kept in a folder's journal, and each is answered once it is kept.
 #![tactic(auto)]
 
+mod command;
 mod folder;
+mod task;
 mod tasks;
 mod words;
 mod written;

@@ -3,7 +3,7 @@ ghost use Rattle.std.specs.Prelude.{◌≡◌, false};
 ghost use Rattle.office_streams.specs.Words.{has_failed};
 
 use crate::folder::{copied_beside, entries_beside, journal_name, make_folder, opened, read_file};
-use crate::words::{Struck, Task};
+use crate::task::{Struck, Task};
 use crate::written::{enter_written, plain, try_written};
 use court_clock::Day;
 use desk_program::{
@@ -146,7 +146,14 @@ fn rows<W: Write>(rt: &HostRuntime, writer: &mut Watched<W>, folder: &str) -> Re
     requires { has_failed writer.old ≡ false }
 {
     let (desk, entries) = opened(rt, folder)?;
-    let ended = write_rows(rt.alloc(), desk.standing(), desk.cases(), &entries, writer);
+    let ended = write_rows(
+        rt.alloc(),
+        desk.standing(),
+        desk.moved(),
+        desk.cases(),
+        &entries,
+        writer,
+    );
     drop(desk.into_disk());
     ended
 }

@@ -1,50 +1,12 @@
 //! What the words of the command line ask for.
 
-use clap::{Arg, ArgAction, ArgMatches, Command};
+use crate::command::command;
+use crate::task::{Struck, Style, Task};
+use clap::ArgMatches;
 use court_clock::Day;
 use office_options::{OptionsFault, argument_texts, fault_from};
-use std::alloc::{AllocError, Global};
+use std::alloc::Global;
 use written_fields::DateOrder;
-
-const ABOUT: &str =
-    "A docket that lasts. Rows are kept in a folder's journal, through any crash, and
-each is answered once it is kept.";
-
-const TASKS: &str = "Tasks:
-  open FOLDER --court FILE        make the folder, with the court's file
-  enter FOLDER                    keep the rows of standard input, and answer
-                                  each
-  enter FOLDER --all-or-nothing   read all of standard input first, and keep its
-                                  rows only if no line has a fault
-  enter FOLDER --warn             keep no row that draws a warning, such as an
-                                  event before its case was filed: answer it
-                                  with its warnings. A row with '!' before it is
-                                  kept all the same
-  try FOLDER [--warn]             answer rows as 'enter' would, and keep none;
-                                  also while another program enters rows
-  plain FOLDER                    write the plain rows that the lines of
-                                  standard input are, or what is wrong with
-                                  them; nothing is kept
-  ask FOLDER                      answer questions alone, also while another
-                                  program enters rows
-  rows FOLDER                     write the court's file, %% and all rows, as
-                                  clerk_office reads them
-  cases FOLDER                    write the number and the name of each case
-                                  that was opened by a case number, as
-                                  1:25-cv-01234; also while another program
-                                  enters rows
-  check FOLDER                    decide all rows again, and say how many there
-                                  are
-  court FOLDER FILE [--accept]    list the answers that another court's file
-                                  would change, and take it if there are none
-                                  or with --accept
-  strike FOLDER ROW --reason TEXT --by NAME --today DAY [--accept]
-                                  list the answers that would change without
-                                  this row, and strike it if there are none or
-                                  with --accept. The row stays in the journal,
-                                  and so does why, by whom and when
-  struck FOLDER                   list the rows that are struck; also while
-                                  another program enters rows";
 
 const OPEN_WORDS: &str = "'open' needs the court's file: open FOLDER --court FILE";
 
@@ -67,63 +29,6 @@ const STRIKE_WORDS: &str =
 const STRIKE_ALONE: &str = "--reason and --by are for 'strike'";
 
 const STRIKE_TEXT: &str = "--reason and --by take a text of one line";
-
-/// What is asked for, of a folder.
-#[derive(Debug, Drop)]
-pub enum Task {
-    /// A new folder, with the court's file of this name.
-    Open(String),
-    /// Rows, which are kept and answered.
-    Enter,
-    /// Rows, which are kept and answered, except those that draw a warning. The day counts as today, if there is one.
-    EnterCarefully(Option<Day>),
-    /// Rows, which are kept together if no line has a fault, and then answered.
-    EnterTogether,
-    /// Rows as people write them, which are kept together if no line has a fault, and then answered.
-    EnterWritten(Style),
-    /// Rows, which are answered and not kept.
-    Try,
-    /// Rows, which are answered as `EnterCarefully` answers them, and not kept.
-    TryCarefully(Option<Day>),
-    /// Rows as people write them, which are answered and not kept.
-    TryWritten(Style),
-    /// Rows as people write them, which are written as plain rows.
-    Plain(Style),
-    /// Questions, which are answered.
-    Ask,
-    /// The court's file and all rows, as clerk_office reads them.
-    Rows,
-    /// The cases that have names.
-    Cases,
-    /// How many rows are kept, or what is damaged.
-    Check,
-    /// Another court's file, of this name, and whether it is taken though answers differ.
-    Court(String, bool),
-    /// A row that is struck.
-    Strike(Struck),
-    /// The rows that are struck.
-    Struck,
-}
-
-/// A row that is struck, and what is said of that.
-#[derive(Debug, Drop)]
-pub struct Struck {
-    /// The row's number, counted from 1.
-    pub row: u32,
-    /// When, by whom and why, as one line with its end.
-    pub remark: String,
-    /// Whether it is struck though answers differ.
-    pub accept: bool,
-}
-
-/// How rows are written, and how their faults are.
-#[derive(Clone, Copy, Debug)]
-pub struct Style {
-    /// Which comes first in a date in numbers, if that is known.
-    pub order: Option<DateOrder>,
-    /// Whether faults are written as JSON.
-    pub json: bool,
-}
 
 // What the words say, before it is known whether it fits the task.
 #[derive(Clone, Copy)]
@@ -161,83 +66,6 @@ impl<'a> Said<'a> {
     fn has_file(&self) -> bool {
         self.file.is_some() || self.court.is_some() || self.accept
     }
-}
-
-fn text_argument<'a>(alloc: Global, name: &'a str, value: &'a str, help: &'a str) -> Arg<'a> {
-    Arg::new(alloc, name)
-        .action(ArgAction::Set)
-        .value_name(value)
-        .help(help)
-}
-
-// The task, the folder and the files that a task takes.
-fn command_of_files<'a>(alloc: Global) -> Result<Command<'a>, AllocError> {
-    Command::new(alloc, "docket_desk")
-        .no_binary_name(true)
-        .version("0.1.0")
-        .about(ABOUT)
-        .after_help(TASKS)
-        .arg(text_argument(alloc, "task", "TASK", "What is to be done").required(true))?
-        .arg(text_argument(alloc, "folder", "FOLDER", "The folder with the journal").required(
-            true,
-        ))?
-        .arg(text_argument(
-            alloc,
-            "file",
-            "FILE|ROW",
-            "Another court's file, for 'court', or a row's number, for 'strike'",
-        ))?
-        .arg(text_argument(alloc, "court", "FILE", "The court's file, for 'open'").long("court"))
-}
-
-// The command with one more option that takes nothing.
-fn with_flag<'a>(
-    alloc: Global,
-    command: Command<'a>,
-    name: &'a str,
-    option: &'a str,
-    help: &'a str,
-) -> Result<Command<'a>, AllocError> {
-    let flag = Arg::new(alloc, name)
-        .long(option)
-        .action(ArgAction::SetTrue)
-        .help(help);
-    command.arg(flag)
-}
-
-// The command with one more option that takes a text.
-fn with_text<'a>(
-    alloc: Global,
-    command: Command<'a>,
-    name: &'a str,
-    value: &'a str,
-    help: &'a str,
-) -> Result<Command<'a>, AllocError> {
-    command.arg(text_argument(alloc, name, value, help).long(name))
-}
-
-// The options that say how rows are taken.
-fn with_rows<'a>(alloc: Global, command: Command<'a>) -> Result<Command<'a>, AllocError> {
-    let together = "Keep all rows of 'enter', or none if a line has a fault";
-    let command = with_flag(alloc, command, "together", "all-or-nothing", together)?;
-    let warn = "Keep no row that draws a warning";
-    let command = with_flag(alloc, command, "warn", "warn", warn)?;
-    let today = "The day that counts as today, for --warn and 'strike'";
-    let command = with_text(alloc, command, "today", "DAY", today)?;
-    let written = "Take rows as people write them";
-    let command = with_flag(alloc, command, "written", "as-written", written)?;
-    let dates = "month-first or day-first, for 9/2/2025";
-    let command = with_text(alloc, command, "dates", "ORDER", dates)?;
-    with_flag(alloc, command, "json", "json", "Write their faults as JSON")
-}
-
-fn command<'a>(alloc: Global) -> Result<Command<'a>, AllocError> {
-    let command = command_of_files(alloc)?;
-    let accept = "Take another court's file, or strike a row, though answers differ";
-    let command = with_flag(alloc, command, "accept", "accept", accept)?;
-    let command = with_rows(alloc, command)?;
-    let command = with_text(alloc, command, "reason", "TEXT", "Why a row is struck")?;
-    with_text(alloc, command, "by", "NAME", "By whom it is struck")
 }
 
 // What is wrong with the words.

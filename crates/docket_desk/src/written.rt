@@ -3,8 +3,8 @@ ghost use Rattle.std.specs.Prelude.{◌≡◌, false, OnOk};
 ghost use Rattle.office_streams.specs.Words.{has_failed};
 
 use crate::folder::{copied_beside, entries_beside, opened};
+use crate::task::Style;
 use crate::tasks::whole_input;
-use crate::words::Style;
 use court_days::Court;
 use desk_program::DeskFault;
 use docket_entries::Docketed;

@@ -6,7 +6,8 @@ use Rattle.csv.specs.Writing.{default_writer, row_text}
 use Rattle.case_numbers.specs.Words.{after_name}
 use Rattle.office_rows.specs.declared.row.Work.{Work}
 use Rattle.office_rows.specs.Words.{names_of}
-use Rattle.retired_numbers.proofs.CallerLemmas.{placed_alone}
+use Rattle.kept_numbers.specs.declared.moved.Moved.{Moved}
+use Rattle.kept_numbers.proofs.CallerLemmas.{placed_alone}
 use Rattle.row_line.specs.declared.line.Line.{Line}
 use Rattle.row_line.specs.declared.line.Line.TheVariants as line
 use Rattle.row_line.specs.Words.{fields_read, line_read}
@@ -32,15 +33,15 @@ unfolding row_written
 rows_as_they_are court number entry = none_placed (line_read most_clerks (names_of court) (after_name entry)) (fields_read (after_name entry))
 
 -- what is written of rows, after others
-pub rows_written-append : (under : Standing) (number : ℕ) (some more : List (List ℕ)) → rows_written under number (some ++ more) ≡ rows_written under number some ++ rows_written under (number + length some) more
+pub rows_written-append : (under : Standing) (moved : List Moved) (number : ℕ) (some more : List (List ℕ)) → rows_written under moved number (some ++ more) ≡ rows_written under moved number some ++ rows_written under moved (number + length some) more
 unfolding rows_written
-rows_written-append under number [] more = ap (λ n. rows_written under n more) (none number)
+rows_written-append under moved number [] more = ap (λ n. rows_written under moved n more) (none number)
   where
     none : (n : ℕ) → n ≡ n + 0
     none n = omega arith
-rows_written-append under number (entry ∷ some) more =
-    ap (λ (l : List ℕ). row_written under number entry ++ l) (rows_written-append under (number + 1) some more ∙ ap (λ n. rows_written under (number + 1) some ++ rows_written under n more) (later number (length some)))
-    ∙ sym (append_assoc (row_written under number entry) (rows_written under (number + 1) some) (rows_written under (number + length (entry ∷ some)) more))
+rows_written-append under moved number (entry ∷ some) more =
+    ap (λ (l : List ℕ). row_written under moved number entry ++ l) (rows_written-append under moved (number + 1) some more ∙ ap (λ n. rows_written under moved (number + 1) some ++ rows_written under moved n more) (later number (length some)))
+    ∙ sym (append_assoc (row_written under moved number entry) (rows_written under moved (number + 1) some) (rows_written under moved (number + length (entry ∷ some)) more))
   where
     later : (n m : ℕ) → (n + 1) + m ≡ n + suc m
     later n m = omega arith

@@ -2,6 +2,7 @@
 use Rattle.std.proofs.Common.{◌≡◌, ◌∙◌, ◌<◌, ◌&&◌, ℕ, Bool, true, false, not, List, [], ◌∷◌, ◌++◌, Option, Some, None, Err, length, length-append, refl, sym, ap, subst, append_assoc, append-nil, arith}
 use Rattle.std.specs.Prelude.{IsSome, Vec, is_some, nat_lt, slice_get}
 use Rattle.std.specs.declared.alloc.Global.{Global}
+use Rattle.std.specs.List.{list_all}
 use Rattle.durable_journal.specs.Words.{batch_of}
 use Rattle.court_days.specs.Words.{CourtView, court_in}
 use Rattle.row_line.specs.declared.line.Line.{Line}
@@ -14,16 +15,19 @@ use Rattle.docket_entries.specs.declared.fault.HistoryFault.TheVariants.{Court, 
 use Rattle.docket_entries.specs.Docketed.{HasHistoryFault, IsBadFile, IsDocketed}
 use Rattle.docket_entries.specs.declared.docketed.Docketed.{Docketed}
 use Rattle.row_strikes.specs.declared.strike.Strike.{Strike as StrikeOf}
-use Rattle.row_strikes.specs.Words.{CorrectionsView, all_before, is_struck, no_corrections, with_strike}
+use Rattle.row_strikes.specs.Words.{CorrectionsView, all_before, is_among, is_struck, no_corrections, struck_with}
+use Rattle.kept_numbers.specs.declared.given.Given.{Given}
 use Rattle.docket_entries.specs.declared.standing.Standing.{Standing}
-use Rattle.docket_entries.specs.Entries.{Note, can_strike, corrected, corrections_in, court_file, file_after, file_with, most_clerks, next_number, note_in, row_struck, standing_file}
-use Rattle.docket_entries.specs.History.{AllFollow, FollowsAs, IsHistory, MayFollow, SaysCourt, StandsAfter}
+use Rattle.docket_entries.specs.Entries.{Note, can_strike, court_file, file_after, file_with, most_clerks, next_number, note_in, row_struck, standing_file, struck_by, struck_in}
+use Rattle.docket_entries.specs.History.{AllFollow, FollowsAs, IsHistory, Keep, KeepAfter, MayFollow, SaysCourt, StandsAfter}
 use Rattle.docket_entries.specs.Laws.{WhatIsLeftIsHistory}
 use Rattle.docket_entries.specs.Register.{IsReadyAt, StandsAt}
 use Rattle.case_numbers.specs.Words.{NameView, after_name, name_before}
 use Rattle.docket_entries.specs.Rows.{follows, leaves, left_again, left_of, plain_leaves, reading_at, with_name, within}
+use Rattle.docket_entries.specs.Run.{corrections_then, run_by}
 use Rattle.docket_entries.proofs.EntryLemmas.{left_follows}
-use Rattle.docket_entries.proofs.ListLemmas.{before-note, before-row, before_strike, corrections_in-more, none_corrected, standing_file-file, standing_file-more}
+use Rattle.docket_entries.proofs.ListLemmas.{before-note, before-row, before_strike, none_struck, standing_file-file, standing_file-more, struck_in-more}
+use Rattle.docket_entries.proofs.KeepLemmas.{keep_first, keep_more, keep_row}
 
 AllFollow-append : (kept some more : List (List ℕ)) → AllFollow kept some → AllFollow (kept ++ some) more → AllFollow kept (some ++ more)
 unfolding AllFollow
@@ -63,22 +67,33 @@ strike_follows kept entry struck some can = subst (λ (n : Option Note). Follows
 stands_after_row : (under : Standing) (kept : List (List ℕ)) (entry : List ℕ) → 0 < length kept → note_in entry ≡ None → StandsAfter kept under → StandsAfter (kept ++ entry ∷ []) under
 stands_after_row under kept entry begun none stands = record {
   court = subst (λ (f : List ℕ). SaysCourt f under.court) (sym (standing_file-more kept entry begun ∙ ap (file_with (standing_file kept)) none)) stands.court;
-  corrections = stands.corrections ∙ sym (corrections_in-more kept entry begun ∙ ap (corrected (corrections_in kept)) none);
+  struck = stands.struck ∙ sym (struck_in-more kept entry begun ∙ ap (struck_by (struck_in kept)) none);
+  numbers = keep_row kept entry under.corrections.kept begun none stands.numbers;
 }
 
+-- what rows keep after a note: all that was given by then
+kept_after_note : (under then : Standing) (kept : List (List ℕ)) (entry : List ℕ) (note : Note) → 0 < length kept → note_in entry ≡ Some note → StandsAfter kept under → then.corrections.kept ≡ (run_by under kept).numbers.given → Keep (kept ++ entry ∷ []) then.corrections.kept
+kept_after_note under then kept entry note begun some stands numbers =
+    let given : List ℕ → List (Option Given) = λ (struck : List ℕ). (run_by (record { court = under.court; corrections = record { struck = struck; kept = under.corrections.kept } }) kept).numbers.given in
+    keep_more kept entry under.corrections.kept then.corrections.kept begun stands.numbers
+    (subst (λ (n : Option Note). KeepAfter n kept under.corrections.kept then.corrections.kept) (sym some) (under.court, stands.court, numbers ∙ ap given stands.struck))
+
 -- what stands after a later court's file
-stands_after_file : (then : Standing) (kept : List (List ℕ)) (entry later : List ℕ) → 0 < length kept → note_in entry ≡ Some (court_file later) → SaysCourt later then.court → then.corrections ≡ corrections_in kept → StandsAfter (kept ++ entry ∷ []) then
-stands_after_file then kept entry later begun some says same = record {
+stands_after_file : (under then : Standing) (kept : List (List ℕ)) (entry later : List ℕ) → 0 < length kept → note_in entry ≡ Some (court_file later) → StandsAfter kept under → SaysCourt later then.court
+    → then.corrections ≡ corrections_then under kept under.corrections.struck → StandsAfter (kept ++ entry ∷ []) then
+stands_after_file under then kept entry later begun some stands says same = record {
   court = subst (λ (f : List ℕ). SaysCourt f then.court) (sym (standing_file-more kept entry begun ∙ ap (file_with (standing_file kept)) some)) says;
-  corrections = same ∙ sym (corrections_in-more kept entry begun ∙ ap (corrected (corrections_in kept)) some);
+  struck = ap (λ (c : CorrectionsView). c.struck) same ∙ stands.struck ∙ sym (struck_in-more kept entry begun ∙ ap (struck_by (struck_in kept)) some);
+  numbers = kept_after_note under then kept entry (court_file later) begun some stands (ap (λ (c : CorrectionsView). c.kept) same);
 }
 
 -- and after a strike
 stands_after_strike : (under then : Standing) (kept : List (List ℕ)) (entry : List ℕ) (struck : StrikeOf) → 0 < length kept → note_in entry ≡ Some (row_struck struck) → StandsAfter kept under → SaysCourt (standing_file kept) then.court
-    → then.corrections ≡ with_strike under.corrections struck → StandsAfter (kept ++ entry ∷ []) then
+    → then.corrections ≡ corrections_then under kept (struck_with under.corrections.struck struck.row) → StandsAfter (kept ++ entry ∷ []) then
 stands_after_strike under then kept entry struck begun some stands says more = record {
   court = subst (λ (f : List ℕ). SaysCourt f then.court) (sym (standing_file-more kept entry begun ∙ ap (file_with (standing_file kept)) some)) says;
-  corrections = more ∙ ap (λ (c : CorrectionsView). with_strike c struck) stands.corrections ∙ sym (corrections_in-more kept entry begun ∙ ap (corrected (corrections_in kept)) some);
+  struck = ap (λ (c : CorrectionsView). c.struck) more ∙ ap (λ (s : List ℕ). struck_with s struck.row) stands.struck ∙ sym (struck_in-more kept entry begun ∙ ap (struck_by (struck_in kept)) some);
+  numbers = kept_after_note under then kept entry (row_struck struck) begun some stands (ap (λ (c : CorrectionsView). c.kept) more);
 }
 
 -- a line leaves one entry at most
@@ -137,22 +152,22 @@ docketed_row docketed after before entry is none may same stands =
 
 -- and after a later court's file
 pub docketed_file : (docketed after : Docketed) (before : List (List ℕ)) (entry later : List ℕ) → IsDocketed docketed before → note_in entry ≡ Some (court_file later) → SaysCourt later after.standing.court
-    → after.standing.corrections ≡ docketed.standing.corrections → StandsAt after.standing after.register (before ++ entry ∷ []) → IsDocketed after (before ++ entry ∷ [])
+    → after.standing.corrections ≡ corrections_then docketed.standing before docketed.standing.corrections.struck → StandsAt after.standing after.register (before ++ entry ∷ []) → IsDocketed after (before ++ entry ∷ [])
 docketed_file docketed after before entry later is some says same stands =
     let begun = history_begins before is.history in
     let noted : IsSome (note_in entry) = ap is_some some in
     record {
       history = history_more before entry is.history (file_follows after.standing.court before entry later some says);
-      standing = stands_after_file after.standing before entry later begun some says (same ∙ is.standing.corrections);
+      standing = stands_after_file docketed.standing after.standing before entry later begun some is.standing says same;
       stands = record {
         at = stands;
-        before = before-note after.standing.corrections before entry begun noted (ap (λ (c : CorrectionsView). all_before c (next_number before)) same ∙ is.stands.before);
+        before = before-note after.standing.corrections before entry begun noted (ap (λ (c : CorrectionsView). list_all (λ row. nat_lt row (next_number before)) c.struck) same ∙ is.stands.before);
       };
     }
 
 -- what a strike that can be made says of its row
 strikes_before : (kept : List (List ℕ)) (struck : StrikeOf) → can_strike kept struck ≡ true → nat_lt struck.row (next_number kept) ≡ true
-strikes_before kept struck can = by (nat_lt 0 struck.row) (nat_lt struck.row (next_number kept)) (is_struck (corrections_in kept) struck.row) can
+strikes_before kept struck can = by (nat_lt 0 struck.row) (nat_lt struck.row (next_number kept)) (is_among (struck_in kept) struck.row) can
   where
     by : (a b c : Bool) → (a && b && not c) ≡ true → b ≡ true
     by true true c h = refl
@@ -161,7 +176,7 @@ strikes_before kept struck can = by (nat_lt 0 struck.row) (nat_lt struck.row (ne
 
 -- and after a strike
 pub docketed_strike : (docketed after : Docketed) (before : List (List ℕ)) (entry : List ℕ) (struck : StrikeOf) → IsDocketed docketed before → note_in entry ≡ Some (row_struck struck) → can_strike before struck ≡ true
-    → SaysCourt (standing_file before) after.standing.court → after.standing.corrections ≡ with_strike docketed.standing.corrections struck → StandsAt after.standing after.register (before ++ entry ∷ []) → IsDocketed after (before ++ entry ∷ [])
+    → SaysCourt (standing_file before) after.standing.court → after.standing.corrections ≡ corrections_then docketed.standing before (struck_with docketed.standing.corrections.struck struck.row) → StandsAt after.standing after.register (before ++ entry ∷ []) → IsDocketed after (before ++ entry ∷ [])
 docketed_strike docketed after before entry struck is some can says more stands =
     let begun = history_begins before is.history in
     let noted : IsSome (note_in entry) = ap is_some some in
@@ -171,7 +186,7 @@ docketed_strike docketed after before entry struck is some can says more stands 
       stands = record {
         at = stands;
         before = before-note after.standing.corrections before entry begun noted
-            (ap (λ (c : CorrectionsView). all_before c (next_number before)) more ∙ before_strike docketed.standing.corrections struck (next_number before) is.stands.before (strikes_before before struck can));
+            (ap (λ (c : CorrectionsView). list_all (λ row. nat_lt row (next_number before)) c.struck) more ∙ before_strike docketed.standing.corrections.struck struck.row (next_number before) is.stands.before (strikes_before before struck can));
       };
     }
 
@@ -180,7 +195,11 @@ pub first_docketed : (docketed : Docketed) (first : List ℕ) → SaysCourt firs
 unfolding file_after
 first_docketed docketed first says none stands = record {
   history = first_history first docketed.standing.court says;
-  standing = record { court = says; corrections = none ∙ sym (none_corrected first) };
+  standing = record {
+    court = says;
+    struck = ap (λ (c : CorrectionsView). c.struck) none ∙ sym (none_struck first);
+    numbers = subst (Keep (first ∷ [])) (sym (ap (λ (c : CorrectionsView). c.kept) none)) (keep_first first);
+  };
   stands = record { at = stands; before = ap (λ (c : CorrectionsView). all_before c (next_number (first ∷ []))) none };
 }
 
@@ -300,4 +319,4 @@ pub can_is : (docketed : Docketed) (kept : List (List ℕ)) (struck : StrikeOf) 
     → (nat_lt 0 struck.row && nat_lt struck.row docketed.register.number && not (is_struck docketed.standing.corrections struck.row)) ≡ can_strike kept struck
 can_is docketed kept struck is =
     ap (λ (n : ℕ). nat_lt 0 struck.row && nat_lt struck.row n && not (is_struck docketed.standing.corrections struck.row)) is.stands.at.number
-    ∙ ap (λ (c : CorrectionsView). nat_lt 0 struck.row && nat_lt struck.row (next_number kept) && not (is_struck c struck.row)) is.standing.corrections
+    ∙ ap (λ (s : List ℕ). nat_lt 0 struck.row && nat_lt struck.row (next_number kept) && not (is_among s struck.row)) is.standing.struck

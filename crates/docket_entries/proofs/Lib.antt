@@ -1,10 +1,13 @@
 pub mod CallerLemmas
 pub mod ChangeLemmas
 pub mod CaseLemmas
+pub mod DecidedLemmas
 pub mod EntryLemmas
 pub mod ExportLemmas
 pub mod FieldLemmas
+pub mod GivenLemmas
 pub mod HistoryLemmas
+pub mod KeepLemmas
 pub mod LineFaultLemmas
 pub mod ListLemmas
 pub mod NoteLemmas

@@ -7,8 +7,8 @@ use Rattle.durable_journal.specs.Words.{batch_of}
 use Rattle.std.specs.List.{list_all, list_any}
 use Rattle.std.proofs.lemmas.Bool.Decides.{nat_tests}
 use Rattle.row_strikes.specs.declared.strike.Strike.{Strike}
-use Rattle.row_strikes.specs.Words.{CorrectionsView, all_before, is_struck, no_corrections, strike_in, with_strike}
-use Rattle.docket_entries.specs.Entries.{Note, corrected, corrections_after, corrections_in, court_file, file_after, file_with, later_file, next_number, note_in, note_of, row_entries, row_only, row_struck, rows_among, standing_file}
+use Rattle.row_strikes.specs.Words.{CorrectionsView, all_before, is_among, is_struck, strike_in, struck_with}
+use Rattle.docket_entries.specs.Entries.{Note, court_file, file_after, file_with, later_file, next_number, note_in, note_of, row_entries, row_only, row_struck, rows_among, standing_file, struck_after, struck_by, struck_in}
 
 -- what begins with another byte is no court's file and no strike
 pub no_note : (b : ℕ) (bytes : List ℕ) → nat_eq 37 b ≡ false → note_in (b ∷ bytes) ≡ None
@@ -27,7 +27,7 @@ unfolding rows_among
 one_among entry = append-nil (row_only (note_in entry) entry)
 
 -- what comes after the first
-drop_first : (kept : List (List ℕ)) (entry : List ℕ) → 0 < length kept → drop 1 (kept ++ entry ∷ []) ≡ drop 1 kept ++ entry ∷ []
+pub drop_first : (kept : List (List ℕ)) (entry : List ℕ) → 0 < length kept → drop 1 (kept ++ entry ∷ []) ≡ drop 1 kept ++ entry ∷ []
 drop_first [] entry begun = absurd (omega (arith, begun))
 drop_first (first ∷ kept) entry begun = refl
 
@@ -92,26 +92,26 @@ strike_noted entry struck none some = ap (λ (f : Option (List ℕ)). note_of f 
 pub none_noted : (entry : List ℕ) → later_file entry ≡ None → strike_in entry ≡ None → note_in entry ≡ None
 none_noted entry none no_strike = ap (λ (f : Option (List ℕ)). note_of f (strike_in entry)) none ∙ ap (note_of None) no_strike
 
-corrections_after-append : (c : CorrectionsView) (some more : List (List ℕ)) → corrections_after c (some ++ more) ≡ corrections_after (corrections_after c some) more
-unfolding corrections_after
-corrections_after-append c [] more = refl
-corrections_after-append c (entry ∷ some) more = corrections_after-append (corrected c (note_in entry)) some more
+struck_after-append : (struck : List ℕ) (some more : List (List ℕ)) → struck_after struck (some ++ more) ≡ struck_after (struck_after struck some) more
+unfolding struck_after
+struck_after-append struck [] more = refl
+struck_after-append struck (entry ∷ some) more = struck_after-append (struck_by struck (note_in entry)) some more
 
-one_corrected : (c : CorrectionsView) (entry : List ℕ) → corrections_after c (entry ∷ []) ≡ corrected c (note_in entry)
-unfolding corrections_after
-one_corrected c entry = refl
+one_struck : (struck : List ℕ) (entry : List ℕ) → struck_after struck (entry ∷ []) ≡ struck_by struck (note_in entry)
+unfolding struck_after
+one_struck struck entry = refl
 
--- the corrections after one entry more
-pub corrections_in-more : (kept : List (List ℕ)) (entry : List ℕ) → 0 < length kept → corrections_in (kept ++ entry ∷ []) ≡ corrected (corrections_in kept) (note_in entry)
-corrections_in-more kept entry begun =
-    ap (corrections_after no_corrections) (drop_first kept entry begun)
-    ∙ corrections_after-append no_corrections (drop 1 kept) (entry ∷ [])
-    ∙ one_corrected (corrections_in kept) entry
+-- the rows that are struck after one entry more
+pub struck_in-more : (kept : List (List ℕ)) (entry : List ℕ) → 0 < length kept → struck_in (kept ++ entry ∷ []) ≡ struck_by (struck_in kept) (note_in entry)
+struck_in-more kept entry begun =
+    ap (struck_after []) (drop_first kept entry begun)
+    ∙ struck_after-append [] (drop 1 kept) (entry ∷ [])
+    ∙ one_struck (struck_in kept) entry
 
--- none are made by a court's file alone
-pub none_corrected : (first : List ℕ) → corrections_in (first ∷ []) ≡ no_corrections
-unfolding corrections_after
-none_corrected first = refl
+-- none are by a court's file alone
+pub none_struck : (first : List ℕ) → struck_in (first ∷ []) ≡ []
+unfolding struck_after
+none_struck first = refl
 
 -- a row that comes after each that is struck isn't struck
 none_among : (number : ℕ) (rows : List ℕ) → list_all (λ row. nat_lt row number) rows ≡ true → list_any (nat_eq number) rows ≡ false
@@ -150,13 +150,13 @@ all_pushed number (r ∷ rows) row h k = by (nat_lt r number) h (λ rest. all_pu
     by false h rest = cc h
 
 -- and after a strike of a row before
-pub before_strike : (c : CorrectionsView) (struck : Strike) (number : ℕ) → all_before c number ≡ true → nat_lt struck.row number ≡ true → all_before (with_strike c struck) number ≡ true
-unfolding with_strike
-before_strike c struck number h k = by (is_struck c struck.row)
+pub before_strike : (struck : List ℕ) (row number : ℕ) → list_all (λ r. nat_lt r number) struck ≡ true → nat_lt row number ≡ true → list_all (λ r. nat_lt r number) (struck_with struck row) ≡ true
+unfolding struck_with
+before_strike struck row number h k = by (is_among struck row)
   where
-    by : (b : Bool) → list_all (λ r. nat_lt r number) (cond b c.struck (c.struck ++ struck.row ∷ [])) ≡ true
+    by : (b : Bool) → list_all (λ r. nat_lt r number) (cond b struck (struck ++ row ∷ [])) ≡ true
     by true = h
-    by false = all_pushed number c.struck struck.row h k
+    by false = all_pushed number struck row h k
 
 -- entries up to one more of a journal's
 pub take_batch : (entries : List (Vec ℕ Global)) (i : ℕ) (entry : Vec ℕ Global) → i < length entries → entry ≡ get_or entries i entry → batch_of (take (i + 1) entries) ≡ batch_of (take i entries) ++ entry.items ∷ []

@@ -14,8 +14,9 @@ use Rattle.row_line.proofs.CallerLemmas.{says_row}
 use Rattle.office_run.specs.Replies.{docketed_after}
 use Rattle.office_run.specs.Replies.{docketed_then, reply_to}
 use Rattle.office_rows.specs.declared.row.Work.{Work}
-use Rattle.retired_numbers.specs.Words.{numbered}
-use Rattle.retired_numbers.proofs.CallerLemmas.{nothing_changes}
+use Rattle.kept_numbers.specs.declared.moved.Moved.{Moved}
+use Rattle.kept_numbers.specs.Words.{given_by, numbered, placed}
+use Rattle.kept_numbers.proofs.CallerLemmas.{nothing_changes, nothing_moves}
 use Rattle.office_run.specs.Text.{line_of, lines_from, run_text}
 use Rattle.office_run.specs.Words.{closing_text}
 use Rattle.durable_session.specs.Taken.{left_by, told_to}
@@ -25,13 +26,14 @@ use Rattle.named_answers.specs.Words.{named_line_of}
 use Rattle.named_answers.proofs.CallerLemmas.{without_names_as_before_lem}
 use Rattle.docket_entries.specs.CaseLines.{Reading, as_it_is, lacks_third}
 use Rattle.docket_entries.specs.Cases.{cases_after, cases_of, opened_in, with_opened}
-use Rattle.docket_entries.specs.Entries.{most_clerks, most_entries, next_number, rows_among}
+use Rattle.docket_entries.specs.Entries.{most_clerks, most_entries, next_number, row_entries, rows_among}
 use Rattle.docket_entries.specs.Laws.{AnswersAreTheRuns, HasNoFault, plain}
-use Rattle.docket_entries.specs.Rows.{answer_to, answers, docketed_by, docketed_with, entry_of, leaves, left_of, plain_answers, plain_leaves, reading_at, reply_under, row_in, rows_in, rows_under, told_of, with_name, within}
+use Rattle.docket_entries.specs.Rows.{answer_to, answers, entry_of, leaves, left_of, plain_answers, plain_leaves, reading_at, row_in, rows_in, told_of, with_name, within}
+use Rattle.docket_entries.specs.Run.{Run, docketed_by, docketed_with, numbers_with, opening_run, reply_by_places, reply_under, run_after, run_by, run_entry, run_said}
 use Rattle.docket_entries.proofs.CaseLemmas.{cases_of-live, reads_itself}
 use Rattle.docket_entries.proofs.EntryLemmas.{is_no_note, its_name, past_its_name, says_its_row}
 use Rattle.docket_entries.proofs.ListLemmas.{next_number-row}
-use Rattle.docket_entries.proofs.RegisterLemmas.{docketed_by-more}
+use Rattle.docket_entries.proofs.DecidedLemmas.{first_run, run_by-more}
 
 -- what lines are answered after entries, and the docket after them, are those of their rows
 pub record IsRun (court : CourtView) (kept lines : List (List ℕ)) : Type 0 where
@@ -65,22 +67,44 @@ blank_run court kept lines bytes blank run =
           ∙ ap (docketed_after (setup_of court) (docketed_by (plain court) kept)) (sym rows);
     }
 
--- where nothing is retired a row is decided as it is, and its reply stays
-then_plain : (court : CourtView) (docketed : Rows) (work : Work) → docketed_with (plain court) docketed work ≡ docketed_then (setup_of court) docketed work
-then_plain court docketed work = ap (docketed_then (setup_of court) docketed) (nothing_changes work (reply_to (setup_of court) docketed work)).0
+-- where all is at its place a row is decided as it is, and its reply stays
+then_plain : (court : CourtView) (run : Run) (work : Work) → run.numbers.moved ≡ [] → docketed_with (plain court) run work ≡ docketed_then (setup_of court) run.docketed work
+then_plain court run work none = ap (λ (m : List Moved). docketed_then (setup_of court) run.docketed (placed m work)) none ∙ ap (docketed_then (setup_of court) run.docketed) (nothing_changes work (reply_to (setup_of court) run.docketed work)).0
 
-reply_plain : (court : CourtView) (docketed : Rows) (work : Work) → reply_under (plain court) docketed work ≡ reply_to (setup_of court) docketed work
-reply_plain court docketed work =
-    let same = nothing_changes work (reply_to (setup_of court) docketed work) in
-    ap (λ (w : Work). numbered [] work (reply_to (setup_of court) docketed w)) same.0 ∙ same.1
+-- nothing moves after it
+moved_plain : (court : CourtView) (run : Run) (number : ℕ) (work : Work) → run.numbers.moved ≡ [] → (numbers_with (plain court) run number work).moved ≡ []
+moved_plain court run number work none = nothing_moves run.numbers number (given_by work (reply_by_places (plain court) run.docketed run.numbers work)) none
+
+reply_plain : (court : CourtView) (run : Run) (number : ℕ) (work : Work) → run.numbers.moved ≡ [] → reply_under (plain court) run number work ≡ reply_to (setup_of court) run.docketed work
+reply_plain court run number work none =
+    let same = nothing_changes work (reply_to (setup_of court) run.docketed work) in
+    ap (λ (m : List Moved). numbered m work (reply_by_places (plain court) run.docketed run.numbers work)) (moved_plain court run number work none)
+    ∙ ap (λ (m : List Moved). numbered [] work (reply_to (setup_of court) run.docketed (placed m work))) none
+    ∙ ap (λ (w : Work). numbered [] work (reply_to (setup_of court) run.docketed w)) same.0 ∙ same.1
+
+-- so all rows are decided as they are
+entry_plain : (court : CourtView) (run : Run) (number : ℕ) (said : Line) → run.numbers.moved ≡ [] → (run_said (plain court) run number said).numbers.moved ≡ []
+entry_plain court run number line.Blank none = none
+entry_plain court run number (line.Fault cause) none = none
+entry_plain court run number (line.Row row) none = moved_plain court run number row.work none
+
+after_plain : (court : CourtView) (run : Run) (number : ℕ) (entries : List (List ℕ)) → run.numbers.moved ≡ [] → (run_after (plain court) run number entries).numbers.moved ≡ []
+unfolding run_after
+after_plain court run number [] none = none
+after_plain court run number (entry ∷ entries) none =
+    after_plain court (run_entry (plain court) run number entry) (number + 1) entries (entry_plain court run number (line_read most_clerks (names_of court) (after_name entry)) none)
+
+pub all_plain : (court : CourtView) (kept : List (List ℕ)) → (run_by (plain court) kept).numbers.moved ≡ []
+unfolding run_by
+all_plain court kept = after_plain court (opening_run (plain court)) 1 (row_entries kept) refl
 
 -- what a row is answered where no case has a name
 no_names_answer : (court : CourtView) (kept : List (List ℕ)) (row : Row) → (cases_of (plain court) kept).named ≡ [] → answer_to (plain court) kept row ≡ line_of court (next_number kept) row.clerk (reply_to (setup_of court) (docketed_by (plain court) kept) row.work)
 unfolding answer_to
 no_names_answer court kept row none =
     let reply = reply_to (setup_of court) (docketed_by (plain court) kept) row.work in
-    ap (λ (n : List NamedCase). named_line_of court n (next_number kept) row.clerk (reply_under (plain court) (docketed_by (plain court) kept) row.work)) none
-    ∙ ap (named_line_of court [] (next_number kept) row.clerk) (reply_plain court (docketed_by (plain court) kept) row.work)
+    ap (λ (n : List NamedCase). named_line_of court n (next_number kept) row.clerk (reply_under (plain court) (run_by (plain court) kept) (next_number kept) row.work)) none
+    ∙ ap (named_line_of court [] (next_number kept) row.clerk) (reply_plain court (run_by (plain court) kept) (next_number kept) row.work (all_plain court kept))
     ∙ without_names_as_before_lem court (next_number kept) row.clerk reply
 
 -- and it leaves none
@@ -100,7 +124,7 @@ row_run court kept lines bytes row begun room said names run =
     let none = is_no_note (names_of court) (fields_read bytes) row (answer_to (plain court) kept row) spelled in
     let reads : line_read most_clerks (names_of court) (after_name entry) ≡ line.Row row =
     ap (line_read most_clerks (names_of court)) (past_its_name (names_of court) (fields_read bytes) row (answer_to (plain court) kept row) spelled None tt) ∙ says_its_row (names_of court) (fields_read bytes) row (answer_to (plain court) kept row) spelled in
-    let after = docketed_by-more (plain court) kept entry row begun none refl reads ∙ then_plain court (docketed_by (plain court) kept) row.work in
+    let after = ap (λ (r : Run). r.docketed) (run_by-more (plain court) kept entry row begun none refl reads) ∙ then_plain court (run_by (plain court) kept) row.work (all_plain court kept) in
     let number = next_number-row kept entry begun none in
     let is : within kept (line_read most_clerks (names_of court) bytes) ≡ line.Row row = ap (within kept) said ∙ rw room refl in
     let left : leaves (plain court) kept bytes ≡ entry ∷ [] = ap (λ (r : Reading). with_name r.name (plain_leaves (plain court) kept r.text)) as_is ∙ ap (λ (l : Line). with_name None (left_of (plain court) kept (fields_read bytes) l)) is in
@@ -162,8 +186,7 @@ no_names_first court file = refl
 
 -- the docket before the first row
 opening : (court : CourtView) (file : List ℕ) → docketed_by (plain court) (file ∷ []) ≡ opening_rows (setup_of court)
-unfolding docketed_by rows_under docketed_after rows_among
-opening court file = refl
+opening court file = ap (λ (r : Run). r.docketed) (first_run (plain court) file)
 
 pub first_number : (file : List ℕ) → next_number (file ∷ []) ≡ 1
 unfolding rows_among

@@ -2,7 +2,7 @@
 use Rattle.std.specs.Prelude.{ℕ, ◌+◌, ◌&&◌, Bool, not, List, [], ◌∷◌, ◌++◌, codes, drop, length, nat_eq, nat_lt, Option, Some, None, if◌then◌else◌}
 use Rattle.std.specs.List.{starts_with}
 use Rattle.row_strikes.specs.declared.strike.Strike.{Strike}
-use Rattle.row_strikes.specs.Words.{CorrectionsView, is_struck, no_corrections, strike_in, with_strike}
+use Rattle.row_strikes.specs.Words.{is_among, strike_in, struck_with}
 
 -- how many entries a journal has at most
 abbrev pub most_entries : ℕ
@@ -50,20 +50,20 @@ abbrev pub standing_file : (kept : List (List ℕ)) → List ℕ
 standing_file [] = []
 standing_file (file ∷ later) = file_after file later
 
--- the corrections after a note
-abbrev pub corrected : CorrectionsView → Option Note → CorrectionsView
-corrected corrections None = corrections
-corrected corrections (Some (court_file later)) = corrections
-corrected corrections (Some (row_struck struck)) = with_strike corrections struck
+-- the rows that are struck after a note
+abbrev pub struck_by : (struck : List ℕ) → Option Note → List ℕ
+struck_by struck None = struck
+struck_by struck (Some (court_file later)) = struck
+struck_by struck (Some (row_struck strike)) = struck_with struck strike.row
 
--- the corrections after later entries, where these were made before them
-unfoldable pub corrections_after : CorrectionsView → (later : List (List ℕ)) → CorrectionsView
-corrections_after corrections [] = corrections
-corrections_after corrections (entry ∷ later) = corrections_after (corrected corrections (note_in entry)) later
+-- the rows that are struck after later entries, where these were struck before them
+unfoldable pub struck_after : (struck : List ℕ) → (later : List (List ℕ)) → List ℕ
+struck_after struck [] = struck
+struck_after struck (entry ∷ later) = struck_after (struck_by struck (note_in entry)) later
 
--- the corrections that entries make, of which the first is a court's file as it is
-abbrev pub corrections_in : (kept : List (List ℕ)) → CorrectionsView
-corrections_in kept = corrections_after no_corrections (drop 1 kept)
+-- the rows that entries strike, of which the first is a court's file as it is
+abbrev pub struck_in : (kept : List (List ℕ)) → List ℕ
+struck_in kept = struck_after [] (drop 1 kept)
 
 -- an entry that is a row
 abbrev pub row_only : Option Note → (entry : List ℕ) → List (List ℕ)
@@ -85,4 +85,4 @@ next_number kept = length (row_entries kept) + 1
 
 -- a strike may follow: its row was entered, and isn't struck yet
 abbrev pub can_strike : (kept : List (List ℕ)) → Strike → Bool
-can_strike kept struck = nat_lt 0 struck.row && nat_lt struck.row (next_number kept) && not (is_struck (corrections_in kept) struck.row)
+can_strike kept struck = nat_lt 0 struck.row && nat_lt struck.row (next_number kept) && not (is_among (struck_in kept) struck.row)

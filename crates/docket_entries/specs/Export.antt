@@ -9,8 +9,8 @@ use Rattle.docket_rows.specs.declared.command.Command.TheVariants.{Book, Cancel,
 use Rattle.office_rows.specs.declared.row.Work.{Work}
 use Rattle.office_rows.specs.declared.row.Work.TheVariants.{Command, Query}
 use Rattle.office_rows.specs.Words.{names_of}
-use Rattle.retired_numbers.specs.declared.retired.Retired.{Retired}
-use Rattle.retired_numbers.specs.Words.{placed}
+use Rattle.kept_numbers.specs.declared.moved.Moved.{Moved}
+use Rattle.kept_numbers.specs.Words.{placed}
 use Rattle.row_line.specs.declared.line.Line.{Line}
 use Rattle.row_line.specs.declared.line.Line.TheVariants as line
 use Rattle.row_line.specs.Words.{fields_read, line_read}
@@ -32,7 +32,7 @@ number_asked (Command command) = number_in command
 number_asked (Query query) = None
 
 -- A row with these fields that names this number, where what has the number is at this place: with the place in the fourth
--- field, where it is another. A number that is retired has no place, and its row, which was refused, is left out.
+-- field, where it is another. A number that nothing has is at no place, and its row, which was refused, is left out.
 abbrev pub row_placed : (number place : Option ℕ) → (fields : List (List ℕ)) → List ℕ
 row_placed None place fields = row_text default_writer fields
 row_placed (Some number) None fields = row_text default_writer fields
@@ -42,21 +42,21 @@ row_placed (Some number) (Some place) fields =
     else row_text default_writer (take 3 fields ++ decimal place ∷ drop 4 fields)
 
 -- what is written of a line that says this
-abbrev pub said_placed : List Retired → Line → (fields : List (List ℕ)) → List ℕ
-said_placed retired line.Blank fields = []
-said_placed retired (line.Fault cause) fields = []
-said_placed retired (line.Row row) fields = row_placed (number_asked row.work) (number_asked (placed retired row.work)) fields
+abbrev pub said_placed : List Moved → Line → (fields : List (List ℕ)) → List ℕ
+said_placed moved line.Blank fields = []
+said_placed moved (line.Fault cause) fields = []
+said_placed moved (line.Row row) fields = row_placed (number_asked row.work) (number_asked (placed moved row.work)) fields
 
--- what is written of the row of that number, whose entry this is
-unfoldable pub row_written : Standing → (number : ℕ) → (entry : List ℕ) → List ℕ
-row_written under number entry =
+-- what is written of the row of that number, whose entry this is, where this is what isn't at the place of its number
+unfoldable pub row_written : Standing → List Moved → (number : ℕ) → (entry : List ℕ) → List ℕ
+row_written under moved number entry =
     if is_struck under.corrections number then []
-    else said_placed under.corrections.retired (line_read most_clerks (names_of under.court) (after_name entry)) (fields_read (after_name entry))
+    else said_placed moved (line_read most_clerks (names_of under.court) (after_name entry)) (fields_read (after_name entry))
 
 -- what is written of rows, of which the first has this number
-unfoldable pub rows_written : Standing → (number : ℕ) → (entries : List (List ℕ)) → List ℕ
-rows_written under number [] = []
-rows_written under number (entry ∷ entries) = row_written under number entry ++ rows_written under (number + 1) entries
+unfoldable pub rows_written : Standing → List Moved → (number : ℕ) → (entries : List (List ℕ)) → List ℕ
+rows_written under moved number [] = []
+rows_written under moved number (entry ∷ entries) = row_written under moved number entry ++ rows_written under moved (number + 1) entries
 
 -- the row with which an entry begins, as CSV
 abbrev pub shown_as : Line → (fields : List (List ℕ)) → List ℕ

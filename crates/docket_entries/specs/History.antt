@@ -1,18 +1,37 @@
 -- A journal's entries as a history: each row was answered under what stood at its time.
-use Rattle.std.specs.Prelude.{◌≡◌, ⊤, ℕ, true, List, [], ◌∷◌, ◌++◌, Option, Some, None, Ok}
+use Rattle.std.specs.Prelude.{◌≡◌, ⊤, ℕ, true, List, [], ◌∷◌, ◌++◌, Option, Some, None, Ok, drop, take}
 use Rattle.court_days.specs.Words.{CourtView, court_in, file_of}
+use Rattle.kept_numbers.specs.declared.given.Given.{Given}
 use Rattle.docket_entries.specs.declared.standing.Standing.{Standing}
-use Rattle.docket_entries.specs.Entries.{Note, can_strike, corrections_in, court_file, note_in, row_struck, standing_file}
+use Rattle.docket_entries.specs.Entries.{Note, can_strike, court_file, note_in, row_struck, standing_file, struck_in}
 use Rattle.docket_entries.specs.Rows.{follows}
+use Rattle.docket_entries.specs.Run.{run_by}
 
 -- a file says this court
 abbrev pub SaysCourt : (file : List ℕ) → CourtView → Type 0
 SaysCourt file court = court_in file ≡ Ok (file_of court)
 
--- what stands after entries: the court of the file, and the corrections
+-- Rows keep these numbers after an entry that is this note, where they kept those before it: each that the docket has given by
+-- then, by the court that stands there.
+abbrev pub KeepAfter : Option Note → (kept : List (List ℕ)) → (before after : List (Option Given)) → Type 0
+KeepAfter None kept before after = after ≡ before
+KeepAfter (Some note) kept before after =
+    (court : CourtView) × SaysCourt (standing_file kept) court × (after ≡ (run_by (record { court = court; corrections = record { struck = struck_in kept; kept = before } }) kept).numbers.given)
+
+-- and after later entries
+unfoldable pub KeepOn : (kept later : List (List ℕ)) → (before after : List (Option Given)) → Type 0
+KeepOn kept [] before after = after ≡ before
+KeepOn kept (entry ∷ later) before after = (between : List (Option Given)) × KeepAfter (note_in entry) kept before between × KeepOn (kept ++ entry ∷ []) later between after
+
+-- rows keep these numbers after entries, of which the first is a court's file as it is
+abbrev pub Keep : (kept : List (List ℕ)) → List (Option Given) → Type 0
+Keep kept numbers = KeepOn (take 1 kept) (drop 1 kept) [] numbers
+
+-- what stands after entries: the court of the file, the rows that are struck, and the numbers that rows keep
 pub record StandsAfter (kept : List (List ℕ)) (under : Standing) : Type 0 where
   pub court : SaysCourt (standing_file kept) under.court
-  pub corrections : under.corrections ≡ corrections_in kept
+  pub struck : under.corrections.struck ≡ struck_in kept
+  pub numbers : Keep kept under.corrections.kept
 
 -- An entry that may follow others: a later court's file, a strike of a row that was entered and isn't struck yet, or a row with
 -- the answer that it gets under what stands.

@@ -1,5 +1,5 @@
 -- What these definitions come to.
-use Rattle.std.specs.Prelude.{◌≡◌, ◌≢◌, ◌<◌, ⊤, ℕ, true, false, List, [], ◌∷◌, ◌++◌, length, map, None, All}
+use Rattle.std.specs.Prelude.{◌≡◌, ◌≢◌, ◌<◌, ⊤, ℕ, true, false, List, [], ◌∷◌, ◌++◌, Option, length, map, None, Some, All}
 use Rattle.case_numbers.specs.Words.{AreApart, after_name}
 use Rattle.court_days.specs.Words.{CourtView}
 use Rattle.docket_rows.specs.Words.{parts_of}
@@ -12,9 +12,12 @@ use Rattle.durable_session.specs.Words.{left_by, told_to}
 use Rattle.row_strikes.specs.Words.{is_struck, no_corrections}
 use Rattle.docket_entries.specs.Cases.{cases_of}
 use Rattle.docket_entries.specs.CaseLines.{as_it_is, lacks_third}
+use Rattle.kept_numbers.specs.declared.given.Given.{Given}
+use Rattle.kept_numbers.specs.Words.{kept_of}
 use Rattle.docket_entries.specs.declared.standing.Standing.{Standing}
 use Rattle.docket_entries.specs.Entries.{most_clerks, most_entries, next_number, note_in}
-use Rattle.docket_entries.specs.Rows.{answers, docketed_by, follows, leaves, reading_at, rows_in}
+use Rattle.docket_entries.specs.Rows.{answers, follows, leaves, reading_at, rows_in}
+use Rattle.docket_entries.specs.Run.{docketed_by, run_by}
 use Rattle.docket_entries.specs.Export.{row_written, shown_as}
 use Rattle.docket_entries.specs.History.{IsHistory, StandsAfter}
 use Rattle.docket_entries.specs.LineFaults.{faults_of}
@@ -67,4 +70,14 @@ AStruckRowIsLeftOut = (under : Standing) (kept : List (List ℕ)) (entry : List 
 
 -- With nothing struck, each row is written as it is in its entry.
 abbrev pub RowsAreWrittenAsTheyAre : Type 0
-RowsAreWrittenAsTheyAre = (court : CourtView) (number : ℕ) (entry : List ℕ) → row_written (plain court) number entry ≡ shown_as (line_read most_clerks (names_of court) (after_name entry)) (fields_read (after_name entry))
+RowsAreWrittenAsTheyAre = (court : CourtView) (number : ℕ) (entry : List ℕ) → row_written (plain court) [] number entry ≡ shown_as (line_read most_clerks (names_of court) (after_name entry)) (fields_read (after_name entry))
+
+-- a row gives this number
+abbrev pub KeepsNumber : Given → Option Given → Type 0
+KeepsNumber own None = ⊥
+KeepsNumber own (Some given) = given.number ≡ own.number
+
+-- Each row has the number that it keeps, whatever is struck and whichever court's file stands: one that gave a number before the
+-- last correction gives it to what it starts or enters, or, where it is struck or refused now, goes on keeping it.
+abbrev pub RowsKeepTheirNumbers : Type 0
+RowsKeepTheirNumbers = (under : Standing) (kept : List (List ℕ)) (row : ℕ) (own : Given) → 0 < row → row < next_number kept → kept_of under.corrections.kept row ≡ Some own → KeepsNumber own (kept_of (run_by under kept).numbers.given row)

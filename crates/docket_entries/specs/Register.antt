@@ -14,11 +14,13 @@ use Rattle.docket_entries.specs.declared.register.DocketRegister.{DocketRegister
 use Rattle.docket_entries.specs.declared.standing.Standing.{Standing}
 use Rattle.docket_entries.specs.Cases.{cases_of, opened_as, with_opened}
 use Rattle.docket_entries.specs.Entries.{most_clerks, most_entries, next_number}
-use Rattle.docket_entries.specs.Rows.{answer_to, docketed_by, docketed_with, entry_of, reading_at, within}
+use Rattle.docket_entries.specs.Rows.{answer_to, entry_of, reading_at, within}
+use Rattle.docket_entries.specs.Run.{docketed_by, docketed_with, numbers_with, run_by}
 
--- its docket and its cases are those of the entries under what stands, and it counts them and their rows
+-- its docket, its numbers and its cases are those of the entries under what stands, and it counts them and their rows
 pub record StandsAt (under : Standing) (register : DocketRegister) (kept : List (List ℕ)) : Type 0 where
   pub docket : Holds (setup_of under.court) register.docket (docketed_by under kept)
+  pub numbers : register.numbers ≡ (run_by under kept).numbers
   pub cases : register.cases ≡ cases_of under kept
   pub number : register.number ≡ next_number kept
   pub count : register.count ≡ length kept
@@ -30,11 +32,12 @@ pub record IsReadyAt (under : Standing) (register : DocketRegister) (kept : List
   pub at : StandsAt under register kept
   pub before : all_before under.corrections (next_number kept) ≡ true
 
--- a row is done: this is its answer and its entry, and the docket and the cases are those after it
+-- a row is done: this is its answer and its entry, and the docket, the numbers and the cases are those after it
 pub record IsDone (under : Standing) (kept : List (List ℕ)) (fields : List (List ℕ)) (row : Row) (name : Option NameView) (register : DocketRegister) (made : String Global × Vec ℕ Global) : Type 0 where
   pub answer : string_bytes made.0 ≡ answer_to under kept row
   pub entry : made.1.items ≡ name_line name ++ entry_of under kept fields row
-  pub docket : Holds (setup_of under.court) register.docket (docketed_with under (docketed_by under kept) row.work)
+  pub docket : Holds (setup_of under.court) register.docket (docketed_with under (run_by under kept) row.work)
+  pub numbers : register.numbers ≡ numbers_with under (run_by under kept) (next_number kept) row.work
   pub cases : register.cases ≡ with_opened (cases_of under kept) (opened_as row.work) name
   pub number : register.number ≡ next_number kept + 1
   pub count : register.count ≡ length kept + 1

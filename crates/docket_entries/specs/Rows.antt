@@ -1,27 +1,21 @@
--- What rows leave in a journal and what they are answered, under what stands; and the docket that entries come to.
-use Rattle.std.specs.Prelude.{◌≡◌, ◌+◌, ℕ, List, [], ◌∷◌, ◌++◌, Option, length, map, nat_lt, if◌then◌else◌}
+-- What rows leave in a journal and what they are answered, under what stands.
+use Rattle.std.specs.Prelude.{◌≡◌, ℕ, List, [], ◌∷◌, ◌++◌, Option, length, map, nat_lt, if◌then◌else◌}
 use Rattle.csv.specs.Writing.{default_writer, row_text}
 use Rattle.case_numbers.specs.Words.{NameView, after_name, name_before, name_line}
-use Rattle.docket_rows.specs.Words.{Rows, setup_of, opening_rows}
 use Rattle.office_rows.specs.declared.fault.RowCause.TheVariants.{TooManyRows}
 use Rattle.row_line.specs.declared.line.Line.{Line}
 use Rattle.row_line.specs.declared.line.Line.TheVariants as line
 use Rattle.office_rows.specs.declared.row.Row.{Row}
-use Rattle.office_rows.specs.declared.row.Work.{Work}
 use Rattle.office_rows.specs.Words.{CourtNames, names_of}
 use Rattle.row_line.specs.Words.{fields_read, line_read}
-use Rattle.office_run.specs.declared.reply.Reply.{Reply}
-use Rattle.office_run.specs.Words.{docketed_after, docketed_then, reply_to}
-use Rattle.retired_numbers.specs.declared.retired.Retired.{Retired}
-use Rattle.retired_numbers.specs.Words.{numbered, placed}
-use Rattle.row_strikes.specs.Words.{is_struck}
 use Rattle.named_answers.specs.Words.{named_line_of}
 use Rattle.office_streams.specs.declared.fault.OfficeFault.TheVariants.{Row as RowFault}
 use Rattle.office_streams.specs.Words.{told_line}
 use Rattle.docket_entries.specs.declared.standing.Standing.{Standing}
 use Rattle.docket_entries.specs.Cases.{cases_of}
 use Rattle.docket_entries.specs.CaseLines.{Reading, reading_of}
-use Rattle.docket_entries.specs.Entries.{most_clerks, most_entries, next_number, row_entries}
+use Rattle.docket_entries.specs.Entries.{most_clerks, most_entries, next_number}
+use Rattle.docket_entries.specs.Run.{reply_under, run_by}
 
 -- the row of a line that says one
 abbrev pub row_in : Line → List Row
@@ -34,33 +28,6 @@ unfoldable pub rows_in : CourtNames → List (List ℕ) → List Row
 rows_in names [] = []
 rows_in names (entry ∷ entries) = row_in (line_read most_clerks names entry) ++ rows_in names entries
 
--- a row with the places of what it names
-abbrev pub placed_row : List Retired → Row → Row
-placed_row retired row = record row { work = placed retired row.work }
-
--- the row of the entry of that number, unless it is struck
-abbrev pub row_under : Standing → (number : ℕ) → (entry : List ℕ) → List Row
-row_under under number entry =
-    if is_struck under.corrections number then []
-    else map (placed_row under.corrections.retired) (row_in (line_read most_clerks (names_of under.court) (after_name entry)))
-
--- the rows of entries, of which the first has this number
-unfoldable pub rows_under : Standing → (number : ℕ) → (entries : List (List ℕ)) → List Row
-rows_under under number [] = []
-rows_under under number (entry ∷ entries) = row_under under number entry ++ rows_under under (number + 1) entries
-
--- what is docketed after entries: all their rows but those that are struck are decided by one court, from the first on
-unfoldable pub docketed_by : Standing → (kept : List (List ℕ)) → Rows
-docketed_by under kept = docketed_after (setup_of under.court) (opening_rows (setup_of under.court)) (rows_under under 1 (row_entries kept))
-
--- what is docketed after what a row asks for
-abbrev pub docketed_with : Standing → (docketed : Rows) → Work → Rows
-docketed_with under docketed asked = docketed_then (setup_of under.court) docketed (placed under.corrections.retired asked)
-
--- the reply to it, with numbers
-abbrev pub reply_under : Standing → (docketed : Rows) → Work → Reply
-reply_under under docketed asked = numbered under.corrections.retired asked (reply_to (setup_of under.court) docketed (placed under.corrections.retired asked))
-
 -- What a line says after entries: where there are as many as a journal has, a row is one too many.
 abbrev pub within : (kept : List (List ℕ)) → Line → Line
 within kept line.Blank = line.Blank
@@ -69,7 +36,7 @@ within kept (line.Row row) = if nat_lt (length kept) most_entries then line.Row 
 
 -- what a row is answered, with the names that cases have by then
 unfoldable pub answer_to : Standing → (kept : List (List ℕ)) → Row → List ℕ
-answer_to under kept row = named_line_of under.court (cases_of under kept).named (next_number kept) row.clerk (reply_under under (docketed_by under kept) row.work)
+answer_to under kept row = named_line_of under.court (cases_of under kept).named (next_number kept) row.clerk (reply_under under (run_by under kept) (next_number kept) row.work)
 
 -- its entry: the row as CSV, from its fields, and then the answer
 abbrev pub entry_of : Standing → (kept : List (List ℕ)) → (fields : List (List ℕ)) → Row → List ℕ

@@ -1,20 +1,21 @@
 -- The words for the crates above, from one place.
-pub use Rattle.docket_entries.specs.Entries.{Note, can_strike, corrected, corrections_in, court_file, court_line, file_with, most_clerks, later_file, most_entries, next_number, note_in, note_of, row_entries, row_only, row_struck, standing_file}
-pub use Rattle.docket_entries.specs.Rows.{docketed_with, entry_of, follows, placed_row, reading_at, reply_under, row_under, with_name, within}
-unfoldable pub use Rattle.docket_entries.specs.Rows.{answer_to, answers, docketed_by, leaves, plain_answers, plain_leaves, rows_in, rows_under}
+pub use Rattle.docket_entries.specs.Entries.{Note, can_strike, court_file, court_line, file_with, most_clerks, later_file, most_entries, next_number, note_in, note_of, row_entries, row_only, row_struck, standing_file, struck_in}
+pub use Rattle.docket_entries.specs.Run.{Run, corrections_then, docketed_by, docketed_with, numbers_with, reply_under}
+unfoldable pub use Rattle.docket_entries.specs.Run.{run_by}
+pub use Rattle.docket_entries.specs.Rows.{entry_of, follows, reading_at, with_name, within}
+unfoldable pub use Rattle.docket_entries.specs.Rows.{answer_to, answers, leaves, plain_answers, plain_leaves, rows_in}
 unfoldable pub use Rattle.docket_entries.specs.Cases.{cases_of}
 pub use Rattle.docket_entries.specs.CaseLines.{Reading, as_it_is, lacks_third}
 unfoldable pub use Rattle.docket_entries.specs.CaseLines.{reading_of}
-pub use Rattle.docket_entries.specs.History.{IsHistory, SaysCourt, StandsAfter}
+pub use Rattle.docket_entries.specs.History.{IsHistory, Keep, SaysCourt, StandsAfter}
 pub use Rattle.docket_entries.specs.Register.{IsReadyAt, StandsAt}
 pub use Rattle.docket_entries.specs.Differences.{Change, change_in, changes_by}
 pub use Rattle.docket_entries.specs.Docketed.{HasHistoryFault, IsDocketed}
-pub use Rattle.docket_entries.specs.Laws.{ACaseNumberIsOneCase, AStruckRowIsLeftOut, AnswersAreTheRuns, FaultlessLinesSayRows, OtherLinesAreReadAsTheyAre, RowsAreWrittenAsTheyAre, WhatIsLeftFollows, WhatIsLeftIsHistory, plain}
+pub use Rattle.docket_entries.specs.Laws.{ACaseNumberIsOneCase, AStruckRowIsLeftOut, AnswersAreTheRuns, FaultlessLinesSayRows, OtherLinesAreReadAsTheyAre, RowsAreWrittenAsTheyAre, RowsKeepTheirNumbers, WhatIsLeftFollows, WhatIsLeftIsHistory, plain}
 unfoldable pub use Rattle.docket_entries.specs.Laws.{AllSayRows}
 pub use Rattle.docket_entries.specs.Questions.{AsksOf, command_text}
 unfoldable pub use Rattle.docket_entries.specs.Questions.{shown}
 pub use Rattle.docket_entries.specs.LineFaults.{FaultyLine, fault_in}
 unfoldable pub use Rattle.docket_entries.specs.LineFaults.{faults_of}
-pub use Rattle.docket_entries.specs.Striking.{docketed_before, strike_as, strike_before, strike_said}
 unfoldable pub use Rattle.docket_entries.specs.Striking.{strike_for}
 unfoldable pub use Rattle.docket_entries.specs.Export.{row_written, rows_written}

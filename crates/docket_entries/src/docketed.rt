@@ -2,10 +2,11 @@
 ghost use Rattle.std.specs.Prelude.{◌≡◌, ◌<◌, ◌≤◌, ◌+◌, ◌&&◌, ◌++◌, ◌∷◌, [], ℕ, false, List, length, nat_lt, not, take, None, Some, IfErr, IfOk, OnOk};
 ghost use Rattle.durable_journal.specs.Words.{batch_of};
 ghost use Rattle.docket_entries.specs.Entries.{later_file, most_entries, note_in, row_struck};
-ghost use Rattle.row_strikes.specs.Words.{is_struck, no_corrections};
+ghost use Rattle.row_strikes.specs.Words.{is_struck, no_corrections, struck_with};
 ghost use Rattle.docket_entries.specs.Register.{StandsAt};
 ghost use Rattle.docket_entries.specs.Docketed.{IsBadFile};
 ghost use Rattle.docket_entries.specs.History.{SaysCourt};
+ghost use Rattle.docket_entries.specs.Run.{corrections_then};
 
 use crate::entry::later_file;
 use crate::fault::HistoryFault;
@@ -65,6 +66,27 @@ impl Docketed {
         Ok(docketed)
     }
 
+    // The corrections with one strike more.
+    fn corrected(&self, alloc: Global, strike: &Strike) -> Result<Corrections, AllocError>
+        ensures { (kept : List (List ℕ)) → StandsAt self.now.standing self.now.register kept → IfOk result (λ corrections. corrections ≡ corrections_then self.now.standing kept (struck_with self.now.standing.corrections.struck strike.now.row)) }
+    {
+        let mut corrections = self.register.corrections(alloc, &self.standing)?;
+        corrections.strike(strike.row)?;
+        Ok(corrections)
+    }
+
+    // Decides all rows of these entries again under what stands.
+    fn decide(&mut self, alloc: Global, entries: &[Vec<u8>]) -> Result<(), AllocError>
+        requires some { 0 < length entries.now }
+        requires few { length entries.now ≤ most_entries }
+        ensures standing { self.new.standing ≡ self.old.standing }
+        ensures stands { OnOk result (StandsAt self.old.standing self.new.register (batch_of entries.now)) }
+    {
+        let Review { register, .. } = decided_again(alloc, &self.standing, entries)?;
+        drop(mem::replace(&mut self.register, register));
+        Ok(())
+    }
+
     // Goes by a later court's file from here on, which is in the last of these entries: their rows are decided again.
     fn change(
         &mut self,
@@ -79,13 +101,9 @@ impl Docketed {
         ensures cause { IfErr result (IsBadFile file.now (length entries.now)) }
     {
         let court = court_of(alloc, file, entries.len() as u32)?;
-        let standing = Standing {
-            court,
-            corrections: self.standing.corrections.copy(alloc)?,
-        };
-        let Review { register, .. } = decided_again(alloc, &standing, entries)?;
-        drop(mem::replace(&mut self.standing, standing));
-        drop(mem::replace(&mut self.register, register));
+        let corrections = self.register.corrections(alloc, &self.standing)?;
+        drop(mem::replace(&mut self.standing, Standing { court, corrections }));
+        self.decide(alloc, entries)?;
         Ok(())
     }
 
@@ -115,9 +133,9 @@ impl Docketed {
         if !self.can_strike(&strike) {
             return Err(HistoryFault::Strike(entries.len() as u32));
         }
-        self.standing.corrections.add(strike)?;
-        let Review { register, .. } = decided_again(alloc, &self.standing, entries)?;
-        drop(mem::replace(&mut self.register, register));
+        let corrections = self.corrected(alloc, &strike)?;
+        drop(mem::replace(&mut self.standing.corrections, corrections));
+        self.decide(alloc, entries)?;
         Ok(())
     }
 

@@ -9,8 +9,8 @@ use crate::standing::Standing;
 use case_numbers::after_name;
 use csv::StringRecord;
 use docket_rows::Command;
+use kept_numbers::MovedNumbers;
 use office_rows::Work;
-use retired_numbers::RetiredNumbers;
 use row_line::{Line, push_row_text, read_line};
 use std::alloc::{AllocError, Global};
 
@@ -67,16 +67,16 @@ fn push_placed(
 fn push_said(
     alloc: Global,
     text: &mut Vec<u8>,
-    retired: &RetiredNumbers,
+    moved: &MovedNumbers,
     said: &Line,
     fields: &StringRecord,
 ) -> Result<(), AllocError>
-    ensures { OnOk result (text.new.items ≡ text.old.items ++ said_placed retired.now said.now (fields_of fields.now)) }
+    ensures { OnOk result (text.new.items ≡ text.old.items ++ said_placed moved.now said.now (fields_of fields.now)) }
 {
     let _types: RowTypes = None;
     match said {
         Line::Row(row) => {
-            let place = number_asked(&retired.place(&row.work));
+            let place = number_asked(&moved.place(&row.work));
             push_placed(alloc, text, number_asked(&row.work), place, fields)
         }
         _ => Ok(()),
@@ -84,22 +84,24 @@ fn push_said(
 }
 
 /// Adds the row of that number, counted from 1, whose entry this is, with the end of its line: nothing where the row is struck.
-/// What it names by a number is named by its place among those that stand. `Err` says that memory ran out.
+/// What it names by a number is named by its place among those that stand; what isn't at the place of its number is given.
+/// `Err` says that memory ran out.
 #[tactic(auto, unfolding(crate::specs::Export::row_written))]
 pub fn push_row(
     alloc: Global,
     under: &Standing,
+    moved: &MovedNumbers,
     number: u32,
     entry: &[u8],
     fields: &mut StringRecord,
     text: &mut Vec<u8>,
 ) -> Result<(), AllocError>
-    ensures { OnOk result (text.new.items ≡ text.old.items ++ row_written under.now number entry.now) }
+    ensures { OnOk result (text.new.items ≡ text.old.items ++ row_written under.now moved.now number entry.now) }
 {
     let _types: RowTypes = None;
     if under.corrections.is_struck(number) {
         return Ok(());
     }
     let said = read_line(alloc, after_name(entry), MOST_CLERKS, &under.court, fields)?;
-    push_said(alloc, text, under.corrections.retired(), &said, fields)
+    push_said(alloc, text, moved, &said, fields)
 }

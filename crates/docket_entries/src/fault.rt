@@ -41,7 +41,4 @@ pub enum StrikeFault {
     /// It is a question, or its entry says no row of this court: the docket has nothing of it.
     #[error("the row is no command, so the docket has nothing of it")]
     NotACommand,
-    /// The number of its deadline or its motion has more than nine digits.
-    #[error("the number of its deadline or its motion has more than nine digits")]
-    LongNumber,
 }

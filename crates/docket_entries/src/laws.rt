@@ -1,5 +1,5 @@
 //! Laws of the definitions, the contracts of functions that do nothing.
-ghost use Rattle.docket_entries.specs.Laws.{ACaseNumberIsOneCase, AStruckRowIsLeftOut, AnswersAreTheRuns, FaultlessLinesSayRows, OtherLinesAreReadAsTheyAre, RowsAreWrittenAsTheyAre, WhatIsLeftFollows, WhatIsLeftIsHistory};
+ghost use Rattle.docket_entries.specs.Laws.{ACaseNumberIsOneCase, AStruckRowIsLeftOut, AnswersAreTheRuns, FaultlessLinesSayRows, OtherLinesAreReadAsTheyAre, RowsAreWrittenAsTheyAre, RowsKeepTheirNumbers, WhatIsLeftFollows, WhatIsLeftIsHistory};
 
 /// What a line leaves may follow when the journal is opened again, and is no court's file and no strike.
 #[tactic(auto, using(crate::proofs::EntryLemmas::left_follows))]
@@ -46,4 +46,10 @@ pub fn a_struck_row_is_left_out()
 #[tactic(auto, using(crate::proofs::ExportLemmas::rows_as_they_are))]
 pub fn rows_are_written_as_they_are()
     ensures { RowsAreWrittenAsTheyAre }
+{}
+
+/// Each row has the number that it keeps, whatever is struck and whichever court's file stands.
+#[tactic(auto, using(crate::proofs::GivenLemmas::rows_keep))]
+pub fn rows_keep_their_numbers()
+    ensures { RowsKeepTheirNumbers }
 {}

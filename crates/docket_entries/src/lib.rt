@@ -23,7 +23,7 @@ pub use fault::{HistoryFault, StrikeFault};
 pub use laws::{
     a_case_number_is_one_case, a_struck_row_is_left_out, answers_are_the_runs,
     faultless_lines_say_rows, other_lines_are_read_as_they_are, rows_are_written_as_they_are,
-    what_is_left_follows, what_is_left_is_history,
+    rows_keep_their_numbers, what_is_left_follows, what_is_left_is_history,
 };
 pub use line_faults::LineFault;
 pub use questions::Questions;

@@ -53,7 +53,7 @@ impl Register for Questions {
             Line::Row(row) => match &row.work {
                 Work::Command(_) => push_command(alloc, text, self.register.next_number()),
                 Work::Query(_) => {
-                    let answer = self.register.answered(alloc, under, &row)?;
+                    let answer = self.register.shown(alloc, under, &row)?;
                     text.extend_from_slice(answer.as_bytes())?;
                     Ok(())
                 }

@@ -1,5 +1,5 @@
 //! The register of rows.
-ghost use Rattle.std.specs.Prelude.{◌≡◌, ◌<◌, ◌≤◌, ◌+◌, ◌++◌, ◌∷◌, [], ℕ, false, List, length, None, IfOk, IsSome, MatchOption, OnOk, nat_lt, string_bytes};
+ghost use Rattle.std.specs.Prelude.{◌≡◌, ◌<◌, ◌≤◌, ◌+◌, ◌++◌, ◌∷◌, ◌≢◌, [], ℕ, false, List, length, None, IfOk, IsSome, MatchOption, OnOk, nat_lt, string_bytes};
 ghost use Rattle.csv.specs.Records.{fields_of};
 ghost use Rattle.office_rows.specs.Words.{names_of};
 ghost use Rattle.office_rows.specs.declared.row.Row.{Row as RowOf};
@@ -13,7 +13,12 @@ ghost use Rattle.docket_entries.specs.Cases.{cases_of};
 ghost use Rattle.docket_entries.specs.declared.standing.Standing.{Standing as StandingOf};
 ghost use Rattle.docket_rows.specs.Words.{setup_of};
 ghost use Rattle.office_run.specs.Words.{Holds};
-ghost use Rattle.docket_entries.specs.Rows.{answer_to, docketed_by, docketed_with, follows, reply_under, within};
+ghost use Rattle.docket_entries.specs.Rows.{answer_to, follows, within};
+ghost use Rattle.docket_entries.specs.Run.{corrections_then, docketed_by, docketed_with, numbers_with, reply_by_places, run_by};
+ghost use Rattle.docket_rows.specs.declared.command.Command.{Command as CommandOf};
+ghost use Rattle.office_rows.specs.declared.row.Work.TheVariants as work;
+ghost use Rattle.kept_numbers.specs.Words.{numbered, passed};
+ghost use Rattle.named_answers.specs.Words.{named_line_of};
 
 use crate::case_line::{note_case, read_named};
 use crate::entry::{answer_of, entry_of};
@@ -24,10 +29,12 @@ use csv::StringRecord;
 use docket_core::Docket;
 use docket_rows::{Command, Query};
 use durable_session::Register;
+use kept_numbers::{RowNumbers, given_by};
 use office_rows::{Row, RowCause, Work};
 use office_run::{Reply, reply_to};
 use office_streams::{OfficeFault, fault_line};
 use row_line::{Line, read_line};
+use row_strikes::Corrections;
 use rule_periods::{Grant, Request};
 use std::alloc::{AllocError, Global};
 
@@ -51,6 +58,8 @@ pub struct DocketRegister {
     pub(crate) number: u32,
     // The cases that were opened.
     pub(crate) cases: Cases,
+    // The numbers of what rows started and entered.
+    pub(crate) numbers: RowNumbers,
     // The fields of the row that was read last.
     pub(crate) fields: StringRecord,
     ghost numbered: { number ≤ count },
@@ -69,6 +78,7 @@ impl DocketRegister {
             count: 1,
             number: 1,
             cases: Cases::new(alloc),
+            numbers: RowNumbers::new(alloc),
             fields: StringRecord::new(alloc),
         })
     }
@@ -84,6 +94,7 @@ impl DocketRegister {
         ensures fields { IfOk result (λ said. (row : RowOf) → said ≡ says.Row row → fields_of self.new.fields ≡ fields_read line.now) }
         ensures cases { self.new.cases ≡ self.old.cases }
         ensures docket { self.new.docket ≡ self.old.docket }
+        ensures numbers { self.new.numbers ≡ self.old.numbers }
         ensures count { self.new.count ≡ self.old.count }
         ensures number { self.new.number ≡ self.old.number }
         ensures room { IfOk result (λ said. (row : RowOf) → said ≡ says.Row row → self.old.count < most_entries) }
@@ -101,6 +112,7 @@ impl DocketRegister {
     ) -> Result<(Line, Option<CaseName>), AllocError>
         ensures said { (kept : List (List ℕ)) → StandsAt under.now self.old kept → IfOk result (IsHeard under.now kept line.now (fields_of self.new.fields)) }
         ensures docket { self.new.docket ≡ self.old.docket }
+        ensures numbers { self.new.numbers ≡ self.old.numbers }
         ensures cases { self.new.cases ≡ self.old.cases }
         ensures count { self.new.count ≡ self.old.count }
         ensures number { self.new.number ≡ self.old.number }
@@ -110,41 +122,36 @@ impl DocketRegister {
         Ok((within(said, self.count), name))
     }
 
-    // Decides a row, and gives its reply, with numbers.
-    pub(crate) fn replied(
+    // The docket's reply to what a row asks for, in which things are named by their places.
+    fn replied(
         &mut self,
         alloc: Global,
         under: &Standing,
-        row: &Row,
+        asked: &Work,
     ) -> Result<Reply, AllocError>
-        ensures reply { (kept : List (List ℕ)) → StandsAt under.now self.old kept → IfOk result (λ reply. reply ≡ reply_under under.now (docketed_by under.now kept) row.now.work) }
-        ensures docket { (kept : List (List ℕ)) → StandsAt under.now self.old kept → OnOk result (Holds (setup_of under.now.court) self.new.docket (docketed_with under.now (docketed_by under.now kept) row.now.work)) }
+        ensures reply { (kept : List (List ℕ)) → StandsAt under.now self.old kept → IfOk result (λ reply. reply ≡ reply_by_places under.now (docketed_by under.now kept) (run_by under.now kept).numbers asked.now) }
+        ensures docket { (kept : List (List ℕ)) → StandsAt under.now self.old kept → OnOk result (Holds (setup_of under.now.court) self.new.docket (docketed_with under.now (run_by under.now kept) asked.now)) }
+        ensures numbers { self.new.numbers ≡ self.old.numbers }
         ensures count { self.new.count ≡ self.old.count }
         ensures number { self.new.number ≡ self.old.number }
         ensures cases { self.new.cases ≡ self.old.cases }
         ensures fields { self.new.fields ≡ self.old.fields }
     {
-        let retired = under.corrections.retired();
-        let reply = reply_to(alloc, &mut self.docket, &retired.place(&row.work))?;
-        Ok(retired.number_reply(&row.work, reply))
+        let placed = self.numbers.moved().place(asked);
+        reply_to(alloc, &mut self.docket, &placed)
     }
 
-    // Decides a row, and gives its answer.
-    #[tactic(auto, unfolding(crate::specs::Rows::answer_to))]
-    pub(crate) fn answered(
-        &mut self,
+    // The answer to the row that comes next, of which this is the reply by places.
+    fn answer(
+        &self,
         alloc: Global,
         under: &Standing,
         row: &Row,
+        reply: Reply,
     ) -> Result<String, AllocError>
-        ensures answer { (kept : List (List ℕ)) → StandsAt under.now self.old kept → IfOk result (λ answer. string_bytes answer ≡ answer_to under.now kept row.now) }
-        ensures docket { (kept : List (List ℕ)) → StandsAt under.now self.old kept → OnOk result (Holds (setup_of under.now.court) self.new.docket (docketed_with under.now (docketed_by under.now kept) row.now.work)) }
-        ensures count { self.new.count ≡ self.old.count }
-        ensures number { self.new.number ≡ self.old.number }
-        ensures cases { self.new.cases ≡ self.old.cases }
-        ensures fields { self.new.fields ≡ self.old.fields }
+        ensures { IfOk result (λ answer. string_bytes answer ≡ named_line_of under.now.court self.now.cases.named self.now.number row.now.clerk (numbered self.now.numbers.moved row.now.work reply)) }
     {
-        let reply = self.replied(alloc, under, row)?;
+        let reply = self.numbers.moved().number_reply(&row.work, reply);
         answer_of(
             alloc,
             &under.court,
@@ -153,6 +160,44 @@ impl DocketRegister {
             row.clerk,
             &reply,
         )
+    }
+
+    // Answers a row that asks a question, as it would be answered if it came next.
+    #[tactic(auto, unfolding(crate::specs::Rows::answer_to))]
+    pub(crate) fn shown(
+        &mut self,
+        alloc: Global,
+        under: &Standing,
+        row: &Row,
+    ) -> Result<String, AllocError>
+        requires { (command : CommandOf) → row.now.work ≢ work.Command command }
+        ensures answer { (kept : List (List ℕ)) → StandsAt under.now self.old kept → IfOk result (λ answer. string_bytes answer ≡ answer_to under.now kept row.now) }
+        ensures docket { (kept : List (List ℕ)) → StandsAt under.now self.old kept → OnOk result (Holds (setup_of under.now.court) self.new.docket (docketed_with under.now (run_by under.now kept) row.now.work)) }
+        ensures numbers { self.new.numbers ≡ self.old.numbers }
+        ensures count { self.new.count ≡ self.old.count }
+        ensures number { self.new.number ≡ self.old.number }
+        ensures cases { self.new.cases ≡ self.old.cases }
+    {
+        let reply = self.replied(alloc, under, &row.work)?;
+        self.answer(alloc, under, row, reply)
+    }
+
+    // Decides a row, and gives its answer.
+    #[tactic(auto, unfolding(crate::specs::Rows::answer_to))]
+    fn answered(&mut self, alloc: Global, under: &Standing, row: &Row) -> Result<String, AllocError>
+        ensures answer { (kept : List (List ℕ)) → StandsAt under.now self.old kept → IfOk result (λ answer. string_bytes answer ≡ answer_to under.now kept row.now) }
+        ensures docket { (kept : List (List ℕ)) → StandsAt under.now self.old kept → OnOk result (Holds (setup_of under.now.court) self.new.docket (docketed_with under.now (run_by under.now kept) row.now.work)) }
+        ensures numbers { (kept : List (List ℕ)) → StandsAt under.now self.old kept → OnOk result (self.new.numbers ≡ numbers_with under.now (run_by under.now kept) (next_number kept) row.now.work) }
+        ensures count { self.new.count ≡ self.old.count }
+        ensures number { self.new.number ≡ self.old.number }
+        ensures cases { self.new.cases ≡ self.old.cases }
+        ensures fields { self.new.fields ≡ self.old.fields }
+    {
+        let reply = self.replied(alloc, under, &row.work)?;
+        let given = given_by(&row.work, &reply);
+        self.numbers
+            .take(under.corrections.kept(), self.number, given)?;
+        self.answer(alloc, under, row, reply)
     }
 
     // Does a row, perhaps with a new name, and gives its answer and its entry.
@@ -189,6 +234,21 @@ impl DocketRegister {
         &self.docket
     }
 
+    /// The numbers of what rows started and entered.
+    pub fn numbers(&self) -> &RowNumbers
+        ensures { (under : StandingOf) (kept : List (List ℕ)) → StandsAt under self.now kept → result.now ≡ (run_by under kept).numbers }
+    {
+        &self.numbers
+    }
+
+    /// The corrections, after which rows keep the numbers that they have by now. `Err` says that memory ran out.
+    pub fn corrections(&self, alloc: Global, under: &Standing) -> Result<Corrections, AllocError>
+        ensures { (kept : List (List ℕ)) → StandsAt under.now self.now kept → IfOk result (λ corrections. corrections ≡ corrections_then under.now kept under.now.corrections.struck) }
+    {
+        let kept = self.numbers.kept(alloc)?;
+        under.corrections.keeping(kept)
+    }
+
     /// The cases that were opened, with their names.
     pub fn cases(&self) -> &Cases
         ensures { (under : StandingOf) (kept : List (List ℕ)) → StandsAt under self.now kept → result.now ≡ cases_of under kept }
@@ -210,16 +270,19 @@ impl DocketRegister {
         self.count = self.count.saturating_add(1);
     }
 
-    // Passes over an entry that says no row of this court, or whose row is struck.
-    pub(crate) fn pass_row(&mut self)
+    // Passes over an entry that says no row of this court, or whose row is struck: the row keeps its number.
+    pub(crate) fn pass_row(&mut self, under: &Standing) -> Result<(), AllocError>
         requires { self.old.count < most_entries }
         ensures docket { self.new.docket ≡ self.old.docket }
+        ensures numbers { OnOk result (self.new.numbers ≡ passed under.now.corrections.kept self.old.numbers self.old.number) }
         ensures cases { self.new.cases ≡ self.old.cases }
-        ensures count { self.new.count ≡ self.old.count + 1 }
-        ensures number { self.new.number ≡ self.old.number + 1 }
+        ensures count { OnOk result (self.new.count ≡ self.old.count + 1) }
+        ensures number { OnOk result (self.new.number ≡ self.old.number + 1) }
     {
+        self.numbers.pass(under.corrections.kept(), self.number)?;
         self.count += 1;
         self.number += 1;
+        Ok(())
     }
 
     /// Decides the row of an entry again. `None` says that it has the answer that it gets; else this is the one that it gets.
@@ -250,11 +313,11 @@ impl DocketRegister {
             Line::Fault(cause) => {
                 let mut answer = Vec::new(alloc);
                 push_fault(alloc, &mut answer, self.number, cause)?;
-                self.pass_row();
+                self.pass_row(under)?;
                 Ok(Some(answer))
             }
             Line::Blank => {
-                self.pass_row();
+                self.pass_row(under)?;
                 Ok(Some(Vec::new(alloc)))
             }
         }

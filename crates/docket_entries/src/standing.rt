@@ -2,11 +2,11 @@
 use court_days::Court;
 use row_strikes::Corrections;
 
-/// The court by which rows are decided, and what is struck and retired.
+/// The court by which rows are decided, and what is struck and kept.
 #[derive(Drop)]
 pub struct Standing {
     /// The court.
     pub court: Court,
-    /// The rows that are struck, and the numbers that are retired.
+    /// The rows that are struck, and the numbers that rows keep.
     pub corrections: Corrections,
 }

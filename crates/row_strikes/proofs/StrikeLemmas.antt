@@ -1,18 +1,15 @@
 -- A strike is read as it is written.
-use Rattle.std.proofs.Common.{◌≡◌, ◌∙◌, ◌+◌, ◌<◌, ◌&&◌, ℕ, suc, Bool, true, false, not, cond, List, [], ◌∷◌, ◌++◌, Option, Some, None, drop, length, nat_eq, option_and_then, option_map, refl, sym, take, ap, append_assoc, arith}
+use Rattle.std.proofs.Common.{◌≡◌, ◌∙◌, ◌+◌, ◌<◌, ◌&&◌, ℕ, suc, Bool, true, false, not, cond, List, [], ◌∷◌, ◌++◌, Some, drop, length, nat_eq, option_and_then, option_map, refl, sym, take, ap, append_assoc, arith}
 use Rattle.std.proofs.lemmas.Bool.Decides.{nat_tests}
 use Rattle.std.proofs.lemmas.Grind.{common_steps}
-use Rattle.std.proofs.lemmas.List.{drop_all, take_all}
+use Rattle.std.proofs.lemmas.List.{take_all}
 use Rattle.std.specs.Char.{is_ascii_digit}
 use Rattle.std.specs.Fmt.{decimal}
 use Rattle.std.specs.List.{list_all}
 use Rattle.office_rows.specs.Words.{number_of}
-use Rattle.retired_numbers.specs.declared.retired.Counted.{Counted}
-use Rattle.retired_numbers.specs.declared.retired.Counted.TheVariants.{Deadline, Motion}
-use Rattle.retired_numbers.specs.declared.retired.Retired.{Retired}
 use Rattle.row_strikes.specs.declared.strike.Strike.{Strike}
-use Rattle.row_strikes.specs.Laws.{IsShort, StrikesAreReadBack}
-use Rattle.row_strikes.specs.Strike.{after_mark, before, counted_name, counted_named, length_before, past, remark_in, retired_by, retired_from, retired_named, strike_entry, strike_from, strike_in, strike_line, strike_mark, strike_of, strike_words}
+use Rattle.row_strikes.specs.Laws.{StrikesAreReadBack}
+use Rattle.row_strikes.specs.Strike.{after_mark, before, length_before, past, remark_in, strike_entry, strike_from, strike_in, strike_line, strike_mark, strike_of}
 use Rattle.row_strikes.proofs.NumberLemmas.{all_digits, number_back}
 
 -- none of these bytes is that one
@@ -66,9 +63,6 @@ past_cut byte front rest h =
 before_uncut : (byte : ℕ) (text : List ℕ) → lacks byte text ≡ true → before byte text ≡ text
 before_uncut byte text h = ap (λ n. take n text) (length_uncut byte text h) ∙ take_all (length text) text (omega arith)
 
-past_uncut : (byte : ℕ) (text : List ℕ) → lacks byte text ≡ true → past byte text ≡ []
-past_uncut byte text h = ap (λ n. drop (n + 1) text) (length_uncut byte text h) ∙ drop_all (length text + 1) text (omega arith)
-
 -- digits are no such bytes
 digits_lack : (byte : ℕ) → byte < 48 → (ds : List ℕ) → list_all is_ascii_digit ds ≡ true → lacks byte ds ≡ true
 digits_lack byte low [] h = refl
@@ -88,75 +82,12 @@ digits_lack byte low (d ∷ ds) h = by (is_ascii_digit d) refl h (digits_lack by
 number_lacks : (byte n : ℕ) → byte < 48 → n < 1_000_000_000 → lacks byte (decimal n) ≡ true
 number_lacks byte n low small = digits_lack byte low (decimal n) (all_digits n small)
 
--- the words of a number that is retired, after the row's number
-words_of : Retired → List ℕ
-words_of r = counted_name r.counted ++ 32 ∷ (decimal r.case ++ 32 ∷ decimal r.number)
-
-name_lacks_space : (counted : Counted) → lacks 32 (counted_name counted) ≡ true
-name_lacks_space Deadline = refl
-name_lacks_space Motion = refl
-
-name_lacks_end : (counted : Counted) → lacks 10 (counted_name counted) ≡ true
-name_lacks_end Deadline = refl
-name_lacks_end Motion = refl
-
-words_lack_end : (r : Retired) → r.case < 1_000_000_000 → r.number < 1_000_000_000 → lacks 10 (words_of r) ≡ true
-unfolding words_of
-words_lack_end r small_case small_number =
-    lacks-append 10 (counted_name r.counted) (32 ∷ (decimal r.case ++ 32 ∷ decimal r.number)) (name_lacks_end r.counted)
-    (lacks-append 10 (decimal r.case) (32 ∷ decimal r.number) (number_lacks 10 r.case (omega arith) small_case) (number_lacks 10 r.number (omega arith) small_number))
-
-words_in_parts : (row : ℕ) (r : Retired) → strike_words row (Some r) ≡ strike_mark ++ ((decimal row ++ 32 ∷ words_of r) ++ 10 ∷ [])
-unfolding words_of
-words_in_parts row r = simp append_assoc
-
-named_back : (counted : Counted) (case number : Option ℕ) → retired_from (counted_named (counted_name counted)) case number ≡ retired_from (Some counted) case number
-named_back Deadline case number = refl
-named_back Motion case number = refl
-
-retired_back : (r : Retired) → r.case < 1_000_000_000 → r.number < 1_000_000_000 → retired_named (words_of r) ≡ Some r
-unfolding words_of retired_named
-retired_back r small_case small_number =
-    let rest = decimal r.case ++ 32 ∷ decimal r.number in
-    let name = counted_name r.counted in
-    let cut = before_cut 32 name rest (name_lacks_space r.counted) in
-    let numbers : past 32 (name ++ 32 ∷ rest) ≡ rest = past_cut 32 name rest (name_lacks_space r.counted) in
-    let case_is = before_cut 32 (decimal r.case) (decimal r.number) (number_lacks 32 r.case (omega arith) small_case) in
-    let number_is = past_cut 32 (decimal r.case) (decimal r.number) (number_lacks 32 r.case (omega arith) small_case) in
-    ap (λ (n : List ℕ). retired_from (counted_named n) (number_of (before 32 (past 32 (name ++ 32 ∷ rest)))) (number_of (past 32 (past 32 (name ++ 32 ∷ rest))))) cut
-    ∙ ap (λ (n : List ℕ). retired_from (counted_named name) (number_of (before 32 n)) (number_of (past 32 n))) numbers
-    ∙ ap (λ (n : List ℕ). retired_from (counted_named name) (number_of n) (number_of (past 32 rest))) case_is
-    ∙ ap (λ (n : List ℕ). retired_from (counted_named name) (number_of (decimal r.case)) (number_of n)) number_is
-    ∙ ap (λ (n : Option ℕ). retired_from (counted_named name) n (number_of (decimal r.number))) (number_back r.case small_case)
-    ∙ ap (λ (n : Option ℕ). retired_from (counted_named name) (Some r.case) n) (number_back r.number small_number)
-    ∙ named_back r.counted (Some r.case) (Some r.number)
-
--- there are words
-some_words : (r : Retired) → retired_by (words_of r) ≡ option_map Some (retired_named (words_of r))
-unfolding words_of
-some_words r = by r.counted
-  where
-    by : (counted : Counted) → retired_by (counted_name counted ++ 32 ∷ (decimal r.case ++ 32 ∷ decimal r.number)) ≡ option_map Some (retired_named (counted_name counted ++ 32 ∷ (decimal r.case ++ 32 ∷ decimal r.number)))
-    by Deadline = refl
-    by Motion = refl
-
 -- what a line says after its mark
-line_back : (row : ℕ) (words : List ℕ) (retired : Option (Option Retired)) → row < 1_000_000_000 → retired_by words ≡ retired → strike_of (decimal row ++ 32 ∷ words) ≡ strike_from (Some row) retired
-unfolding strike_of
-line_back row words retired small is =
-    let row_lacks = number_lacks 32 row (omega arith) small in
-    ap (λ (n : List ℕ). strike_from (number_of n) (retired_by (past 32 (decimal row ++ 32 ∷ words)))) (before_cut 32 (decimal row) words row_lacks)
-    ∙ ap (λ (n : Option ℕ). strike_from n (retired_by (past 32 (decimal row ++ 32 ∷ words)))) (number_back row small)
-    ∙ ap (λ (w : List ℕ). strike_from (Some row) (retired_by w)) (past_cut 32 (decimal row) words row_lacks)
-    ∙ ap (strike_from (Some row)) is
-
-row_back : (row : ℕ) → row < 1_000_000_000 → strike_of (decimal row) ≡ Some (record { row = row; retired = None })
+row_back : (row : ℕ) → row < 1_000_000_000 → strike_of (decimal row) ≡ Some (record { row = row })
 unfolding strike_of
 row_back row small =
-    let row_lacks = number_lacks 32 row (omega arith) small in
-    ap (λ (n : List ℕ). strike_from (number_of n) (retired_by (past 32 (decimal row)))) (before_uncut 32 (decimal row) row_lacks)
-    ∙ ap (λ (n : Option ℕ). strike_from n (retired_by (past 32 (decimal row)))) (number_back row small)
-    ∙ ap (λ (w : List ℕ). strike_from (Some row) (retired_by w)) (past_uncut 32 (decimal row) row_lacks)
+    ap (λ (n : List ℕ). option_map strike_from (number_of n)) (before_uncut 32 (decimal row) (number_lacks 32 row (omega arith) small))
+    ∙ ap (option_map strike_from) (number_back row small)
 
 -- an entry is its mark, the rest of its first line, and its remark
 in_parts : (strike : Strike) (remark line : List ℕ) → strike_line strike ≡ strike_mark ++ (line ++ 10 ∷ []) → strike_entry strike remark ≡ strike_mark ++ (line ++ 10 ∷ remark)
@@ -174,17 +105,6 @@ read_back strike remark line is none said =
 
 -- the law
 pub strikes_back : StrikesAreReadBack
-strikes_back strike remark small short = by strike.retired refl short
-  where
-    row_lacks : lacks 10 (decimal strike.row) ≡ true
-    row_lacks = number_lacks 10 strike.row (omega arith) small
-
-    by : (retired : Option Retired) → strike.retired ≡ retired → IsShort retired → (strike_in (strike_entry strike remark) ≡ Some strike) × (remark_in (strike_entry strike remark) ≡ remark)
-    by None is shorts =
-        read_back strike remark (decimal strike.row) (ap (strike_words strike.row) is ∙ append_assoc strike_mark (decimal strike.row) (10 ∷ []))
-        row_lacks (row_back strike.row small ∙ ap (λ (r : Option Retired). Some (record strike { retired = r })) (sym is))
-    by (Some r) is shorts =
-        let words = words_of r in
-        read_back strike remark (decimal strike.row ++ 32 ∷ words) (ap (strike_words strike.row) is ∙ words_in_parts strike.row r)
-        (lacks-append 10 (decimal strike.row) (32 ∷ words) row_lacks (words_lack_end r shorts.0 shorts.1))
-        (line_back strike.row words (Some (Some r)) small (some_words r ∙ ap (option_map Some) (retired_back r shorts.0 shorts.1)) ∙ ap (λ (x : Option Retired). Some (record strike { retired = x })) (sym is))
+strikes_back strike remark small =
+    read_back strike remark (decimal strike.row) (append_assoc strike_mark (decimal strike.row) (10 ∷ []))
+    (number_lacks 10 strike.row (omega arith) small) (row_back strike.row small)

@@ -1,24 +1,23 @@
 //! What strikes come to.
 ghost use Rattle.std.specs.Prelude.{◌≡◌, IfOk, OnErr, OnOk};
-ghost use Rattle.row_strikes.specs.Corrections.{CorrectionsView, is_struck, no_corrections, retired_with, with_strike};
+ghost use Rattle.row_strikes.specs.Corrections.{CorrectionsView, is_struck, no_corrections, struck_with};
 
-use crate::strike::Strike;
 use indexmap::IndexSet;
-use retired_numbers::RetiredNumbers;
+use kept_numbers::KeptNumbers;
 use std::alloc::{AllocError, Global};
 use std::marker::Model;
 
-/// The rows that are struck, and the numbers that are retired.
+/// The rows that are struck, and the numbers that rows keep.
 #[derive(Debug, Drop)]
 pub struct Corrections {
     struck: IndexSet<u32>,
-    retired: RetiredNumbers,
+    kept: KeptNumbers,
 }
 
 impl Model for Corrections {
     ghost Value = { CorrectionsView };
 
-    ghost view = { λ c. record { struck = c.struck.keys; retired = c.retired } };
+    ghost view = { λ c. record { struck = c.struck.keys; kept = c.kept } };
 }
 
 impl Corrections {
@@ -28,17 +27,17 @@ impl Corrections {
     {
         Corrections {
             struck: IndexSet::new(alloc),
-            retired: RetiredNumbers::new(alloc),
+            kept: KeptNumbers::new(alloc),
         }
     }
 
-    /// Others of the same rows and numbers. `Err` says that memory ran out.
-    pub fn copy(&self, alloc: Global) -> Result<Corrections, AllocError>
-        ensures { IfOk result (λ corrections. corrections ≡ self.now) }
+    /// Others of the same rows, after which rows keep these numbers. `Err` says that memory ran out.
+    pub fn keeping(&self, kept: KeptNumbers) -> Result<Corrections, AllocError>
+        ensures { IfOk result (λ corrections. corrections ≡ record { struck = self.now.struck; kept = kept }) }
     {
         Ok(Corrections {
             struck: self.struck.clone()?,
-            retired: self.retired.copy(alloc)?,
+            kept,
         })
     }
 
@@ -49,24 +48,20 @@ impl Corrections {
         self.struck.contains(&row)
     }
 
-    /// The numbers that are retired.
-    pub fn retired(&self) -> &RetiredNumbers
-        ensures { result.now ≡ self.now.retired }
+    /// The numbers that rows keep.
+    pub fn kept(&self) -> &KeptNumbers
+        ensures { result.now ≡ self.now.kept }
     {
-        &self.retired
+        &self.kept
     }
 
-    /// Strikes a row, and retires its number. `Err` says that memory ran out, and leaves the corrections as they were.
-    #[tactic(auto, unfolding(crate::specs::Corrections::with_strike))]
-    pub fn add(&mut self, strike: Strike) -> Result<(), AllocError>
-        ensures ok { OnOk result (self.new ≡ with_strike self.old strike) }
+    /// Strikes the row of that number. `Err` says that memory ran out, and leaves the corrections as they were.
+    #[tactic(auto, unfolding(crate::specs::Corrections::struck_with))]
+    pub fn strike(&mut self, row: u32) -> Result<(), AllocError>
+        ensures ok { OnOk result (self.new ≡ record { struck = struck_with self.old.struck row; kept = self.old.kept }) }
         ensures err { OnErr result (self.new ≡ self.old) }
     {
-        self.struck.reserve(1)?;
-        if let Some(retired) = strike.retired {
-            self.retired.add(retired)?;
-        }
-        self.struck.insert(strike.row)?;
+        self.struck.insert(row)?;
         Ok(())
     }
 }

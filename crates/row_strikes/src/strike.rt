@@ -2,17 +2,14 @@
 ghost use Rattle.std.specs.Prelude.{◌≡◌, ◌++◌, option_map, string_bytes, IfOk};
 ghost use Rattle.row_strikes.specs.Strike.{after_mark, remark_in, strike_entry, strike_in, strike_line, strike_of};
 
-use crate::words::{counted_name, cut, number_of, retired_by};
-use retired_numbers::Retired;
+use crate::words::{cut, number_of};
 use std::alloc::{AllocError, Global};
 
-/// A row that is struck, and the number that is retired with it.
+/// A row that is struck.
 #[derive(Clone, Copy, Debug, PartialEq, Eq)]
 pub struct Strike {
     /// The row's number, counted from 1.
     pub row: u32,
-    /// The number that the row was given for its deadline or its motion, if it was given one.
-    pub retired: Option<Retired>,
 }
 
 /// The strike that an entry is. `None` says that it is none.
@@ -49,15 +46,7 @@ fn strike_line(alloc: Global, strike: &Strike) -> Result<String, AllocError>
     ensures { IfOk result (λ line. string_bytes line ≡ strike_line strike.now) }
 {
     let row = strike.row;
-    match &strike.retired {
-        None => format!(in alloc; "%%strike {row}\n"),
-        Some(retired) => {
-            let name = counted_name(retired.counted);
-            let case = retired.case;
-            let number = retired.number;
-            format!(in alloc; "%%strike {row} {name} {case} {number}\n")
-        }
-    }
+    format!(in alloc; "%%strike {row}\n")
 }
 
 // What comes after the mark, where a text begins with it.
@@ -72,12 +61,8 @@ fn after_mark(text: &[u8]) -> Option<&[u8]>
 fn strike_of(line: &[u8]) -> Option<Strike>
     ensures { result ≡ strike_of line.now }
 {
-    let (row, words) = cut(line, b' ');
-    match number_of(row) {
-        Some(row) => match retired_by(words) {
-            Some(retired) => Some(Strike { row, retired }),
-            None => None,
-        },
+    match number_of(cut(line, b' ').0) {
+        Some(row) => Some(Strike { row }),
         None => None,
     }
 }

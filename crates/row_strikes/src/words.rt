@@ -1,11 +1,10 @@
-//! The words of a line, and the number that they retire.
+//! The words of a line, and the number that one of them is.
 ghost use Rattle.std.specs.Prelude.{◌≡◌, ◌≤◌, length};
 ghost use Rattle.std.specs.Char.{is_ascii_digit};
 ghost use Rattle.std.specs.List.{list_all};
 ghost use Rattle.office_rows.specs.Words.{is_number, number_of};
-ghost use Rattle.row_strikes.specs.Strike.{before, counted_name, counted_named, length_before, past, retired_by, retired_from, retired_named};
+ghost use Rattle.row_strikes.specs.Strike.{before, length_before, past};
 
-use retired_numbers::{Counted, Retired};
 use std::str;
 
 // How many bytes come before the first of this value.
@@ -64,69 +63,4 @@ fn has_digits_only(text: &[u8]) -> bool
     ensures { result ≡ list_all is_ascii_digit text.now }
 {
     text.iter().all(|byte| byte.is_ascii_digit())
-}
-
-// The word for what is counted.
-pub(crate) fn counted_name(counted: Counted) -> &'static str
-    ensures { result.now ≡ counted_name counted }
-{
-    match counted {
-        Counted::Deadline => "deadline",
-        Counted::Motion => "motion",
-    }
-}
-
-// What a word names.
-fn counted_named(name: &[u8]) -> Option<Counted>
-    ensures { result ≡ counted_named name.now }
-{
-    if name == b"deadline".as_slice() {
-        Some(Counted::Deadline)
-    } else if name == b"motion".as_slice() {
-        Some(Counted::Motion)
-    } else {
-        None
-    }
-}
-
-fn retired_from(counted: Option<Counted>, case: Option<u32>, number: Option<u32>) -> Option<Retired>
-    ensures { result ≡ retired_from counted case number }
-{
-    match counted {
-        Some(counted) => match case {
-            Some(case) => match number {
-                Some(number) => Some(Retired {
-                    case,
-                    counted,
-                    number,
-                }),
-                None => None,
-            },
-            None => None,
-        },
-        None => None,
-    }
-}
-
-// The number that three words name.
-#[tactic(auto, unfolding(crate::specs::Strike::retired_named))]
-fn retired_named(words: &[u8]) -> Option<Retired>
-    ensures { result ≡ retired_named words.now }
-{
-    let (name, numbers) = cut(words, b' ');
-    let (case, number) = cut(numbers, b' ');
-    retired_from(counted_named(name), number_of(case), number_of(number))
-}
-
-// The number that is retired by the words after the row's number: `Some(None)` where there are none.
-pub(crate) fn retired_by(words: &[u8]) -> Option<Option<Retired>>
-    ensures { result ≡ retired_by words.now }
-{
-    match words {
-        [] => Some(None),
-        _ => match retired_named(words) {
-            Some(retired) => Some(Some(retired)),
-            None => None,
-        },
-    }
 }

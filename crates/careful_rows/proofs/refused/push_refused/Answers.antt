@@ -4,8 +4,7 @@ use Rattle.court_clock.specs.Words.{ClockView}
 use Rattle.docket_rows.specs.declared.refusal.Refusal.{Refusal}
 use Rattle.docket_rows.specs.Words.{CourtSetup}
 use Rattle.docket_core.specs.Words.{parts_held}
-use Rattle.retired_numbers.specs.declared.retired.Retired.{Retired}
-use Rattle.retired_numbers.specs.Words.{numbered_refusal}
+use Rattle.kept_numbers.specs.Words.{numbered_refusal}
 use Rattle.refused_commands.specs.Words.{why_refused}
 use Rattle.careful_rows.specs.Instead.{instead}
 use Rattle.careful_rows.specs.Warnings.{called_in, if_refused, refused_line}
@@ -15,20 +14,21 @@ use Rattle.careful_rows.proofs.refused.push_refused.Goals as goal
 pub returns : goal.returns
 unfolding if_refused
 returns c = λ setup.
-    let under = c.args.under.now in
+    let court = c.args.court.now in
+    let moved = c.args.moved.now in
     let named = c.args.cases.now.named in
     let parts = parts_held c.args.docket.now in
     let asked = c.args.asked.now in
     let command = c.args.command.now in
     let refusal = c.args.refusal.now in
     let text = string_bytes c.args.text.now in
-    let numbered : c.number_refusal-numbered.result ≡ numbered_refusal under.corrections.retired refusal = c.number_refusal-numbered.ensures ∙ ap (λ (r : List Retired). numbered_refusal r refusal) c.retired.ensures in
+    let numbered : c.number_refusal-numbered.result ≡ numbered_refusal moved refusal = c.number_refusal-numbered.ensures in
     let line =
     c.in_ok-push_refused_line.ensures
     ∙ ap (λ (k : ClockView). text ++ refused_line k named c.number_refusal-numbered.result) c.clock.ensures
-    ∙ ap (λ (r : Refusal). text ++ refused_line under.court.clock named r) numbered in
+    ∙ ap (λ (r : Refusal). text ++ refused_line court.clock named r) numbered in
     let called = c.as_str.ensures.value ∙ c.in_ok-called.ensures ∙ ap (λ (r : Refusal). called_in named asked r) numbered in
-    let why = c.in_ok-push_why_refused.ensures setup ∙ ap (λ (l : List ℕ). string_bytes c.push_refused_line.new.text ++ why_refused under.court parts command l refusal) called in
+    let why = c.in_ok-push_why_refused.ensures setup ∙ ap (λ (l : List ℕ). string_bytes c.push_refused_line.new.text ++ why_refused court parts command l refusal) called in
     on_ok_weaker c.push_instead.result
     (λ told. four_parts text (string_bytes c.push_refused_line.new.text) (string_bytes c.push_why_refused.new.text) (string_bytes c.push_kept.new.text) (string_bytes c.push_instead.new.text) _ _ _ _
     line why (c.in_ok-push_kept.ensures setup) (told ∙ ap (λ (s : CourtSetup). string_bytes c.push_kept.new.text ++ instead s parts command refusal) setup))

@@ -21,7 +21,7 @@ loop-place-init g c =
       c.requires.works,
       [],
       Appends-nil (g.W.Write.contents (watched c.args.writer.now)),
-      rows_first c.args.under.now head c.push_file.new.text.items c.args.entries.now
+      rows_first c.args.under.now c.args.moved.now head c.push_file.new.text.items c.args.entries.now
           (c.in_ok-push_file.ensures
           ∙ ap (λ (t : List ℕ). t ++ head_of c.standing_file.result.now named) c.new-text.ensures.items
           ∙ ap (λ (f : List ℕ). head_of f named) c.standing_file.ensures),
@@ -39,6 +39,7 @@ push_entry-requires g c =
 pub loop-place-preserved : goal.loop-place-preserved
 loop-place-preserved g c =
     let under = c.args.under.now in
+    let moved = c.args.moved.now in
     let named = c.args.cases.now.named in
     let head : List ℕ = head_of (standing_file (batch_of c.args.entries.now)) named in
     let kept : List (List ℕ) = batch_of (take c.loop-place.place c.args.entries.now) in
@@ -46,28 +47,29 @@ loop-place-preserved g c =
     let (begun, working, written, appends, so_far, next) = c.loop-place.invariant in
     let (front, more, parts) = c.in_ok-put_if_long.ensures.written in
     let some : 0 < length kept = begun_batch c.args.entries.now c.loop-place.place begun c.loop-place-test.true in
-    let added : c.push_entry.new.text.items ≡ c.loop-place.text.items ++ rows_written under c.loop-place.number (row_only (note_in entry) entry) =
-    c.in_ok-number.ensures.text ∙ ap (λ (e : List ℕ). c.loop-place.text.items ++ rows_written under c.loop-place.number (row_only (note_in e) e)) c.deref.ensures.value in
+    let added : c.push_entry.new.text.items ≡ c.loop-place.text.items ++ rows_written under moved c.loop-place.number (row_only (note_in entry) entry) =
+    c.in_ok-number.ensures.text ∙ ap (λ (e : List ℕ). c.loop-place.text.items ++ rows_written under moved c.loop-place.number (row_only (note_in e) e)) c.deref.ensures.value in
     let after : batch_of (take (c.loop-place.place + 1) c.args.entries.now) ≡ kept ++ entry ∷ [] = take_batch c.args.entries.now c.loop-place.place c.index-entries-place.result c.loop-place-test.true c.index-entries-place.is in (
       omega (arith, begun),
       c.in_ok-put_if_long.ensures.working,
       written ++ front,
       Appends-trans (g.W.Write.contents (watched c.args.writer.now)) (g.W.Write.contents (watched c.loop-place.writer)) (g.W.Write.contents (watched c.put_if_long.new.writer)) written front appends more,
-      rows_more under written c.loop-place.text.items c.push_entry.new.text.items front c.put_if_long.new.text.items head kept entry c.loop-place.number some next so_far added parts
-          ∙ ap (λ (l : List (List ℕ)). head ++ rows_written under 1 (row_entries l)) (sym after),
+      rows_more under moved written c.loop-place.text.items c.push_entry.new.text.items front c.put_if_long.new.text.items head kept entry c.loop-place.number some next so_far added parts
+          ∙ ap (λ (l : List (List ℕ)). head ++ rows_written under moved 1 (row_entries l)) (sym after),
       number_more kept entry c.loop-place.number c.in_ok-number.number some next (c.in_ok-number.ensures.next ∙ ap (λ (e : List ℕ). c.loop-place.number + length (row_only (note_in e) e)) c.deref.ensures.value) ∙ ap next_number (sym after),
     )
 
 pub returns : goal.returns
 returns g c =
     let under = c.args.under.now in
+    let moved = c.args.moved.now in
     let named = c.args.cases.now.named in
     let head : List ℕ = head_of (standing_file (batch_of c.args.entries.now)) named in
     let (begun, working, written, appends, so_far, next) = c.loop-place.invariant in
     let all : take c.loop-place.place c.args.entries.now ≡ c.args.entries.now = take_all c.loop-place.place c.args.entries.now (omega (arith, c.loop-place-test.false)) in
-    let whole : written ++ c.loop-place.text.items ≡ written_rows under named (batch_of c.args.entries.now) =
+    let whole : written ++ c.loop-place.text.items ≡ written_rows under moved named (batch_of c.args.entries.now) =
     so_far
-    ∙ ap (λ (l : List (Vec ℕ Global)). head ++ rows_written under 1 (row_entries (batch_of l))) all in
+    ∙ ap (λ (l : List (Vec ℕ Global)). head ++ rows_written under moved 1 (row_entries (batch_of l))) all in
     record {
       written = on_ok_weaker c.put.result
           (λ last. subst (Appends (g.W.Write.contents (watched c.args.writer.now)) (g.W.Write.contents (watched c.put.new.writer))) whole

@@ -1,4 +1,4 @@
-use Rattle.docket_entries.proofs.RegisterLemmas.{left_out}
+use Rattle.docket_entries.proofs.DecidedLemmas.{left_out}
 use Rattle.docket_entries.proofs.laws.a_struck_row_is_left_out.Goals as goal
 
 pub returns : goal.returns

@@ -3,7 +3,7 @@ use Rattle.durable_journal.specs.Words.{IsKept, batch_of}
 use Rattle.docket_entries.specs.declared.register.DocketRegister.{DocketRegister}
 use Rattle.docket_entries.specs.Words.{StandsAt}
 use Rattle.desk_program.proofs.DeskLemmas.{one_more}
-use Rattle.desk_program.proofs.FaultLemmas.{never_differs}
+use Rattle.desk_program.proofs.FaultLemmas.{never_differs, never_unstruck}
 use Rattle.desk_program.proofs.desk.Desk.take_note.Goals as goal
 
 pub returns-in-Err-clause-crash : goal.returns-in-Err-clause-crash
@@ -26,3 +26,6 @@ returns-in-Ok-clause-crash g c = λ entries keeps x left.
 
 pub returns-in-Err-clause-fault : goal.returns-in-Err-clause-fault
 returns-in-Err-clause-fault g c = λ count is. never_differs c.in-Err.fault c.from.result count c.from.ensures is
+
+pub returns-in-Err-clause-unstruck : goal.returns-in-Err-clause-unstruck
+returns-in-Err-clause-unstruck g c = λ fault is. never_unstruck c.in-Err.fault c.from.result fault c.from.ensures is

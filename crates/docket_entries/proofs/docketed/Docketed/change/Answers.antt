@@ -1,5 +1,4 @@
 use Rattle.std.proofs.Common.{◌∙◌, ◌++◌, ◌∷◌, ℕ, List, [], ap, sym, subst}
-use Rattle.docket_entries.specs.declared.register.DocketRegister.{DocketRegister}
 use Rattle.docket_entries.specs.declared.standing.Standing.{Standing}
 use Rattle.docket_entries.specs.History.{SaysCourt}
 use Rattle.docket_entries.specs.Register.{StandsAt}
@@ -9,10 +8,9 @@ use Rattle.docket_entries.proofs.docketed.Docketed.change.Goals as goal
 
 pub returns-clause-docketed : goal.returns-clause-docketed
 returns-clause-docketed c = λ before entry parts some is.
-    let then : Standing = record { court = c.in_ok-court.court; corrections = c.in_ok-copy.field-0 } in
-    let stands = subst (λ (e : List (List ℕ)). StandsAt then c.in_ok-register.field-0.register e) parts c.in_ok-register.ensures.stands in
+    let then : Standing = record { court = c.in_ok-court.court; corrections = c.in_ok-corrections.corrections } in
     docketed_file c.args.self.now _ before entry c.args.file.now is (file_noted entry c.args.file.now some)
-    (subst (λ (u : Standing). SaysCourt c.args.file.now u.court) (sym c.replace.ensures.after) c.in_ok-court.ensures.court)
-    (ap (λ (u : Standing). u.corrections) c.replace.ensures.after ∙ c.in_ok-copy.ensures)
-    (subst (λ (u : Standing). StandsAt u c.replace-2.new.dest (before ++ entry ∷ [])) (sym c.replace.ensures.after)
-    (subst (λ (register : DocketRegister). StandsAt then register (before ++ entry ∷ [])) (sym c.replace-2.ensures.after) stands))
+    (subst (λ (u : Standing). SaysCourt c.args.file.now u.court) (sym (c.decide.ensures.standing ∙ c.replace.ensures.after)) c.in_ok-court.ensures.court)
+    (ap (λ (u : Standing). u.corrections) (c.decide.ensures.standing ∙ c.replace.ensures.after) ∙ c.in_ok-corrections.ensures before is.stands.at)
+    (subst (λ (u : Standing). StandsAt u c.decide.new.self.register (before ++ entry ∷ [])) (sym c.decide.ensures.standing)
+    (subst (λ (e : List (List ℕ)). StandsAt c.replace.new.dest c.decide.new.self.register e) parts c.in_ok-decide.ensures.stands))

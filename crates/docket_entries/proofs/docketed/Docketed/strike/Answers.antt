@@ -1,6 +1,8 @@
 use Rattle.std.proofs.Common.{◌≡◌, ◌∙◌, ◌++◌, ◌∷◌, ℕ, List, [], true, false, ap, length, sym, subst}
-use Rattle.docket_entries.specs.declared.register.DocketRegister.{DocketRegister}
-use Rattle.docket_entries.specs.Entries.{can_strike}
+use Rattle.court_days.specs.Words.{CourtView}
+use Rattle.docket_entries.specs.declared.standing.Standing.{Standing}
+use Rattle.docket_entries.specs.Entries.{can_strike, standing_file}
+use Rattle.docket_entries.specs.History.{SaysCourt}
 use Rattle.docket_entries.specs.Register.{StandsAt}
 use Rattle.docket_entries.proofs.HistoryLemmas.{bad_strike, can_is, docketed_strike}
 use Rattle.docket_entries.proofs.ListLemmas.{length_batch}
@@ -14,6 +16,9 @@ returns-then-not-can_strike-clause-cause c = λ before entry parts some is.
 pub returns-clause-docketed : goal.returns-clause-docketed
 returns-clause-docketed c = λ before entry parts some is.
     let can : can_strike before c.args.strike ≡ true = sym (can_is c.args.self.now before c.args.strike is) ∙ sym c.can_strike.ensures ∙ c.if-not-can_strike.false in
-    let stands = subst (λ (e : List (List ℕ)). StandsAt (record c.args.self.now.standing { corrections = c.add.new.self }) c.in_ok-register.field-0.register e) parts c.in_ok-register.ensures.stands in
-    docketed_strike c.args.self.now _ before entry c.args.strike is some can is.standing.court c.in_ok-add.ensures.ok
-    (subst (λ (register : DocketRegister). StandsAt (record c.args.self.now.standing { corrections = c.add.new.self }) register (before ++ entry ∷ [])) (sym c.replace.ensures.after) stands)
+    let same : c.decide.new.self.standing.court ≡ c.args.self.now.standing.court = ap (λ (u : Standing). u.court) c.decide.ensures.standing in
+    docketed_strike c.args.self.now _ before entry c.args.strike is some can
+    (subst (λ (court : CourtView). SaysCourt (standing_file before) court) (sym same) is.standing.court)
+    (ap (λ (u : Standing). u.corrections) c.decide.ensures.standing ∙ c.replace.ensures.after ∙ c.in_ok-corrections.ensures before is.stands.at)
+    (subst (λ (u : Standing). StandsAt u c.decide.new.self.register (before ++ entry ∷ [])) (sym c.decide.ensures.standing)
+    (subst (λ (e : List (List ℕ)). StandsAt (record c.args.self.now.standing { corrections = c.replace.new.dest }) c.decide.new.self.register e) parts c.in_ok-decide.ensures.stands))

@@ -13,6 +13,7 @@ returns-clause-done c = λ kept stands. record {
       ∙ ap (λ (f : StringRecord). name_line c.args.name ++ (row_text default_writer (fields_of f) ++ c.deref.result.now)) c.answered.ensures.fields
       ∙ ap (λ (l : List ℕ). name_line c.args.name ++ (row_text default_writer (fields_of c.args.self.now.fields) ++ l)) (c.deref.ensures ∙ c.in_ok-answer.ensures.answer kept stands);
   docket = c.in_ok-answer.ensures.docket kept stands;
+  numbers = c.in_ok-answer.ensures.numbers kept stands;
   cases = c.in_ok-note_case.ensures ∙ ap (λ (k : CasesView). with_opened k (opened_as c.args.row.now.work) c.args.name) (c.answered.ensures.cases ∙ stands.cases);
   number = ap (λ (n : ℕ). n + 1) (c.answered.ensures.number ∙ stands.number);
   count = ap (λ (n : ℕ). n + 1) (c.answered.ensures.count ∙ stands.count);

@@ -20,21 +20,21 @@ use Rattle.docket_entries.proofs.register.DocketRegister.review.Goals as goal
 
 pub returns-then-eq-clause-other : goal.returns-then-eq-clause-other
 returns-then-eq-clause-other c = λ kept stands.
-    let before = as_it_was c.args.under.now c.args.self.now c.said.new.self kept stands c.said.ensures.docket c.said.ensures.cases c.said.ensures.number c.said.ensures.count in
+    let before = as_it_was c.args.under.now c.args.self.now c.said.new.self kept stands c.said.ensures.docket c.said.ensures.numbers c.said.ensures.cases c.said.ensures.number c.said.ensures.count in
     let left = leaves_made c.args.under.now c.done.new.self kept c.args.entry.now c.in-Row.row (sym (c.in_ok-row.ensures.said kept stands.count ∙ ap (λ (t : List ℕ). within kept (line_read most_clerks (names_of c.args.under.now.court) t)) c.after_name.ensures) ∙ c.in-Row.is) (fields_of c.said.new.self.fields) (c.in_ok-row.ensures.fields c.in-Row.row c.in-Row.is ∙ ap fields_read c.after_name.ensures) c.in_ok-name.name c.in_ok-name.ensures
     (c.in_ok-answer-in-Row.answer, c.in_ok-answer-in-Row.again) (c.in_ok-answer-in-Row.ensures.done kept before) in
     left ∙ ap (λ (e : List ℕ). e ∷ []) (sym c.as_slice.ensures.value ∙ (bytes_eq-Decides c.as_slice.result.now c.args.entry.now).0 (sym c.eq.ensures ∙ c.if-eq.true))
 
 pub returns-then-eq-clause-stands : goal.returns-then-eq-clause-stands
 returns-then-eq-clause-stands c = λ kept stands none.
-    let before = as_it_was c.args.under.now c.args.self.now c.said.new.self kept stands c.said.ensures.docket c.said.ensures.cases c.said.ensures.number c.said.ensures.count in
+    let before = as_it_was c.args.under.now c.args.self.now c.said.new.self kept stands c.said.ensures.docket c.said.ensures.numbers c.said.ensures.cases c.said.ensures.number c.said.ensures.count in
     let done = c.in_ok-answer-in-Row.ensures.done kept before in
     let (said, room) = within_row kept (line_read most_clerks (names_of c.args.under.now.court) (after_name c.args.entry.now)) c.in-Row.row (sym (c.in_ok-row.ensures.said kept stands.count ∙ ap (λ (t : List ℕ). within kept (line_read most_clerks (names_of c.args.under.now.court) t)) c.after_name.ensures) ∙ c.in-Row.is) in
-    stands_row c.args.under.now c.done.new.self kept c.args.entry.now c.in-Row.row stands.begun room none (sym (ap (is_struck c.args.under.now.corrections) stands.number) ∙ c.requires.stays) said done.docket (done.cases ∙ ap (with_opened (cases_of c.args.under.now kept) (opened_as c.in-Row.row.work)) c.in_ok-name.ensures) done.number done.count
+    stands_row c.args.under.now c.done.new.self kept c.args.entry.now c.in-Row.row stands.begun room none (sym (ap (is_struck c.args.under.now.corrections) stands.number) ∙ c.requires.stays) said done.docket done.numbers (done.cases ∙ ap (with_opened (cases_of c.args.under.now kept) (opened_as c.in-Row.row.work)) c.in_ok-name.ensures) done.number done.count
 
 pub returns-else-eq-clause-other : goal.returns-else-eq-clause-other
 returns-else-eq-clause-other c = λ kept stands.
-    let before = as_it_was c.args.under.now c.args.self.now c.said.new.self kept stands c.said.ensures.docket c.said.ensures.cases c.said.ensures.number c.said.ensures.count in
+    let before = as_it_was c.args.under.now c.args.self.now c.said.new.self kept stands c.said.ensures.docket c.said.ensures.numbers c.said.ensures.cases c.said.ensures.number c.said.ensures.count in
     let is = sym (c.in_ok-row.ensures.said kept stands.count ∙ ap (λ (t : List ℕ). within kept (line_read most_clerks (names_of c.args.under.now.court) t)) c.after_name.ensures) ∙ c.in-Row.is in
     let done = c.in_ok-answer-in-Row.ensures.done kept before in
     let left = leaves_made c.args.under.now c.done.new.self kept c.args.entry.now c.in-Row.row is (fields_of c.said.new.self.fields) (c.in_ok-row.ensures.fields c.in-Row.row c.in-Row.is ∙ ap fields_read c.after_name.ensures) c.in_ok-name.name c.in_ok-name.ensures
@@ -48,13 +48,13 @@ returns-else-eq-clause-other c = λ kept stands.
 
 pub returns-else-eq-clause-stands : goal.returns-else-eq-clause-stands
 returns-else-eq-clause-stands c = λ kept stands none.
-    let before = as_it_was c.args.under.now c.args.self.now c.said.new.self kept stands c.said.ensures.docket c.said.ensures.cases c.said.ensures.number c.said.ensures.count in
+    let before = as_it_was c.args.under.now c.args.self.now c.said.new.self kept stands c.said.ensures.docket c.said.ensures.numbers c.said.ensures.cases c.said.ensures.number c.said.ensures.count in
     let done = c.in_ok-answer-in-Row.ensures.done kept before in
     let (said, room) = within_row kept (line_read most_clerks (names_of c.args.under.now.court) (after_name c.args.entry.now)) c.in-Row.row (sym (c.in_ok-row.ensures.said kept stands.count ∙ ap (λ (t : List ℕ). within kept (line_read most_clerks (names_of c.args.under.now.court) t)) c.after_name.ensures) ∙ c.in-Row.is) in
-    stands_row c.args.under.now c.done.new.self kept c.args.entry.now c.in-Row.row stands.begun room none (sym (ap (is_struck c.args.under.now.corrections) stands.number) ∙ c.requires.stays) said done.docket (done.cases ∙ ap (with_opened (cases_of c.args.under.now kept) (opened_as c.in-Row.row.work)) c.in_ok-name.ensures) done.number done.count
+    stands_row c.args.under.now c.done.new.self kept c.args.entry.now c.in-Row.row stands.begun room none (sym (ap (is_struck c.args.under.now.corrections) stands.number) ∙ c.requires.stays) said done.docket done.numbers (done.cases ∙ ap (with_opened (cases_of c.args.under.now kept) (opened_as c.in-Row.row.work)) c.in_ok-name.ensures) done.number done.count
 
-pub returns-in_ok-push_fault-in-Fault-clause-other : goal.returns-in_ok-push_fault-in-Fault-clause-other
-returns-in_ok-push_fault-in-Fault-clause-other c = λ kept stands.
+pub returns-in_ok-pass_row-in-Fault-clause-other : goal.returns-in_ok-pass_row-in-Fault-clause-other
+returns-in_ok-pass_row-in-Fault-clause-other c = λ kept stands.
     let is = sym (c.in_ok-row.ensures.said kept stands.count ∙ ap (λ (t : List ℕ). within kept (line_read most_clerks (names_of c.args.under.now.court) t)) c.after_name.ensures) ∙ c.in-Fault.is in
     record {
       other = not_as c.args.under.now c.pass_row.new.self kept c.args.entry.now (says.Fault c.in-Fault.cause) is refl;
@@ -63,30 +63,30 @@ returns-in_ok-push_fault-in-Fault-clause-other c = λ kept stands.
           ∙ sym (answers_as c.args.under.now c.pass_row.new.self kept c.args.entry.now (says.Fault c.in-Fault.cause) is);
     }
 
-pub returns-in_ok-push_fault-in-Fault-clause-stands : goal.returns-in_ok-push_fault-in-Fault-clause-stands
-returns-in_ok-push_fault-in-Fault-clause-stands c = λ kept stands none.
+pub returns-in_ok-pass_row-in-Fault-clause-stands : goal.returns-in_ok-pass_row-in-Fault-clause-stands
+returns-in_ok-pass_row-in-Fault-clause-stands c = λ kept stands none.
     let is = sym (c.in_ok-row.ensures.said kept stands.count ∙ ap (λ (t : List ℕ). within kept (line_read most_clerks (names_of c.args.under.now.court) t)) c.after_name.ensures) ∙ c.in-Fault.is in
-    let before = as_it_was c.args.under.now c.args.self.now c.said.new.self kept stands c.said.ensures.docket c.said.ensures.cases c.said.ensures.number c.said.ensures.count in
+    let before = as_it_was c.args.under.now c.args.self.now c.said.new.self kept stands c.said.ensures.docket c.said.ensures.numbers c.said.ensures.cases c.said.ensures.number c.said.ensures.count in
     let room : c.said.new.self.count < most_entries = omega (arith, c.requires.room, c.said.ensures.count) in
     let short : length kept < most_entries = omega (arith, room, before.count) in
     stands_passed c.args.under.now c.said.new.self c.pass_row.new.self kept c.args.entry.now before room none
     (none_within kept (line_read most_clerks (names_of c.args.under.now.court) (after_name c.args.entry.now)) (says.Fault c.in-Fault.cause) is short refl)
-    c.pass_row.ensures.docket c.pass_row.ensures.cases c.pass_row.ensures.number c.pass_row.ensures.count
+    c.pass_row.ensures.docket c.in_ok-pass_row-in-Fault.ensures.numbers c.pass_row.ensures.cases c.in_ok-pass_row-in-Fault.ensures.number c.in_ok-pass_row-in-Fault.ensures.count
 
-pub returns-in-Blank-clause-other : goal.returns-in-Blank-clause-other
-returns-in-Blank-clause-other c = λ kept stands.
+pub returns-in_ok-pass_row-in-Blank-clause-other : goal.returns-in_ok-pass_row-in-Blank-clause-other
+returns-in_ok-pass_row-in-Blank-clause-other c = λ kept stands.
     let is = sym (c.in_ok-row.ensures.said kept stands.count ∙ ap (λ (t : List ℕ). within kept (line_read most_clerks (names_of c.args.under.now.court) t)) c.after_name.ensures) ∙ c.in-Blank.is in
     record {
       other = not_as c.args.under.now c.said.new.self kept c.args.entry.now says.Blank is refl;
       answer_is = c.new.ensures.items ∙ sym (answers_as c.args.under.now c.said.new.self kept c.args.entry.now says.Blank is);
     }
 
-pub returns-in-Blank-clause-stands : goal.returns-in-Blank-clause-stands
-returns-in-Blank-clause-stands c = λ kept stands none.
+pub returns-in_ok-pass_row-in-Blank-clause-stands : goal.returns-in_ok-pass_row-in-Blank-clause-stands
+returns-in_ok-pass_row-in-Blank-clause-stands c = λ kept stands none.
     let is = sym (c.in_ok-row.ensures.said kept stands.count ∙ ap (λ (t : List ℕ). within kept (line_read most_clerks (names_of c.args.under.now.court) t)) c.after_name.ensures) ∙ c.in-Blank.is in
-    let before = as_it_was c.args.under.now c.args.self.now c.said.new.self kept stands c.said.ensures.docket c.said.ensures.cases c.said.ensures.number c.said.ensures.count in
+    let before = as_it_was c.args.under.now c.args.self.now c.said.new.self kept stands c.said.ensures.docket c.said.ensures.numbers c.said.ensures.cases c.said.ensures.number c.said.ensures.count in
     let room : c.said.new.self.count < most_entries = omega (arith, c.requires.room, c.said.ensures.count) in
     let short : length kept < most_entries = omega (arith, room, before.count) in
     stands_passed c.args.under.now c.said.new.self c.pass_row-in-Blank.new.self kept c.args.entry.now before room none
     (none_within kept (line_read most_clerks (names_of c.args.under.now.court) (after_name c.args.entry.now)) says.Blank is short refl)
-    c.pass_row-in-Blank.ensures.docket c.pass_row-in-Blank.ensures.cases c.pass_row-in-Blank.ensures.number c.pass_row-in-Blank.ensures.count
+    c.pass_row-in-Blank.ensures.docket c.in_ok-pass_row-in-Blank.ensures.numbers c.pass_row-in-Blank.ensures.cases c.in_ok-pass_row-in-Blank.ensures.number c.in_ok-pass_row-in-Blank.ensures.count

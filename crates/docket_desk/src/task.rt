@@ -1,0 +1,61 @@
+//! What the program is asked to do.
+
+use court_clock::Day;
+use written_fields::DateOrder;
+
+/// What is asked for, of a folder.
+#[derive(Debug, Drop)]
+pub enum Task {
+    /// A new folder, with the court's file of this name.
+    Open(String),
+    /// Rows, which are kept and answered.
+    Enter,
+    /// Rows, which are kept and answered, except those that draw a warning. The day counts as today, if there is one.
+    EnterCarefully(Option<Day>),
+    /// Rows, which are kept together if no line has a fault, and then answered.
+    EnterTogether,
+    /// Rows as people write them, which are kept together if no line has a fault, and then answered.
+    EnterWritten(Style),
+    /// Rows, which are answered and not kept.
+    Try,
+    /// Rows, which are answered as `EnterCarefully` answers them, and not kept.
+    TryCarefully(Option<Day>),
+    /// Rows as people write them, which are answered and not kept.
+    TryWritten(Style),
+    /// Rows as people write them, which are written as plain rows.
+    Plain(Style),
+    /// Questions, which are answered.
+    Ask,
+    /// The court's file and all rows, as clerk_office reads them.
+    Rows,
+    /// The cases that have names.
+    Cases,
+    /// How many rows are kept, or what is damaged.
+    Check,
+    /// Another court's file, of this name, and whether it is taken though answers differ.
+    Court(String, bool),
+    /// A row that is struck.
+    Strike(Struck),
+    /// The rows that are struck.
+    Struck,
+}
+
+/// A row that is struck, and what is said of that.
+#[derive(Debug, Drop)]
+pub struct Struck {
+    /// The row's number, counted from 1.
+    pub row: u32,
+    /// When, by whom and why, as one line with its end.
+    pub remark: String,
+    /// Whether it is struck though answers differ.
+    pub accept: bool,
+}
+
+/// How rows are written, and how their faults are.
+#[derive(Clone, Copy, Debug)]
+pub struct Style {
+    /// Which comes first in a date in numbers, if that is known.
+    pub order: Option<DateOrder>,
+    /// Whether faults are written as JSON.
+    pub json: bool,
+}

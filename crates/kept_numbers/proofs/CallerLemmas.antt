@@ -1,0 +1,3 @@
+-- The lemmas for the crates above, from one place.
+pub use Rattle.kept_numbers.proofs.NumberLemmas.{nothing_moves}
+pub use Rattle.kept_numbers.proofs.PlainLemmas.{nothing_changes, placed_alone}

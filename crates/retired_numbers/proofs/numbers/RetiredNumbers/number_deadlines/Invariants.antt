@@ -1,8 +1,0 @@
-use Rattle.std.proofs.Common.{◌≡◌, map}
-use Rattle.retired_numbers.specs.Numbered.{numbered_deadline}
-use Rattle.retired_numbers.proofs.MapLemmas.{changed_up_to}
-use Rattle.retired_numbers.proofs.numbers.RetiredNumbers.number_deadlines.Given as goal
-
--- the first have their numbers, and the others are as they were
-abbrev pub invariant-list : goal.invariant-list
-invariant-list l = changed_up_to (numbered_deadline l.self l.case) l.deadlines l.deadline-index ≡ map (numbered_deadline l.self l.case) l.initial.deadlines

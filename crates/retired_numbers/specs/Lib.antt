@@ -1,5 +1,0 @@
-pub mod Numbers
-pub mod Retired
-pub mod Numbered
-pub mod Laws
-pub mod Words
