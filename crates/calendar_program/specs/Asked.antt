@@ -1,13 +1,13 @@
 -- What the words of the command line ask for.
-use Rattle.std.specs.Prelude.{◌≡◌, ◌&&◌, Bool, true, false, List, [], ◌∷◌, Option, Some, None, codes, is_some, option_map, string_bytes, IfSome, if◌then◌else◌}
+use Rattle.std.specs.Prelude.{◌≡◌, ◌&&◌, Bool, true, false, List, [], Option, Some, None, codes, is_some, option_map, string_bytes, IfSome, if◌then◌else◌}
 use Rattle.std.specs.Option.{option_and_then}
 use Rattle.std.specs.Str.{bytes_eq}
 use Rattle.clap.specs.Kinds.{or_else}
 use Rattle.clap.specs.Words.{Kinds, Row, Text, fault_of, first_of, one_of, subcommand_of, takes}
-use Rattle.clap.specs.declared.error.kind.ErrorKind.TheVariants.{ValueValidation}
 use Rattle.case_names.specs.Words.{case_called}
 use Rattle.content_lines.specs.Words.{stamp_of_text}
 use Rattle.court_clock.specs.Words.{day_of_text}
+use Rattle.text_options.specs.Words.{faults_unless, is_case_taken, is_day_taken}
 use Rattle.calendar_program.specs.declared.asked.Asked.{Asked}
 use Rattle.calendar_program.specs.declared.asked.Task.{Task}
 use Rattle.calendar_program.specs.declared.asked.Task.TheVariants.{Due, Ics, Json, Page, Sql, Week}
@@ -45,20 +45,10 @@ pub record IsAskedBy (name : Text) (given : List Row) (asked : Asked) : Type 0 w
 abbrev pub IsAsked : List Text → Asked → Type 0
 IsAsked words asked = IfSome (subcommand_of command_line words) (λ met. IsAskedBy met.0 met.1 asked)
 
--- the text of an option writes a day, or none is given
-abbrev pub is_day_taken : (text : Option Text) → Bool
-is_day_taken None = true
-is_day_taken (Some text) = is_some (day_of_text text)
-
--- it writes an instant, or none is given
+-- the text of an option writes an instant, or none is given
 abbrev pub is_instant_taken : (text : Option Text) → Bool
 is_instant_taken None = true
 is_instant_taken (Some text) = is_some (stamp_of_text text)
-
--- it writes what a case is called, or none is given
-abbrev pub is_case_taken : (text : Option Text) → Bool
-is_case_taken None = true
-is_case_taken (Some text) = is_some (case_called text)
 
 -- each text that has to write a day, an instant or a case does
 abbrev pub are_given_taken : List Row → Bool
@@ -69,10 +59,7 @@ are_given_taken given =
     && (is_instant_taken (first_of (codes "stamp") given)
     && is_case_taken (first_of (codes "case") given))))
 
--- the fault of a text that writes none
-abbrev pub faults_unless : (taken : Bool) → Kinds
-faults_unless taken = if taken then [] else ValueValidation ∷ []
-
+-- the fault where one doesn't
 abbrev pub faults_given : List Row → Kinds
 faults_given given = faults_unless (are_given_taken given)
 

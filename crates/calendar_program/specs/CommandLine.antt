@@ -1,43 +1,33 @@
 -- What the program's command line may have, as `clap` reads it.
-use Rattle.std.specs.Prelude.{Bool, Some, true, false, [], ◌∷◌, ◌++◌, codes}
+use Rattle.std.specs.Prelude.{Some, true, [], ◌∷◌, ◌++◌, codes}
 use Rattle.clap.specs.Words.{App, Rule, Shape, Text, new_rule, with_subcommand}
 use Rattle.clap.specs.Simple.{new_shape}
-use Rattle.clap.specs.declared.builder.action.ArgAction.TheVariants.{Set, SetTrue}
-
--- `--NAME DAY`, once at most, and once where it has to be given
-abbrev pub day_rule : (name : Text) → (needed : Bool) → Rule
-day_rule name needed = record (new_rule name) { long = Some name; action = Some Set; value_names = 1; required = needed }
-
--- `--judge NAME`, likewise
-abbrev pub judge_rule : (needed : Bool) → Rule
-judge_rule needed = record (new_rule (codes "judge")) { long = Some (codes "judge"); action = Some Set; value_names = 1; required = needed }
-
--- `--case N`, once at most
-abbrev pub case_rule : Rule
-case_rule = record (new_rule (codes "case")) { long = Some (codes "case"); action = Some Set; value_names = 1 }
-
--- `--stamp INSTANT`, once at most
-abbrev pub stamp_rule : Rule
-stamp_rule = record (new_rule (codes "stamp")) { long = Some (codes "stamp"); action = Some Set; value_names = 1 }
+use Rattle.clap.specs.declared.builder.action.ArgAction.TheVariants.{SetTrue}
+use Rattle.text_options.specs.Words.{text_rule}
 
 -- `--lines`, once at most
 abbrev pub lines_rule : Rule
 lines_rule = record (new_rule (codes "lines")) { long = Some (codes "lines"); action = Some SetTrue }
 
+-- `--NAME TEXT`, once, as it has to be given
+abbrev pub needed_rule : (name : Text) → Rule
+needed_rule name = record (text_rule name) { required = true }
+
 -- a subcommand that takes the days, the judge and the case that are chosen
 abbrev pub choosing_shape : (name : Text) → Shape
-choosing_shape name = record (new_shape name) { rules = day_rule (codes "from") false ∷ day_rule (codes "to") false ∷ judge_rule false ∷ case_rule ∷ [] }
+choosing_shape name = record (new_shape name) { rules = text_rule (codes "from") ∷ text_rule (codes "to") ∷ text_rule (codes "judge") ∷ text_rule (codes "case") ∷ [] }
 
 -- the one of calendars, which also takes the instant at which one is written
 abbrev pub ics_shape : Shape
-ics_shape = record (choosing_shape (codes "ics")) { rules = (choosing_shape (codes "ics")).rules ++ stamp_rule ∷ [] }
+ics_shape = record (choosing_shape (codes "ics")) { rules = (choosing_shape (codes "ics")).rules ++ text_rule (codes "stamp") ∷ [] }
 
 -- the one of JSON, which also takes that answers are to be lines
 abbrev pub json_shape : Shape
 json_shape = record (choosing_shape (codes "json")) { rules = (choosing_shape (codes "json")).rules ++ lines_rule ∷ [] }
 
+-- the one of a judge's week, for which the judge and a day have to be given
 abbrev pub week_shape : Shape
-week_shape = record (new_shape (codes "week")) { rules = judge_rule true ∷ day_rule (codes "of") true ∷ [] }
+week_shape = record (new_shape (codes "week")) { rules = needed_rule (codes "judge") ∷ needed_rule (codes "of") ∷ [] }
 
 -- the program's name, which the words leave out, with the help and the version that `clap` adds
 abbrev pub bare_command : App

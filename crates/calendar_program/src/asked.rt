@@ -5,18 +5,18 @@ ghost use Rattle.std.specs.Option.{option_and_then};
 ghost use Rattle.clap.specs.declared.error.kind.ErrorKind.{ErrorKind};
 ghost use Rattle.clap.specs.Matches.{first_value};
 ghost use Rattle.clap.specs.Words.{found_of, rows_of};
-ghost use Rattle.case_names.specs.Words.{case_called};
 ghost use Rattle.content_lines.specs.Words.{stamp_of_text};
-ghost use Rattle.court_clock.specs.Words.{day_of_text};
 ghost use Rattle.office_options.specs.Words.{IsAnswerFor, IsFaultAmong};
-ghost use Rattle.calendar_program.specs.Asked.{IsAskedBy, are_given_taken, faults_given, is_case_taken, is_day_taken, is_instant_taken, task_of};
+ghost use Rattle.text_options.specs.Words.{faults_unless};
+ghost use Rattle.calendar_program.specs.Asked.{IsAskedBy, are_given_taken, faults_given, is_instant_taken, task_of};
 
-use case_names::{CaseCalled, case_called};
+use case_names::CaseCalled;
 use clap::ArgMatches;
 use content_lines::stamp_of_text;
 use court_clock::{Day, Instant};
 use office_options::OptionsFault;
 use std::alloc::{AllocError, Global};
+use text_options::{case_option, day_option};
 
 /// What is written.
 #[derive(Clone, Copy, Debug, PartialEq, Eq)]
@@ -67,16 +67,15 @@ pub(crate) fn asked_by(
     ensures faults { IsAnswerFor (faults_given (rows_of (found_of given.now))) result }
     ensures taken { are_given_taken (rows_of (found_of given.now)) ≡ true → IfErr result (λ fault. fault ≡ OptionsFault.OutOfMemory) }
 {
-    let judge = text_given(alloc, given, "judge")?;
-    let from = match day_read(alloc, "from", given.get_str("from")) {
+    let from = match day_option(alloc, "from", given.get_str("from")) {
         Ok(day) => day,
         Err(fault) => return Err(fault),
     };
-    let to = match day_read(alloc, "to", given.get_str("to")) {
+    let to = match day_option(alloc, "to", given.get_str("to")) {
         Ok(day) => day,
         Err(fault) => return Err(fault),
     };
-    let of = match day_read(alloc, "of", given.get_str("of")) {
+    let of = match day_option(alloc, "of", given.get_str("of")) {
         Ok(day) => day,
         Err(fault) => return Err(fault),
     };
@@ -84,10 +83,11 @@ pub(crate) fn asked_by(
         Ok(stamp) => stamp,
         Err(fault) => return Err(fault),
     };
-    let case = match case_read(alloc, given.get_str("case")) {
+    let case = match case_option(alloc, given.get_str("case")) {
         Ok(case) => case,
         Err(fault) => return Err(fault),
     };
+    let judge = text_given(alloc, given, "judge")?;
     Ok(Asked {
         task: task_of(name),
         judge,
@@ -124,27 +124,10 @@ fn text_given(alloc: Global, given: &ArgMatches<'_>, id: &str) -> Result<Option<
     }
 }
 
-/// The day that the text of an option writes, if it is given.
-fn day_read(alloc: Global, option: &str, text: Option<&str>) -> Result<Option<Day>, OptionsFault>
-    ensures day { IfOk result (λ day. day ≡ option_and_then day_of_text (option_map (λ text. text.now) text.entry)) }
-    ensures read { IfOk result (λ day. is_day_taken (option_map (λ text. text.now) text.entry) ≡ true) }
-    ensures fault { IfErr result (λ fault. IsFaultAmong (ErrorKind.ValueValidation ∷ []) fault) }
-    ensures taken { is_day_taken (option_map (λ text. text.now) text.entry) ≡ true → IfErr result (λ fault. fault ≡ OptionsFault.OutOfMemory) }
-{
-    match text {
-        None => Ok(None),
-        Some(text) => match Day::from_text(text) {
-            Some(day) => Ok(Some(day)),
-            None => Err(no_day(alloc, option, text)),
-        },
-    }
-}
-
 /// The instant that the text of its option writes, if it is given.
 fn stamp_read(alloc: Global, text: Option<&str>) -> Result<Option<Instant>, OptionsFault>
     ensures stamp { IfOk result (λ stamp. stamp ≡ option_and_then stamp_of_text (option_map (λ text. text.now) text.entry)) }
-    ensures read { IfOk result (λ stamp. is_instant_taken (option_map (λ text. text.now) text.entry) ≡ true) }
-    ensures fault { IfErr result (λ fault. IsFaultAmong (ErrorKind.ValueValidation ∷ []) fault) }
+    ensures faults { IsAnswerFor (faults_unless (is_instant_taken (option_map (λ text. text.now) text.entry))) result }
     ensures taken { is_instant_taken (option_map (λ text. text.now) text.entry) ≡ true → IfErr result (λ fault. fault ≡ OptionsFault.OutOfMemory) }
 {
     match text {
@@ -156,53 +139,12 @@ fn stamp_read(alloc: Global, text: Option<&str>) -> Result<Option<Instant>, Opti
     }
 }
 
-/// The case that the text of its option calls, if it is given.
-fn case_read(alloc: Global, text: Option<&str>) -> Result<Option<CaseCalled>, OptionsFault>
-    ensures case { IfOk result (λ case. case ≡ option_and_then case_called (option_map (λ text. text.now) text.entry)) }
-    ensures read { IfOk result (λ case. is_case_taken (option_map (λ text. text.now) text.entry) ≡ true) }
-    ensures fault { IfErr result (λ fault. IsFaultAmong (ErrorKind.ValueValidation ∷ []) fault) }
-    ensures taken { is_case_taken (option_map (λ text. text.now) text.entry) ≡ true → IfErr result (λ fault. fault ≡ OptionsFault.OutOfMemory) }
-{
-    match text {
-        None => Ok(None),
-        Some(text) => match case_called(alloc, text) {
-            Ok(Some(case)) => Ok(Some(case)),
-            Ok(None) => Err(no_case(alloc, text)),
-            Err(_) => Err(OptionsFault::OutOfMemory),
-        },
-    }
-}
-
-/// The text of the option is no day.
-fn no_day(alloc: Global, option: &str, text: &str) -> OptionsFault
-    ensures { IsFaultAmong (ErrorKind.ValueValidation ∷ []) result }
-{
-    match format!(in alloc;
-        "error: invalid value '{text}' for '--{option} <DAY>': write a day as 2025-09-15\n\nFor more information, try '--help'.\n"
-    ) {
-        Ok(text) => OptionsFault::BadWords(text),
-        Err(_) => OptionsFault::OutOfMemory,
-    }
-}
-
 /// The text is no instant.
 fn no_instant(alloc: Global, text: &str) -> OptionsFault
     ensures { IsFaultAmong (ErrorKind.ValueValidation ∷ []) result }
 {
     match format!(in alloc;
         "error: invalid value '{text}' for '--stamp <INSTANT>': write it as 20250915T120000Z, in UTC\n\nFor more information, try '--help'.\n"
-    ) {
-        Ok(text) => OptionsFault::BadWords(text),
-        Err(_) => OptionsFault::OutOfMemory,
-    }
-}
-
-/// The text is neither the number of a case nor a name.
-fn no_case(alloc: Global, text: &str) -> OptionsFault
-    ensures { IsFaultAmong (ErrorKind.ValueValidation ∷ []) result }
-{
-    match format!(in alloc;
-        "error: invalid value '{text}' for '--case <N>': write a case as its number, 1 to 4096, or as 1:25-cv-01234-ABC\n\nFor more information, try '--help'.\n"
     ) {
         Ok(text) => OptionsFault::BadWords(text),
         Err(_) => OptionsFault::OutOfMemory,

@@ -1,17 +1,17 @@
 //! The command line, as `clap` takes it.
 
-ghost use Rattle.std.specs.Prelude.{◌≡◌, false, true, codes, IfErr, IfOk, IfSome};
-ghost use Rattle.clap.specs.Simple.{new_shape};
+ghost use Rattle.std.specs.Prelude.{◌≡◌, [], true, codes, IfErr, IfOk, IfSome, IsOkAnd};
 ghost use Rattle.clap.specs.Walk.{texts};
-ghost use Rattle.clap.specs.Words.{app_of, rule_of, subcommand_rows_of, with_subcommand};
+ghost use Rattle.clap.specs.Words.{AddsSubcommand, app_of, new_app, subcommand_rows_of};
 ghost use Rattle.office_options.specs.Words.{IsAnswerFor};
 ghost use Rattle.calendar_program.specs.Asked.{IsAsked, IsAskedBy, are_met_taken, are_taken, faults_met, faults_of};
-ghost use Rattle.calendar_program.specs.CommandLine.{bare_command, case_rule, choosing_shape, command_line, day_rule, ics_shape, json_shape, judge_rule, lines_rule, stamp_rule, week_shape};
+ghost use Rattle.calendar_program.specs.CommandLine.{bare_command, choosing_shape, command_line, ics_shape, json_shape, week_shape};
 
 use crate::asked::{Asked, asked_by};
 use clap::{Arg, ArgAction, ArgMatches, Command};
 use office_options::{OptionsFault, fault_from};
 use std::alloc::{AllocError, Global};
+use text_options::{text_argument, with_text};
 
 // What the program is. `clap` breaks no lines, so they are broken here.
 const ABOUT: &str =
@@ -56,146 +56,67 @@ const ANY_JUDGE: &str = "Hearings before this judge, and deadlines of the cases 
 
 const ONE_JUDGE: &str = "The judge, as the court's file names one";
 
-fn day_argument<'a>(alloc: Global, name: &'a str, needed: bool, help: &'a str) -> Arg<'a>
-    ensures rule { rule_of result ≡ day_rule name.now needed }
-    ensures local { result.global ≡ false }
+const CASE: &str = "This case alone: its number, or the number that the court gives it";
+
+/// The subcommand of that name, which takes the days, the judge and the case that are chosen.
+fn choosing<'a>(alloc: Global, name: &'a str, about: &'a str) -> Result<Command<'a>, AllocError>
+    ensures { IfOk result (λ command. app_of command ≡ record { top = choosing_shape name.now; subs = [] }) }
 {
-    Arg::new(alloc, name)
-        .long(name)
-        .action(ArgAction::Set)
-        .value_name("DAY")
-        .required(needed)
-        .help(help)
+    let command = Command::new(alloc, name).about(about);
+    let command = with_text(alloc, command, "from", "DAY", FROM)?;
+    let command = with_text(alloc, command, "to", "DAY", TO)?;
+    let command = with_text(alloc, command, "judge", "NAME", ANY_JUDGE)?;
+    with_text(alloc, command, "case", "N", CASE)
 }
 
-fn judge_argument<'a>(alloc: Global, needed: bool, help: &'a str) -> Arg<'a>
-    ensures rule { rule_of result ≡ judge_rule needed }
-    ensures local { result.global ≡ false }
+/// The subcommand for a judge's week.
+fn week<'a>(alloc: Global) -> Result<Command<'a>, AllocError>
+    ensures { IfOk result (λ command. app_of command ≡ record { top = week_shape; subs = [] }) }
 {
-    Arg::new(alloc, "judge")
-        .long("judge")
-        .action(ArgAction::Set)
-        .value_name("NAME")
-        .required(needed)
-        .help(help)
+    let command = Command::new(alloc, "week").about(ABOUT_WEEK);
+    let judge = text_argument(alloc, "judge", "NAME", ONE_JUDGE).required(true);
+    let command = command.arg(judge)?;
+    let of = text_argument(alloc, "of", "DAY", OF).required(true);
+    command.arg(of)
 }
 
-fn stamp_argument<'a>(alloc: Global) -> Arg<'a>
-    ensures rule { rule_of result ≡ stamp_rule }
-    ensures local { result.global ≡ false }
+/// The subcommand for a calendar, which also takes the instant at which it is written.
+fn ics<'a>(alloc: Global) -> Result<Command<'a>, AllocError>
+    ensures { IfOk result (λ command. app_of command ≡ record { top = ics_shape; subs = [] }) }
 {
-    Arg::new(alloc, "stamp")
-        .long("stamp")
-        .action(ArgAction::Set)
-        .value_name("INSTANT")
-        .help(STAMP)
+    let command = choosing(alloc, "ics", ABOUT_ICS)?;
+    with_text(alloc, command, "stamp", "INSTANT", STAMP)
 }
 
-fn lines_argument<'a>(alloc: Global) -> Arg<'a>
-    ensures rule { rule_of result ≡ lines_rule }
-    ensures local { result.global ≡ false }
+/// The subcommand for JSON, which also takes that answers are to be lines.
+fn json<'a>(alloc: Global) -> Result<Command<'a>, AllocError>
+    ensures { IfOk result (λ command. app_of command ≡ record { top = json_shape; subs = [] }) }
 {
-    Arg::new(alloc, "lines")
+    let command = choosing(alloc, "json", ABOUT_JSON)?;
+    let lines = Arg::new(alloc, "lines")
         .long("lines")
         .action(ArgAction::SetTrue)
-        .help(LINES)
+        .help(LINES);
+    command.arg(lines)
 }
 
-fn case_argument<'a>(alloc: Global) -> Arg<'a>
-    ensures rule { rule_of result ≡ case_rule }
-    ensures local { result.global ≡ false }
+/// The subcommand for a database, which takes nothing.
+fn sql<'a>(alloc: Global) -> Command<'a>
+    ensures { app_of result ≡ new_app (codes "sql") }
 {
-    Arg::new(alloc, "case")
-        .long("case")
-        .action(ArgAction::Set)
-        .value_name("N")
-        .help("This case alone: its number, or the number that the court gives it")
+    Command::new(alloc, "sql").about(ABOUT_SQL)
 }
 
-/// The command with a subcommand of that name, which takes the days, the judge and the case that are chosen.
-fn with_choosing<'a>(
-    alloc: Global,
+/// The command with one more subcommand, where there was memory for that one. It takes what came of making the subcommand,
+/// so that the command is dropped here alone if there was none.
+fn with_subcommand<'a>(
     command: Command<'a>,
-    name: &'a str,
-    about: &'a str,
+    subcommand: Result<Command<'a>, AllocError>,
 ) -> Result<Command<'a>, AllocError>
-    ensures { IfOk result (λ whole. app_of whole ≡ with_subcommand (app_of command.entry) (choosing_shape name.now)) }
+    ensures { IfOk result (λ whole. IsOkAnd subcommand.entry (λ added. AddsSubcommand command.entry added whole)) }
 {
-    let from = day_argument(alloc, "from", false, FROM);
-    let to = day_argument(alloc, "to", false, TO);
-    let judge = judge_argument(alloc, false, ANY_JUDGE);
-    let case = case_argument(alloc);
-    let chooser = Command::new(alloc, name)
-        .about(about)
-        .arg(from)?
-        .arg(to)?
-        .arg(judge)?
-        .arg(case)?;
-    let whole = command.subcommand(chooser)?;
-    Ok(whole)
-}
-
-/// The command with the subcommand for a judge's week.
-fn with_week<'a>(alloc: Global, command: Command<'a>) -> Result<Command<'a>, AllocError>
-    ensures { IfOk result (λ whole. app_of whole ≡ with_subcommand (app_of command.entry) week_shape) }
-{
-    let judge = judge_argument(alloc, true, ONE_JUDGE);
-    let of = day_argument(alloc, "of", true, OF);
-    let week = Command::new(alloc, "week")
-        .about(ABOUT_WEEK)
-        .arg(judge)?
-        .arg(of)?;
-    let whole = command.subcommand(week)?;
-    Ok(whole)
-}
-
-/// The command with the subcommand for a calendar, which also takes the instant at which it is written.
-fn with_ics<'a>(alloc: Global, command: Command<'a>) -> Result<Command<'a>, AllocError>
-    ensures { IfOk result (λ whole. app_of whole ≡ with_subcommand (app_of command.entry) ics_shape) }
-{
-    let from = day_argument(alloc, "from", false, FROM);
-    let to = day_argument(alloc, "to", false, TO);
-    let judge = judge_argument(alloc, false, ANY_JUDGE);
-    let case = case_argument(alloc);
-    let stamp = stamp_argument(alloc);
-    let ics = Command::new(alloc, "ics")
-        .about(ABOUT_ICS)
-        .arg(from)?
-        .arg(to)?
-        .arg(judge)?
-        .arg(case)?
-        .arg(stamp)?;
-    let whole = command.subcommand(ics)?;
-    Ok(whole)
-}
-
-/// The command with the subcommand for JSON, which also takes that answers are to be lines.
-fn with_json<'a>(alloc: Global, command: Command<'a>) -> Result<Command<'a>, AllocError>
-    ensures { IfOk result (λ whole. app_of whole ≡ with_subcommand (app_of command.entry) json_shape) }
-{
-    let from = day_argument(alloc, "from", false, FROM);
-    let to = day_argument(alloc, "to", false, TO);
-    let judge = judge_argument(alloc, false, ANY_JUDGE);
-    let case = case_argument(alloc);
-    let lines = lines_argument(alloc);
-    let json = Command::new(alloc, "json")
-        .about(ABOUT_JSON)
-        .arg(from)?
-        .arg(to)?
-        .arg(judge)?
-        .arg(case)?
-        .arg(lines)?;
-    let whole = command.subcommand(json)?;
-    Ok(whole)
-}
-
-/// The command with the subcommand for a database, which takes nothing.
-fn with_sql<'a>(alloc: Global, command: Command<'a>) -> Result<Command<'a>, AllocError>
-    ensures { IfOk result (λ whole. app_of whole ≡ with_subcommand (app_of command.entry) (new_shape (codes "sql"))) }
-{
-    let sql = Command::new(alloc, "sql").about(ABOUT_SQL);
-    let whole = command.subcommand(sql)?;
-    Ok(whole)
+    let added = subcommand?;
+    command.subcommand(added)
 }
 
 /// The command line without its subcommands.
@@ -214,13 +135,12 @@ fn bare<'a>(alloc: Global) -> Command<'a>
 fn command<'a>(alloc: Global) -> Result<Command<'a>, AllocError>
     ensures { IfOk result (λ command. app_of command ≡ command_line) }
 {
-    let due = with_choosing(alloc, bare(alloc), "due", ABOUT_DUE)?;
-    let week = with_week(alloc, due)?;
-    let page = with_choosing(alloc, week, "page", ABOUT_PAGE)?;
-    let ics = with_ics(alloc, page)?;
-    let json = with_json(alloc, ics)?;
-    let sql = with_sql(alloc, json)?;
-    Ok(sql)
+    let due = with_subcommand(bare(alloc), choosing(alloc, "due", ABOUT_DUE))?;
+    let week = with_subcommand(due, week(alloc))?;
+    let page = with_subcommand(week, choosing(alloc, "page", ABOUT_PAGE))?;
+    let ics = with_subcommand(page, ics(alloc))?;
+    let json = with_subcommand(ics, json(alloc))?;
+    json.subcommand(sql(alloc))
 }
 
 /// What the words ask for, which are those after the program's name. BadWords where `clap` refuses the words or a text

@@ -1,16 +1,17 @@
 //! The command line, as `clap` takes it.
 
-ghost use Rattle.std.specs.Prelude.{◌≡◌, false, true, IfErr, IfOk};
+ghost use Rattle.std.specs.Prelude.{◌≡◌, true, IfErr, IfOk};
 ghost use Rattle.clap.specs.Walk.{texts};
-ghost use Rattle.clap.specs.Words.{app_of, rule_of};
+ghost use Rattle.clap.specs.Words.{app_of};
 ghost use Rattle.office_options.specs.Words.{IsAnswerFor};
 ghost use Rattle.memo_program.specs.Asked.{IsAsked, are_taken, faults_of};
-ghost use Rattle.memo_program.specs.CommandLine.{case_rule, command_line, today_rule};
+ghost use Rattle.memo_program.specs.CommandLine.{command_line};
 
 use crate::asked::{Asked, asked_by};
-use clap::{Arg, ArgAction, Command};
+use clap::Command;
 use office_options::{OptionsFault, fault_from};
 use std::alloc::{AllocError, Global};
+use text_options::with_text;
 
 // What the program is. `clap` breaks no lines, so they are broken here.
 const ABOUT: &str =
@@ -44,42 +45,21 @@ pending one lies from a day, and warnings, which are marked 'note'.
 docs/FORMATS.md describes the court's file, the rows, the answers, the reasons
 and what a run ends with; docs/RULES.md has each section.";
 
-fn case_argument<'a>(alloc: Global) -> Arg<'a>
-    ensures rule { rule_of result ≡ case_rule }
-    ensures local { result.global ≡ false }
-{
-    Arg::new(alloc, "case")
-        .long("case")
-        .action(ArgAction::Set)
-        .value_name("N")
-        .help("The sheet of this case alone, after all rows, by its number or its name")
-}
+const CASE: &str = "The sheet of this case alone, after all rows, by its number or its name";
 
-fn today_argument<'a>(alloc: Global) -> Arg<'a>
-    ensures rule { rule_of result ≡ today_rule }
-    ensures local { result.global ≡ false }
-{
-    Arg::new(alloc, "today")
-        .long("today")
-        .action(ArgAction::Set)
-        .value_name("DAY")
-        .help("With --case: how far pending deadlines lie from this day, as 2025-08-21")
-}
+const TODAY: &str = "With --case: how far pending deadlines lie from this day, as 2025-08-21";
 
 /// The command line's definition, for one reading of words.
 fn command<'a>(alloc: Global) -> Result<Command<'a>, AllocError>
     ensures { IfOk result (λ command. app_of command ≡ command_line) }
 {
-    let case = case_argument(alloc);
-    let today = today_argument(alloc);
-    let whole = Command::new(alloc, "deadline_memo")
+    let bare = Command::new(alloc, "deadline_memo")
         .no_binary_name(true)
         .version("0.1.0")
         .about(ABOUT)
-        .after_help(FORMATS)
-        .arg(case)?
-        .arg(today)?;
-    Ok(whole)
+        .after_help(FORMATS);
+    let of_case = with_text(alloc, bare, "case", "N", CASE)?;
+    with_text(alloc, of_case, "today", "DAY", TODAY)
 }
 
 /// What the words ask for, which are those after the program's name. BadWords where `clap` refuses the words or the case or

@@ -3,7 +3,8 @@ use Rattle.std.proofs.Common.{◌≡◌, ◌∙◌, [], codes}
 use Rattle.std.proofs.lemmas.Bool.{and_parts}
 use Rattle.clap.specs.Words.{first_of, found_of, rows_of}
 use Rattle.clap.proofs.WalkLemmas.{first_value-rows}
-use Rattle.memo_program.specs.Asked.{case_is_taken, day_is_taken, faults_of_case, faults_of_day}
+use Rattle.text_options.specs.Words.{faults_unless, is_case_taken}
+use Rattle.memo_program.specs.Asked.{day_counts, faults_of_day}
 use Rattle.memo_program.proofs.AskedLemmas.{first_fault}
 use Rattle.memo_program.proofs.asked.asked_by.Goals as goal
 
@@ -11,7 +12,7 @@ pub returns-in-Err-clause-faults : goal.returns-in-Err-clause-faults
 returns-in-Err-clause-faults c =
     let found = found_of c.args.given.now in
     let given = rows_of found in
-    first_fault (faults_of_case (first_of (codes "case") given)) (faults_of_day (first_of (codes "today") given) (first_of (codes "case") given)) c.in-Err.fault
+    first_fault (faults_unless (is_case_taken (first_of (codes "case") given))) (faults_of_day (first_of (codes "today") given) (first_of (codes "case") given)) c.in-Err.fault
     (rw (c.get_str.ensures ∙ first_value-rows found (codes "case")) at c.in-Err.ensures.faults)
 
 pub returns-in-Err-clause-taken : goal.returns-in-Err-clause-taken
@@ -19,7 +20,7 @@ returns-in-Err-clause-taken c taken =
     let found = found_of c.args.given.now in
     let given = rows_of found in
     let memory = rw (c.get_str.ensures ∙ first_value-rows found (codes "case")) at c.in-Err.ensures.taken in
-    memory (and_parts (case_is_taken (first_of (codes "case") given)) _ taken).0
+    memory (and_parts (is_case_taken (first_of (codes "case") given)) _ taken).0
 
 pub returns-in-Ok-day_asked-clause-asked : goal.returns-in-Ok-day_asked-clause-asked
 returns-in-Ok-day_asked-clause-asked c =
@@ -33,14 +34,14 @@ pub returns-in-Ok-day_asked-clause-faults : goal.returns-in-Ok-day_asked-clause-
 returns-in-Ok-day_asked-clause-faults c =
     let found = found_of c.args.given.now in
     let given = rows_of found in
-    let none : faults_of_case (first_of (codes "case") given) ≡ [] = rw (c.get_str.ensures ∙ first_value-rows found (codes "case")) at c.in-Ok.ensures.faults in
+    let none : faults_unless (is_case_taken (first_of (codes "case") given)) ≡ [] = rw (c.get_str.ensures ∙ first_value-rows found (codes "case")) at c.in-Ok.ensures.faults in
     rw none (rw (c.get_str-2.ensures ∙ first_value-rows found (codes "today"), c.get_str-3.ensures ∙ first_value-rows found (codes "case")) at c.in-Ok-day_asked.ensures.faults)
 
 pub returns-in-Err-day_asked-clause-faults : goal.returns-in-Err-day_asked-clause-faults
 returns-in-Err-day_asked-clause-faults c =
     let found = found_of c.args.given.now in
     let given = rows_of found in
-    let none : faults_of_case (first_of (codes "case") given) ≡ [] = rw (c.get_str.ensures ∙ first_value-rows found (codes "case")) at c.in-Ok.ensures.faults in
+    let none : faults_unless (is_case_taken (first_of (codes "case") given)) ≡ [] = rw (c.get_str.ensures ∙ first_value-rows found (codes "case")) at c.in-Ok.ensures.faults in
     rw none (rw (c.get_str-2.ensures ∙ first_value-rows found (codes "today"), c.get_str-3.ensures ∙ first_value-rows found (codes "case")) at c.in-Err-day_asked.ensures.faults)
 
 pub returns-in-Err-day_asked-clause-taken : goal.returns-in-Err-day_asked-clause-taken
@@ -48,4 +49,4 @@ returns-in-Err-day_asked-clause-taken c taken =
     let found = found_of c.args.given.now in
     let given = rows_of found in
     let memory = rw (c.get_str-2.ensures ∙ first_value-rows found (codes "today"), c.get_str-3.ensures ∙ first_value-rows found (codes "case")) at c.in-Err-day_asked.ensures.taken in
-    memory (and_parts (case_is_taken (first_of (codes "case") given)) (day_is_taken (first_of (codes "today") given) (first_of (codes "case") given)) taken).1
+    memory (and_parts (is_case_taken (first_of (codes "case") given)) (day_counts (first_of (codes "today") given) (first_of (codes "case") given)) taken).1
