@@ -25,7 +25,7 @@ text_style =
     ++ codes "h2 { margin: 2.5rem 0 0.75rem; font-size: 1.3rem; border-bottom: 2px solid #1f3a5f }\n"
     ++ codes "h3 { margin: 1.75rem 0 0.5rem; font-size: 1.1rem }\n"
     ++ codes "p { margin: 0.25rem 0 }\n"
-    ++ codes "a { color: #0b4f9e; white-space: nowrap }\n"
+    ++ codes "a { color: #0b4f9e }\n"
 
 -- its tables: what heads a row stays in one line, and a long name in a row's last cell is broken anywhere
 unfoldable pub table_style : List ℕ
@@ -46,7 +46,7 @@ table_style =
 unfoldable pub phone_style : List ℕ
 phone_style =
     codes "@media (max-width: 40rem) { body { padding: 0.5rem } th, td { padding: 0.2rem; font-size: 0.8125rem } td:nth-child(3):not(:last-child) { min-width: 5rem } div.reasons { white-space: pre-line; font-family: inherit } }\n"
-    ++ codes "@media (min-width: 40.01rem) { td:nth-child(3):not(:last-child) { white-space: nowrap } }\n"
+    ++ codes "@media (min-width: 40.01rem) { td:nth-child(3):not(:last-child):not(:has(a)) { white-space: nowrap } }\n"
 
 -- on paper: no row is cut, no heading is left alone at the end of a sheet, and a table's heads are on each sheet
 unfoldable pub paper_style : List ℕ

@@ -96,7 +96,7 @@ h1 { margin: 0 0 0.5rem; font-size: 1.6rem; line-height: 1.2 }
 h2 { margin: 2.5rem 0 0.75rem; font-size: 1.3rem; border-bottom: 2px solid #1f3a5f }
 h3 { margin: 1.75rem 0 0.5rem; font-size: 1.1rem }
 p { margin: 0.25rem 0 }
-a { color: #0b4f9e; white-space: nowrap }
+a { color: #0b4f9e }
 ",
     )
 }
@@ -127,7 +127,7 @@ fn push_phone_style(page: &mut Page) -> Result<(), AllocError>
 {
     page.markup(
         "@media (max-width: 40rem) { body { padding: 0.5rem } th, td { padding: 0.2rem; font-size: 0.8125rem } td:nth-child(3):not(:last-child) { min-width: 5rem } div.reasons { white-space: pre-line; font-family: inherit } }
-@media (min-width: 40.01rem) { td:nth-child(3):not(:last-child) { white-space: nowrap } }
+@media (min-width: 40.01rem) { td:nth-child(3):not(:last-child):not(:has(a)) { white-space: nowrap } }
 ",
     )
 }
