@@ -25,6 +25,7 @@ from reference.text_out import answer_lines, closing_lines
 DIFFERS, FAULT = 7, 3
 WHO = ["--reason", "entered twice", "--by", "R. Ames", "--today", "2025-09-02"]
 CASES = (1, 2, 3)
+OTHER_NUMBERS = b"note: since rows were struck, some deadlines or motions have other numbers here than at the desk\n"
 
 
 def drawn_row(draw):
@@ -134,8 +135,11 @@ def compare(desk, clerk, replay, what):
         first, *more = answer_lines(replay.court, replay.docket, view(replay.court, replay.docket, row.work))
         expected += "".join(line + "\n" for line in ["{} {} {}".format(replay.count + 1, row.clerk, first)] + more).encode()
     assert told.output == expected, (what, told.output, expected)
-    ended = run([clerk], desk.rows())
-    closing = "".join(line + "\n" for line in closing_lines(replay.court, replay.by_places())).encode()
+    rows = desk.call("rows")
+    by_places = replay.by_places()
+    assert rows.status == 0 and rows.errors == (b"" if by_places == replay.docket else OTHER_NUMBERS), (what, rows.errors)
+    ended = run([clerk], rows.output)
+    closing = "".join(line + "\n" for line in closing_lines(replay.court, by_places)).encode()
     assert ended.status == 0 and ended.output.endswith(closing), (what, ended, closing)
 
 

@@ -11,7 +11,7 @@ use desk_program::{
     write_struck,
 };
 use durable_session::SessionFault;
-use office_streams::{OfficeFault, Watched, read_all};
+use office_streams::{OfficeFault, Watched, read_all, write_all};
 use sqlite_std_file::Wary;
 use std::io::Write;
 
@@ -141,6 +141,16 @@ fn ask_folder<W: Write>(
     ask(rt.alloc(), &entries, &mut reader, writer)
 }
 
+// What is said where programs that read these rows count otherwise than the desk.
+const COUNTED_ANEW: &str =
+    "note: since rows were struck, some deadlines or motions have other numbers here than at the desk\n";
+
+// Says so on standard error, as far as it can be written.
+fn note_counted_anew(rt: &HostRuntime) {
+    let mut errors = Watched::new(rt.stderr());
+    let _written = write_all(&mut errors, COUNTED_ANEW.as_bytes());
+}
+
 // Writes the court's file, the names of cases, a line `%%` and the rows that stand.
 fn rows<W: Write>(rt: &HostRuntime, writer: &mut Watched<W>, folder: &str) -> Result<(), DeskFault>
     requires { has_failed writer.old ≡ false }
@@ -154,6 +164,9 @@ fn rows<W: Write>(rt: &HostRuntime, writer: &mut Watched<W>, folder: &str) -> Re
         &entries,
         writer,
     );
+    if !desk.moved().is_empty() {
+        note_counted_anew(rt);
+    }
     drop(desk.into_disk());
     ended
 }
