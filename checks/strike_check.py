@@ -1,22 +1,27 @@
 #!/usr/bin/env python3
 """Strikes rows of dockets at random, and compares the desk with a replay in Python of the other rows.
 
-    strike_check.py DESK CLERK_OFFICE [SEED [COUNT]]
+    strike_check.py DESK CLERK_OFFICE MEMO CALENDAR [SEED [COUNT]]
 
 COUNT dockets (100 without it) are entered. Then one to three rows of each are struck, one after another, with rows entered in
 between, and sometimes with another court's file. In the replay the number of a deadline or a motion belongs to the row that
 gave it: the row gives the same whenever it is decided again, and a row that gives one for the first time gives the next after
 all that were ever given in its case. After each strike these are compared with it: the answers that the desk lists as changed,
-the sheets of all cases and the calendars of all judges, the answers to later rows, and what clerk_office makes of the rows that
-the desk writes. Without --accept a strike that changes an answer changes nothing, and a row is struck once. It needs Python 3.8
-or later.
+the sheets of all cases and the calendars of all judges, the answers to later rows, and what other programs make of the rows
+that the desk writes: clerk_office counts deadlines and motions by their places, and deadline_memo and court_calendar show the
+numbers of the desk, also in the answers to rows. Without --accept a strike that changes an answer changes nothing, and a row is
+struck once. It needs Python 3.8 or later.
 """
+import json
 import random
+import re
 import sys
 import tempfile
+from typing import NamedTuple
 
 from lib.desk import Desk, SHORT_COURT, programs_of, run
 from lib.journal import rows_of as rows_kept
+from lib.json_text import office_text
 from reference.court_file import court_of
 from reference.docket import STEPS, opening, step, view
 from reference.rows_in import rows_of
@@ -25,7 +30,15 @@ from reference.text_out import answer_lines, closing_lines
 DIFFERS, FAULT = 7, 3
 WHO = ["--reason", "entered twice", "--by", "R. Ames", "--today", "2025-09-02"]
 CASES = (1, 2, 3)
-OTHER_NUMBERS = b"note: since rows were struck, some deadlines or motions have other numbers here than at the desk\n"
+# How the desk answers a row that names what there is no more. Such a row may be left out of the rows that it writes.
+NAMES_NOTHING = re.compile("refused (3 NoSuchDeadline|4 NoSuchMotion)")
+
+
+class Others(NamedTuple):
+    """The built programs that read the rows which the desk writes."""
+    clerk_office: str
+    memo: str
+    calendar: str
 
 
 def drawn_row(draw):
@@ -124,7 +137,35 @@ def changed(kept, replay):
     return text
 
 
-def compare(desk, clerk, replay, what):
+def answers_in(text):
+    """The answers of a text to rows that name what there is, each from its clerk on, and the lines after all answers."""
+    answers, closing = [], []
+    for line in text.splitlines():
+        if re.match("[0-9]+ 1 ", line):
+            answers.append([line.split(" ", 1)[1]])
+        elif answers and not closing and (answers[-1] == ["1 sheet"] or not re.match("case|judge", line)):
+            answers[-1].append(line)
+        else:
+            closing.append(line)
+    return [answer for answer in answers if not NAMES_NOTHING.match(answer[0], 2)], closing
+
+
+def compare_numbers(others, replay, rows, what):
+    """What deadline_memo and court_calendar show of the rows that are written: answers, sheets and calendars with the numbers
+    of the desk."""
+    told = run([others.calendar, "json"], rows)
+    assert told.status == 0, (what, told)
+    text = office_text(json.loads(told.output))
+    kept = b"".join(answer for answer in replay.answers if answer is not None).decode()
+    closing = closing_lines(replay.court, replay.docket)
+    assert answers_in(text) == (answers_in(kept)[0], closing), (what, text, kept, closing)
+    memo = run([others.memo], rows)
+    assert memo.status == 0, (what, memo)
+    bare = "".join(line + "\n" for line in memo.output.decode().splitlines() if not line.startswith(" "))
+    assert bare == text, (what, bare, text)
+
+
+def compare(desk, others, replay, what):
     """The sheets, the calendars, and the rows that are written."""
     asked = [b"1,sheet,%d\n" % case for case in CASES] + [b"1,calendar,%s,2025-05-05\n" % judge.encode() for judge in replay.court.judges]
     told = desk.call("ask", given=b"".join(asked))
@@ -137,10 +178,12 @@ def compare(desk, clerk, replay, what):
     assert told.output == expected, (what, told.output, expected)
     rows = desk.call("rows")
     by_places = replay.by_places()
-    assert rows.status == 0 and rows.errors == (b"" if by_places == replay.docket else OTHER_NUMBERS), (what, rows.errors)
-    ended = run([clerk], rows.output)
+    assert rows.status == 0 and not rows.errors, (what, rows.errors)
+    assert (b"[kept_numbers]" in rows.output) == (by_places != replay.docket), (what, rows.output)
+    ended = run([others.clerk_office], rows.output)
     closing = "".join(line + "\n" for line in closing_lines(replay.court, by_places)).encode()
     assert ended.status == 0 and ended.output.endswith(closing), (what, ended, closing)
+    compare_numbers(others, replay, rows.output, what)
 
 
 def other_court(draw):
@@ -148,7 +191,7 @@ def other_court(draw):
     return SHORT_COURT.replace(b'"2025-07-04"', b'"2025-07-04", "2025-%02d-%02d"' % (draw.randint(3, 9), draw.randint(1, 28)))
 
 
-def check_docket(programs, draw):
+def check_docket(programs, others, draw):
     """One docket, of which one to three rows are struck. Gives how many rows those are, and how many answers changed."""
     with tempfile.TemporaryDirectory() as parent:
         desk, court = Desk(programs, parent, SHORT_COURT), court_of(SHORT_COURT)
@@ -185,7 +228,7 @@ def check_docket(programs, draw):
                 ended = desk.call("strike", row, "--accept", *WHO)
                 assert ended.status == 0 and ended.output == text, (row, ended, text)
             struck, given = struck | {row}, after.given
-            compare(desk, programs.clerk_office, after, (lines, row))
+            compare(desk, others, after, (lines, row))
             assert b"rows kept: %d," % len(lines) in desk.call("check").output
         numbers = list(given.values())
         assert len(set(numbers)) == len(numbers), "a number was given twice"
@@ -195,12 +238,12 @@ def check_docket(programs, draw):
 
 
 def main(words):
-    if len(words) not in (2, 3, 4):
+    if len(words) not in (4, 5, 6):
         print(__doc__, file=sys.stderr)
         return 1
-    seed, count = [int(word) for word in words[2:] + ["1", "100"][len(words) - 2:]]
-    draw, programs = random.Random(seed), programs_of(words[:2])
-    counted = [check_docket(programs, draw) for _ in range(count)]
+    seed, count = [int(word) for word in words[4:] + ["1", "100"][len(words) - 4:]]
+    draw, programs, others = random.Random(seed), programs_of(words[:2]), Others(*words[1:4])
+    counted = [check_docket(programs, others, draw) for _ in range(count)]
     print("{} dockets: {} rows were struck, and {} answers changed, each as a replay of the others says".format(
         count, sum(rows for rows, _ in counted), sum(many for _, many in counted)))
     return 0

@@ -1,5 +1,5 @@
 -- How deep the values of a docket nest.
-use Rattle.std.proofs.Common.{◌≤◌, ◌+◌, ℕ, List, [], ◌∷◌, ◌++◌, length, codes, slice_get, arith}
+use Rattle.std.proofs.Common.{◌≤◌, ◌+◌, ℕ, List, [], ◌∷◌, ◌++◌, length, map, codes, slice_get, arith}
 use Rattle.std.specs.List.{range_with_len}
 use Rattle.std.specs.Option.{option_and_then}
 use Rattle.json.specs.Json.{string, max_depth}
@@ -38,6 +38,8 @@ use Rattle.office_rows.specs.declared.row.Row.{Row}
 use Rattle.office_run.specs.declared.reply.Reply.{Reply}
 use Rattle.office_run.specs.declared.reply.Reply.TheVariants.{Made, Viewed}
 use Rattle.office_run.specs.Words.{docketed_after, docketed_then}
+use Rattle.kept_numbers.specs.declared.moved.Moved.{Moved as MovedOf}
+use Rattle.numbered_selection.specs.Words.{numbered_calendar}
 use Rattle.calendar_json.specs.declared.answers.AnsweredRow.{AnsweredRow}
 use Rattle.calendar_json.specs.Answers.{answer_fields, answered_value, case_named, day_named, motion_named, refusal_fields, refusal_front, refusal_value, reply_fields, row_fields, view_fields}
 use Rattle.calendar_json.specs.Bookings.{booked_fields, booking_fields, booking_value, calendar_fields, calendar_value}
@@ -222,10 +224,10 @@ answered_within court named r = object_within 5 _ (append_within 5 (row_fields r
 pub answered_reads_within : (court : CourtView) (named : List NamedCase) (r : AnsweredRow) → depth (answered_value court named r) ≤ max_depth
 answered_reads_within court named r = let h = answered_within court named r in omega arith
 
-answers_within : (court : CourtView) (named : List NamedCase) (docketed : Rows) (number : ℕ) (rows : List Row) → AllWithin 6 (answers_from court named docketed number rows)
+answers_within : (court : CourtView) (named : List NamedCase) (moved : List MovedOf) (docketed : Rows) (number : ℕ) (rows : List Row) → AllWithin 6 (answers_from court named moved docketed number rows)
 unfolding answers_from
-answers_within court named docketed number [] = tt
-answers_within court named docketed number (row ∷ rows) = (answered_within court named _, answers_within court named (docketed_then (setup_of court) docketed row.work) (number + 1) rows)
+answers_within court named moved docketed number [] = tt
+answers_within court named moved docketed number (row ∷ rows) = (answered_within court named _, answers_within court named moved (docketed_then (setup_of court) docketed row.work) (number + 1) rows)
 
 judges_within : (court : CourtView) → depth (judges_value court) ≤ 1
 unfolding names_from
@@ -241,13 +243,13 @@ calendar_within court named c =
     object_within 2 (calendar_fields court named c)
     (nullable string 2 (λ _. omega arith) _, (array_within (booking_value court named) 1 (booking_within court named) c.bookings, tt))
 
-pub document_within : (court : CourtView) (named : List NamedCase) (choice : Choice) (rows : List Row) (sheets : List ExplainedSheet) → depth (document_value court named choice rows sheets) ≤ max_depth
+pub document_within : (court : CourtView) (named : List NamedCase) (moved : List MovedOf) (choice : Choice) (rows : List Row) (sheets : List ExplainedSheet) → depth (document_value court named moved choice rows sheets) ≤ max_depth
 unfolding document_value
-document_within court named choice rows sheets =
+document_within court named moved choice rows sheets =
     let docketed = docketed_after (setup_of court) (opening_rows (setup_of court)) rows in
     let here : depth (court_value court) ≤ 7 = let h = court_within court in omega arith in
-    let answers = list_within 6 _ (answers_within court named (opening_rows (setup_of court)) 1 rows) in
+    let answers = list_within 6 _ (answers_within court named moved (opening_rows (setup_of court)) 1 rows) in
     let cases = array_within (case_value court named) 5 (case_within court named) sheets in
-    let calendars = array_within (calendar_value court named) 3 (calendar_within court named) (chosen_calendars (setup_of court) docketed choice) in
-    let whole = object_within 7 (document_fields court named choice rows sheets) (here, (answers, (omega arith, (omega arith, tt)))) in
+    let calendars = array_within (calendar_value court named) 3 (calendar_within court named) (map (numbered_calendar moved) (chosen_calendars (setup_of court) docketed choice)) in
+    let whole = object_within 7 (document_fields court named moved choice rows sheets) (here, (answers, (omega arith, (omega arith, tt)))) in
     omega arith

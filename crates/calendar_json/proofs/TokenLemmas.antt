@@ -74,9 +74,3 @@ four_fields f g h k before =
     ap (λ t. (t ++ flat_map field_tokens (h ∷ [])) ++ flat_map field_tokens (k ∷ [])) (more_fields (f ∷ []) (g ∷ []) before)
     ∙ ap (λ t. t ++ flat_map field_tokens (k ∷ [])) (more_fields (f ∷ g ∷ []) (h ∷ []) before)
     ∙ more_fields (f ∷ g ∷ h ∷ []) (k ∷ []) before
-
--- two fields, one after another, and then others
-pub two_and_more : (f g : Field) (rest : List Field) (before : List Token) → ((before ++ flat_map field_tokens (f ∷ [])) ++ flat_map field_tokens (g ∷ [])) ++ flat_map field_tokens rest ≡ before ++ flat_map field_tokens (f ∷ g ∷ rest)
-two_and_more f g rest before =
-    ap (λ t. t ++ flat_map field_tokens rest) (more_fields (f ∷ []) (g ∷ []) before)
-    ∙ more_fields (f ∷ g ∷ []) rest before

@@ -1,12 +1,13 @@
 //! The whole: the court, what each row was answered, the sheets of cases and the calendars of judges.
 
-ghost use Rattle.std.specs.Prelude.{◌≡◌, ◌<◌, [], ◌∷◌, IfOk, OnOk, codes};
+ghost use Rattle.std.specs.Prelude.{◌≡◌, ◌<◌, [], ◌∷◌, map, IfOk, OnOk, codes};
 ghost use Rattle.std.specs.List.{flat_map};
 ghost use Rattle.json.specs.Tree.{json_tokens};
 ghost use Rattle.docket_rows.specs.Words.{Rows, opening_rows, setup_of};
 ghost use Rattle.docket_core.specs.Words.{StandsFor};
+ghost use Rattle.docket_selection.specs.Words.{chosen_calendars};
 ghost use Rattle.office_run.specs.Words.{Holds, docketed_after};
-ghost use Rattle.calendar_json.specs.Document.{AreSheetsAfter, IsDocketJson, answers_from, calendars_field, closing_fields, court_fields, court_value, document_fields, document_value};
+ghost use Rattle.calendar_json.specs.Document.{AreSheetsAfter, IsDocketJson, answers_from, calendars_field, court_fields, court_value, document_fields, document_value};
 ghost use Rattle.calendar_json.specs.Values.{Adds, AddsFields, AddsValue, array_of, field};
 
 use crate::answers::AnsweredRow;
@@ -16,26 +17,30 @@ use crate::writer::JsonWriter;
 use case_numbers::Cases;
 use court_days::Court;
 use docket_core::Docket;
-use docket_selection::{Choice, calendars_of};
-use explained_sheets::{ExplainedSheet, explained_sheets};
+use docket_selection::Choice;
+use explained_sheets::ExplainedSheet;
+use kept_numbers::MovedNumbers;
+use numbered_selection::{explained_selection, numbered_calendars};
 use office_rows::Row;
 use office_run::reply_to;
 use std::alloc::{AllocError, Global};
 
 /// One line of JSON: an object with the court, what each row was answered, the sheets of the chosen cases with the reasons
 /// of each deadline, and the calendars of the chosen judges after the last row. `cases` has the names of cases, each of which
-/// is beside the number of its case. `Err` says that memory ran out.
+/// is beside the number of its case. Deadlines and motions have the numbers that `moved` says, while rows name them by their
+/// places. `Err` says that memory ran out.
 pub fn json_text(
     alloc: Global,
     court: &Court,
     cases: &Cases,
+    moved: &MovedNumbers,
     rows: &[Row],
     choice: &Choice,
 ) -> Result<Vec<u8>, AllocError>
-    ensures { IfOk result (λ text. IsDocketJson court.now cases.now.named choice.now rows.now text.items) }
+    ensures { IfOk result (λ text. IsDocketJson court.now cases.now.named moved.now choice.now rows.now text.items) }
 {
     let mut out = JsonWriter::new(alloc);
-    let _sheets = push_document(alloc, &mut out, court, cases, rows, choice)?;
+    let _sheets = push_document(alloc, &mut out, court, cases, moved, rows, choice)?;
     let mut text = out.into_text();
     text.push(b'\n')?;
     Ok(text)
@@ -47,14 +52,15 @@ fn push_document(
     out: &mut JsonWriter,
     court: &Court,
     cases: &Cases,
+    moved: &MovedNumbers,
     rows: &[Row],
     choice: &Choice,
 ) -> Result<Vec<ExplainedSheet>, AllocError>
-    ensures sheets { IfOk result (λ sheets. AreSheetsAfter court.now choice.now rows.now sheets.items) }
-    ensures object { IfOk result (λ sheets. AddsValue out.old out.new (document_value court.now cases.now.named choice.now rows.now sheets.items)) }
+    ensures sheets { IfOk result (λ sheets. AreSheetsAfter court.now moved.now choice.now rows.now sheets.items) }
+    ensures object { IfOk result (λ sheets. AddsValue out.old out.new (document_value court.now cases.now.named moved.now choice.now rows.now sheets.items)) }
 {
     out.begin_object()?;
-    let sheets = push_document_fields(alloc, out, court, cases, rows, choice)?;
+    let sheets = push_document_fields(alloc, out, court, cases, moved, rows, choice)?;
     out.end_object()?;
     Ok(sheets)
 }
@@ -64,17 +70,19 @@ fn push_document_fields(
     out: &mut JsonWriter,
     court: &Court,
     cases: &Cases,
+    moved: &MovedNumbers,
     rows: &[Row],
     choice: &Choice,
 ) -> Result<Vec<ExplainedSheet>, AllocError>
-    ensures sheets { IfOk result (λ sheets. AreSheetsAfter court.now choice.now rows.now sheets.items) }
-    ensures fields { IfOk result (λ sheets. AddsFields out.old out.new (document_fields court.now cases.now.named choice.now rows.now sheets.items)) }
+    ensures sheets { IfOk result (λ sheets. AreSheetsAfter court.now moved.now choice.now rows.now sheets.items) }
+    ensures fields { IfOk result (λ sheets. AddsFields out.old out.new (document_fields court.now cases.now.named moved.now choice.now rows.now sheets.items)) }
 {
     let mut docket = Docket::new(alloc, court)?;
     push_court(out, court, cases)?;
-    push_answers(alloc, out, court, cases, &mut docket, rows)?;
-    let sheets = explained_sheets(alloc, court, &docket, choice)?;
-    push_closing(alloc, out, court, cases, &docket, choice, &sheets)?;
+    push_answers(alloc, out, court, cases, moved, &mut docket, rows)?;
+    let sheets = explained_selection(alloc, court, &docket, moved, choice)?;
+    out.list_field(court, cases, "cases", &sheets)?;
+    push_calendars(alloc, out, court, cases, moved, &docket, choice)?;
     Ok(sheets)
 }
 
@@ -123,16 +131,17 @@ fn push_answers(
     out: &mut JsonWriter,
     court: &Court,
     cases: &Cases,
+    moved: &MovedNumbers,
     docket: &mut Docket,
     rows: &[Row],
 ) -> Result<(), AllocError>
     requires { Holds (setup_of court.now) docket.old (opening_rows (setup_of court.now)) }
-    ensures answers { OnOk result (AddsFields out.old out.new (field (codes "answers") (array_of (answers_from court.now cases.now.named (opening_rows (setup_of court.now)) 1 rows.now)) ∷ [])) }
+    ensures answers { OnOk result (AddsFields out.old out.new (field (codes "answers") (array_of (answers_from court.now cases.now.named moved.now (opening_rows (setup_of court.now)) 1 rows.now)) ∷ [])) }
     ensures docket { OnOk result (Holds (setup_of court.now) docket.new (docketed_after (setup_of court.now) (opening_rows (setup_of court.now)) rows.now)) }
 {
     out.key("answers")?;
     out.begin_array()?;
-    push_answered(alloc, out, court, cases, docket, rows)?;
+    push_answered(alloc, out, court, cases, moved, docket, rows)?;
     out.end_array()
 }
 
@@ -142,11 +151,12 @@ fn push_answered(
     out: &mut JsonWriter,
     court: &Court,
     cases: &Cases,
+    moved: &MovedNumbers,
     docket: &mut Docket,
     rows: &[Row],
 ) -> Result<(), AllocError>
     requires { Holds (setup_of court.now) docket.old (opening_rows (setup_of court.now)) }
-    ensures answers { OnOk result (Adds out.old out.new (flat_map json_tokens (answers_from court.now cases.now.named (opening_rows (setup_of court.now)) 1 rows.now))) }
+    ensures answers { OnOk result (Adds out.old out.new (flat_map json_tokens (answers_from court.now cases.now.named moved.now (opening_rows (setup_of court.now)) 1 rows.now))) }
     ensures docket { OnOk result (Holds (setup_of court.now) docket.new (docketed_after (setup_of court.now) (opening_rows (setup_of court.now)) rows.now)) }
 {
     let mut number = 1u64;
@@ -155,29 +165,12 @@ fn push_answered(
         let answered = AnsweredRow {
             number,
             clerk: row.clerk,
-            reply,
+            reply: moved.number_reply(&row.work, reply),
         };
         answered.write(out, court, cases)?;
         number += 1;
     }
     Ok(())
-}
-
-/// Writes these sheets, and the calendars of the chosen judges.
-fn push_closing(
-    alloc: Global,
-    out: &mut JsonWriter,
-    court: &Court,
-    cases: &Cases,
-    docket: &Docket,
-    choice: &Choice,
-    sheets: &[ExplainedSheet],
-) -> Result<(), AllocError>
-    requires court { docket.now.setup ≡ setup_of court.now }
-    ensures { (docketed : Rows) → StandsFor docket.now docketed → OnOk result (AddsFields out.old out.new (closing_fields court.now cases.now.named choice.now docketed sheets.now)) }
-{
-    out.list_field(court, cases, "cases", sheets)?;
-    push_calendars(alloc, out, court, cases, docket, choice)
 }
 
 /// Writes the calendars of the chosen judges.
@@ -186,12 +179,13 @@ fn push_calendars(
     out: &mut JsonWriter,
     court: &Court,
     cases: &Cases,
+    moved: &MovedNumbers,
     docket: &Docket,
     choice: &Choice,
 ) -> Result<(), AllocError>
     requires court { docket.now.setup ≡ setup_of court.now }
-    ensures { (docketed : Rows) → StandsFor docket.now docketed → OnOk result (AddsFields out.old out.new (calendars_field court.now cases.now.named choice.now docketed ∷ [])) }
+    ensures { (docketed : Rows) → StandsFor docket.now docketed → OnOk result (AddsFields out.old out.new (calendars_field court.now cases.now.named moved.now choice.now docketed ∷ [])) }
 {
-    let calendars = calendars_of(alloc, court, docket, choice)?;
+    let calendars = numbered_calendars(alloc, court, docket, moved, choice)?;
     out.list_field(court, cases, "calendars", &calendars)
 }

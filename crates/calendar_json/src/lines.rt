@@ -13,23 +13,25 @@ use crate::writer::JsonWriter;
 use case_numbers::Cases;
 use court_days::Court;
 use docket_core::Docket;
+use kept_numbers::MovedNumbers;
 use office_rows::Row;
 use office_run::reply_to;
 use std::alloc::{AllocError, Global};
 
 /// A line of JSON for each row, in their order: an object that says what the row is answered, as among the answers of
-/// `json_text`. `Err` says that memory ran out.
+/// `json_text`, with the numbers that `moved` says. `Err` says that memory ran out.
 pub fn answer_lines(
     alloc: Global,
     court: &Court,
     cases: &Cases,
+    moved: &MovedNumbers,
     rows: &[Row],
 ) -> Result<Vec<u8>, AllocError>
-    ensures { IfOk result (λ text. AreAnswerLines court.now cases.now.named rows.now text.items) }
+    ensures { IfOk result (λ text. AreAnswerLines court.now cases.now.named moved.now rows.now text.items) }
 {
     let mut docket = Docket::new(alloc, court)?;
     let mut text = Vec::new(alloc);
-    push_lines(alloc, &mut text, court, cases, &mut docket, rows)?;
+    push_lines(alloc, &mut text, court, cases, moved, &mut docket, rows)?;
     Ok(text)
 }
 
@@ -39,12 +41,13 @@ fn push_lines(
     text: &mut Vec<u8>,
     court: &Court,
     cases: &Cases,
+    moved: &MovedNumbers,
     docket: &mut Docket,
     rows: &[Row],
 ) -> Result<(), AllocError>
     requires { Holds (setup_of court.now) docket.old (opening_rows (setup_of court.now)) }
-    ensures lines { OnOk result (text.new.items ≡ text.old.items ++ flat_map line_of (answers_of court.now cases.now.named rows.now)) }
-    ensures read { OnOk result (All ReadsBack (answers_of court.now cases.now.named rows.now)) }
+    ensures lines { OnOk result (text.new.items ≡ text.old.items ++ flat_map line_of (answers_of court.now cases.now.named moved.now rows.now)) }
+    ensures read { OnOk result (All ReadsBack (answers_of court.now cases.now.named moved.now rows.now)) }
 {
     let mut number = 1u64;
     for row in rows {
@@ -52,7 +55,7 @@ fn push_lines(
         let answered = AnsweredRow {
             number,
             clerk: row.clerk,
-            reply,
+            reply: moved.number_reply(&row.work, reply),
         };
         push_line(alloc, text, court, cases, &answered)?;
         number += 1;

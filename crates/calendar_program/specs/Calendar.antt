@@ -5,8 +5,11 @@ use Rattle.std.specs.Prelude.{String}
 use Rattle.case_names.specs.Words.{called_text}
 use Rattle.case_names.specs.declared.called.CaseCalled.{CaseCalled}
 use Rattle.case_numbers.specs.declared.names.NamedCase.{NamedCase}
+use Rattle.kept_numbers.specs.declared.moved.Moved.{Moved}
+use Rattle.kept_numbers.specs.Words.{numbered_sheet}
+use Rattle.numbered_selection.specs.Words.{numbered_calendar, numbered_day, numbered_item}
 use Rattle.court_days.specs.Words.{CourtView, file_of}
-use Rattle.docket_rows.specs.Words.{Rows, opening_rows, setup_of}
+use Rattle.docket_rows.specs.Words.{CourtSetup, Rows, opening_rows, setup_of}
 use Rattle.docket_selection.specs.declared.choice.Choice.{Choice}
 use Rattle.docket_selection.specs.declared.item.DueItem.{DueItem}
 use Rattle.docket_selection.specs.Words.{IsDue, chosen_calendars, chosen_sheets, day_bookings, week_days}
@@ -27,42 +30,50 @@ use Rattle.calendar_program.specs.declared.chosen.Chosen.{Chosen}
 use Rattle.calendar_program.specs.declared.chosen.Chosen.TheVariants.{Json, Lines, Listed, Sql}
 use Rattle.calendar_program.specs.declared.chosen.Listing.{Listing}
 use Rattle.calendar_program.specs.declared.chosen.Listing.TheVariants.{Due, Ics, Page, Week}
+use Rattle.calendar_program.specs.Appointments.{numbered_appointment}
 use Rattle.calendar_program.specs.Changes.{changes_made}
 use Rattle.calendar_program.specs.Chosen.{case_given, chosen_of}
 
--- the text of what is due: a line for each item of the list of what is due
-pub record IsDueText (court : CourtView) (named : List NamedCase) (docketed : Rows) (choice : Choice) (text : List ℕ) : Type 0 where
+-- the list of what is due, with the numbers of deadlines and motions
+pub record IsNumberedDue (setup : CourtSetup) (docketed : Rows) (moved : List Moved) (choice : Choice) (list : List DueItem) : Type 0 where
   pub items : List DueItem
-  pub due : IsDue (setup_of court) docketed choice items
-  pub lines : text ≡ due_text court named choice items
+  pub due : IsDue setup docketed choice items
+  pub numbers : list ≡ map (numbered_item moved) items
+
+-- the text of what is due: a line for each item of the list of what is due
+pub record IsDueText (court : CourtView) (named : List NamedCase) (moved : List Moved) (docketed : Rows) (choice : Choice) (text : List ℕ) : Type 0 where
+  pub list : List DueItem
+  pub due : IsNumberedDue (setup_of court) docketed moved choice list
+  pub lines : text ≡ due_text court named choice list
 
 -- the text of the week of the judge in which the day is: of the bookings that the docket shows on each of its days
-abbrev pub week_text_of : CourtView → List NamedCase → (docketed : Rows) → (judge : ℕ) → (day : ℤ) → List ℕ
-week_text_of court named docketed judge day = week_text court named judge (map (day_bookings (setup_of court) docketed judge) (week_days day))
+abbrev pub week_text_of : CourtView → List NamedCase → List Moved → (docketed : Rows) → (judge : ℕ) → (day : ℤ) → List ℕ
+week_text_of court named moved docketed judge day =
+    week_text court named judge (map (numbered_day moved) (map (day_bookings (setup_of court) docketed judge) (week_days day)))
 
 -- The page of what is due, of the chosen judges' bookings, and of the sheets of the chosen cases with the reasons of each
 -- deadline, by the days that are docketed.
-pub record IsPage (court : CourtView) (named : List NamedCase) (docketed : Rows) (choice : Choice) (text : List ℕ) : Type 0 where
-  pub items : List DueItem
-  pub due : IsDue (setup_of court) docketed choice items
+pub record IsPage (court : CourtView) (named : List NamedCase) (moved : List Moved) (docketed : Rows) (choice : Choice) (text : List ℕ) : Type 0 where
+  pub list : List DueItem
+  pub due : IsNumberedDue (setup_of court) docketed moved choice list
   pub sheets : List ExplainedSheet
-  pub explained : AreExplained docketed.days court.clock (chosen_sheets (setup_of court) docketed choice) sheets
-  pub page : text ≡ page_text court docketed.days named choice items (chosen_calendars (setup_of court) docketed choice) sheets
+  pub explained : AreExplained docketed.days court.clock (map (numbered_sheet moved) (chosen_sheets (setup_of court) docketed choice)) sheets
+  pub page : text ≡ page_text court docketed.days named choice list (map (numbered_calendar moved) (chosen_calendars (setup_of court) docketed choice)) sheets
 
 -- the text of a calendar: an event for each item of the list of what is chosen, and for each chosen hearing that is off by
 -- the changes that were made
-pub record IsIcsText (court : CourtView) (named : List NamedCase) (docketed : Rows) (changes : List HearingChange) (choice : Choice) (stamp : ℤ) (text : List ℕ) : Type 0 where
+pub record IsIcsText (court : CourtView) (named : List NamedCase) (moved : List Moved) (docketed : Rows) (changes : List HearingChange) (choice : Choice) (stamp : ℤ) (text : List ℕ) : Type 0 where
   pub items : List DueItem
   pub chosen : IsDue (setup_of court) docketed choice items
-  pub lines : text ≡ icalendar_text court named stamp (appointments_of choice changes items)
+  pub lines : text ≡ icalendar_text court named stamp (map (numbered_appointment moved) (appointments_of choice changes items))
   pub short : HasShortLines text
 
 -- the text of what is shown of the docket
-abbrev pub IsListing : CourtView → List NamedCase → (docketed : Rows) → List HearingChange → Listing → List ℕ → Type 0
-IsListing court named docketed changes (Due choice) text = IsDueText court named docketed choice text
-IsListing court named docketed changes (Week judge day) text = text ≡ week_text_of court named docketed judge day
-IsListing court named docketed changes (Page choice) text = IsPage court named docketed choice text
-IsListing court named docketed changes (Ics choice stamp) text = IsIcsText court named docketed changes choice stamp text
+abbrev pub IsListing : CourtView → List NamedCase → List Moved → (docketed : Rows) → List HearingChange → Listing → List ℕ → Type 0
+IsListing court named moved docketed changes (Due choice) text = IsDueText court named moved docketed choice text
+IsListing court named moved docketed changes (Week judge day) text = text ≡ week_text_of court named moved docketed judge day
+IsListing court named moved docketed changes (Page choice) text = IsPage court named moved docketed choice text
+IsListing court named moved docketed changes (Ics choice stamp) text = IsIcsText court named moved docketed changes choice stamp text
 
 -- what is docketed after all rows, and what they changed of hearings
 abbrev pub docketed_by : CourtView → List Row → Rows
@@ -72,11 +83,11 @@ abbrev pub changes_by : CourtView → List Row → List HearingChange
 changes_by court rows = changes_made (setup_of court) (opening_rows (setup_of court)) rows
 
 -- the text of what is chosen
-abbrev pub IsTextOf : CourtView → List NamedCase → List Row → Chosen → List ℕ → Type 0
-IsTextOf court named rows (Listed listing) text = IsListing court named (docketed_by court rows) (changes_by court rows) listing text
-IsTextOf court named rows (Json choice) text = IsDocketJson court named choice rows text
-IsTextOf court named rows Lines text = AreAnswerLines court named rows text
-IsTextOf court named rows Sql text = text ≡ script_text court named rows
+abbrev pub IsTextOf : CourtView → List NamedCase → List Moved → List Row → Chosen → List ℕ → Type 0
+IsTextOf court named moved rows (Listed listing) text = IsListing court named moved (docketed_by court rows) (changes_by court rows) listing text
+IsTextOf court named moved rows (Json choice) text = IsDocketJson court named moved choice rows text
+IsTextOf court named moved rows Lines text = AreAnswerLines court named moved rows text
+IsTextOf court named moved rows Sql text = text ≡ script_text court named moved rows
 
 -- the text of a word, where it was given
 abbrev pub word_given : Option (String Global) → List ℕ
@@ -97,17 +108,19 @@ abbrev pub no_case : Option CaseCalled → List ℕ
 no_case called = codes "court_calendar: no case is named '" ++ called_given called ++ codes "' in the court's file\n"
 
 -- the text of what is chosen of that case or of any, or the line of a judge that the court's file doesn't name
-abbrev pub IsOfCase : Asked → CourtView → List NamedCase → List Row → (case : Option ℕ) → List ℕ → Type 0
-IsOfCase asked court named rows case text =
-    MatchOption (chosen_of court case asked) (text ≡ no_judge asked.judge) (λ chosen. IsTextOf court named rows chosen text)
+abbrev pub IsOfCase : Asked → CourtView → List NamedCase → List Moved → List Row → (case : Option ℕ) → List ℕ → Type 0
+IsOfCase asked court named moved rows case text =
+    MatchOption (chosen_of court case asked) (text ≡ no_judge asked.judge) (λ chosen. IsTextOf court named moved rows chosen text)
 
--- the text of what is asked for, where cases have these names, or the line of a case that has none of them
-abbrev pub IsCalendar : Asked → CourtView → List NamedCase → List Row → List ℕ → Type 0
-IsCalendar asked court named rows text =
-    MatchOption (case_given named asked.case) (text ≡ no_case asked.case) (λ case. IsOfCase asked court named rows case text)
+-- the text of what is asked for, where cases have these names and these aren't at the places of their numbers, or the line of a
+-- case that has none of the names
+abbrev pub IsCalendar : Asked → CourtView → List NamedCase → List Moved → List Row → List ℕ → Type 0
+IsCalendar asked court named moved rows text =
+    MatchOption (case_given named asked.case) (text ≡ no_case asked.case) (λ case. IsOfCase asked court named moved rows case text)
 
--- the text of an input, in the court whose file it has, where cases have these names
-pub record IsCalendarOf (asked : Asked) (named : List NamedCase) (input : Input) (text : List ℕ) : Type 0 where
+-- the text of an input, in the court whose file it has, where cases have these names and these aren't at the places of their
+-- numbers
+pub record IsCalendarOf (asked : Asked) (named : List NamedCase) (moved : List Moved) (input : Input) (text : List ℕ) : Type 0 where
   pub court : CourtView
   pub is_court : file_of court ≡ input.file
-  pub is_calendar : IsCalendar asked court named input.rows text
+  pub is_calendar : IsCalendar asked court named moved input.rows text

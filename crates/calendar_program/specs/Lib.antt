@@ -1,3 +1,4 @@
+pub mod Appointments
 pub mod Asked
 pub mod Calendar
 pub mod Changes

@@ -1,6 +1,7 @@
 //! What the court's calendar reads of its words, and what it writes of a docket after all its rows.
 #![tactic(auto)]
 
+mod appointments;
 mod asked;
 mod chosen;
 mod command;

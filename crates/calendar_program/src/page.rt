@@ -5,12 +5,14 @@ ghost use Rattle.docket_rows.specs.Words.{Rows, setup_of};
 ghost use Rattle.office_run.specs.Words.{Holds};
 ghost use Rattle.calendar_program.specs.Calendar.{IsPage};
 
+use crate::due::numbered_due;
 use calendar_page::push_page;
 use case_numbers::Cases;
 use court_days::Court;
 use docket_core::Docket;
-use docket_selection::{Choice, DueTypes, calendars_of, due_of};
-use explained_sheets::explained_sheets;
+use docket_selection::{Choice, DueTypes};
+use kept_numbers::MovedNumbers;
+use numbered_selection::{explained_selection, numbered_calendars};
 use page_markup::Page;
 use std::alloc::{AllocError, Global};
 
@@ -20,16 +22,17 @@ pub(crate) fn page_text(
     alloc: Global,
     court: &Court,
     cases: &Cases,
+    moved: &MovedNumbers,
     docket: &Docket,
     choice: &Choice,
 ) -> Result<Vec<u8>, AllocError>
     requires court { docket.now.setup ≡ setup_of court.now }
-    ensures { (docketed : Rows) → Holds (setup_of court.now) docket.now docketed → IfOk result (λ text. IsPage court.now cases.now.named docketed choice.now text.items) }
+    ensures { (docketed : Rows) → Holds (setup_of court.now) docket.now docketed → IfOk result (λ text. IsPage court.now cases.now.named moved.now docketed choice.now text.items) }
 {
     let _types: DueTypes = None;
-    let items = due_of(alloc, court, docket, choice)?;
-    let calendars = calendars_of(alloc, court, docket, choice)?;
-    let sheets = explained_sheets(alloc, court, docket, choice)?;
+    let items = numbered_due(alloc, court, moved, docket, choice)?;
+    let calendars = numbered_calendars(alloc, court, docket, moved, choice)?;
+    let sheets = explained_selection(alloc, court, docket, moved, choice)?;
     let mut page = Page::new(alloc);
     push_page(
         alloc,

@@ -3,6 +3,7 @@
 ghost use Rattle.std.specs.Prelude.{◌≡◌, string_bytes, IfOk, OnOk};
 ghost use Rattle.case_names.specs.Words.{case_names};
 ghost use Rattle.docket_rows.specs.Words.{Rows, setup_of};
+ghost use Rattle.numbers_table.specs.Words.{moved_numbers};
 ghost use Rattle.office_run.specs.Words.{Holds};
 ghost use Rattle.calendar_program.specs.Calendar.{IsCalendar, IsListing, IsOfCase, IsTextOf, called_given, changes_by, docketed_by, no_case, no_judge, word_given};
 ghost use Rattle.office_texts.specs.Words.{AddsText};
@@ -21,6 +22,8 @@ use case_numbers::Cases;
 use court_days::Court;
 use docket_core::Docket;
 use hearing_changes::HearingChange;
+use kept_numbers::MovedNumbers;
+use numbers_table::moved_numbers;
 use office_rows::Row;
 use office_streams::{CheckedInput, Report};
 use std::alloc::{AllocError, Global};
@@ -29,12 +32,14 @@ use std::thread::Threads;
 
 impl Report for Asked {
     ghost use Rattle.case_names.specs.Words.{case_names};
+    ghost use Rattle.numbers_table.specs.Words.{moved_numbers};
     ghost use Rattle.calendar_program.specs.Calendar.{IsCalendarOf};
 
     ghost clerk_count = { λ asked. 1 };
 
-    // Cases have the names that the court's file gives them. The names of holidays are in no text.
-    ghost is_text = { λ asked file. IsCalendarOf asked (case_names file) };
+    // Cases have the names that the court's file gives them, and deadlines and motions the numbers. The names of holidays are in
+    // no text.
+    ghost is_text = { λ asked file. IsCalendarOf asked (case_names file) (moved_numbers file) };
 
     fn clerks(&self) -> u8 {
         1
@@ -58,13 +63,15 @@ fn checked_calendar(
     file: &[u8],
     checked: &CheckedInput,
 ) -> Result<Vec<u8>, AllocError>
-    ensures { IfOk result (λ text. IsCalendar asked.now checked.now.court (case_names file.now) checked.now.rows.items text.items) }
+    ensures { IfOk result (λ text. IsCalendar asked.now checked.now.court (case_names file.now) (moved_numbers file.now) checked.now.rows.items text.items) }
 {
     let cases = case_names(alloc, file)?;
+    let moved = moved_numbers(alloc, file)?;
     calendar_of(
         alloc,
         &checked.court,
         &cases,
+        &moved,
         checked.rows.as_slice(),
         asked,
     )
@@ -76,13 +83,14 @@ fn calendar_of(
     alloc: Global,
     court: &Court,
     cases: &Cases,
+    moved: &MovedNumbers,
     rows: &[Row],
     asked: &Asked,
 ) -> Result<Vec<u8>, AllocError>
-    ensures { IfOk result (λ text. IsCalendar asked.now court.now cases.now.named rows.now text.items) }
+    ensures { IfOk result (λ text. IsCalendar asked.now court.now cases.now.named moved.now rows.now text.items) }
 {
     match case_given(cases, &asked.case) {
-        Some(case) => of_case(alloc, court, cases, rows, asked, case),
+        Some(case) => of_case(alloc, court, cases, moved, rows, asked, case),
         None => Ok(no_case(alloc, &asked.case)?.into_bytes()),
     }
 }
@@ -92,14 +100,15 @@ fn of_case(
     alloc: Global,
     court: &Court,
     cases: &Cases,
+    moved: &MovedNumbers,
     rows: &[Row],
     asked: &Asked,
     case: Option<u32>,
 ) -> Result<Vec<u8>, AllocError>
-    ensures { IfOk result (λ text. IsOfCase asked.now court.now cases.now.named rows.now case text.items) }
+    ensures { IfOk result (λ text. IsOfCase asked.now court.now cases.now.named moved.now rows.now case text.items) }
 {
     match chosen_of(court, case, asked) {
-        Some(chosen) => text_of(alloc, court, cases, rows, &chosen),
+        Some(chosen) => text_of(alloc, court, cases, moved, rows, &chosen),
         None => Ok(no_judge(alloc, &asked.judge)?.into_bytes()),
     }
 }
@@ -109,16 +118,17 @@ fn text_of(
     alloc: Global,
     court: &Court,
     cases: &Cases,
+    moved: &MovedNumbers,
     rows: &[Row],
     chosen: &Chosen,
 ) -> Result<Vec<u8>, AllocError>
-    ensures { IfOk result (λ text. IsTextOf court.now cases.now.named rows.now chosen.now text.items) }
+    ensures { IfOk result (λ text. IsTextOf court.now cases.now.named moved.now rows.now chosen.now text.items) }
 {
     match chosen {
-        Chosen::Listed(listing) => listed(alloc, court, cases, rows, listing),
-        Chosen::Json(choice) => json_text(alloc, court, cases, rows, choice),
-        Chosen::Lines => answer_lines(alloc, court, cases, rows),
-        Chosen::Sql => sql_text(alloc, court, cases, rows),
+        Chosen::Listed(listing) => listed(alloc, court, cases, moved, rows, listing),
+        Chosen::Json(choice) => json_text(alloc, court, cases, moved, rows, choice),
+        Chosen::Lines => answer_lines(alloc, court, cases, moved, rows),
+        Chosen::Sql => sql_text(alloc, court, cases, moved, rows),
     }
 }
 
@@ -127,14 +137,15 @@ fn listed(
     alloc: Global,
     court: &Court,
     cases: &Cases,
+    moved: &MovedNumbers,
     rows: &[Row],
     listing: &Listing,
 ) -> Result<Vec<u8>, AllocError>
-    ensures { IfOk result (λ text. IsListing court.now cases.now.named (docketed_by court.now rows.now) (changes_by court.now rows.now) listing.now text.items) }
+    ensures { IfOk result (λ text. IsListing court.now cases.now.named moved.now (docketed_by court.now rows.now) (changes_by court.now rows.now) listing.now text.items) }
 {
     let mut changes = Vec::new(alloc);
     let docket = docket_after(alloc, court, rows, &mut changes)?;
-    listing_of(alloc, court, cases, &docket, changes, listing)
+    listing_of(alloc, court, cases, moved, &docket, changes, listing)
 }
 
 /// The text of what is shown of a docket.
@@ -142,19 +153,20 @@ fn listing_of(
     alloc: Global,
     court: &Court,
     cases: &Cases,
+    moved: &MovedNumbers,
     docket: &Docket,
     changes: Vec<HearingChange>,
     listing: &Listing,
 ) -> Result<Vec<u8>, AllocError>
     requires court { docket.now.setup ≡ setup_of court.now }
-    ensures { (docketed : Rows) → Holds (setup_of court.now) docket.now docketed → IfOk result (λ text. IsListing court.now cases.now.named docketed changes.items listing.now text.items) }
+    ensures { (docketed : Rows) → Holds (setup_of court.now) docket.now docketed → IfOk result (λ text. IsListing court.now cases.now.named moved.now docketed changes.items listing.now text.items) }
 {
     match listing {
-        Listing::Due(choice) => due_text(alloc, court, cases, docket, choice),
-        Listing::Week(judge, day) => week_text(alloc, court, cases, docket, *judge, *day),
-        Listing::Page(choice) => page_text(alloc, court, cases, docket, choice),
+        Listing::Due(choice) => due_text(alloc, court, cases, moved, docket, choice),
+        Listing::Week(judge, day) => week_text(alloc, court, cases, moved, docket, *judge, *day),
+        Listing::Page(choice) => page_text(alloc, court, cases, moved, docket, choice),
         Listing::Ics(choice, stamp) => ics_text(
-            alloc, court, cases, docket, changes, choice, *stamp,
+            alloc, court, cases, moved, docket, changes, choice, *stamp,
         ),
     }
 }

@@ -1,15 +1,15 @@
 -- The rows of answers.
 use Rattle.std.specs.Prelude.{ℕ, ◌+◌, ◌-◌, List, [], ◌∷◌, ◌++◌, length, take, codes}
 use Rattle.court_days.specs.Words.{CourtView}
-use Rattle.docket_rows.specs.declared.answer.Answer.{Answer}
 use Rattle.docket_rows.specs.declared.answer.Answer.TheVariants as answer
-use Rattle.docket_rows.specs.declared.view.View.{View}
 use Rattle.docket_rows.specs.declared.view.View.TheVariants as view
 use Rattle.docket_rows.specs.Words.{Rows, refusal_number, setup_of}
 use Rattle.office_rows.specs.declared.row.Row.{Row}
 use Rattle.office_run.specs.declared.reply.Reply.{Reply}
 use Rattle.office_run.specs.declared.reply.Reply.TheVariants.{Made, Viewed}
 use Rattle.office_run.specs.Words.{docketed_then, reply_text, reply_to}
+use Rattle.kept_numbers.specs.declared.moved.Moved.{Moved}
+use Rattle.kept_numbers.specs.Words.{numbered}
 use Rattle.calendar_sql.specs.Rows.{SqlValue, null, number, row_of, text}
 
 -- the number of the refusal; NULL where a row isn't refused
@@ -26,9 +26,9 @@ answer_words court reply = take (length (reply_text court reply) - 1) (reply_tex
 unfoldable pub answer_row : CourtView → (place clerk : ℕ) → Reply → List ℕ
 answer_row court place clerk reply = row_of (codes "answers") place (number clerk ∷ refusal_value reply ∷ text (answer_words court reply) ∷ [])
 
--- what each row is answered, where the first has that number
-unfoldable pub answer_rows : CourtView → (docketed : Rows) → (place : ℕ) → List Row → List ℕ
-answer_rows court docketed place [] = []
-answer_rows court docketed place (row ∷ rows) =
-    answer_row court place row.clerk (reply_to (setup_of court) docketed row.work)
-    ++ answer_rows court (docketed_then (setup_of court) docketed row.work) (place + 1) rows
+-- what each row is answered, where the first has that number; deadlines and motions have the numbers that they keep
+unfoldable pub answer_rows : CourtView → List Moved → (docketed : Rows) → (place : ℕ) → List Row → List ℕ
+answer_rows court moved docketed place [] = []
+answer_rows court moved docketed place (row ∷ rows) =
+    answer_row court place row.clerk (numbered moved row.work (reply_to (setup_of court) docketed row.work))
+    ++ answer_rows court moved (docketed_then (setup_of court) docketed row.work) (place + 1) rows

@@ -1,5 +1,5 @@
 -- The whole: one transaction that makes the tables and puts each row into them.
-use Rattle.std.specs.Prelude.{ℕ, ◌==◌, List, [], ◌∷◌, ◌++◌, codes, length, if◌then◌else◌}
+use Rattle.std.specs.Prelude.{ℕ, ◌==◌, List, [], ◌∷◌, ◌++◌, codes, length, map, if◌then◌else◌}
 use Rattle.std.specs.List.{flat_map}
 use Rattle.case_numbers.specs.Words.{name_of}
 use Rattle.case_numbers.specs.declared.names.NamedCase.{NamedCase}
@@ -9,6 +9,8 @@ use Rattle.docket_rows.specs.Words.{Rows, opening_rows, setup_of}
 use Rattle.docket_selection.specs.Words.{open_sheets}
 use Rattle.office_rows.specs.declared.row.Row.{Row}
 use Rattle.office_run.specs.Words.{docketed_after}
+use Rattle.kept_numbers.specs.declared.moved.Moved.{Moved}
+use Rattle.kept_numbers.specs.Words.{numbered_sheet}
 use Rattle.calendar_sql.specs.Answers.{answer_rows}
 use Rattle.calendar_sql.specs.Deadlines.{deadline_rows}
 use Rattle.calendar_sql.specs.Hearings.{motion_rows}
@@ -31,9 +33,10 @@ sheet_rows court named s = case_row named s ++ flat_map (deadline_rows court.clo
 unfoldable pub outage_row : (place : ℕ) → OutageView → List ℕ
 outage_row place o = row_of (codes "outages") place (day_value o.day ∷ minute_value o.from ∷ minute_value o.to ∷ [])
 
--- what is docketed: each outage, and each open case by its number
-abbrev pub docketed_text : CourtView → List NamedCase → (docketed : Rows) → List ℕ
-docketed_text court named docketed = numbered outage_row 1 docketed.days.outages ++ flat_map (sheet_rows court named) (open_sheets (setup_of court) docketed)
+-- what is docketed: each outage, and each open case by its number, with the numbers of its deadlines and motions
+abbrev pub docketed_text : CourtView → List NamedCase → List Moved → (docketed : Rows) → List ℕ
+docketed_text court named moved docketed =
+    numbered outage_row 1 docketed.days.outages ++ flat_map (sheet_rows court named) (map (numbered_sheet moved) (open_sheets (setup_of court) docketed))
 
 unfoldable pub transaction_front : List ℕ
 transaction_front = codes "BEGIN TRANSACTION;\n"
@@ -41,8 +44,13 @@ transaction_front = codes "BEGIN TRANSACTION;\n"
 unfoldable pub transaction_end : List ℕ
 transaction_end = codes "COMMIT;\n"
 
--- of a court, the names of cases and all rows: the tables, what each row was answered, and what is docketed after the last
-unfoldable pub script_text : CourtView → List NamedCase → List Row → List ℕ
-script_text court named rows =
+-- of a court, the names of cases, what isn't at the place that its number says, and all rows: the tables, what each row was
+-- answered, and what is docketed after the last
+unfoldable pub script_text : CourtView → List NamedCase → List Moved → List Row → List ℕ
+script_text court named moved rows =
     let opening = opening_rows (setup_of court) in
-    transaction_front ++ tables named ++ answer_rows court opening 1 rows ++ docketed_text court named (docketed_after (setup_of court) opening rows) ++ transaction_end
+    transaction_front
+    ++ tables named
+    ++ answer_rows court moved opening 1 rows
+    ++ docketed_text court named moved (docketed_after (setup_of court) opening rows)
+    ++ transaction_end

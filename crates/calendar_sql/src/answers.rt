@@ -10,27 +10,31 @@ use crate::script::Script;
 use court_days::Court;
 use docket_core::Docket;
 use docket_rows::{Answer, View};
+use kept_numbers::MovedNumbers;
 use office_rows::Row;
 use office_run::{Reply, push_reply, reply_to};
 use std::alloc::{AllocError, Global};
 
-/// Carries out each row in turn, and adds what it is answered. `Err` says that memory ran out.
+/// Carries out each row in turn, and adds what it is answered, with the numbers of deadlines and motions. `Err` says that
+/// memory ran out.
 pub(crate) fn push_answers(
     alloc: Global,
     out: &mut Script,
     court: &Court,
+    moved: &MovedNumbers,
     docket: &mut Docket,
     rows: &[Row],
 ) -> Result<(), AllocError>
     requires { Holds (setup_of court.now) docket.old (opening_rows (setup_of court.now)) }
-    ensures answers { OnOk result (out.new ≡ out.old ++ answer_rows court.now (opening_rows (setup_of court.now)) 1 rows.now) }
+    ensures answers { OnOk result (out.new ≡ out.old ++ answer_rows court.now moved.now (opening_rows (setup_of court.now)) 1 rows.now) }
     ensures docket { OnOk result (Holds (setup_of court.now) docket.new (docketed_after (setup_of court.now) (opening_rows (setup_of court.now)) rows.now)) }
 {
     let mut line = String::new(alloc);
     let mut place = 1u64;
     for row in rows {
         let reply = reply_to(alloc, docket, &row.work)?;
-        push_answer(out, &mut line, court, place, row.clerk, &reply)?;
+        let numbered = moved.number_reply(&row.work, reply);
+        push_answer(out, &mut line, court, place, row.clerk, &numbered)?;
         place += 1;
     }
     Ok(())

@@ -10,27 +10,29 @@ use crate::sheets::push_docketed;
 use case_numbers::Cases;
 use court_days::Court;
 use docket_core::Docket;
+use kept_numbers::MovedNumbers;
 use office_rows::Row;
 use std::alloc::{AllocError, Global};
 
 /// One transaction of SQL: it makes the tables, and puts into them what each row was answered and what is docketed after
-/// the last. `cases` has the names of cases: the table of cases has a column for them where there are any. `Err` says that
-/// memory ran out.
+/// the last. `cases` has the names of cases: the table of cases has a column for them where there are any. Deadlines and
+/// motions have the numbers that `moved` says, while rows name them by their places. `Err` says that memory ran out.
 #[tactic(auto, unfolding(crate::specs::Script::script_text))]
 pub fn sql_text(
     alloc: Global,
     court: &Court,
     cases: &Cases,
+    moved: &MovedNumbers,
     rows: &[Row],
 ) -> Result<Vec<u8>, AllocError>
-    ensures { IfOk result (λ text. text.items ≡ script_text court.now cases.now.named rows.now) }
+    ensures { IfOk result (λ text. text.items ≡ script_text court.now cases.now.named moved.now rows.now) }
 {
     let mut out = Script::new(alloc);
     let mut docket = Docket::new(alloc, court)?;
     push_front(&mut out)?;
     push_tables(&mut out, cases)?;
-    push_answers(alloc, &mut out, court, &mut docket, rows)?;
-    push_docketed(alloc, &mut out, court, cases, &docket)?;
+    push_answers(alloc, &mut out, court, moved, &mut docket, rows)?;
+    push_docketed(alloc, &mut out, court, cases, moved, &docket)?;
     push_end(&mut out)?;
     Ok(out.into_bytes())
 }

@@ -1,9 +1,11 @@
 //! What is docketed: outages, and cases with all that is on their sheets.
 
-ghost use Rattle.std.specs.Prelude.{◌≡◌, ◌++◌, OnOk};
+ghost use Rattle.std.specs.Prelude.{◌≡◌, ◌++◌, map, IfOk, OnOk};
 ghost use Rattle.std.specs.List.{flat_map};
 ghost use Rattle.docket_rows.specs.Words.{Rows, setup_of};
 ghost use Rattle.docket_core.specs.Words.{StandsFor};
+ghost use Rattle.docket_selection.specs.Words.{open_sheets};
+ghost use Rattle.kept_numbers.specs.Words.{numbered_sheet};
 ghost use Rattle.calendar_sql.specs.Deadlines.{deadline_rows};
 ghost use Rattle.calendar_sql.specs.Hearings.{motion_rows};
 ghost use Rattle.calendar_sql.specs.Rows.{AddsValues, numbered};
@@ -18,23 +20,40 @@ use court_days::{Court, Outage};
 use docket_core::Docket;
 use docket_rows::{Sheet, SheetDeadline, SheetMotion};
 use docket_selection::sheets_of;
+use kept_numbers::MovedNumbers;
+use numbered_selection::number_sheets;
 use std::alloc::{AllocError, Global};
 
-/// Adds each outage, and each open case with all that is on its sheet. `Err` says that memory ran out.
+/// Adds each outage, and each open case with all that is on its sheet, where deadlines and motions have their numbers. `Err`
+/// says that memory ran out.
 pub(crate) fn push_docketed(
     alloc: Global,
     out: &mut Script,
     court: &Court,
     cases: &Cases,
+    moved: &MovedNumbers,
     docket: &Docket,
 ) -> Result<(), AllocError>
     requires court { docket.now.setup ≡ setup_of court.now }
-    ensures { (docketed : Rows) → StandsFor docket.now docketed → OnOk result (out.new ≡ out.old ++ docketed_text court.now cases.now.named docketed) }
+    ensures { (docketed : Rows) → StandsFor docket.now docketed → OnOk result (out.new ≡ out.old ++ docketed_text court.now cases.now.named moved.now docketed) }
 {
     push_outages(out, docket.days().outages())?;
-    let sheets = sheets_of(alloc, docket)?;
+    let sheets = numbered_sheets(alloc, docket, moved)?;
     push_sheets(out, court, cases, &sheets)?;
     Ok(())
+}
+
+/// The sheets of all open cases, with the numbers of deadlines and motions.
+fn numbered_sheets(
+    alloc: Global,
+    docket: &Docket,
+    moved: &MovedNumbers,
+) -> Result<Vec<Sheet>, AllocError>
+    ensures { (docketed : Rows) → StandsFor docket.now docketed → IfOk result (λ sheets. sheets.items ≡ map (numbered_sheet moved.now) (open_sheets docket.now.setup docketed)) }
+{
+    let mut sheets = sheets_of(alloc, docket)?;
+    number_sheets(alloc, moved, &mut sheets);
+    Ok(sheets)
 }
 
 /// Adds the outages, each with its number.

@@ -5,7 +5,8 @@ use Rattle.docket_entries.specs.declared.standing.Standing.{Standing}
 use Rattle.docket_entries.specs.Words.{SaysCourt, changes_by, corrections_then, later_file}
 use Rattle.desk_program.specs.Rows.{changes_text}
 
--- The file is kept after the entries, after which this stood. The rows that it answers otherwise are written, and without leave there are none.
+-- The file is kept after the entries, after which this stood. The rows that it answers otherwise are written, and without leave
+-- there are none.
 pub record TakesFile (standing : Standing) (entries : List (List ℕ)) (file : List ℕ) (accept : Bool) (before after : Option (List ℕ)) (Keeps : List (List ℕ) → Type 0) : Type 0 where
   pub under : Standing
   pub says : SaysCourt file under.court

@@ -12,6 +12,7 @@ use case_numbers::Cases;
 use csv::StringRecord;
 use docket_entries::{Standing, is_row, push_row, standing_file};
 use kept_numbers::MovedNumbers;
+use numbers_table::push_numbers;
 use office_streams::{Watched, write_all};
 use std::alloc::{AllocError, Global};
 use std::io::Write;
@@ -57,17 +58,19 @@ fn push_ended(text: &mut Vec<u8>, file: &[u8]) -> Result<(), AllocError>
     Ok(())
 }
 
-// Adds a court's file, the names of cases, and a line `%%`.
+// Adds a court's file, the names of cases, the numbers that aren't places, and a line `%%`.
 fn push_file(
     alloc: Global,
     text: &mut Vec<u8>,
     file: &[u8],
     cases: &Cases,
+    moved: &MovedNumbers,
 ) -> Result<(), AllocError>
-    ensures { OnOk result (text.new.items ≡ text.old.items ++ head_of file.now cases.now.named) }
+    ensures { OnOk result (text.new.items ≡ text.old.items ++ head_of file.now cases.now.named moved.now) }
 {
     push_ended(text, file)?;
     push_names(alloc, text, file, cases)?;
+    push_numbers(alloc, text, file, moved)?;
     text.extend_from_slice(b"%%\n")
 }
 
@@ -93,10 +96,10 @@ fn push_entry(
 }
 
 /// Writes a docket's entries as clerk_office reads them: the court's file that stands, a line `%%` and the rows that stand as
-/// CSV. After the court's file comes a table of the names that cases have, for programs that call them so; a court's file that
-/// has one of its own gets none. A row that is struck is left out, and the rows after it name deadlines and motions by their
-/// places among those that stand, as other programs count them. Where it has had one court's file only and nothing is struck,
-/// clerk_office gives the answers that were given, with numbers in place of names.
+/// CSV. A row that is struck is left out, and rows name deadlines and motions by their places among those that stand, as other
+/// programs count them. After the court's file come a table of the names that cases have and one of the numbers that aren't
+/// places, for programs that show these; a court's file that has such a table of its own gets none. Where it has had one court's
+/// file only and nothing is struck, clerk_office gives the answers that were given, with numbers in place of names.
 pub fn write_rows<W: Write>(
     alloc: Global,
     under: &Standing,
@@ -110,7 +113,7 @@ pub fn write_rows<W: Write>(
     ensures written { OnOk result (Appends (W.contents (watched writer.old)) (W.contents (watched writer.new)) (written_rows under.now moved.now cases.now.named (batch_of entries.now))) }
 {
     let mut text = Vec::new(alloc);
-    push_file(alloc, &mut text, standing_file(entries), cases)?;
+    push_file(alloc, &mut text, standing_file(entries), cases, moved)?;
     let mut fields = StringRecord::new(alloc);
     let mut number = 1;
     for place in 1..entries.len() {

@@ -10,7 +10,9 @@ use desk_program::{
     Desk, DeskFault, ask, check_court, open_file, write_cases, write_count, write_rows,
     write_struck,
 };
+use docket_entries::standing_file;
 use durable_session::SessionFault;
+use numbers_table::has_numbers;
 use office_streams::{OfficeFault, Watched, read_all, write_all};
 use sqlite_std_file::Wary;
 use std::io::Write;
@@ -141,21 +143,24 @@ fn ask_folder<W: Write>(
     ask(rt.alloc(), &entries, &mut reader, writer)
 }
 
-// What is said where programs that read these rows count otherwise than the desk.
-const COUNTED_ANEW: &str =
-    "note: since rows were struck, some deadlines or motions have other numbers here than at the desk\n";
+// What is said where the court's file has numbers of its own, by which programs that read these rows count.
+const OTHER_NUMBERS: &str =
+    "note: the court's file has a table [kept_numbers] of its own, so other programs may number deadlines and motions otherwise than the desk\n";
 
 // Says so on standard error, as far as it can be written.
-fn note_counted_anew(rt: &HostRuntime) {
+fn note_other_numbers(rt: &HostRuntime) {
     let mut errors = Watched::new(rt.stderr());
-    let _written = write_all(&mut errors, COUNTED_ANEW.as_bytes());
+    let _written = write_all(&mut errors, OTHER_NUMBERS.as_bytes());
 }
 
-// Writes the court's file, the names of cases, a line `%%` and the rows that stand.
+// Writes the court's file, the names of cases, the numbers that aren't places, a line `%%` and the rows that stand.
 fn rows<W: Write>(rt: &HostRuntime, writer: &mut Watched<W>, folder: &str) -> Result<(), DeskFault>
     requires { has_failed writer.old ≡ false }
 {
     let (desk, entries) = opened(rt, folder)?;
+    if has_numbers(rt.alloc(), standing_file(&entries))? {
+        note_other_numbers(rt);
+    }
     let ended = write_rows(
         rt.alloc(),
         desk.standing(),
@@ -164,9 +169,6 @@ fn rows<W: Write>(rt: &HostRuntime, writer: &mut Watched<W>, folder: &str) -> Re
         &entries,
         writer,
     );
-    if !desk.moved().is_empty() {
-        note_counted_anew(rt);
-    }
     drop(desk.into_disk());
     ended
 }

@@ -1,5 +1,6 @@
 pub mod CallerLemmas
 pub mod ChangeLemmas
+pub mod CountLemmas
 pub mod CaseLemmas
 pub mod DecidedLemmas
 pub mod EntryLemmas
@@ -11,6 +12,7 @@ pub mod KeepLemmas
 pub mod LineFaultLemmas
 pub mod ListLemmas
 pub mod NoteLemmas
+pub mod PlaceLemmas
 pub mod QuestionLemmas
 pub mod RegisterLemmas
 pub mod RunLemmas

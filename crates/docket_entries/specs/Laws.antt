@@ -4,6 +4,7 @@ use Rattle.case_numbers.specs.Words.{AreApart, after_name}
 use Rattle.court_days.specs.Words.{CourtView}
 use Rattle.docket_rows.specs.Words.{parts_of}
 use Rattle.office_rows.specs.declared.fault.RowCause.{RowCause}
+use Rattle.office_rows.specs.declared.row.Work.{Work}
 use Rattle.row_line.specs.declared.line.Line.TheVariants as line
 use Rattle.office_rows.specs.Words.{CourtNames, names_of}
 use Rattle.row_line.specs.Words.{fields_read, line_read}
@@ -13,11 +14,11 @@ use Rattle.row_strikes.specs.Words.{is_struck, no_corrections}
 use Rattle.docket_entries.specs.Cases.{cases_of}
 use Rattle.docket_entries.specs.CaseLines.{as_it_is, lacks_third}
 use Rattle.kept_numbers.specs.declared.given.Given.{Given}
-use Rattle.kept_numbers.specs.Words.{kept_of}
+use Rattle.kept_numbers.specs.Words.{given_by, kept_of, number_for}
 use Rattle.docket_entries.specs.declared.standing.Standing.{Standing}
 use Rattle.docket_entries.specs.Entries.{most_clerks, most_entries, next_number, note_in}
 use Rattle.docket_entries.specs.Rows.{answers, follows, leaves, reading_at, rows_in}
-use Rattle.docket_entries.specs.Run.{docketed_by, run_by}
+use Rattle.docket_entries.specs.Run.{docketed_by, reply_by_places, reply_under, run_by}
 use Rattle.docket_entries.specs.Export.{row_written, shown_as}
 use Rattle.docket_entries.specs.History.{IsHistory, StandsAfter}
 use Rattle.docket_entries.specs.LineFaults.{faults_of}
@@ -81,3 +82,11 @@ KeepsNumber own (Some given) = given.number ≡ own.number
 -- last correction gives it to what it starts or enters, or, where it is struck or refused now, goes on keeping it.
 abbrev pub RowsKeepTheirNumbers : Type 0
 RowsKeepTheirNumbers = (under : Standing) (kept : List (List ℕ)) (row : ℕ) (own : Given) → 0 < row → row < next_number kept → kept_of under.corrections.kept row ≡ Some own → KeepsNumber own (kept_of (run_by under kept).numbers.given row)
+
+-- An answer shows the number that is noted of its row: where the docket gives what a row starts or enters a place, the answer has
+-- the number that the row keeps, or else the new one.
+abbrev pub AnAnswerShowsItsNumber : Type 0
+AnAnswerShowsItsNumber = (under : Standing) (kept : List (List ℕ)) (asked : Work) (at : Given) →
+    let run = run_by under kept in
+    given_by asked (reply_by_places under run.docketed run.numbers asked) ≡ Some at
+    → given_by asked (reply_under under run (next_number kept) asked) ≡ Some (record at { number = number_for under.corrections.kept run.numbers.moved (next_number kept) at })

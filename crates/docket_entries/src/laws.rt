@@ -1,5 +1,5 @@
 //! Laws of the definitions, the contracts of functions that do nothing.
-ghost use Rattle.docket_entries.specs.Laws.{ACaseNumberIsOneCase, AStruckRowIsLeftOut, AnswersAreTheRuns, FaultlessLinesSayRows, OtherLinesAreReadAsTheyAre, RowsAreWrittenAsTheyAre, RowsKeepTheirNumbers, WhatIsLeftFollows, WhatIsLeftIsHistory};
+ghost use Rattle.docket_entries.specs.Laws.{ACaseNumberIsOneCase, AStruckRowIsLeftOut, AnAnswerShowsItsNumber, AnswersAreTheRuns, FaultlessLinesSayRows, OtherLinesAreReadAsTheyAre, RowsAreWrittenAsTheyAre, RowsKeepTheirNumbers, WhatIsLeftFollows, WhatIsLeftIsHistory};
 
 /// What a line leaves may follow when the journal is opened again, and is no court's file and no strike.
 #[tactic(auto, using(crate::proofs::EntryLemmas::left_follows))]
@@ -52,4 +52,10 @@ pub fn rows_are_written_as_they_are()
 #[tactic(auto, using(crate::proofs::GivenLemmas::rows_keep))]
 pub fn rows_keep_their_numbers()
     ensures { RowsKeepTheirNumbers }
+{}
+
+/// An answer shows the number that its row keeps, or else the new one that is noted of it.
+#[tactic(auto, using(crate::proofs::PlaceLemmas::shows_its_number))]
+pub fn an_answer_shows_its_number()
+    ensures { AnAnswerShowsItsNumber }
 {}

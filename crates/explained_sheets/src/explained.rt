@@ -32,7 +32,7 @@ pub struct ExplainedSheet {
 }
 
 /// The sheets, with the reasons of each deadline by these days and this clock. `Err` says that memory ran out.
-pub(crate) fn explain(
+pub fn explained_sheets(
     alloc: Global,
     days: &Days,
     clock: &Clock,

@@ -1,8 +1,6 @@
-//! The sheets of the chosen cases, with the reasons of each deadline.
+//! The sheets of cases, with the reasons of each deadline.
 #![tactic(auto)]
 
-mod chosen;
 mod explained;
 
-pub use chosen::explained_sheets;
-pub use explained::{ExplainedDeadline, ExplainedSheet};
+pub use explained::{ExplainedDeadline, ExplainedSheet, explained_sheets};

@@ -9,7 +9,7 @@ use Rattle.kept_numbers.specs.Given.{are_alike}
 use Rattle.kept_numbers.specs.Laws.{NumberAndPlaceGoTogether, OthersAreAtTheirPlaces}
 use Rattle.kept_numbers.specs.Moved.{has_number, is_at, number_in, number_of, place_in, place_of}
 
-none_found : {X : Type 0} (p : X → Bool) (xs : List X) → list_any p xs ≡ false → find p xs ≡ None
+pub none_found : {X : Type 0} (p : X → Bool) (xs : List X) → list_any p xs ≡ false → find p xs ≡ None
 none_found p [] h = refl
 none_found p (x ∷ xs) h = by (p x) h (λ rest. none_found p xs rest)
   where
@@ -17,7 +17,7 @@ none_found p (x ∷ xs) h = by (p x) h (λ rest. none_found p xs rest)
     by true h rest = cc h
     by false h rest = rest h
 
-found_after : {X : Type 0} (p : X → Bool) (front back : List X) (x : X) → list_any p front ≡ false → p x ≡ true → find p (front ++ x ∷ back) ≡ Some x
+pub found_after : {X : Type 0} (p : X → Bool) (front back : List X) (x : X) → list_any p front ≡ false → p x ≡ true → find p (front ++ x ∷ back) ≡ Some x
 found_after p [] back x h is = rw is refl
 found_after p (y ∷ front) back x h is = by (p y) h (λ rest. found_after p front back x rest is)
   where
@@ -35,7 +35,7 @@ alike Motion = refl
 its_number : (m : Moved) → has_number m.case m.counted m.number m ≡ true
 its_number m = rw (same m.case, alike m.counted, same m.number) refl
 
-its_place : (m : Moved) → is_at m.case m.counted m.place m ≡ true
+pub its_place : (m : Moved) → is_at m.case m.counted m.place m ≡ true
 its_place m = rw (same m.case, alike m.counted, same m.place) refl
 
 -- the laws

@@ -27,8 +27,8 @@ pub struct Given {
 }
 
 impl Counted {
-    // Whether both are deadlines, or both are motions.
-    pub(crate) fn is_like(self, other: Counted) -> bool
+    /// Whether both are deadlines, or both are motions.
+    pub fn is_like(self, other: Counted) -> bool
         ensures { result ≡ are_alike self other }
     {
         match self {

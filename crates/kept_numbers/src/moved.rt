@@ -87,8 +87,15 @@ impl MovedNumbers {
         self.list.is_empty()
     }
 
-    // Adds one. `Err` says that memory ran out, and leaves them as they were.
-    pub(crate) fn push(&mut self, moved: Moved) -> Result<(), AllocError>
+    /// What they are, in the order in which they were added.
+    pub fn as_slice(&self) -> &[Moved]
+        ensures { result.now ≡ self.now }
+    {
+        &self.list
+    }
+
+    /// Adds one. `Err` says that memory ran out, and leaves them as they were.
+    pub fn push(&mut self, moved: Moved) -> Result<(), AllocError>
         ensures ok { OnOk result (self.new ≡ self.old ++ moved ∷ []) }
         ensures err { OnErr result (self.new ≡ self.old) }
     {

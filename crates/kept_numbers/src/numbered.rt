@@ -72,8 +72,8 @@ impl MovedNumbers {
         }
     }
 
-    // What a query shows, with numbers.
-    fn number_view(&self, view: View) -> View
+    /// What a query shows, with the numbers of the deadlines and the motions that it names by their places.
+    pub fn number_view(&self, view: View) -> View
         ensures { result ≡ numbered_view self.now view }
     {
         match view {

@@ -8,8 +8,8 @@ use docket_rows::{Sheet, SheetDeadline, SheetDeadlines, SheetMotion, SheetMotion
 use hearing_slots::{Booking, Bookings};
 
 impl MovedNumbers {
-    // A sheet with the numbers of its deadlines and motions.
-    pub(crate) fn number_sheet(&self, sheet: Sheet) -> Sheet
+    /// A sheet with the numbers of its deadlines and motions, which the docket has by their places.
+    pub fn number_sheet(&self, sheet: Sheet) -> Sheet
         ensures { result ≡ numbered_sheet self.now sheet }
     {
         let Sheet {

@@ -4,6 +4,7 @@ use Rattle.case_names.specs.Words.{called_text, number_called}
 use Rattle.case_names.specs.declared.called.CaseCalled.{CaseCalled}
 use Rattle.case_numbers.specs.declared.names.NamedCase.{NamedCase}
 use Rattle.court_days.specs.Words.{CourtView, file_of}
+use Rattle.kept_numbers.specs.declared.moved.Moved.{Moved}
 use Rattle.office_rows.specs.declared.row.Row.{Row}
 use Rattle.office_streams.specs.Words.{Input}
 use Rattle.reason_texts.specs.Words.{NamedDay}
@@ -16,19 +17,20 @@ abbrev pub no_case : CaseCalled → List ℕ
 no_case called = codes "deadline_memo: no case is named '" ++ called_text called ++ codes "' in the court's file\n"
 
 -- the memo of the case that is so called, or the line of a case that the court's file doesn't name
-abbrev pub IsCalled : CourtView → List NamedDay → List NamedCase → List Row → CaseCalled → (today : Option ℤ) → List ℕ → Type 0
-IsCalled court names named rows called today text =
-    MatchOption (number_called named called) (text ≡ no_case called) (λ case. IsCaseMemo court names named rows case today text)
+abbrev pub IsCalled : CourtView → List NamedDay → List NamedCase → List Moved → List Row → CaseCalled → (today : Option ℤ) → List ℕ → Type 0
+IsCalled court names named moved rows called today text =
+    MatchOption (number_called named called) (text ≡ no_case called) (λ case. IsCaseMemo court names named moved rows case today text)
 
-abbrev pub IsAnswerBy : CourtView → List NamedDay → List NamedCase → List Row → Option CaseCalled → (today : Option ℤ) → List ℕ → Type 0
-IsAnswerBy court names named rows None today = IsMemo court names named rows
-IsAnswerBy court names named rows (Some called) today = IsCalled court names named rows called today
+abbrev pub IsAnswerBy : CourtView → List NamedDay → List NamedCase → List Moved → List Row → Option CaseCalled → (today : Option ℤ) → List ℕ → Type 0
+IsAnswerBy court names named moved rows None today = IsMemo court names named moved rows
+IsAnswerBy court names named moved rows (Some called) today = IsCalled court names named moved rows called today
 
-abbrev pub IsAnswer : Asked → CourtView → List NamedDay → List NamedCase → List Row → List ℕ → Type 0
-IsAnswer asked court names named rows = IsAnswerBy court names named rows asked.case asked.today
+abbrev pub IsAnswer : Asked → CourtView → List NamedDay → List NamedCase → List Moved → List Row → List ℕ → Type 0
+IsAnswer asked court names named moved rows = IsAnswerBy court names named moved rows asked.case asked.today
 
--- the text of an input, in the court whose file it has, where holidays and cases have these names
-pub record IsAnswerOf (asked : Asked) (names : List NamedDay) (named : List NamedCase) (input : Input) (text : List ℕ) : Type 0 where
+-- the text of an input, in the court whose file it has, where holidays and cases have these names, and what isn't at its place
+-- has these numbers
+pub record IsAnswerOf (asked : Asked) (names : List NamedDay) (named : List NamedCase) (moved : List Moved) (input : Input) (text : List ℕ) : Type 0 where
   pub court : CourtView
   pub is_court : file_of court ≡ input.file
-  pub is_answer : IsAnswer asked court names named input.rows text
+  pub is_answer : IsAnswer asked court names named moved input.rows text

@@ -1,5 +1,5 @@
--- The memo of one case: its whole sheet, as it is after all rows.
-use Rattle.std.specs.Prelude.{ℕ, ℤ, List, ◌++◌, Option, codes}
+-- The memo of one case: its whole sheet, as it is after all rows, with the numbers of its deadlines and motions.
+use Rattle.std.specs.Prelude.{ℕ, ℤ, List, ◌++◌, Option, codes, map}
 use Rattle.case_numbers.specs.Words.{case_text}
 use Rattle.case_numbers.specs.declared.names.NamedCase.{NamedCase}
 use Rattle.court_days.specs.Words.{CourtView, DaysView}
@@ -7,12 +7,14 @@ use Rattle.docket_rows.specs.declared.query.Query.TheVariants as query
 use Rattle.docket_rows.specs.declared.view.View.{View}
 use Rattle.docket_rows.specs.declared.view.View.TheVariants as view
 use Rattle.docket_rows.specs.Words.{Rows, opening_rows, setup_of, view_of}
+use Rattle.kept_numbers.specs.declared.moved.Moved.{Moved}
+use Rattle.kept_numbers.specs.Words.{numbered_view}
 use Rattle.office_rows.specs.declared.row.Row.{Row}
 use Rattle.office_run.specs.Words.{docketed_after}
 use Rattle.reason_texts.specs.Words.{NamedDay}
 use Rattle.memo_program.specs.declared.detail.Detail.{Detail}
 use Rattle.memo_program.specs.declared.detail.Detail.TheVariants.{Whole}
-use Rattle.memo_program.specs.Sources.{sources_made}
+use Rattle.memo_program.specs.Sources.{numbered_source, sources_made}
 use Rattle.memo_program.specs.Sheets.{IsSheet}
 use Rattle.memo_program.specs.Texts.{Is}
 
@@ -26,12 +28,13 @@ IsCaseShown court names named days detail case (view.Sheet sheet) = IsSheet cour
 IsCaseShown court names named days detail case _ = Is (closed_line named case)
 
 -- by what is docketed
-abbrev pub IsCaseOf : CourtView → List NamedDay → List NamedCase → (docketed : Rows) → (case : ℕ) → Detail → List ℕ → Type 0
-IsCaseOf court names named docketed case detail =
-    IsCaseShown court names named docketed.days detail case (view_of (setup_of court) docketed (query.Sheet case))
+abbrev pub IsCaseOf : CourtView → List NamedDay → List NamedCase → List Moved → (docketed : Rows) → (case : ℕ) → Detail → List ℕ → Type 0
+IsCaseOf court names named moved docketed case detail =
+    IsCaseShown court names named docketed.days detail case (numbered_view moved (view_of (setup_of court) docketed (query.Sheet case)))
 
 -- the whole sheet after all rows, with what they did to the deadlines of the case
-abbrev pub IsCaseMemo : CourtView → List NamedDay → List NamedCase → List Row → (case : ℕ) → (today : Option ℤ) → List ℕ → Type 0
-IsCaseMemo court names named rows case today =
+abbrev pub IsCaseMemo : CourtView → List NamedDay → List NamedCase → List Moved → List Row → (case : ℕ) → (today : Option ℤ) → List ℕ → Type 0
+IsCaseMemo court names named moved rows case today =
     let opening = opening_rows (setup_of court) in
-    IsCaseOf court names named (docketed_after (setup_of court) opening rows) case (Whole today (sources_made (setup_of court) case opening 1 rows))
+    IsCaseOf court names named moved (docketed_after (setup_of court) opening rows) case
+    (Whole today (map (numbered_source moved case) (sources_made (setup_of court) case opening 1 rows)))

@@ -27,6 +27,6 @@ abbrev pub AreReasonsIfAny : CourtView → List NamedDay → DaysView → Option
 AreReasonsIfAny court names days None = Is []
 AreReasonsIfAny court names days (Some row) = AreReasons court names days row
 
--- of the docketed deadline of that number, where there is one
-abbrev pub AreReasonsDocketed : CourtView → List NamedDay → (docketed : Rows) → (case number : ℕ) → List ℕ → Type 0
-AreReasonsDocketed court names docketed case number = AreReasonsIfAny court names docketed.days (deadline_in (parts_of docketed) case number)
+-- of the docketed deadline at that place in its case, where there is one
+abbrev pub AreReasonsDocketed : CourtView → List NamedDay → (docketed : Rows) → (case place : ℕ) → List ℕ → Type 0
+AreReasonsDocketed court names docketed case place = AreReasonsIfAny court names docketed.days (deadline_in (parts_of docketed) case place)

@@ -11,6 +11,8 @@ use Rattle.docket_rows.specs.declared.sheet.Sheet.{Sheet}
 use Rattle.docket_rows.specs.declared.view.View.TheVariants as view
 use Rattle.docket_rows.specs.Words.{Rows, setup_of, started}
 use Rattle.docket_core.specs.Words.{DocketView}
+use Rattle.kept_numbers.specs.declared.moved.Moved.{Moved}
+use Rattle.kept_numbers.specs.Words.{numbered}
 use Rattle.office_rows.specs.declared.row.Row.{Row}
 use Rattle.office_rows.specs.declared.row.Work.{Work}
 use Rattle.office_rows.specs.declared.row.Work.TheVariants.{Command, Query}
@@ -25,19 +27,19 @@ use Rattle.memo_program.specs.Reasons.{AreReasonsDocketed, AreReasonsIfAny}
 use Rattle.memo_program.specs.Sheets.{IsSheet}
 use Rattle.memo_program.specs.Texts.{Is, Then}
 
--- the case and the number of the deadline that was to start and was given that number, and of the one whose time was to
--- be extended
-abbrev pub deadline_started : Work → (number : ℕ) → Option (ℕ × ℕ)
-deadline_started (Command (command.Start case period event second service)) number = Some (case, number)
-deadline_started work number = None
+-- the case and the place of the deadline that was to start and was given that place, and of the one whose time was to be
+-- extended
+abbrev pub deadline_started : Work → (place : ℕ) → Option (ℕ × ℕ)
+deadline_started (Command (command.Start case period event second service)) place = Some (case, place)
+deadline_started work place = None
 
 abbrev pub deadline_extended : Work → Option (ℕ × ℕ)
 deadline_extended (Command (command.Extend case deadline request)) = Some (case, deadline)
 deadline_extended work = None
 
--- the case and the number of the docketed deadline whose end a reply tells
+-- the case and the place of the docketed deadline whose end a reply tells
 abbrev pub deadline_told : Work → Reply → Option (ℕ × ℕ)
-deadline_told work (Made (answer.Started number shown)) = deadline_started work number
+deadline_told work (Made (answer.Started place shown)) = deadline_started work place
 deadline_told work (Made (answer.Extended shown)) = deadline_extended work
 deadline_told work reply = None
 
@@ -74,30 +76,42 @@ AreReasonsTold court names docketed None computed = AreReasonsIfAny court names 
 abbrev pub AreReasonsWith : CourtView → List NamedDay → (docketed : Rows) → Work → Reply → List ℕ → Type 0
 AreReasonsWith court names docketed work reply = AreReasonsTold court names docketed (deadline_told work reply) (deadline_computed work reply)
 
+-- what is written below the line of a reply: the reasons of the deadline that it tells, and what is said of an act or a refusal
+abbrev pub IsTold : CourtView → List NamedDay → List NamedCase → List Moved → (docketed : Rows) → Work → Reply → List ℕ → Type 0
+IsTold court names named moved docketed work reply = Then (AreReasonsWith court names docketed work reply) (Is (notes_text court named moved docketed work reply))
+
 -- the sheet that a reply shows
 abbrev pub sheet_replied : Reply → Option Sheet
 sheet_replied (Viewed (view.Sheet sheet)) = Some sheet
 sheet_replied reply = None
 
--- to the row of that number of that clerk a sheet with the reasons of its deadlines, or the text of a reply, the reasons of
--- the deadline that it tells, and what is said of an act or a refusal
-abbrev pub IsReplyWith : CourtView → List NamedDay → List NamedCase → (docketed : Rows) → (number clerk : ℕ) → Work → Reply → Option Sheet → List ℕ → Type 0
-IsReplyWith court names named docketed number clerk work reply (Some sheet) =
-    Then (Is (row_numbers number clerk ++ codes "sheet\n")) (IsSheet court names named docketed.days Reasons sheet)
-IsReplyWith court names named docketed number clerk work reply None =
-    Then (Is (named_line_of court named number clerk reply)) (Then (AreReasonsWith court names docketed work reply) (Is (notes_text court named docketed work reply)))
+-- a reply that shows no list: nothing is written below a list
+abbrev pub without_list : Reply → Option Reply
+without_list (Viewed (view.Sheet sheet)) = None
+without_list (Viewed (view.Bookings bookings)) = None
+without_list reply = Some reply
 
-abbrev pub IsReply : CourtView → List NamedDay → List NamedCase → (docketed : Rows) → (number clerk : ℕ) → Work → Reply → List ℕ → Type 0
-IsReply court names named docketed number clerk work reply = IsReplyWith court names named docketed number clerk work reply (sheet_replied reply)
+-- to the row of that number of that clerk a sheet with the reasons of its deadlines, or the text of the reply with numbers and
+-- what is written below it
+abbrev pub IsReplyWith : CourtView → List NamedDay → List NamedCase → List Moved → (docketed : Rows) → (number clerk : ℕ) → Work → Reply → Option Sheet → List ℕ → Type 0
+IsReplyWith court names named moved docketed number clerk work reply (Some sheet) =
+    Then (Is (row_numbers number clerk ++ codes "sheet\n")) (IsSheet court names named docketed.days Reasons sheet)
+IsReplyWith court names named moved docketed number clerk work reply None =
+    Then (Is (named_line_of court named number clerk (numbered moved work reply))) (IsTold court names named moved docketed work reply)
+
+-- the docket's reply is by places, and what it shows has numbers
+abbrev pub IsReply : CourtView → List NamedDay → List NamedCase → List Moved → (docketed : Rows) → (number clerk : ℕ) → Work → Reply → List ℕ → Type 0
+IsReply court names named moved docketed number clerk work reply =
+    IsReplyWith court names named moved docketed number clerk work reply (sheet_replied (numbered moved work reply))
 
 -- the reply to a row, before which this is docketed: the row's number, its clerk's, and the reply
-abbrev pub IsRow : CourtView → List NamedDay → List NamedCase → (docketed : Rows) → (number : ℕ) → Row → List ℕ → Type 0
-IsRow court names named docketed number row =
-    IsReply court names named (docketed_then (setup_of court) docketed row.work) number row.clerk row.work (reply_to (setup_of court) docketed row.work)
+abbrev pub IsRow : CourtView → List NamedDay → List NamedCase → List Moved → (docketed : Rows) → (number : ℕ) → Row → List ℕ → Type 0
+IsRow court names named moved docketed number row =
+    IsReply court names named moved (docketed_then (setup_of court) docketed row.work) number row.clerk row.work (reply_to (setup_of court) docketed row.work)
 
 -- the replies to rows, the first of which has that number
-unfoldable pub AreReplies : CourtView → List NamedDay → List NamedCase → (docketed : Rows) → (number : ℕ) → List Row → List ℕ → Type 0
-AreReplies court names named docketed number [] = Is []
-AreReplies court names named docketed number (row ∷ rows) =
-    Then (IsRow court names named docketed number row)
-    (AreReplies court names named (docketed_then (setup_of court) docketed row.work) (number + 1) rows)
+unfoldable pub AreReplies : CourtView → List NamedDay → List NamedCase → List Moved → (docketed : Rows) → (number : ℕ) → List Row → List ℕ → Type 0
+AreReplies court names named moved docketed number [] = Is []
+AreReplies court names named moved docketed number (row ∷ rows) =
+    Then (IsRow court names named moved docketed number row)
+    (AreReplies court names named moved (docketed_then (setup_of court) docketed row.work) (number + 1) rows)

@@ -8,6 +8,9 @@ use Rattle.docket_rows.specs.declared.answer.Answer.TheVariants as answer
 use Rattle.docket_rows.specs.declared.command.Command.{Command as CommandOf}
 use Rattle.docket_rows.specs.declared.command.Command.TheVariants as command
 use Rattle.docket_rows.specs.Words.{CourtSetup, Rows}
+use Rattle.kept_numbers.specs.declared.given.Counted.TheVariants.{Deadline}
+use Rattle.kept_numbers.specs.declared.moved.Moved.{Moved}
+use Rattle.kept_numbers.specs.Words.{number_in}
 use Rattle.office_rows.specs.declared.row.Row.{Row}
 use Rattle.office_rows.specs.declared.row.Work.{Work}
 use Rattle.office_rows.specs.declared.row.Work.TheVariants.{Command, Query}
@@ -25,7 +28,7 @@ source_if asked case deadline deed row = if case == asked then Some (record { de
 
 -- what a command that was so answered did to a deadline of the case that is asked for
 abbrev pub source_made : (asked row : ℕ) → CommandOf → Answer → Option Source
-source_made asked row (command.Start case period event second service) (answer.Started number shown) = source_if asked case number Started row
+source_made asked row (command.Start case period event second service) (answer.Started place shown) = source_if asked case place Started row
 source_made asked row (command.Extend case deadline request) (answer.Extended shown) = source_if asked case deadline Extended row
 source_made asked row (command.FileAct case deadline filing) (answer.Filed timely) = source_if asked case deadline Filed row
 source_made asked row c a = None
@@ -40,6 +43,10 @@ unfoldable pub sources_made : CourtSetup → (asked : ℕ) → (docketed : Rows)
 sources_made setup asked docketed number [] = []
 sources_made setup asked docketed number (row ∷ rows) =
     option_to_list (source_in asked number row.work (reply_to setup docketed row.work)) ++ sources_made setup asked (docketed_then setup docketed row.work) (number + 1) rows
+
+-- what a row did to a deadline of the case, with the number of the deadline, which the docket has by its place
+abbrev pub numbered_source : List Moved → (case : ℕ) → Source → Source
+numbered_source moved case s = record s { deadline = number_in moved case Deadline s.deadline }
 
 abbrev pub deed_words : Deed → List ℕ
 deed_words Started = codes "started by row "

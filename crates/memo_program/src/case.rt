@@ -11,27 +11,31 @@ use case_numbers::{Cases, push_case_text};
 use court_clock::Day;
 use court_days::{Court, Days};
 use docket_rows::{Query, View};
+use kept_numbers::MovedNumbers;
 use office_rows::Row;
 use reason_texts::HolidayName;
 use std::alloc::{AllocError, Global};
 
-/// The whole sheet of a case as it is after all rows, or a line where the case isn't open. `Err` says that memory ran out.
+/// The whole sheet of a case as it is after all rows, with the numbers of its deadlines and motions, or a line where the case
+/// isn't open. `Err` says that memory ran out.
 pub(crate) fn case_text(
     alloc: Global,
     court: &Court,
     names: &[HolidayName],
     cases: &Cases,
+    moved: &MovedNumbers,
     rows: &[Row],
     case: u32,
     today: Option<Day>,
 ) -> Result<String, AllocError>
-    ensures { IfOk result (λ text. IsCaseMemo court.now names.now cases.now.named rows.now case today (string_bytes text)) }
+    ensures { IfOk result (λ text. IsCaseMemo court.now names.now cases.now.named moved.now rows.now case today (string_bytes text)) }
 {
     let mut made = Vec::new(alloc);
     let docket = docket_after(alloc, court, rows, case, &mut made)?;
-    let sources = Sources::from_vec(made);
+    let sources = Sources::numbered(moved, case, made);
     let detail = Detail::Whole { today, sources };
     let view = docket.show(alloc, &Query::Sheet(case))?;
+    let numbered = moved.number_view(view);
     let mut text = String::new(alloc);
     push_case_shown(
         alloc,
@@ -42,7 +46,7 @@ pub(crate) fn case_text(
         docket.days(),
         &detail,
         case,
-        &view,
+        &numbered,
     )?;
     Ok(text)
 }

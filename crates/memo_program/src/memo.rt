@@ -10,25 +10,48 @@ use case_numbers::Cases;
 use court_days::Court;
 use docket_core::Docket;
 use docket_rows::LAST_CASE;
+use kept_numbers::MovedNumbers;
 use office_rows::Row;
 use reason_texts::HolidayName;
 use std::alloc::{AllocError, Global};
 
 /// The reply to each row in turn, with the reasons of the deadlines that it shows, then the sheets of all open cases,
-/// with those of their deadlines, and the calendars of all judges. `Err` says that memory ran out.
+/// with those of their deadlines, and the calendars of all judges. Deadlines and motions are shown by their numbers. `Err` says
+/// that memory ran out.
 pub(crate) fn memo_text(
     alloc: Global,
     court: &Court,
     names: &[HolidayName],
     cases: &Cases,
+    moved: &MovedNumbers,
     rows: &[Row],
 ) -> Result<String, AllocError>
-    ensures { IfOk result (λ text. IsMemo court.now names.now cases.now.named rows.now (string_bytes text)) }
+    ensures { IfOk result (λ text. IsMemo court.now names.now cases.now.named moved.now rows.now (string_bytes text)) }
 {
     let mut docket = Docket::new(alloc, court)?;
     let mut text = String::new(alloc);
-    push_replies(alloc, &mut text, court, names, cases, &mut docket, rows)?;
-    push_sheets(alloc, &mut text, court, names, cases, &docket, 1, LAST_CASE)?;
-    push_calendars(&mut text, court, cases, &docket, 0, court.judges())?;
+    push_replies(
+        alloc,
+        &mut text,
+        court,
+        names,
+        cases,
+        moved,
+        &mut docket,
+        rows,
+    )?;
+    push_sheets(
+        alloc, &mut text, court, names, cases, moved, &docket, 1, LAST_CASE,
+    )?;
+    push_calendars(
+        alloc,
+        &mut text,
+        court,
+        cases,
+        moved,
+        &docket,
+        0,
+        court.judges(),
+    )?;
     Ok(text)
 }

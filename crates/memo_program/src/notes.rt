@@ -4,10 +4,10 @@ ghost use Rattle.std.specs.Prelude.{◌≡◌, ◌++◌, OnOk, option_copied, st
 ghost use Rattle.docket_rows.specs.Words.{CourtSetup, Rows, parts_of, setup_of};
 ghost use Rattle.office_run.specs.Words.{Holds};
 ghost use Rattle.act_margins.specs.Words.{recorded_lines};
-ghost use Rattle.refusal_texts.specs.Words.{deadline_asked, motion_of_refusal, request_asked};
+ghost use Rattle.refusal_texts.specs.Words.{deadline_asked, request_asked};
 ghost use Rattle.named_answers.specs.Words.{motion_called};
 ghost use Rattle.refused_commands.specs.Words.{deadline_at, why_refused};
-ghost use Rattle.memo_program.specs.Notes.{notes_of, notes_of_request, notes_text, notes_viewed};
+ghost use Rattle.memo_program.specs.Notes.{motion_refused, notes_of, notes_of_request, notes_text, notes_viewed};
 
 use act_margins::push_recorded;
 use case_numbers::Cases;
@@ -15,6 +15,7 @@ use court_days::Court;
 use docket_core::Docket;
 use docket_notes::push_extension_notes;
 use docket_rows::{Answer, Command, Query, Refusal, View};
+use kept_numbers::{Counted, MovedNumbers};
 use named_answers::push_motion_called;
 use office_rows::Work;
 use office_run::Reply;
@@ -25,21 +26,23 @@ use rule6::Shown;
 use std::alloc::{AllocError, Global};
 
 /// Adds what is said of a reply: of an act by how much it was in time or late, of an extension what a reader is warned of, and
-/// of a refusal why it is one, where the docket is as it was left. `Err` says that memory ran out.
+/// of a refusal why it is one, where the docket is as it was left. What the reply names is by its place. `Err` says that memory
+/// ran out.
 pub(crate) fn push_notes(
     alloc: Global,
     text: &mut String,
     court: &Court,
     cases: &Cases,
+    moved: &MovedNumbers,
     docket: &Docket,
     work: &Work,
     reply: &Reply,
 ) -> Result<(), AllocError>
-    ensures { (docketed : Rows) → Holds (setup_of court.now) docket.now docketed → OnOk result (string_bytes text.new ≡ string_bytes text.old ++ notes_text court.now cases.now.named docketed work.now reply.now) }
+    ensures { (docketed : Rows) → Holds (setup_of court.now) docket.now docketed → OnOk result (string_bytes text.new ≡ string_bytes text.old ++ notes_text court.now cases.now.named moved.now docketed work.now reply.now) }
 {
     match (work, reply) {
         (Work::Command(command), Reply::Made(answer)) => push_notes_of(
-            alloc, text, court, cases, docket, command, answer,
+            alloc, text, court, cases, moved, docket, command, answer,
         ),
         (Work::Query(query), Reply::Viewed(view)) => push_notes_viewed(
             alloc, text, docket, query, view,
@@ -54,17 +57,18 @@ fn push_notes_of(
     text: &mut String,
     court: &Court,
     cases: &Cases,
+    moved: &MovedNumbers,
     docket: &Docket,
     command: &Command,
     answer: &Answer,
 ) -> Result<(), AllocError>
-    ensures { (docketed : Rows) → Holds (setup_of court.now) docket.now docketed → OnOk result (string_bytes text.new ≡ string_bytes text.old ++ notes_of court.now cases.now.named docketed command.now answer.now) }
+    ensures { (docketed : Rows) → Holds (setup_of court.now) docket.now docketed → OnOk result (string_bytes text.new ≡ string_bytes text.old ++ notes_of court.now cases.now.named moved.now docketed command.now answer.now) }
 {
     match answer {
         Answer::Filed(_) => push_filed(alloc, text, court, docket, command),
         Answer::Extended(shown) => push_extended(text, court, docket, command, shown),
         Answer::Refused(refusal) => push_refused(
-            alloc, text, court, cases, docket, command, refusal,
+            alloc, text, court, cases, moved, docket, command, refusal,
         ),
         _ => Ok(()),
     }
@@ -132,20 +136,21 @@ fn push_notes_viewed(
     }
 }
 
-/// Adds why a command is refused.
+/// Adds why a command is refused. The docket is asked by the place of the motion, which is called by its number.
 fn push_refused(
     alloc: Global,
     text: &mut String,
     court: &Court,
     cases: &Cases,
+    moved: &MovedNumbers,
     docket: &Docket,
     command: &Command,
     refusal: &Refusal,
 ) -> Result<(), AllocError>
-    ensures { (docketed : Rows) → Holds (setup_of court.now) docket.now docketed → OnOk result (string_bytes text.new ≡ string_bytes text.old ++ why_refused court.now (parts_of docketed) command.now (motion_called cases.now.named (motion_of_refusal command.now refusal.now)) refusal.now) }
+    ensures { (docketed : Rows) → Holds (setup_of court.now) docket.now docketed → OnOk result (string_bytes text.new ≡ string_bytes text.old ++ why_refused court.now (parts_of docketed) command.now (motion_called cases.now.named (motion_refused moved.now command.now refusal.now)) refusal.now) }
 {
     let mut called = String::new(alloc);
-    push_motion_called(&mut called, cases, motion_of_refusal(command, refusal))?;
+    push_motion_called(&mut called, cases, motion_refused(moved, command, refusal))?;
     push_why_refused(
         alloc,
         text,
@@ -155,4 +160,14 @@ fn push_refused(
         called.as_str(),
         refusal,
     )
+}
+
+/// The case and the number of the motion that a refusal names, or else whose hearing the command asks for.
+fn motion_refused(moved: &MovedNumbers, command: &Command, refusal: &Refusal) -> Option<(u32, u32)>
+    ensures { result ≡ motion_refused moved.now command.now refusal.now }
+{
+    match motion_of_refusal(command, refusal) {
+        Some((case, place)) => Some((case, moved.number_at(case, Counted::Motion, place))),
+        None => None,
+    }
 }

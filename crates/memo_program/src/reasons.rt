@@ -52,7 +52,7 @@ fn push_lines(
     push_readings(alloc, text, days, court.clock(), row)
 }
 
-/// Adds the reasons of the docketed deadline of that number, if there is one.
+/// Adds the reasons of the docketed deadline at that place in its case, if there is one.
 pub(crate) fn push_docketed_reasons(
     alloc: Global,
     text: &mut String,
@@ -60,11 +60,11 @@ pub(crate) fn push_docketed_reasons(
     names: &[HolidayName],
     docket: &Docket,
     case: u32,
-    number: u32,
+    place: u32,
 ) -> Result<(), AllocError>
-    ensures { (docketed : Rows) → Holds (setup_of court.now) docket.now docketed → Pushes (AreReasonsDocketed court.now names.now docketed case number) result text.old text.new }
+    ensures { (docketed : Rows) → Holds (setup_of court.now) docket.now docketed → Pushes (AreReasonsDocketed court.now names.now docketed case place) result text.old text.new }
 {
-    match docket.deadline(case, number) {
+    match docket.deadline(case, place) {
         Some(row) => push_deadline_reasons(alloc, text, court, names, docket.days(), row.row()),
         None => Ok(()),
     }

@@ -1,14 +1,15 @@
-//! The replies to rows, with the reasons of each deadline that they show.
+//! The replies to rows, with the numbers of what they show, and the reasons of each deadline.
 
 ghost use Rattle.std.specs.Prelude.{◌≡◌, ◌++◌, codes, option_copied, OnOk};
 ghost use Rattle.rule6.specs.declared.timeliness.Shown.{Shown};
 ghost use Rattle.docket_rows.specs.declared.view.View.TheVariants.{Computed};
 ghost use Rattle.docket_rows.specs.Words.{Rows, setup_of, opening_rows, view_of};
+ghost use Rattle.office_run.specs.declared.reply.Reply.{Reply};
 ghost use Rattle.office_run.specs.declared.reply.Reply.TheVariants.{Viewed};
 ghost use Rattle.office_run.specs.Words.{Holds, docketed_after, docketed_then, row_numbers};
 ghost use Rattle.office_texts.specs.Words.{AddsText};
 ghost use Rattle.memo_program.specs.Reasons.{AreReasonsIfAny};
-ghost use Rattle.memo_program.specs.Replies.{AreReasonsWith, AreReplies, HasAnswered, IsReply, IsRow, deadline_asked, deadline_extended, deadline_queried, deadline_started, deadline_told, is_computed, sheet_replied};
+ghost use Rattle.memo_program.specs.Replies.{AreReasonsWith, AreReplies, HasAnswered, IsReply, IsRow, IsTold, deadline_asked, deadline_extended, deadline_queried, deadline_started, deadline_told, is_computed, sheet_replied, without_list};
 ghost use Rattle.memo_program.specs.Texts.{Pushes};
 
 use crate::detail::Detail;
@@ -19,6 +20,7 @@ use case_numbers::Cases;
 use court_days::Court;
 use docket_core::Docket;
 use docket_rows::{Answer, Command, Query, Sheet, View};
+use kept_numbers::MovedNumbers;
 use named_answers::push_named_line;
 use office_rows::{Row, Work};
 use office_run::{Reply, push_numbers, reply_to};
@@ -32,16 +34,17 @@ pub(crate) fn push_replies(
     court: &Court,
     names: &[HolidayName],
     cases: &Cases,
+    moved: &MovedNumbers,
     docket: &mut Docket,
     rows: &[Row],
 ) -> Result<(), AllocError>
     requires { Holds (setup_of court.now) docket.old (opening_rows (setup_of court.now)) }
-    ensures text { Pushes (AreReplies court.now names.now cases.now.named (opening_rows (setup_of court.now)) 1 rows.now) result text.old text.new }
+    ensures text { Pushes (AreReplies court.now names.now cases.now.named moved.now (opening_rows (setup_of court.now)) 1 rows.now) result text.old text.new }
     ensures docket { OnOk result (Holds (setup_of court.now) docket.new (docketed_after (setup_of court.now) (opening_rows (setup_of court.now)) rows.now)) }
 {
     let mut number = 1u64;
     for row in rows {
-        push_row(alloc, text, court, names, cases, docket, number, row)?;
+        push_row(alloc, text, court, names, cases, moved, docket, number, row)?;
         number += 1;
     }
     Ok(())
@@ -54,36 +57,41 @@ fn push_row(
     court: &Court,
     names: &[HolidayName],
     cases: &Cases,
+    moved: &MovedNumbers,
     docket: &mut Docket,
     number: u64,
     row: &Row,
 ) -> Result<(), AllocError>
-    ensures text { (docketed : Rows) → Holds (setup_of court.now) docket.old docketed → Pushes (IsRow court.now names.now cases.now.named docketed number row.now) result text.old text.new }
+    ensures text { (docketed : Rows) → Holds (setup_of court.now) docket.old docketed → Pushes (IsRow court.now names.now cases.now.named moved.now docketed number row.now) result text.old text.new }
     ensures docket { (docketed : Rows) → Holds (setup_of court.now) docket.old docketed → OnOk result (Holds (setup_of court.now) docket.new (docketed_then (setup_of court.now) docketed row.now.work)) }
 {
     let reply = reply_to(alloc, docket, &row.work)?;
     push_explained(
-        alloc, text, court, names, cases, docket, number, row.clerk, &row.work, &reply,
+        alloc, text, court, names, cases, moved, docket, number, row.clerk, &row.work, reply,
     )
 }
 
-/// Adds the reply to what was asked for in the row of that number of that clerk, and the reasons of the deadlines that it
-/// shows, where the docket is as it was left.
+/// Adds the reply to what was asked for in the row of that number of that clerk, with the numbers of what it shows, and the
+/// reasons of the deadlines that it shows, where the docket is as it was left. The docket is asked by places, so what is told
+/// of the reply goes by the reply without numbers.
 fn push_explained(
     alloc: Global,
     text: &mut String,
     court: &Court,
     names: &[HolidayName],
     cases: &Cases,
+    moved: &MovedNumbers,
     docket: &Docket,
     number: u64,
     clerk: u8,
     work: &Work,
-    reply: &Reply,
+    reply: Reply,
 ) -> Result<(), AllocError>
-    ensures { (docketed : Rows) → HasAnswered court.now docket.now docketed work.now reply.now → Pushes (IsReply court.now names.now cases.now.named docketed number clerk work.now reply.now) result text.old text.new }
+    ensures { (docketed : Rows) → HasAnswered court.now docket.now docketed work.now reply → Pushes (IsReply court.now names.now cases.now.named moved.now docketed number clerk work.now reply) result text.old text.new }
 {
-    match sheet_replied(reply) {
+    let placed = without_list(&reply);
+    let numbered = moved.number_reply(work, reply);
+    match sheet_replied(&numbered) {
         Some(sheet) => {
             push_sheet_front(text, number, clerk)?;
             push_sheet(
@@ -98,10 +106,47 @@ fn push_explained(
             )
         }
         None => {
-            push_named_line(text, court, cases, number, clerk, reply)?;
-            push_reasons_told(alloc, text, court, names, docket, work, reply)?;
-            push_notes(alloc, text, court, cases, docket, work, reply)
+            push_named_line(text, court, cases, number, clerk, &numbered)?;
+            push_told(
+                alloc, text, court, names, cases, moved, docket, work, placed,
+            )
         }
+    }
+}
+
+/// The same reply, unless it shows a list.
+fn without_list(reply: &Reply) -> Option<Reply>
+    ensures { result ≡ without_list reply.now }
+{
+    match reply {
+        Reply::Made(answer) => Some(Reply::Made(*answer)),
+        Reply::Viewed(View::Computed(shown)) => Some(Reply::Viewed(View::Computed(*shown))),
+        Reply::Viewed(View::Refused(refusal)) => Some(Reply::Viewed(View::Refused(*refusal))),
+        Reply::Viewed(_) => None,
+    }
+}
+
+/// Adds what is written below the line of a reply, which is given unless it shows a list.
+fn push_told(
+    alloc: Global,
+    text: &mut String,
+    court: &Court,
+    names: &[HolidayName],
+    cases: &Cases,
+    moved: &MovedNumbers,
+    docket: &Docket,
+    work: &Work,
+    placed: Option<Reply>,
+) -> Result<(), AllocError>
+    ensures { (docketed : Rows) (reply : Reply) → HasAnswered court.now docket.now docketed work.now reply → placed ≡ without_list reply →
+        Pushes (IsTold court.now names.now cases.now.named moved.now docketed work.now reply) result text.old text.new }
+{
+    match placed {
+        Some(reply) => {
+            push_reasons_told(alloc, text, court, names, docket, work, &reply)?;
+            push_notes(alloc, text, court, cases, moved, docket, work, &reply)
+        }
+        None => Ok(()),
     }
 }
 
@@ -136,8 +181,8 @@ fn push_reasons_told(
     ensures { (docketed : Rows) → HasAnswered court.now docket.now docketed work.now reply.now → Pushes (AreReasonsWith court.now names.now docketed work.now reply.now) result text.old text.new }
 {
     match deadline_told(work, reply) {
-        Some((case, number)) => push_docketed_reasons(
-            alloc, text, court, names, docket, case, number,
+        Some((case, place)) => push_docketed_reasons(
+            alloc, text, court, names, docket, case, place,
         ),
         None if is_computed(reply) => push_reasons_asked(alloc, text, court, names, docket, work),
         None => Ok(()),
@@ -197,28 +242,28 @@ fn push_reasons_queried(
     }
 }
 
-/// The case and the number of the docketed deadline whose end a reply tells.
+/// The case and the place of the docketed deadline whose end a reply tells.
 fn deadline_told(work: &Work, reply: &Reply) -> Option<(u32, u32)>
     ensures { result ≡ deadline_told work.now reply.now }
 {
     match reply {
-        Reply::Made(Answer::Started(number, _)) => deadline_started(work, *number),
+        Reply::Made(Answer::Started(place, _)) => deadline_started(work, *place),
         Reply::Made(Answer::Extended(_)) => deadline_extended(work),
         _ => None,
     }
 }
 
-/// The case and the number of the deadline that was to start, and was given that number.
-fn deadline_started(work: &Work, number: u32) -> Option<(u32, u32)>
-    ensures { result ≡ deadline_started work.now number }
+/// The case and the place of the deadline that was to start, and was given that place.
+fn deadline_started(work: &Work, place: u32) -> Option<(u32, u32)>
+    ensures { result ≡ deadline_started work.now place }
 {
     match work {
-        Work::Command(Command::Start { case, .. }) => Some((*case, number)),
+        Work::Command(Command::Start { case, .. }) => Some((*case, place)),
         _ => None,
     }
 }
 
-/// The case and the number of the deadline whose time was to be extended.
+/// The case and the place of the deadline whose time was to be extended.
 fn deadline_extended(work: &Work) -> Option<(u32, u32)>
     ensures { result ≡ deadline_extended work.now }
 {

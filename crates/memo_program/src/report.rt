@@ -4,6 +4,7 @@ ghost use Rattle.std.specs.Prelude.{◌≡◌, IfOk, string_bytes};
 ghost use Rattle.case_names.specs.Words.{case_names};
 ghost use Rattle.memo_program.specs.Answer.{IsAnswer, IsCalled, no_case};
 ghost use Rattle.memo_program.specs.Names.{holiday_names};
+ghost use Rattle.numbers_table.specs.Words.{moved_numbers};
 
 use crate::asked::Asked;
 use crate::case::case_text;
@@ -13,6 +14,8 @@ use case_names::{CaseCalled, case_names, number_called, push_called};
 use case_numbers::Cases;
 use court_clock::Day;
 use court_days::Court;
+use kept_numbers::MovedNumbers;
+use numbers_table::moved_numbers;
 use office_rows::Row;
 use office_streams::{CheckedInput, Report};
 use reason_texts::HolidayName;
@@ -26,11 +29,12 @@ impl Report for Asked {
     ghost use Rattle.case_names.specs.Words.{case_names};
     ghost use Rattle.memo_program.specs.Answer.{IsAnswerOf};
     ghost use Rattle.memo_program.specs.Names.{holiday_names};
+    ghost use Rattle.numbers_table.specs.Words.{moved_numbers};
 
     ghost clerk_count = { λ asked. 1 };
 
-    // Holidays and cases have the names that the court's file gives them.
-    ghost is_text = { λ asked file. IsAnswerOf asked (holiday_names file) (case_names file) };
+    // Holidays and cases have the names, and deadlines and motions the numbers, that the court's file gives them.
+    ghost is_text = { λ asked file. IsAnswerOf asked (holiday_names file) (case_names file) (moved_numbers file) };
 
     fn clerks(&self) -> u8 {
         1
@@ -54,16 +58,18 @@ fn checked_answer(
     file: &[u8],
     checked: &CheckedInput,
 ) -> Result<String, AllocError>
-    ensures { IfOk result (λ text. IsAnswer asked.now checked.now.court (holiday_names file.now) (case_names file.now) checked.now.rows.items (string_bytes text)) }
+    ensures { IfOk result (λ text. IsAnswer asked.now checked.now.court (holiday_names file.now) (case_names file.now) (moved_numbers file.now) checked.now.rows.items (string_bytes text)) }
 {
     let names = holiday_names(alloc, file)?;
     let cases = case_names(alloc, file)?;
+    let moved = moved_numbers(alloc, file)?;
     answer(
         alloc,
         asked,
         &checked.court,
         names.as_slice(),
         &cases,
+        &moved,
         checked.rows.as_slice(),
     )
 }
@@ -75,13 +81,14 @@ fn answer(
     court: &Court,
     names: &[HolidayName],
     cases: &Cases,
+    moved: &MovedNumbers,
     rows: &[Row],
 ) -> Result<String, AllocError>
-    ensures { IfOk result (λ text. IsAnswer asked.now court.now names.now cases.now.named rows.now (string_bytes text)) }
+    ensures { IfOk result (λ text. IsAnswer asked.now court.now names.now cases.now.named moved.now rows.now (string_bytes text)) }
 {
     match &asked.case {
-        Some(called) => called_text(alloc, court, names, cases, rows, called, asked.today),
-        None => memo_text(alloc, court, names, cases, rows),
+        Some(called) => called_text(alloc, court, names, cases, moved, rows, called, asked.today),
+        None => memo_text(alloc, court, names, cases, moved, rows),
     }
 }
 
@@ -91,14 +98,15 @@ fn called_text(
     court: &Court,
     names: &[HolidayName],
     cases: &Cases,
+    moved: &MovedNumbers,
     rows: &[Row],
     called: &CaseCalled,
     today: Option<Day>,
 ) -> Result<String, AllocError>
-    ensures { IfOk result (λ text. IsCalled court.now names.now cases.now.named rows.now called.now today (string_bytes text)) }
+    ensures { IfOk result (λ text. IsCalled court.now names.now cases.now.named moved.now rows.now called.now today (string_bytes text)) }
 {
     match number_called(cases, called) {
-        Some(case) => case_text(alloc, court, names, cases, rows, case, today),
+        Some(case) => case_text(alloc, court, names, cases, moved, rows, case, today),
         None => no_case(alloc, called),
     }
 }

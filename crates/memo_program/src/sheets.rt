@@ -16,6 +16,7 @@ use court_clock::Day;
 use court_days::{Court, Days};
 use docket_core::Docket;
 use docket_rows::{Query, Sheet, SheetDeadline, View};
+use kept_numbers::MovedNumbers;
 use named_answers::push_case_line;
 use office_texts::push_deadline;
 use reason_texts::HolidayName;
@@ -105,23 +106,26 @@ fn push_first_lines(
     }
 }
 
-/// Adds the sheets of the open ones of that number of cases, from the first number on.
+/// Adds the sheets of the open ones of that number of cases, from the first number on, with the numbers of their deadlines and
+/// motions.
 pub(crate) fn push_sheets(
     alloc: Global,
     text: &mut String,
     court: &Court,
     names: &[HolidayName],
     cases: &Cases,
+    moved: &MovedNumbers,
     docket: &Docket,
     first: u32,
     count: u32,
 ) -> Result<(), AllocError>
     requires numbers { first + count ≤ 5_000 }
-    ensures { (docketed : Rows) → Holds (setup_of court.now) docket.now docketed → Pushes (AreSheets court.now names.now cases.now.named docketed first count) result text.old text.new }
+    ensures { (docketed : Rows) → Holds (setup_of court.now) docket.now docketed → Pushes (AreSheets court.now names.now cases.now.named moved.now docketed first count) result text.old text.new }
 {
     for case in first..first + count {
         let view = docket.show(alloc, &Query::Sheet(case))?;
-        push_sheet_shown(alloc, text, court, names, cases, docket.days(), &view)?;
+        let numbered = moved.number_view(view);
+        push_sheet_shown(alloc, text, court, names, cases, docket.days(), &numbered)?;
     }
     Ok(())
 }

@@ -1,13 +1,14 @@
 //! Which rows made the deadlines of a case what they are.
 
-ghost use Rattle.std.specs.Prelude.{◌≡◌, ◌++◌, IfOk, OnOk, option_to_list, string_bytes};
+ghost use Rattle.std.specs.Prelude.{◌≡◌, ◌++◌, map, IfOk, OnOk, option_to_list, string_bytes};
 ghost use Rattle.docket_rows.specs.Words.{opening_rows, setup_of};
 ghost use Rattle.office_run.specs.Words.{Holds, docketed_after};
-ghost use Rattle.memo_program.specs.Sources.{deed_words, source_if, source_in, source_line, source_lines, source_made, source_text, sources_made};
+ghost use Rattle.memo_program.specs.Sources.{deed_words, numbered_source, source_if, source_in, source_line, source_lines, source_made, source_text, sources_made};
 
 use court_days::Court;
 use docket_core::Docket;
 use docket_rows::{Answer, Command};
+use kept_numbers::{Counted, MovedNumbers};
 use office_rows::{Row, Work};
 use office_run::{Reply, reply_to};
 use reason_texts::push_note;
@@ -29,7 +30,7 @@ pub enum Deed {
 /// A row that did something to a deadline of a case.
 #[derive(Clone, Copy, Debug, PartialEq, Eq)]
 pub struct Source {
-    /// The number of the deadline.
+    /// The deadline: its place in the case, and its number once that is given.
     pub deadline: u32,
     /// What was done to it.
     pub deed: Deed,
@@ -53,10 +54,11 @@ impl Model for Sources {
 }
 
 impl Sources {
-    /// Those of the list, in its order.
-    pub(crate) fn from_vec(list: Vec<Source>) -> Sources
-        ensures { result ≡ list.items }
+    /// Those of the list, in its order, with the numbers of the deadlines of a case, which the docket has by their places.
+    pub(crate) fn numbered(moved: &MovedNumbers, case: u32, mut list: Vec<Source>) -> Sources
+        ensures { result ≡ map (numbered_source moved.now case) list.items }
     {
+        number_each(moved, case, &mut list);
         Sources { list }
     }
 
@@ -134,8 +136,8 @@ fn source_made(asked: u32, row: u64, command: &Command, answer: &Answer) -> Opti
     ensures { result ≡ source_made asked row command.now answer.now }
 {
     match (*command, *answer) {
-        (Command::Start { case, .. }, Answer::Started(number, _)) => {
-            source_if(asked, case, number, Deed::Started, row)
+        (Command::Start { case, .. }, Answer::Started(place, _)) => {
+            source_if(asked, case, place, Deed::Started, row)
         }
         (Command::Extend { case, deadline, .. }, Answer::Extended(_)) => {
             source_if(asked, case, deadline, Deed::Extended, row)
@@ -159,6 +161,15 @@ fn source_if(asked: u32, case: u32, deadline: u32, deed: Deed, row: u64) -> Opti
         })
     } else {
         None
+    }
+}
+
+/// Gives the deadlines of a case their numbers.
+fn number_each(moved: &MovedNumbers, case: u32, sources: &mut [Source])
+    ensures { sources.new ≡ map (numbered_source moved.now case) sources.old }
+{
+    'list: for source in sources.iter_mut() {
+        source.deadline = moved.number_at(case, Counted::Deadline, source.deadline);
     }
 }
 

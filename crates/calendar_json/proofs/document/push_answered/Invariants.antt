@@ -15,5 +15,5 @@ invariant-loop-row l =
     record {
       number : l.number ≡ l.row-index + 1;
       holds : Holds setup l.docket docketed;
-      so_far : l.out ++ flat_map json_tokens (answers_from l.court l.cases.named docketed l.number (drop l.row-index l.rows)) ≡ l.fn.out ++ flat_map json_tokens (answers_from l.court l.cases.named (opening_rows setup) 1 l.rows);
+      so_far : l.out ++ flat_map json_tokens (answers_from l.court l.cases.named l.moved docketed l.number (drop l.row-index l.rows)) ≡ l.fn.out ++ flat_map json_tokens (answers_from l.court l.cases.named l.moved (opening_rows setup) 1 l.rows);
     }

@@ -12,10 +12,10 @@ abbrev pub invariant-loop-row : goal.invariant-loop-row
 invariant-loop-row l =
     let setup = setup_of l.court in
     let docketed = docketed_after setup (opening_rows setup) (take l.row-index l.rows) in
-    let left = answers_from l.court l.cases.named docketed l.number (drop l.row-index l.rows) in
+    let left = answers_from l.court l.cases.named l.moved docketed l.number (drop l.row-index l.rows) in
     record {
       number : l.number ≡ l.row-index + 1;
       holds : Holds setup l.docket docketed;
-      so_far : l.text.items ++ flat_map line_of left ≡ l.fn.text.items ++ flat_map line_of (answers_of l.court l.cases.named l.rows);
-      read : All ReadsBack left → All ReadsBack (answers_of l.court l.cases.named l.rows);
+      so_far : l.text.items ++ flat_map line_of left ≡ l.fn.text.items ++ flat_map line_of (answers_of l.court l.cases.named l.moved l.rows);
+      read : All ReadsBack left → All ReadsBack (answers_of l.court l.cases.named l.moved l.rows);
     }

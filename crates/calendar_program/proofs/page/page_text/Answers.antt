@@ -24,8 +24,8 @@ returns c = λ docketed holds.
     let by_days = ap (λ (days : DaysView). page_text court days named choice items c.deref-2.result.now sheets) (c.days.ensures ∙ held) in
     let of_judges = ap (λ (calendars : List JudgeCalendar). page_text court docketed.days named choice items calendars sheets) (c.deref-2.ensures.value ∙ c.in_ok-calendars.ensures docketed holds.stands) in
     record {
-      items = items;
-      due = c.in_ok-items.ensures docketed holds.stands;
+      list = items;
+      due = c.in_ok-items.ensures docketed holds;
       sheets = sheets;
       explained = c.in_ok-sheets.ensures docketed holds.stands;
       page = shown ∙ by_items ∙ by_sheets ∙ by_days ∙ of_judges;

@@ -1,4 +1,4 @@
-use Rattle.std.proofs.Common.{◌≡◌, ◌∙◌, ◌++◌, ℕ, List, ap, ap₂, append_assoc}
+use Rattle.std.proofs.Common.{◌≡◌, ◌∙◌, ◌++◌, ℕ, List, map, ap, ap₂, append_assoc}
 use Rattle.std.specs.List.{flat_map}
 use Rattle.court_days.specs.Words.{DaysView}
 use Rattle.docket_rows.specs.declared.sheet.Sheet.{Sheet}
@@ -6,6 +6,7 @@ use Rattle.docket_rows.specs.Words.{parts_of, setup_of}
 use Rattle.docket_core.specs.Words.{parts_held}
 use Rattle.docket_laws.proofs.CallerLemmas.{hold_same}
 use Rattle.docket_selection.specs.Words.{open_sheets}
+use Rattle.kept_numbers.specs.Words.{numbered_sheet}
 use Rattle.calendar_sql.specs.Rows.{numbered}
 use Rattle.calendar_sql.specs.Script.{outage_row, sheet_rows}
 use Rattle.calendar_sql.proofs.sheets.push_docketed.Goals as goal
@@ -17,8 +18,9 @@ returns c = λ docketed stands.
     let before = c.args.out.now in
     let held : (parts_held c.args.docket.now).days ≡ docketed.days = (hold_same (parts_held c.args.docket.now) (parts_of docketed) stands).days in
     let outages : c.outages.result.now ≡ docketed.days.outages = c.outages.ensures ∙ ap (λ (days : DaysView). days.outages) (c.days.ensures ∙ held) in
-    let sheets : c.deref.result.now ≡ open_sheets (setup_of court) docketed =
-    c.deref.ensures.value ∙ c.in_ok-sheets.ensures docketed stands ∙ ap (λ setup. open_sheets setup docketed) c.requires.court in
+    let numbers = map (numbered_sheet c.args.moved.now) in
+    let sheets : c.deref.result.now ≡ numbers (open_sheets (setup_of court) docketed) =
+    c.deref.ensures.value ∙ c.in_ok-sheets.ensures docketed stands ∙ ap (λ setup. numbers (open_sheets setup docketed)) c.requires.court in
     let cases : List Sheet → List ℕ = λ ss. flat_map (sheet_rows court c.args.cases.now.named) ss in
     c.in_ok-push_sheets.ensures
     ∙ ap (λ t. t ++ cases c.deref.result.now) c.in_ok-push_outages.ensures

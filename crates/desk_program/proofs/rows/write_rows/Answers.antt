@@ -16,15 +16,15 @@ use Rattle.desk_program.proofs.rows.write_rows.Goals as goal
 pub loop-place-init : goal.loop-place-init
 loop-place-init g c =
     let named = c.args.cases.now.named in
-    let head : List ℕ = head_of (standing_file (batch_of c.args.entries.now)) named in (
+    let head : List ℕ = head_of (standing_file (batch_of c.args.entries.now)) named c.args.moved.now in (
       omega arith,
       c.requires.works,
       [],
       Appends-nil (g.W.Write.contents (watched c.args.writer.now)),
       rows_first c.args.under.now c.args.moved.now head c.push_file.new.text.items c.args.entries.now
           (c.in_ok-push_file.ensures
-          ∙ ap (λ (t : List ℕ). t ++ head_of c.standing_file.result.now named) c.new-text.ensures.items
-          ∙ ap (λ (f : List ℕ). head_of f named) c.standing_file.ensures),
+          ∙ ap (λ (t : List ℕ). t ++ head_of c.standing_file.result.now named c.args.moved.now) c.new-text.ensures.items
+          ∙ ap (λ (f : List ℕ). head_of f named c.args.moved.now) c.standing_file.ensures),
       number_first c.args.entries.now,
     )
 
@@ -41,7 +41,7 @@ loop-place-preserved g c =
     let under = c.args.under.now in
     let moved = c.args.moved.now in
     let named = c.args.cases.now.named in
-    let head : List ℕ = head_of (standing_file (batch_of c.args.entries.now)) named in
+    let head : List ℕ = head_of (standing_file (batch_of c.args.entries.now)) named c.args.moved.now in
     let kept : List (List ℕ) = batch_of (take c.loop-place.place c.args.entries.now) in
     let entry : List ℕ = c.index-entries-place.result.items in
     let (begun, working, written, appends, so_far, next) = c.loop-place.invariant in
@@ -64,7 +64,7 @@ returns g c =
     let under = c.args.under.now in
     let moved = c.args.moved.now in
     let named = c.args.cases.now.named in
-    let head : List ℕ = head_of (standing_file (batch_of c.args.entries.now)) named in
+    let head : List ℕ = head_of (standing_file (batch_of c.args.entries.now)) named c.args.moved.now in
     let (begun, working, written, appends, so_far, next) = c.loop-place.invariant in
     let all : take c.loop-place.place c.args.entries.now ≡ c.args.entries.now = take_all c.loop-place.place c.args.entries.now (omega (arith, c.loop-place-test.false)) in
     let whole : written ++ c.loop-place.text.items ≡ written_rows under moved named (batch_of c.args.entries.now) =

@@ -5,7 +5,7 @@ use Rattle.docket_entries.specs.Entries.{rows_among}
 use Rattle.docket_entries.specs.Striking.{entry_at}
 use Rattle.docket_entries.proofs.striking.entry_at.Given as goal
 
--- the row is so many rows on among the entries that are left
+-- the row is at this place among the rows of the entries that are left
 abbrev pub invariant-rows : goal.invariant-rows
 invariant-rows l = record {
   begun : 1 ≤ l.place;

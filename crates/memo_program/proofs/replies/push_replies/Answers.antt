@@ -25,10 +25,10 @@ loop-row-preserved c =
       number = omega arith;
       holds = subst (Holds setup c.push_row.new.docket) (sym more) (c.in_ok-push_row.ensures.docket docketed holds);
       leads = λ new rest.
-          c.loop-row.invariant.leads new (replies_more court c.args.names.now c.args.cases.now.named docketed c.loop-row.number rows i row (string_bytes c.loop-row.text) _ new c.loop-row-test.true is (c.in_ok-push_row.ensures.text docketed holds) (rw more at rest));
+          c.loop-row.invariant.leads new (replies_more court c.args.names.now c.args.cases.now.named c.args.moved.now docketed c.loop-row.number rows i row (string_bytes c.loop-row.text) _ new c.loop-row-test.true is (c.in_ok-push_row.ensures.text docketed holds) (rw more at rest));
     }
 
 pub returns-clause-text : goal.returns-clause-text
 returns-clause-text c =
     let past : length c.args.rows.now ≤ c.loop-row.row-index = omega (arith, c.loop-row-test.false) in
-    c.loop-row.invariant.leads (string_bytes c.loop-row.text) (replies_end c.args.court.now c.args.names.now c.args.cases.now.named _ c.loop-row.number c.args.rows.now c.loop-row.row-index (string_bytes c.loop-row.text) past)
+    c.loop-row.invariant.leads (string_bytes c.loop-row.text) (replies_end c.args.court.now c.args.names.now c.args.cases.now.named c.args.moved.now _ c.loop-row.number c.args.rows.now c.loop-row.row-index (string_bytes c.loop-row.text) past)

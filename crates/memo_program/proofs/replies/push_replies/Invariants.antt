@@ -14,6 +14,6 @@ invariant-loop-row l =
       number : l.number ≡ l.row-index + 1;
       holds : Holds setup l.docket docketed;
       leads : (new : List ℕ)
-          → Adds (AreReplies l.court l.names l.cases.named docketed l.number (drop l.row-index l.rows)) (string_bytes l.text) new
-          → Adds (AreReplies l.court l.names l.cases.named (opening_rows setup) 1 l.rows) (string_bytes l.fn.text) new;
+          → Adds (AreReplies l.court l.names l.cases.named l.moved docketed l.number (drop l.row-index l.rows)) (string_bytes l.text) new
+          → Adds (AreReplies l.court l.names l.cases.named l.moved (opening_rows setup) 1 l.rows) (string_bytes l.fn.text) new;
     }

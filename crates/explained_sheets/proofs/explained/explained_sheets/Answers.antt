@@ -3,7 +3,7 @@ use Rattle.std.proofs.lemmas.List.{nil_from_length}
 use Rattle.explained_sheets.specs.declared.explained.ExplainedSheet.{ExplainedSheet}
 use Rattle.explained_sheets.specs.Explained.{AreAlike, IsSheetExplained}
 use Rattle.explained_sheets.proofs.AlikeLemmas.{AreLeft, all_left, none_left, one_less}
-use Rattle.explained_sheets.proofs.explained.explain.Goals as goal
+use Rattle.explained_sheets.proofs.explained.explained_sheets.Goals as goal
 
 pub loop-sheet-init : goal.loop-sheet-init
 loop-sheet-init c =

@@ -1,7 +1,7 @@
 use Rattle.std.proofs.Common.{length}
 use Rattle.explained_sheets.specs.Explained.{IsSheetExplained}
 use Rattle.explained_sheets.proofs.AlikeLemmas.{AreLeft}
-use Rattle.explained_sheets.proofs.explained.explain.Given as goal
+use Rattle.explained_sheets.proofs.explained.explained_sheets.Given as goal
 
 -- those that are left, and those that are explained, last first, are all
 abbrev pub invariant-loop-sheet : goal.invariant-loop-sheet
