@@ -30,8 +30,11 @@ from reference.text_out import answer_lines, closing_lines
 DIFFERS, FAULT = 7, 3
 WHO = ["--reason", "entered twice", "--by", "R. Ames", "--today", "2025-09-02"]
 CASES = (1, 2, 3)
-# How the desk answers a row that names what there is no more. Such a row may be left out of the rows that it writes.
-NAMES_NOTHING = re.compile("refused (3 NoSuchDeadline|4 NoSuchMotion)")
+# What the desk says where the court's file has numbers of its own.
+OTHER_NUMBERS = (b"note: the court's file has a table [kept_numbers] of its own, so other programs may number deadlines and motions "
+                 b"otherwise than the desk\n")
+# How a row is answered that names what there isn't. Such a row may be left out of the rows that the desk writes.
+NAMES_NOTHING = re.compile("refused (1 NoSuchCase|3 NoSuchDeadline|4 NoSuchMotion)")
 
 
 class Others(NamedTuple):
@@ -237,12 +240,23 @@ def check_docket(programs, others, draw):
         return len(struck), many
 
 
+def check_own_table(programs):
+    """A court's file with numbers of its own: the desk writes no second table, and says so."""
+    with tempfile.TemporaryDirectory() as parent:
+        desk = Desk(programs, parent, SHORT_COURT + b"\n[kept_numbers]\ndeadlines = [[1, 1, 7]]\n")
+        desk.enter([b"1,open,1,2025-03-03\n", b"1,start,1,4m,2025-03-03,,,\n", b"1,start,1,59b,2025-03-04,,,\n"])
+        assert desk.call("strike", 2, "--accept", *WHO).status == 0
+        rows = desk.call("rows")
+        assert rows.status == 0 and rows.errors == OTHER_NUMBERS and rows.output.count(b"[kept_numbers]") == 1, rows
+
+
 def main(words):
     if len(words) not in (4, 5, 6):
         print(__doc__, file=sys.stderr)
         return 1
     seed, count = [int(word) for word in words[4:] + ["1", "100"][len(words) - 4:]]
     draw, programs, others = random.Random(seed), programs_of(words[:2]), Others(*words[1:4])
+    check_own_table(programs)
     counted = [check_docket(programs, others, draw) for _ in range(count)]
     print("{} dockets: {} rows were struck, and {} answers changed, each as a replay of the others says".format(
         count, sum(rows for rows, _ in counted), sum(many for _, many in counted)))
