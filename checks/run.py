@@ -105,6 +105,8 @@ ALL = [
           "each growth refused to clerks at work (cc)", "1 min"),
     Check("holidays_check", [FILE], [["holidays_check.py", built(FILE)]],
           "holidays, and two libraries of Debian's", "1 min"),
+    Check("edits_stand", [], [["edits_stand.py"]],
+          "each edit that must fail can be made", "1 s", quick=True),
     Check("edits_check", [], [["edits_check.py"]],
           "wrong programs that the gate doesn't try", "1 h"),
 ]
