@@ -1,11 +1,10 @@
 //! The whole: the court, what each row was answered, the sheets of cases and the calendars of judges.
 
-ghost use Rattle.std.specs.Prelude.{◌≡◌, ◌<◌, [], ◌∷◌, map, IfOk, OnOk, codes};
+ghost use Rattle.std.specs.Prelude.{◌≡◌, ◌<◌, [], ◌∷◌, IfOk, OnOk, codes};
 ghost use Rattle.std.specs.List.{flat_map};
 ghost use Rattle.json.specs.Tree.{json_tokens};
 ghost use Rattle.docket_rows.specs.Words.{Rows, opening_rows, setup_of};
 ghost use Rattle.docket_core.specs.Words.{StandsFor};
-ghost use Rattle.docket_selection.specs.Words.{chosen_calendars};
 ghost use Rattle.office_run.specs.Words.{Holds, docketed_after};
 ghost use Rattle.calendar_json.specs.Document.{AreSheetsAfter, IsDocketJson, answers_from, calendars_field, court_fields, court_value, document_fields, document_value};
 ghost use Rattle.calendar_json.specs.Values.{Adds, AddsFields, AddsValue, array_of, field};

@@ -1,6 +1,6 @@
 -- The rows of entries and the changes to answers, written one after another.
 use Rattle.std.proofs.Common.{◌≡◌, ◌∙◌, ◌+◌, ◌<◌, ℕ, List, [], ◌∷◌, ◌++◌, length, length-append, map, take, refl, sym, ap, append_assoc, append-nil, arith}
-use Rattle.std.specs.Prelude.{Option, None, Some, Vec, false, get_or, is_none, is_some, option_map, true}
+use Rattle.std.specs.Prelude.{Option, None, Some, Vec, false, get_or, is_none, true}
 use Rattle.std.specs.declared.alloc.Global.{Global}
 use Rattle.std.proofs.lemmas.Grind.{flat_map-append}
 use Rattle.std.proofs.lemmas.List.{map-append, take_more}
@@ -65,11 +65,6 @@ parts_more text line entry said answer first second third fourth one two three f
 pub no_changes : (differences : List Difference) → map change_in differences ≡ [] → differences ≡ []
 no_changes [] none = refl
 no_changes (difference ∷ differences) none = cc none
-
--- there is something of what is there
-pub mapped_some : {A B : Type 0} (f : A → B) (o : Option A) → is_some o ≡ is_some (option_map f o)
-mapped_some f None = refl
-mapped_some f (Some a) = refl
 
 -- what is written of an entry that is no row, and of one that is
 pub no_row_written : (under : Standing) (moved : List Moved) (number : ℕ) (entry : List ℕ) → is_none (note_in entry) ≡ false → rows_written under moved number (row_only (note_in entry) entry) ≡ []

@@ -1,9 +1,10 @@
 //! The table that names cases, after a court's file.
 ghost use Rattle.std.specs.Prelude.{◌≡◌, ◌++◌, IfOk, OnOk};
 ghost use Rattle.std.specs.List.{flat_map};
-ghost use Rattle.desk_program.specs.NamesTable.{has_names, name_entry, names_table, table_text};
+ghost use Rattle.desk_program.specs.NamesTable.{name_entry, names_table, table_text};
 
 use case_numbers::{Cases, NamedCase};
+use numbers_table::has_key;
 use std::alloc::{AllocError, Global};
 
 // The key of the table, which clerk_office ignores and other programs read.
@@ -19,25 +20,10 @@ pub(crate) fn push_names(
     ensures { OnOk result (text.new.items ≡ text.old.items ++ names_table file.now cases.now.named) }
 {
     let named = cases.named();
-    if named.is_empty() || has_names(alloc, file)? {
+    if named.is_empty() || has_key(alloc, file, TABLE)? {
         return Ok(());
     }
     push_table(text, named)
-}
-
-// Whether a court's file has something at the key of the table.
-fn has_names(alloc: Global, file: &[u8]) -> Result<bool, AllocError>
-    ensures { IfOk result (λ has. has ≡ has_names file.now) }
-{
-    match toml::table_from_slice(alloc, file) {
-        Ok(document) => Ok(document.get(TABLE).is_some()),
-        Err(error) => {
-            if error.is_memory() {
-                return Err(AllocError);
-            }
-            Ok(false)
-        }
-    }
 }
 
 // Adds the table of these cases.

@@ -2,6 +2,7 @@
 
 use clap::{Arg, ArgAction, Command};
 use std::alloc::{AllocError, Global};
+use text_options::with_text;
 
 const ABOUT: &str =
     "A docket that lasts. Rows are kept in a folder's journal, through any crash, and
@@ -43,32 +44,29 @@ const TASKS: &str = "Tasks:
   struck FOLDER                   list the rows that are struck; also while
                                   another program enters rows";
 
-// An argument that takes a text.
-fn text_argument<'a>(alloc: Global, name: &'a str, value: &'a str, help: &'a str) -> Arg<'a> {
+// An argument that is known by its place.
+fn placed<'a>(alloc: Global, name: &'a str, value: &'a str, help: &'a str) -> Arg<'a> {
     Arg::new(alloc, name)
         .action(ArgAction::Set)
         .value_name(value)
         .help(help)
 }
 
-// The task, the folder and the files that a task takes.
-fn command_of_files<'a>(alloc: Global) -> Result<Command<'a>, AllocError> {
+// The task, the folder, and the file or row that a task takes.
+fn command_of_places<'a>(alloc: Global) -> Result<Command<'a>, AllocError> {
     Command::new(alloc, "docket_desk")
         .no_binary_name(true)
         .version("0.1.0")
         .about(ABOUT)
         .after_help(TASKS)
-        .arg(text_argument(alloc, "task", "TASK", "What is to be done").required(true))?
-        .arg(text_argument(alloc, "folder", "FOLDER", "The folder with the journal").required(
-            true,
-        ))?
-        .arg(text_argument(
+        .arg(placed(alloc, "task", "TASK", "What is to be done").required(true))?
+        .arg(placed(alloc, "folder", "FOLDER", "The folder with the journal").required(true))?
+        .arg(placed(
             alloc,
             "file",
             "FILE|ROW",
             "Another court's file, for 'court', or a row's number, for 'strike'",
-        ))?
-        .arg(text_argument(alloc, "court", "FILE", "The court's file, for 'open'").long("court"))
+        ))
 }
 
 // The command with one more option that takes nothing.
@@ -84,17 +82,6 @@ fn with_flag<'a>(
         .action(ArgAction::SetTrue)
         .help(help);
     command.arg(flag)
-}
-
-// The command with one more option that takes a text.
-fn with_text<'a>(
-    alloc: Global,
-    command: Command<'a>,
-    name: &'a str,
-    value: &'a str,
-    help: &'a str,
-) -> Result<Command<'a>, AllocError> {
-    command.arg(text_argument(alloc, name, value, help).long(name))
 }
 
 // The options that say how rows are taken.
@@ -114,7 +101,14 @@ fn with_rows<'a>(alloc: Global, command: Command<'a>) -> Result<Command<'a>, All
 
 /// The command line. `Err` says that memory ran out.
 pub fn command<'a>(alloc: Global) -> Result<Command<'a>, AllocError> {
-    let command = command_of_files(alloc)?;
+    let command = command_of_places(alloc)?;
+    let command = with_text(
+        alloc,
+        command,
+        "court",
+        "FILE",
+        "The court's file, for 'open'",
+    )?;
     let accept = "Take another court's file, or strike a row, though answers differ";
     let command = with_flag(alloc, command, "accept", "accept", accept)?;
     let command = with_rows(alloc, command)?;

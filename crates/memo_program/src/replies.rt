@@ -72,7 +72,7 @@ fn push_row(
 }
 
 /// Adds the reply to what was asked for in the row of that number of that clerk, with the numbers of what it shows, and the
-/// reasons of the deadlines that it shows, where the docket is as it was left. The docket is asked by places, so what is told
+/// reasons of the deadlines that it shows, where the docket is as it was left. The docket is asked by places, so what is said
 /// of the reply goes by the reply without numbers.
 fn push_explained(
     alloc: Global,

@@ -65,6 +65,10 @@ table_of_numbers document = option_and_then as_table (get_member (codes "kept_nu
 unfoldable pub moved_numbers : (file : List ℕ) → List Moved
 moved_numbers file = numbers_in (option_and_then table_of_numbers (toml_of file))
 
--- a court's file has something at the key of that table
+-- a court's file has something at that key
+abbrev pub has_key : (key file : List ℕ) → Bool
+has_key key file = is_some (option_and_then (get_member key) (toml_of file))
+
+-- so at that of the table
 abbrev pub has_numbers : (file : List ℕ) → Bool
-has_numbers file = is_some (option_and_then (get_member (codes "kept_numbers")) (toml_of file))
+has_numbers file = has_key (codes "kept_numbers") file

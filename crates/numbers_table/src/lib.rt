@@ -4,5 +4,5 @@
 mod reading;
 mod writing;
 
-pub use reading::{has_numbers, moved_numbers};
+pub use reading::{has_key, has_numbers, moved_numbers};
 pub use writing::push_numbers;

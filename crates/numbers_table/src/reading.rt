@@ -1,7 +1,7 @@
 //! The numbers that a court's file gives to deadlines and motions.
 ghost use Rattle.std.specs.Prelude.{◌≡◌, [], IfOk, OnOk, option_map};
 ghost use Rattle.toml.specs.View.{array_view, items_view, table_view, view};
-ghost use Rattle.numbers_table.specs.Reading.{has_numbers, in_bits, list_at, moved_in, moved_numbers, number_at, number_of, numbers_in, table_of_numbers, with_entry, with_list, with_numbers};
+ghost use Rattle.numbers_table.specs.Reading.{has_key, has_numbers, in_bits, list_at, moved_in, moved_numbers, number_at, number_of, numbers_in, table_of_numbers, with_entry, with_list, with_numbers};
 
 use kept_numbers::{Counted, Moved, MovedNumbers};
 use std::alloc::{AllocError, Global};
@@ -36,8 +36,15 @@ pub fn moved_numbers(alloc: Global, file: &[u8]) -> Result<MovedNumbers, AllocEr
 pub fn has_numbers(alloc: Global, file: &[u8]) -> Result<bool, AllocError>
     ensures { IfOk result (λ has. has ≡ has_numbers file.now) }
 {
+    has_key(alloc, file, TABLE)
+}
+
+/// Whether a court's file has something at that key. Bytes that are no TOML have nothing. `Err` says that memory ran out.
+pub fn has_key(alloc: Global, file: &[u8], key: &str) -> Result<bool, AllocError>
+    ensures { IfOk result (λ has. has ≡ has_key key.now file.now) }
+{
     match toml::table_from_slice(alloc, file) {
-        Ok(document) => Ok(document.get(TABLE).is_some()),
+        Ok(document) => Ok(document.get(key).is_some()),
         Err(error) => {
             if error.is_memory() {
                 return Err(AllocError);
