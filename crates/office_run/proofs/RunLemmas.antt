@@ -1,5 +1,5 @@
 -- What rows are answered one after another, and what comes after the replies.
-use Rattle.std.proofs.Common.{◌≡◌, ◌+◌, ◌-◌, ◌<◌, ◌++◌, ℕ, zero, suc, List, [], ◌∷◌, length, take, get_or, append_assoc, refl, ap, ◌∙◌, arith}
+use Rattle.std.proofs.Common.{◌≡◌, ◌+◌, ◌-◌, ◌<◌, ◌++◌, ℕ, zero, suc, List, [], ◌∷◌, length, take, get_or, refl, ap, ◌∙◌, arith}
 use Rattle.std.specs.List.{flat_map, range_with_len}
 use Rattle.std.proofs.lemmas.Grind.{take_at_read}
 use Rattle.docket_rows.specs.declared.answer.Answer.{Answer}
@@ -64,19 +64,16 @@ calendars_same court p q same first zero = refl
 calendars_same court p q same first (suc n) =
     rw ((hold_same p q same).judge first) (ap (λ s. calendar_lines court first (q.judge first) ++ s) (calendars_same court p q same (first + 1) n))
 
--- the sheets and then the calendars, of a docket that stands for what is docketed
-pub closing_made : (court : CourtView) (d : DocketView) (before sheets whole : List ℕ) (judges : ℕ) → sheets ≡ before ++ sheets_from court (parts_held d) 1 last_case → whole ≡ sheets ++ calendars_from court (parts_held d) 0 judges → judges ≡ length court.judges → (docketed : Rows) → StandsFor d docketed → whole ≡ before ++ closing_text court (parts_of docketed)
-closing_made court d before sheets whole judges with_sheets with_calendars all docketed stands =
-    let parts = parts_of docketed in
-    with_calendars
-    ∙ ap (λ t. t ++ calendars_from court (parts_held d) 0 judges) with_sheets
-    ∙ append_assoc before (sheets_from court (parts_held d) 1 last_case) (calendars_from court (parts_held d) 0 judges)
-    ∙ ap (λ s. before ++ (s ++ calendars_from court (parts_held d) 0 judges)) (sheets_same court (parts_held d) parts stands 1 last_case)
-    ∙ ap (λ s. before ++ (sheets_from court parts 1 last_case ++ s)) (calendars_same court (parts_held d) parts stands 0 judges ∙ ap (calendars_from court parts 0) all)
+pub closing_same : (court : CourtView) (p q : Parts) → ((part : PartId) → part_value p part ≡ part_value q part) → closing_text court p ≡ closing_text court q
+closing_same court p q same =
+    ap (λ s. s ++ calendars_from court p 0 (length court.judges)) (sheets_same court p q same 1 last_case)
+    ∙ ap (λ s. sheets_from court q 1 last_case ++ s) (calendars_same court p q same 0 (length court.judges))
 
 -- the text that was made piece by piece
-pub run_text_made : (court : CourtView) (rows : List Row) (d : DocketView) (empty replies whole : List ℕ) → empty ≡ [] → replies ≡ empty ++ lines_from court (opening_rows (setup_of court)) 1 rows → Holds (setup_of court) d (docketed_after (setup_of court) (opening_rows (setup_of court)) rows) → ((docketed : Rows) → StandsFor d docketed → whole ≡ replies ++ closing_text court (parts_of docketed)) → whole ≡ run_text court rows
+pub run_text_made : (court : CourtView) (rows : List Row) (d : DocketView) (empty replies whole : List ℕ) → empty ≡ [] → replies ≡ empty ++ lines_from court (opening_rows (setup_of court)) 1 rows → Holds (setup_of court) d (docketed_after (setup_of court) (opening_rows (setup_of court)) rows) → whole ≡ replies ++ closing_text court (parts_held d) → whole ≡ run_text court rows
 unfolding run_text
 run_text_made court rows d empty replies whole is_empty replied holds closed =
     let docketed = docketed_after (setup_of court) (opening_rows (setup_of court)) rows in
-    closed docketed holds.stands ∙ ap (λ t. t ++ closing_text court (parts_of docketed)) (replied ∙ ap (λ t. t ++ lines_from court (opening_rows (setup_of court)) 1 rows) is_empty)
+    closed
+    ∙ ap (λ t. replies ++ t) (closing_same court (parts_held d) (parts_of docketed) holds.stands)
+    ∙ ap (λ t. t ++ closing_text court (parts_of docketed)) (replied ∙ ap (λ t. t ++ lines_from court (opening_rows (setup_of court)) 1 rows) is_empty)

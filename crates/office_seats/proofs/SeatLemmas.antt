@@ -33,11 +33,12 @@ own_longer setup h k number calls others capacity room (Some d) begins same le o
     record { prepared = prepared_longer (docket_rules setup) h k begins d own.prepared; clerk = own.clerk; room = omega (arith, own.room, same, le) }
 
 -- a seat that has seen nothing and done nothing
-pub seat_opened : (history : Book) (setup : CourtSetup) (trail : TrailView) (known : Option Known) (parts amount number capacity : ℕ) → KnowsOf history setup known → trail ≡ trail_view history [] → parts ≡ 1 → amount ≡ 0 → IsSeat history setup trail (Some known) parts amount number [] capacity None
-seat_opened history setup trail known parts amount number capacity knows start one none =
-    let P : TrailView → Type 0 = λ t. IsSeat history setup t (Some known) parts amount number [] capacity None in
+pub seat_opened : (history : Book) (setup court : CourtSetup) (trail : TrailView) (known : Option Known) (parts amount number capacity : ℕ) → court ≡ setup → KnowsOf history setup known → trail ≡ trail_view history [] → parts ≡ 1 → amount ≡ 0 → IsSeat history setup court trail (Some known) parts amount number [] capacity None
+seat_opened history setup court trail known parts amount number capacity same knows start one none =
+    let P : TrailView → Type 0 = λ t. IsSeat history setup court t (Some known) parts amount number [] capacity None in
     subst P (sym start) (record {
       book = refl;
+      court_is = same;
       known = known;
       there = refl;
       seen = record { knows_of = knows; legal = legal_empty (docket_rules setup) };
@@ -47,15 +48,16 @@ seat_opened history setup trail known parts amount number capacity knows start o
       own = tt;
     })
 
-module _ {history : Book} {setup : CourtSetup} {trail : TrailView} {reader : Option (Option Known)} {parts amount number capacity : ℕ} {mine : List ℕ} {draft : Option DocketDraft} (was : IsSeat history setup trail reader parts amount number mine capacity draft) where
+module _ {history : Book} {setup court : CourtSetup} {trail : TrailView} {reader : Option (Option Known)} {parts amount number capacity : ℕ} {mine : List ℕ} {draft : Option DocketDraft} (was : IsSeat history setup court trail reader parts amount number mine capacity draft) where
   -- what its reader knows
   pub seat_knows : (known : Option Known) → Some known ≡ Some was.known → HasSeen setup trail known
   seat_knows known same = let P : Option Known → Type 0 = λ k. HasSeen setup trail k in subst P (sym (same_Some _ _ same)) was.seen
 
   -- it has looked again, and has room for no fewer calls
-  pub seat_looked : (after : TrailView) (now : Option Known) (calls : List ℕ) (room : ℕ) → Looks setup trail after now → calls ≡ mine → capacity ≤ room → IsSeat history setup after (Some now) parts amount number calls room draft
+  pub seat_looked : (after : TrailView) (now : Option Known) (calls : List ℕ) (room : ℕ) → Looks setup trail after now → calls ≡ mine → capacity ≤ room → IsSeat history setup court after (Some now) parts amount number calls room draft
   seat_looked after now calls room looks same le = record {
     book = looks.later.book ∙ was.book;
+    court_is = was.court_is;
     known = now;
     there = refl;
     seen = looks.seen;
@@ -66,9 +68,10 @@ module _ {history : Book} {setup : CourtSetup} {trail : TrailView} {reader : Opt
   }
 
   -- and has a draft of its own
-  pub seat_drafted : (after : TrailView) (now : Option Known) (calls : List ℕ) (room : ℕ) → Looks setup trail after now → calls ≡ mine → (d : DocketDraft) → IsOwn setup after.log number (length calls) room d → IsSeat history setup after (Some now) parts amount number calls room (Some d)
+  pub seat_drafted : (after : TrailView) (now : Option Known) (calls : List ℕ) (room : ℕ) → Looks setup trail after now → calls ≡ mine → (d : DocketDraft) → IsOwn setup after.log number (length calls) room d → IsSeat history setup court after (Some now) parts amount number calls room (Some d)
   seat_drafted after now calls room looks same d own = record {
     book = looks.later.book ∙ was.book;
+    court_is = was.court_is;
     known = now;
     there = refl;
     seen = looks.seen;
@@ -90,9 +93,10 @@ module _ {history : Book} {setup : CourtSetup} {trail : TrailView} {reader : Opt
   }
 
   -- it has seen more, and its draft is as it was
-  pub seat_kept : (after : TrailView) (held sum : ℕ) → after.book ≡ trail.book → is_legal (docket_rules setup) after.log ≡ true → IsPrefix trail.log after.log → held ≡ parts → sum ≡ amount → IsSeat history setup after reader held sum number mine capacity draft
+  pub seat_kept : (after : TrailView) (held sum : ℕ) → after.book ≡ trail.book → is_legal (docket_rules setup) after.log ≡ true → IsPrefix trail.log after.log → held ≡ parts → sum ≡ amount → IsSeat history setup court after reader held sum number mine capacity draft
   seat_kept after held sum same legal begins holds counts = record {
     book = same ∙ was.book;
+    court_is = was.court_is;
     known = was.known;
     there = was.there;
     seen = seat_sees after same legal;
@@ -103,9 +107,10 @@ module _ {history : Book} {setup : CourtSetup} {trail : TrailView} {reader : Opt
   }
 
   -- it has seen more, and its draft is gone
-  pub seat_dropped : (after : TrailView) (held sum : ℕ) (calls : List ℕ) (room : ℕ) → after.book ≡ trail.book → is_legal (docket_rules setup) after.log ≡ true → IsPrefix trail.log after.log → held ≡ parts → sum ≡ amount → calls ≡ mine → IsSeat history setup after reader held sum number calls room None
+  pub seat_dropped : (after : TrailView) (held sum : ℕ) (calls : List ℕ) (room : ℕ) → after.book ≡ trail.book → is_legal (docket_rules setup) after.log ≡ true → IsPrefix trail.log after.log → held ≡ parts → sum ≡ amount → calls ≡ mine → IsSeat history setup court after reader held sum number calls room None
   seat_dropped after held sum calls room same legal begins holds counts own = record {
     book = same ∙ was.book;
+    court_is = was.court_is;
     known = was.known;
     there = was.there;
     seen = seat_sees after same legal;
@@ -116,9 +121,10 @@ module _ {history : Book} {setup : CourtSetup} {trail : TrailView} {reader : Opt
   }
 
   -- its draft is gone, and nothing else happened
-  pub seat_idle : (calls : List ℕ) (room : ℕ) → calls ≡ mine → IsSeat history setup trail reader parts amount number calls room None
+  pub seat_idle : (calls : List ℕ) (room : ℕ) → calls ≡ mine → IsSeat history setup court trail reader parts amount number calls room None
   seat_idle calls room own = record {
     book = was.book;
+    court_is = was.court_is;
     known = was.known;
     there = was.there;
     seen = was.seen;
@@ -130,13 +136,14 @@ module _ {history : Book} {setup : CourtSetup} {trail : TrailView} {reader : Opt
 
   -- a command of its clerk became an entry, at the end of its calls
   pub seat_made : (after : TrailView) (held sum : ℕ) (calls : List ℕ) (room limit : ℕ) (done : Done) (clerk : ℕ) (command : Command) (before : List (Entry Command Answer)) → after.book ≡ trail.book → is_legal (docket_rules setup) after.log ≡ true → clerk ≡ number → IsPrefix trail.log before → IsMade setup before limit clerk command done after.log → held ≡ parts → sum ≡ amount + 1 → calls ≡ mine ++ done.place ∷ []
-      → IsSeat history setup after reader held sum number calls room None
+      → IsSeat history setup court after reader held sum number calls room None
   seat_made after held sum calls room limit done clerk command before same legal own later made holds counts pushed =
       let within : Within (mine ++ (length before + 1) ∷ []) (places_of number (before ++ next_entry setup before clerk command ∷ [])) =
       within_next number mine before (next_entry setup before clerk command) own (within_longer number mine trail.log before later was.within) in
       let longer : length calls ≡ length mine + 1 = ap length pushed ∙ length-append mine (done.place ∷ []) in
       record {
         book = same ∙ was.book;
+        court_is = was.court_is;
         known = was.known;
         there = was.there;
         seen = seat_sees after same legal;
@@ -148,7 +155,7 @@ module _ {history : Book} {setup : CourtSetup} {trail : TrailView} {reader : Opt
 
   -- its draft did
   pub seat_finished : (after : TrailView) (held sum : ℕ) (calls : List ℕ) (room limit : ℕ) (done : Done) (d : DocketDraft) → after.book ≡ trail.book → draft ≡ Some d → Settles setup trail.log limit d (Ok done) after.log → held ≡ parts → sum ≡ amount + 1 → calls ≡ mine ++ done.place ∷ []
-      → IsSeat history setup after reader held sum number calls room None
+      → IsSeat history setup court after reader held sum number calls room None
   seat_finished after held sum calls room limit done d same is settles holds counts pushed =
       seat_made after held sum calls room limit done d.clerk d.command settles.before same settles.legal (seat_own d is).clerk settles.later settles.commits.made holds counts pushed
 

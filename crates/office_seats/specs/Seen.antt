@@ -35,10 +35,11 @@ pub record IsOwn (setup : CourtSetup) (seen : List (Entry Command Answer)) (numb
   pub clerk : d.clerk ≡ number
   pub room : calls < capacity
 
--- what a seat keeps between two calls: it has seen a beginning of the office's history; its calls are entries of that beginning, and are
--- counted in its share of the ledger
-pub record IsSeat (history : Book) (setup : CourtSetup) (trail : TrailView) (reader : Option (Option Known)) (parts amount number : ℕ) (mine : List ℕ) (capacity : ℕ) (draft : Option DocketDraft) : Type 0 where
+-- what a seat keeps between two calls: it knows its court; it has seen a beginning of the office's history; its calls are entries of that
+-- beginning, and are counted in its share of the ledger
+pub record IsSeat (history : Book) (setup court : CourtSetup) (trail : TrailView) (reader : Option (Option Known)) (parts amount number : ℕ) (mine : List ℕ) (capacity : ℕ) (draft : Option DocketDraft) : Type 0 where
   pub book : trail.book ≡ history
+  pub court_is : court ≡ setup
   pub known : Option Known
   pub there : reader ≡ Some known
   pub seen : HasSeen setup trail known

@@ -1,11 +1,11 @@
 //! The one book of an office, which its clerks share under a lock.
 
-ghost use Rattle.std.specs.Prelude.{◌≡◌, ℕ, ◌+◌, ◌<◌, ◌≤◌, [], IfNone, IfOk, IfSome, IsSome, OnErr, OnOk, Some, length, option_map};
+ghost use Rattle.std.specs.Prelude.{◌≡◌, ℕ, ◌+◌, ◌<◌, ◌≤◌, [], IfNone, IfOk, IfSome, IsSome, OnErr, OnOk, Some, length, option_map, true};
 ghost use Rattle.left_right.specs.Sides.{view};
 ghost use Rattle.docket_rows.specs.Words.{setup_of};
 ghost use Rattle.versioned_steps.specs.Words.{IsPrepared};
 ghost use Rattle.shared_docket.specs.Words.{docket_rules};
-ghost use Rattle.published_docket.specs.Words.{trail_view};
+ghost use Rattle.published_docket.specs.Words.{IsShown, trail_view};
 ghost use Rattle.office_seats.specs.Books.{entries_of};
 ghost use Rattle.office_seats.specs.Closed.{HasTallies, IsClosed};
 ghost use Rattle.office_seats.specs.Finished.{Commits, Makes, MakesNow, Settles};
@@ -19,7 +19,7 @@ use crate::names_office::NamesOffice;
 use crate::tally::Tally;
 use court_days::Court;
 use docket_rows::{Answer, Command, PartId, PartValue};
-use published_docket::{DocketReader, Publisher, Trail};
+use published_docket::{Board, DocketReader, Publisher, Trail};
 use shared_docket::DocketParts;
 use std::alloc::{AllocError, Global};
 use std::marker::Model;
@@ -80,6 +80,14 @@ fn copy_writes(
         copies.push((write.0, value))?;
     }
     Ok(copies)
+}
+
+// Whether two trails of one history are the same.
+fn is_same(one: &Trail, other: &Trail) -> bool
+    requires { other.now.book ≡ one.now.book }
+    ensures { result ≡ true → other.now ≡ one.now }
+{
+    one.begins(other) && other.begins(one)
 }
 
 impl<L: NamesOffice> Book<L> {
@@ -241,20 +249,21 @@ impl<L: NamesOffice> Book<L> {
         Some(result)
     }
 
-    /// Gives the journal, and spends the tallies of all seats, whose calls make it up, as the ledger shows. `Err` says
-    /// that memory ran out; all is then as it was. None where a tally has seen more than this book has, which never
-    /// happens.
+    /// Gives the journal and its trail, and spends the tallies of all seats, whose calls make it up, as the ledger shows.
+    /// `Err` says that memory ran out; all is then as it was. None where a tally has seen more than this book has, which
+    /// never happens.
     pub(crate) fn close(
         &mut self,
         alloc: Global,
         rest: &mut Share<L>,
         tallies: &mut Vec<Tally<L>>,
-    ) -> Option<Result<Journal, AllocError>>
+    ) -> Option<Result<(Journal, Trail), AllocError>>
         requires all { L.parts ≡ 64 }
         requires whole { (seats : ℕ) → rest.old.parts + seats ≡ 64 → HasTallies seats tallies.old.items }
         requires parts { rest.old.parts ≤ 64 }
         requires amount { rest.old.amount ≡ 0 }
-        ensures closed { IfSome result (λ r. IfOk r (IsClosed L.setup tallies.old.items)) }
+        ensures closed { IfSome result (λ r. IfOk r (λ c. IsClosed L.setup tallies.old.items c.0)) }
+        ensures trail { IfSome result (λ r. IfOk r (λ c. c.1 ≡ trail_view L.history c.0)) }
         ensures few { IfSome result (λ r. OnOk r (rest.old.parts + length tallies.old.items ≤ 64)) }
         ensures tallies { IfSome result (λ r. OnErr r (tallies.new.items ≡ tallies.old.items)) }
         ensures rest { IfSome result (λ r. OnErr r (rest.new.parts ≡ rest.old.parts)) }
@@ -271,17 +280,24 @@ impl<L: NamesOffice> Book<L> {
         };
         merge_all(rest, tallies);
         self.counted.audit(rest);
-        Some(Ok(Journal::new(entries)))
+        let trail = self.publisher.trail().again();
+        Some(Ok((Journal::new(entries), trail)))
     }
 
-    /// Waits for the readers, and gives back all memory.
-    pub(crate) fn end<R: Wait>(self, rt: &R) {
+    /// Waits for the readers, and gives the docket as it was published last. None where memory ran out for what was owed
+    /// to readers, or where the history isn't the one that was seen, which never happens once the book was closed.
+    pub(crate) fn end<R: Wait>(self, rt: &R, seen: &Trail) -> Option<Box<Board>>
+        requires { seen.now.book ≡ L.history }
+        ensures { IfSome result (λ board. IsShown board.value × (board.value.parts ≡ L.setup) × (board.value.trail ≡ seen.now)) }
+    {
         let Book {
             publisher,
             journal: _,
             store: _,
             counted: _,
         } = self;
-        publisher.end(rt);
+        let same = is_same(seen, publisher.trail());
+        let board = publisher.end(rt)?;
+        if same { Some(board) } else { None }
     }
 }

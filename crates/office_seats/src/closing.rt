@@ -2,6 +2,7 @@
 
 ghost use Rattle.std.specs.Prelude.{◌≡◌, ℕ, ◌+◌, ◌≤◌, true, All, Contains, IfNone, IfOk, IfSome, MatchBool, OnErr, OnOk, length};
 ghost use mathlib.Core.List.{IsPrefix};
+ghost use Rattle.published_docket.specs.Words.{trail_view};
 ghost use Rattle.office_seats.specs.Closed.{HasTallies, IsClosed, IsFirstMissing, calls_of, numbers_of};
 ghost use Rattle.office_seats.specs.Places.{Within, places_of};
 
@@ -85,20 +86,21 @@ pub(crate) fn copy_entries(
     Ok(copies)
 }
 
-/// Gives the journal of the book, and spends the tallies, which are those of all seats. `Err` says that memory ran out;
-/// all is then as it was.
+/// Gives the journal of the book and its trail, and spends the tallies, which are those of all seats. `Err` says that
+/// memory ran out; all is then as it was.
 pub(crate) fn closed<L: NamesOffice, R: Wait>(
     rt: &R,
     alloc: Global,
     book: &Mutex<Book<L>>,
     rest: &mut Share<L>,
     tallies: &mut Vec<Tally<L>>,
-) -> Result<Journal, AllocError>
+) -> Result<(Journal, Trail), AllocError>
     requires all { L.parts ≡ 64 }
     requires whole { (seats : ℕ) → rest.old.parts + seats ≡ 64 → HasTallies seats tallies.old.items }
     requires parts { rest.old.parts ≤ 64 }
     requires amount { rest.old.amount ≡ 0 }
-    ensures closed { IfOk result (IsClosed L.setup tallies.old.items) }
+    ensures closed { IfOk result (λ c. IsClosed L.setup tallies.old.items c.0) }
+    ensures trail { IfOk result (λ c. c.1 ≡ trail_view L.history c.0) }
     ensures few { OnOk result (rest.old.parts + length tallies.old.items ≤ 64) }
     ensures tallies { OnErr result (tallies.new.items ≡ tallies.old.items) }
     ensures rest { OnErr result (rest.new.parts ≡ rest.old.parts) }

@@ -1,12 +1,12 @@
 //! How a seat reads what is published.
 
-ghost use Rattle.std.specs.Prelude.{◌≡◌, IfNone, IfOk, IfSome, MatchBool};
+ghost use Rattle.std.specs.Prelude.{◌≡◌, IfNone, IfOk, IfSome, MatchBool, None, Some};
 ghost use mathlib.Core.List.{IsPrefix};
 ghost use Rattle.left_right.specs.Sides.{view};
 ghost use Rattle.docket_rows.specs.Words.{view_of};
-ghost use Rattle.versioned_steps.specs.Words.{IsReadAll};
+ghost use Rattle.versioned_steps.specs.Words.{copies_of, decided};
 ghost use Rattle.shared_docket.specs.Words.{docket_rules, rows_of};
-ghost use Rattle.published_docket.specs.Words.{IsShown};
+ghost use Rattle.published_docket.specs.Words.{HasRead, IsShown};
 ghost use Rattle.office_seats.specs.Seen.{HasSeen, Looks};
 
 use crate::names_office::NamesOffice;
@@ -45,7 +45,7 @@ fn read_at(
     ensures trail { IfSome result (λ _. trail.new ≡ shown.now.trail) }
     ensures clerk { IfSome result (λ r. IfOk r (λ d. d.clerk ≡ clerk)) }
     ensures command { IfSome result (λ r. IfOk r (λ d. d.command ≡ command.now)) }
-    ensures read { IfSome result (λ r. IfOk r (IsReadAll (docket_rules shown.now.parts) shown.now.trail.log)) }
+    ensures read { IfSome result (λ r. IfOk r (HasRead shown.now.parts shown.now.trail.log)) }
 {
     if !is_noted(shown, trail) {
         return None;
@@ -53,8 +53,22 @@ fn read_at(
     Some(read_all(alloc, shown, clerk, command))
 }
 
-/// A draft of the clerk's command, all of it read at one moment, up to which the seat has then seen the history. None where
-/// readers aren't shown yet what the seat has seen.
+/// Decides a draft that has read all. `Err` says that memory ran out.
+pub(crate) fn decide(
+    alloc: Global,
+    parts: &DocketParts,
+    draft: Draft<DocketParts>,
+) -> Result<Draft<DocketParts>, AllocError>
+    requires { (docket_rules parts.now).next_part draft.command (copies_of draft.reads) ≡ None }
+    ensures { IfOk result (λ d. d ≡ record draft { decision = Some (decided (docket_rules parts.now) draft.command draft.reads) }) }
+{
+    let mut draft = draft;
+    draft.settle(alloc, parts)?;
+    Ok(draft)
+}
+
+/// A draft of the clerk's command, all of it read at one moment, up to which the seat has then seen the history. It isn't
+/// decided yet. None where readers aren't shown yet what the seat has seen.
 pub(crate) fn looked<L: NamesOffice>(
     alloc: Global,
     reader: DocketReader,
@@ -66,7 +80,7 @@ pub(crate) fn looked<L: NamesOffice>(
     ensures looks { Looks L.setup trail.old trail.new (view result.0.place) }
     ensures clerk { IfSome result.1 (λ r. IfOk r (λ d. d.clerk ≡ clerk)) }
     ensures command { IfSome result.1 (λ r. IfOk r (λ d. d.command ≡ command.now)) }
-    ensures read { IfSome result.1 (λ r. IfOk r (IsReadAll (docket_rules L.setup) trail.new.log)) }
+    ensures read { IfSome result.1 (λ r. IfOk r (HasRead L.setup trail.new.log)) }
 {
     match enter(reader) {
         Ok(reading) => {

@@ -1,8 +1,8 @@
 //! The office that clerks share.
 
-ghost use Rattle.std.specs.Prelude.{◌≡◌, ◌+◌, ◌≤◌, [], IfErr, IfOk, MatchResult, OnOk};
+ghost use Rattle.std.specs.Prelude.{◌≡◌, ◌+◌, ◌≤◌, [], IfErr, IfOk, IfSome, MatchResult, OnOk};
 ghost use Rattle.docket_rows.specs.Words.{setup_of};
-ghost use Rattle.published_docket.specs.Words.{trail_view};
+ghost use Rattle.published_docket.specs.Words.{IsShown, trail_view};
 ghost use Rattle.office_seats.specs.Closed.{AreApart, AreOfSeats, HasTallies, IsClosed, StaysOpen};
 ghost use Rattle.office_seats.specs.Opened.{IsLate, IsOpened, IsRefused, open_seats};
 
@@ -14,7 +14,8 @@ use crate::names_office::NamesOffice;
 use crate::seat::Seat;
 use crate::tally::Tally;
 use court_days::Court;
-use published_docket::{Publisher, Trail};
+use published_docket::{Board, Publisher, Trail};
+use shared_docket::DocketParts;
 use std::alloc::{AllocError, Global};
 use std::marker::Model;
 use std::sync::ledger::{Blank, Share};
@@ -56,10 +57,18 @@ fn locked<L: NamesOffice>(alloc: Global, book: Book<L>) -> Result<Arc<Mutex<Book
     Ok(Arc::new(alloc, Mutex::new(book))?)
 }
 
-// Gives back the memory of the book where nobody else shares it, as all seats were left.
-fn end_book<L: NamesOffice, R: Wait>(rt: &R, book: Arc<Mutex<Book<L>>>) {
-    if let Ok(lock) = Arc::try_unwrap(book) {
-        lock.into_inner().end(rt);
+// Ends the book where nobody else shares it, as all seats were left, and gives the docket after what was seen.
+fn end_book<L: NamesOffice, R: Wait>(
+    rt: &R,
+    book: Arc<Mutex<Book<L>>>,
+    seen: &Trail,
+) -> Option<Box<Board>>
+    requires { seen.now.book ≡ L.history }
+    ensures { IfSome result (λ board. IsShown board.value × (board.value.parts ≡ L.setup) × (board.value.trail ≡ seen.now)) }
+{
+    match Arc::try_unwrap(book) {
+        Ok(lock) => lock.into_inner().end(rt, seen),
+        Err(_) => None,
     }
 }
 
@@ -70,9 +79,11 @@ fn seats_of<L: NamesOffice, R: Wait>(
     book: &Arc<Mutex<Book<L>>>,
     rest: &mut Share<L>,
     trail: &Trail,
+    court: &Court,
     count: u8,
     limit: u32,
 ) -> Result<Vec<Seat<L>>, OfficeError>
+    requires court { L.setup ≡ setup_of court.now }
     requires trail { trail.now ≡ trail_view L.history [] }
     requires parts { count ≤ rest.old.parts }
     requires amount { rest.old.amount ≡ 0 }
@@ -88,6 +99,7 @@ fn seats_of<L: NamesOffice, R: Wait>(
             return Err(OfficeError::NoReader);
         };
         let shared = Arc::try_clone(book)?;
+        let parts = DocketParts::new(court)?;
         let share = rest.split_off(1, 0);
         seats.reserve(1)?;
         seats.push_reserved(Seat::open(
@@ -95,6 +107,7 @@ fn seats_of<L: NamesOffice, R: Wait>(
             shared,
             limit,
             before + 1,
+            parts,
             reader,
             trail.again(),
             share,
@@ -134,7 +147,16 @@ impl<L: NamesOffice> Office<L> {
         let (counted, mut rest) = blank.open::<L>();
         let trail = publisher.trail().again();
         let book = locked(alloc, Book::open(rt, alloc, publisher, counted, court)?)?;
-        let opened = seats_of(rt, alloc, &book, &mut rest, &trail, seats, journal_limit);
+        let opened = seats_of(
+            rt,
+            alloc,
+            &book,
+            &mut rest,
+            &trail,
+            court,
+            seats,
+            journal_limit,
+        );
         match opened {
             Ok(opened) => Ok((Office { book, seats, rest }, opened)),
             Err(error) => Err(error),
@@ -160,6 +182,30 @@ impl<L: NamesOffice> Office<L> {
         ensures office { IfErr result (λ r. r.office ≡ self) }
         ensures tallies { IfErr result (λ r. r.tallies.items ≡ tallies.items) }
     {
+        match self.close_shown(rt, alloc, tallies) {
+            Ok((journal, _)) => Ok(journal),
+            Err(refused) => Err(refused),
+        }
+    }
+
+    /// Closes the office as `close` does, and gives beside the journal the docket after it, as it was published last. None
+    /// where memory ran out for what was owed to readers; the journal has its docket also then.
+    pub fn close_shown<R: Wait>(
+        self,
+        rt: &R,
+        alloc: Global,
+        tallies: Vec<Tally<L>>,
+    ) -> Result<(Journal, Option<Box<Board>>), CloseRefused<L>>
+        requires all { L.parts ≡ 64 }
+        ensures closed { IfOk result (λ c. IsClosed L.setup tallies.items c.0) }
+        ensures board { IfOk result (λ c. IfSome c.1 (λ board. IsShown board.value × (board.value.parts ≡ L.setup) × (board.value.trail.log ≡ c.0))) }
+        ensures whole { OnOk result (HasTallies self tallies.items) }
+        ensures seats { OnOk result (AreOfSeats self tallies.items) }
+        ensures apart { OnOk result (AreApart tallies.items) }
+        ensures cause { IfErr result (λ r. StaysOpen self tallies.items r.cause) }
+        ensures office { IfErr result (λ r. r.office ≡ self) }
+        ensures tallies { IfErr result (λ r. r.tallies.items ≡ tallies.items) }
+    {
         let Office {
             book,
             seats,
@@ -174,9 +220,9 @@ impl<L: NamesOffice> Office<L> {
             });
         }
         match closed::<L, R>(rt, alloc, &book, &mut rest, &mut tallies) {
-            Ok(journal) => {
-                end_book(rt, book);
-                Ok(journal)
+            Ok((journal, trail)) => {
+                let board = end_book(rt, book, &trail);
+                Ok((journal, board))
             }
             Err(AllocError) => Err(CloseRefused {
                 cause: CloseError::OutOfMemory,

@@ -14,7 +14,7 @@ ghost use Rattle.office_seats.specs.Seen.{KnowsOf};
 use crate::book::Book;
 use crate::done::Done;
 use crate::fault::{CommitError, PerformError};
-use crate::looking::{looked, showed};
+use crate::looking::{decide, looked, showed};
 use crate::names_office::NamesOffice;
 use crate::settling::{made, settled};
 use crate::tally::Tally;
@@ -34,6 +34,7 @@ pub struct Seat<L: NamesOffice> {
     book: Arc<Mutex<Book<L>>>,
     limit: u32,
     number: u8,
+    parts: DocketParts,
     // It is there between two calls.
     reader: Option<DocketReader>,
     trail: Trail,
@@ -52,7 +53,7 @@ impl<L: NamesOffice> Model for Seat<L> {
 
     ghost view = { λ s. record { number = s.number; limit = s.limit; seen = s.trail.log; mine = s.mine.items; draft = s.draft } };
 
-    ghost invariant = { λ s. IsSeat L.history L.setup s.trail (option_map (λ r. known_by r.place) s.reader) s.share.parts s.share.amount s.number s.mine.items (vec_capacity s.mine) s.draft };
+    ghost invariant = { λ s. IsSeat L.history L.setup s.parts s.trail (option_map (λ r. known_by r.place) s.reader) s.share.parts s.share.amount s.number s.mine.items (vec_capacity s.mine) s.draft };
 }
 
 impl<L: NamesOffice> Seat<L> {
@@ -63,10 +64,12 @@ impl<L: NamesOffice> Seat<L> {
         book: Arc<Mutex<Book<L>>>,
         limit: u32,
         number: u8,
+        parts: DocketParts,
         reader: DocketReader,
         trail: Trail,
         share: Share<L>,
     ) -> Seat<L>
+        requires setup { parts ≡ L.setup }
         requires knows { KnowsOf L.history L.setup (view reader.place) }
         requires trail { trail ≡ trail_view L.history [] }
         requires parts { share.parts ≡ 1 }
@@ -77,6 +80,7 @@ impl<L: NamesOffice> Seat<L> {
             book,
             limit,
             number,
+            parts,
             reader: Some(reader),
             trail,
             share,
@@ -135,10 +139,14 @@ impl<L: NamesOffice> Seat<L> {
         let (reader, draft) = looked::<L>(alloc, reader, &mut self.trail, clerk, &command);
         self.reader = Some(reader);
         match draft {
-            Some(Ok(draft)) => {
-                self.draft = Some(draft);
-                Some(Ok(()))
-            }
+            // The reader has left by now: one who publishes waits for readers.
+            Some(Ok(draft)) => match decide(alloc, &self.parts, draft) {
+                Ok(draft) => {
+                    self.draft = Some(draft);
+                    Some(Ok(()))
+                }
+                Err(error) => Some(Err(error)),
+            },
             Some(Err(AllocError)) => Some(Err(AllocError)),
             None => None,
         }
@@ -313,6 +321,7 @@ impl<L: NamesOffice> Seat<L> {
             book: _,
             limit: _,
             number,
+            parts: _,
             reader: _,
             trail,
             share,

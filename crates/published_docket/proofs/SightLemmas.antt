@@ -52,3 +52,10 @@ shown_view x shown query =
     (λ case has. let same = stands x shown (Case case) has in rw same refl)
     (λ judge has. let same = stands x shown (Judge judge) has in rw same refl)
     query
+
+-- so the judges' calendars are those of these rows
+pub shown_calendar : (x : BoardView) → IsShown x → (judge : ℕ) → judge < x.parts.judges → (parts_shown x).judge judge ≡ (parts_of (rows_of x.parts x.trail.log)).judge judge
+shown_calendar x shown judge within =
+    let has : judge < 32 = omega (arith, within, shown.small.judges) in
+    let same = stands x shown (Judge judge) has in
+    rw same refl

@@ -3,6 +3,7 @@ pub mod Changes
 pub mod Counted
 pub mod Held
 pub mod Published
+pub mod Reading
 pub mod Sights
 pub mod Cells
 pub mod Trails

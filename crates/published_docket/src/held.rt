@@ -28,11 +28,14 @@ pub struct Held {
 impl Model for Held {
     ghost use Rattle.std.specs.Prelude.{drop};
     ghost use Rattle.left_right.specs.Sides.{view as known_by};
+    ghost use Rattle.published_docket.specs.Boards.{IsShown};
     ghost use Rattle.published_docket.specs.Held.{HeldView};
 
     ghost Value = { HeldView };
 
     ghost view = { λ h. record { shown = h.writer.desk.shown.value; pending = drop h.writer.behind h.writer.log.items; known = known_by h.writer.desk.place } };
+
+    ghost invariant = { λ h. IsShown h.writer.desk.shown.value };
 }
 
 impl Drop for Held {
@@ -211,9 +214,12 @@ impl Held {
         Ok(reader)
     }
 
-    /// Waits for the readers, and gives back all memory.
-    pub(crate) fn end<R: Wait>(self, rt: &R) {
+    /// Waits for the readers, and gives what they were shown last.
+    pub(crate) fn end<R: Wait>(self, rt: &R) -> Box<Board>
+        ensures value { result.value ≡ self.shown }
+        ensures shown { IsShown result.value }
+    {
         let Held { writer } = self;
-        let _shown = writer.take(rt);
+        writer.take(rt)
     }
 }

@@ -19,5 +19,5 @@ pub use board::Board;
 pub use known::Known;
 pub use protocol::{DocketReader, DocketReading, Growing, See, enter};
 pub use publisher::Publisher;
-pub use reading::{read_all, show};
+pub use reading::{calendar, read_all, show};
 pub use trail::Trail;

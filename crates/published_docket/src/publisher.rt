@@ -1,10 +1,11 @@
 //! The one who publishes.
 
-ghost use Rattle.std.specs.Prelude.{◌≡◌, ◌+◌, ◌<◌, ◌^◌, ◌++◌, ◌∷◌, [], length, true, Some, IfOk, MatchResult};
+ghost use Rattle.std.specs.Prelude.{◌≡◌, ◌+◌, ◌<◌, ◌^◌, ◌++◌, ◌∷◌, [], length, true, Some, IfOk, IfSome, MatchResult};
 ghost use Rattle.left_right.specs.Sides.{view};
 ghost use Rattle.docket_rows.specs.Words.{setup_of};
 ghost use Rattle.versioned_steps.specs.Words.{MayFollow, is_legal, value_of, writes_on};
 ghost use Rattle.shared_docket.specs.Words.{docket_rules};
+ghost use Rattle.published_docket.specs.Boards.{IsShown};
 
 use crate::board::Board;
 use crate::held::Held;
@@ -163,18 +164,22 @@ impl Publisher {
         Ok(())
     }
 
-    /// Waits for the readers, and gives back all memory.
-    pub fn end<R: Wait>(self, rt: &R) {
+    /// Waits for the readers, and gives the docket after all that was published. None where memory ran out for what was
+    /// owed to readers.
+    pub fn end<R: Wait>(self, rt: &R) -> Option<Box<Board>>
+        ensures { IfSome result (λ board. IsShown board.value × (board.value.parts ≡ self.parts) × (board.value.trail ≡ self.trail)) }
+    {
         let Publisher {
             held,
-            owed: _,
-            all: _,
+            mut owed,
+            all,
             head: _,
             parts: _,
-            trail: _,
+            trail,
         } = self;
-        if let Some(held) = held {
-            held.end(rt);
-        }
+        let Some(held) = held else { unreachable!() };
+        let (held, all) = held.catch_up(rt, all, &mut owed, &trail);
+        let board = held.end(rt);
+        if all { Some(board) } else { None }
     }
 }

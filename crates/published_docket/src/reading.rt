@@ -1,19 +1,23 @@
 //! What is read of the docket at one moment: the parts of a command, and what a query shows.
 
-ghost use Rattle.std.specs.Prelude.{◌≡◌, IfOk};
-ghost use Rattle.docket_rows.specs.Words.{view_of};
-ghost use Rattle.versioned_steps.specs.Words.{IsReadAll};
-ghost use Rattle.shared_docket.specs.Words.{docket_rules, rows_of};
+ghost use Rattle.std.specs.Prelude.{◌≡◌, ◌<◌, IfOk};
+ghost use Rattle.hearing_slots.specs.Words.{bookings_seen};
+ghost use Rattle.docket_rows.specs.Words.{parts_of, view_of};
+ghost use Rattle.shared_docket.specs.Words.{rows_of};
 ghost use Rattle.published_docket.specs.Boards.{IsShown};
+ghost use Rattle.published_docket.specs.Reading.{HasRead};
 
 use crate::board::Board;
+use docket_decisions::Sight;
 use docket_rows::{Command, Query, View};
+use hearing_slots::CalendarRef;
 use shared_docket::DocketParts;
 use std::alloc::{AllocError, Global};
 use versioned_steps::Draft;
 
-/// A draft of the clerk's command, with a copy of each part that it reads, as they all are at this moment, and its
-/// decision. `Err` says that memory ran out.
+/// A draft of the clerk's command, with a copy of each part that it reads, as they all are at this moment. It isn't
+/// decided yet: one who publishes waits for readers, and to decide takes longer than to read. `Err` says that memory ran
+/// out.
 pub fn read_all(
     alloc: Global,
     shown: &Board,
@@ -23,7 +27,7 @@ pub fn read_all(
     requires { IsShown shown.now }
     ensures clerk { IfOk result (λ d. d.clerk ≡ clerk) }
     ensures command { IfOk result (λ d. d.command ≡ command.now) }
-    ensures read { IfOk result (IsReadAll (docket_rules shown.now.parts) shown.now.trail.log) }
+    ensures read { IfOk result (HasRead shown.now.parts shown.now.trail.log) }
 {
     let parts = shown.parts();
     let at = shown.trail().len();
@@ -32,7 +36,6 @@ pub fn read_all(
         let value = shown.value(part)?;
         draft.add(parts, part, shown.version(part), at, value)?;
     }
-    draft.settle(alloc, parts)?;
     Ok(draft)
 }
 
@@ -44,4 +47,14 @@ pub fn show(alloc: Global, shown: &Board, query: &Query) -> Result<View, AllocEr
     ensures { IfOk result (λ view. view ≡ view_of shown.now.parts (rows_of shown.now.parts shown.now.trail.log) query.now) }
 {
     shown.parts().show(alloc, shown, query)
+}
+
+/// The calendar of the judge after the history that is seen. It takes no memory.
+#[tactic(auto, using(crate::proofs::SightLemmas::shown_calendar))]
+pub fn calendar(shown: &Board, judge: u8) -> CalendarRef<'_>
+    requires shown { IsShown shown.now }
+    requires judge { judge < shown.now.parts.judges }
+    ensures { bookings_seen result ≡ (parts_of (rows_of shown.now.parts shown.now.trail.log)).judge judge }
+{
+    shown.judge(judge)
 }

@@ -1,5 +1,5 @@
 -- What a run of several clerks comes to: one journal, and an answer to each row.
-use Rattle.std.specs.Prelude.{◌≡◌, ℕ, ◌≤◌, true, List, [], ◌∷◌, ◌++◌, length, All, ⊤}
+use Rattle.std.specs.Prelude.{◌≡◌, ℕ, ◌≤◌, true, List, [], ◌∷◌, ◌++◌, length, All}
 use Rattle.docket_rows.specs.declared.answer.Answer.{Answer}
 use Rattle.docket_rows.specs.declared.command.Command.{Command}
 use Rattle.docket_rows.specs.Words.{CourtSetup}
@@ -12,7 +12,7 @@ use Rattle.clerk_workers.specs.declared.answer.SharedReply.{SharedReply}
 use Rattle.clerk_workers.specs.declared.answer.SharedReply.TheVariants.{JournalFull}
 use Rattle.office_rows.specs.Words.{IsClerk}
 use Rattle.clerk_workers.specs.Words.{AreInTurn, History, IsAnsweredAt, answers_of, places_told, works_of}
-use Rattle.shared_run.specs.Calls.{Call, calls_by, call_told, calls_told}
+use Rattle.shared_run.specs.Calls.{calls_by, call_told, calls_told}
 
 module _ (setup : CourtSetup) (limit : ℕ) (journal : History) (clerk : ℕ) where
   -- the row is answered at this moment of the journal, which since the moment before has just the clerk's call for this row, if it is one

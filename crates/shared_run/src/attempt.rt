@@ -10,7 +10,7 @@ ghost use Rattle.shared_run.specs.Text.{IsSharedText};
 
 use crate::lines::{Lines, lines_for};
 use crate::named::NamesCourt;
-use crate::text::text_of;
+use crate::text::{closing_of, text_of};
 use clerk_gates::Gate;
 use clerk_workers::{Noted, run_noting};
 use court_days::Court;
@@ -87,8 +87,9 @@ pub(crate) fn attempt<L: NamesOffice + NamesCourt + Send + Sync, R: Threads + Wa
         notes: lines,
         tallies,
     } = noted;
-    let Ok(journal) = office.close(rt, alloc, tallies) else {
+    let Ok((journal, board)) = office.close_shown(rt, alloc, tallies) else {
         return Err(AllocError);
     };
-    Ok(Some(text_of(alloc, court, rows, &lines, &journal)?))
+    let closing = closing_of(alloc, court, &journal, board)?;
+    Ok(Some(text_of(alloc, rows, &lines, &closing)?))
 }

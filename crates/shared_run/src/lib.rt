@@ -3,6 +3,7 @@
 #![tactic(auto)]
 
 mod attempt;
+mod last_docket;
 mod lines;
 mod merged;
 mod named;

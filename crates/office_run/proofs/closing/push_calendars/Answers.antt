@@ -1,14 +1,13 @@
 use Rattle.std.proofs.Common.{◌≡◌, ◌+◌, ◌-◌, ◌++◌, ◌∙◌, string_bytes, append_assoc, append-nil, sym, ap, arith}
-use Rattle.docket_core.specs.Words.{parts_held}
 use Rattle.office_texts.specs.Words.{calendar_lines}
 use Rattle.office_run.specs.Text.{calendars_from}
 use Rattle.office_run.proofs.RunLemmas.{calendars_more}
-use Rattle.office_run.proofs.text.push_calendars.Goals as goal
+use Rattle.office_run.proofs.closing.push_calendars.Goals as goal
 
 pub loop-judge-preserved : goal.loop-judge-preserved
-loop-judge-preserved c =
+loop-judge-preserved g c =
     let court = c.args.court.now in
-    let parts = parts_held c.args.docket.now in
+    let parts = g.D.Closing.parts c.args.docket.now in
     let judge = c.loop-judge.judge in
     let end = c.args.first + c.args.count in
     let before = string_bytes c.loop-judge.text in
@@ -21,6 +20,6 @@ loop-judge-preserved c =
 
 pub returns : goal.returns
 unfolding calendars_from
-returns c =
+returns g c =
     let none : c.args.first + c.args.count - c.loop-judge.judge ≡ 0 = omega (arith, c.loop-judge-test.false) in
     sym (append-nil _) ∙ rw none at c.loop-judge.invariant.so_far

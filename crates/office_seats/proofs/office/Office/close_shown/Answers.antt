@@ -1,7 +1,7 @@
 use Rattle.std.proofs.Common.{◌≡◌, ◌≤◌, List, length, subst, arith}
 use Rattle.office_seats.specs.Closed.{TallyView, HasTallies}
 use Rattle.office_seats.proofs.ClosingLemmas.{apart, of_seats}
-use Rattle.office_seats.proofs.office.Office.close.Goals as goal
+use Rattle.office_seats.proofs.office.Office.close_shown.Goals as goal
 
 pub closed-requires-clause-whole : goal.closed-requires-clause-whole
 closed-requires-clause-whole g c seats sum =
