@@ -17,17 +17,20 @@ FILE, OLD = "file: ", "old: "
 
 def faults_of(edit, crate):
     """What is wrong with the edit of a crate, a line each."""
-    faults, path = [], None
+    faults, path, found = [], None, False
     for line in edit.read_text().splitlines():
         if line.startswith(FILE):
             path = TOP / "crates" / crate / line[len(FILE):]
             if not path.is_file():
                 return ["there is no {}".format(path.relative_to(TOP))]
         elif line.startswith(OLD):
-            count = path.read_text().count(line[len(OLD):]) if path else 0
+            if path is None:
+                return ["no line names a file before the first text"]
+            found, count = True, path.read_text().count(line[len(OLD):])
             if count != 1:
-                faults.append("its text is there {} times: {}".format(count, line[len(OLD):]))
-    return faults
+                faults.append("{} has this text {} times, and must have it once: {}".format(
+                    path.relative_to(TOP), count, line[len(OLD):]))
+    return faults if found else ["it changes no text"]
 
 
 def main():
