@@ -1,5 +1,5 @@
 -- Bookings of the days of one block, between those of earlier blocks and those of later ones.
-use Rattle.std.proofs.Common.{◌≡◌, ◌⊎◌, ℕ, ◌+◌, ◌<◌, ℤ, pos, negsuc, ◌<ℤ◌, Bool, true, false, not, Option, Some, None, option_map, List, ◌∷◌, ◌++◌, length, get_or, refl, sym, ap, ◌∙◌, subst, arith, inl, inr}
+use Rattle.std.proofs.Common.{◌≡◌, ◌⊎◌, ℕ, ◌+◌, ℤ, pos, negsuc, ◌<ℤ◌, true, false, not, Option, Some, None, option_map, List, ◌∷◌, ◌++◌, length, get_or, refl, sym, ap, ◌∙◌, subst, arith, inl, inr}
 use Rattle.std.specs.List.{All, filter, find}
 use Rattle.std.proofs.lemmas.Int.{ints}
 use Rattle.std.proofs.lemmas.Bool.{cases_Bool, both_ways, not_from_true, not_from_false}
@@ -11,9 +11,9 @@ use Rattle.hearing_slots.specs.Calendar.{IsCalendar, IsConflict, IsFree, conflic
 use Rattle.hearing_slots.specs.Blocks.{LiesIn, block_of}
 use Rattle.hearing_slots.specs.DayNotes.{booked_day}
 use Rattle.hearing_slots.proofs.Filters.{filter_all, filter_none, find-filter}
-use Rattle.hearing_slots.proofs.Finds.{find-None}
+use Rattle.hearing_slots.proofs.Finds.{filter_absent, find-None}
 use Rattle.hearing_slots.proofs.Order.{conflicts-on_day}
-use Rattle.hearing_slots.proofs.DayLemmas.{not_on, of_one_day, without_motion-absent}
+use Rattle.hearing_slots.proofs.DayLemmas.{not_on, of_one_day}
 use Rattle.hearing_slots.proofs.MotionLemmas.{none_left}
 
 -- a day of an earlier block is an earlier day
@@ -164,7 +164,7 @@ pub LiesIn-without : (number : ℤ) (case motion : ℕ) (bookings : List Booking
 LiesIn-without number case motion bookings = record { each = λ k d within its. absurd (both_ways _ (none_left case motion bookings k d within) its) }
 
 pub without_motion-not_booked : (case motion : ℕ) (bookings : List Booking) → booked_day case motion bookings ≡ None → without_motion case motion bookings ≡ bookings
-without_motion-not_booked case motion bookings h = without_motion-absent case motion bookings (not_booked (find (is_of case motion) bookings) h)
+without_motion-not_booked case motion bookings h = filter_absent (is_of case motion) bookings (not_booked (find (is_of case motion) bookings) h)
 
 -- bookings from which an older one of the motion was taken out, or not, give the same with the new one
 pub with_either : (b : Booking) (old left : List Booking) → (left ≡ old) ⊎ (left ≡ without_motion b.case b.motion old) → with_booking b left ≡ with_booking b old

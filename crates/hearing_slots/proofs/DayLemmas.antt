@@ -11,8 +11,8 @@ use Rattle.hearing_slots.specs.declared.day_slots.DaySlots.{DaySlots}
 use Rattle.hearing_slots.specs.Booking.{IsWithinDay, is_of, is_on}
 use Rattle.hearing_slots.specs.Calendar.{IsCalendar, conflicts, first_conflict, on_day, without_motion}
 use Rattle.hearing_slots.specs.Slots.{slots_from, slots_taken, MarksBookings, MarksOnly}
-use Rattle.hearing_slots.proofs.Filters.{filter_all, filter_kept, filter_comm, find-filter}
-use Rattle.hearing_slots.proofs.Finds.{find_absent, find-Some, find-None}
+use Rattle.hearing_slots.proofs.Filters.{filter_kept, filter_comm, find-filter}
+use Rattle.hearing_slots.proofs.Finds.{find_absent, find-Some}
 use Rattle.hearing_slots.proofs.Order.{conflicts-on_day}
 use Rattle.hearing_slots.proofs.Conflicts.{IsConflict-from_conflicts}
 use Rattle.hearing_slots.proofs.SlotBits.{slots_apart, spans_meet, slots_none, none_from_each}
@@ -43,12 +43,6 @@ on_day-insert_here bookings i b =
     let parts : on_day b.day (insert bookings i b) ≡ filter (is_on b.day) (take i bookings) ++ b ∷ rest = filter-append (is_on b.day) (take i bookings) (b ∷ drop i bookings) ∙ ap (λ bs. filter (is_on b.day) (take i bookings) ++ bs) (rw passes refl) in
     let first : Contains (b ∷ rest) b = (0, omega arith, refl) in
     rw parts (Contains-append_right (filter (is_on b.day) (take i bookings)) (b ∷ rest) b first)
-
--- where no booking is of the case and motion, none is taken out
-pub without_motion-absent : (case motion : ℕ) (bookings : List Booking) → find (is_of case motion) bookings ≡ None → without_motion case motion bookings ≡ bookings
-without_motion-absent case motion bookings h =
-    let none = find-None (is_of case motion) bookings h in
-    filter_all (λ b. not (is_of case motion b)) bookings (λ k d within. not_from_false _ (none k d within))
 
 same_motion : (case motion : ℕ) (a b : Booking) → is_of case motion a ≡ true → is_of a.case a.motion b ≡ false → is_of case motion b ≡ false
 same_motion case motion a b h k = grind arith

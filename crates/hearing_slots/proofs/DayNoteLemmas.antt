@@ -1,12 +1,11 @@
 -- The day that is noted for each motion, after one is noted or forgotten.
-use Rattle.std.proofs.Common.{◌≡◌, ℕ, ◌%◌, ◌<◌, ℤ, Bool, true, false, not, Option, Some, None, option_map, ◌&&◌, ◌==◌, List, [], ◌∷◌, ◌++◌, length, get_or, set, replicate, refl, sym, ap, ◌∙◌, subst, arith, inl, inr, IfOk, Result, Ok, Err}
+use Rattle.std.proofs.Common.{◌≡◌, ℕ, ◌%◌, ◌<◌, ℤ, true, false, not, Option, Some, None, option_map, List, [], ◌∷◌, ◌++◌, length, get_or, set, replicate, sym, ap, ◌∙◌, subst, arith, inl, inr, IfOk, Result, Ok, Err}
 use Rattle.std.specs.List.{All, filter, find}
 use Rattle.std.proofs.lemmas.Bool.{cases_Bool, cases_eq, not-true, not_from_false}
 use Rattle.std.proofs.lemmas.List.{append-nil, get_or_default, get_or-set_same, get_or-set_other, get_or-replicate}
 use Rattle.std.proofs.lemmas.List.Elements.{filter_passes}
 use Rattle.hearing_slots.specs.declared.booking.Booking.{Booking}
 use Rattle.hearing_slots.specs.declared.day_notes.NotedDay.{NotedDay}
-use Rattle.hearing_slots.specs.Booking.{is_of}
 use Rattle.hearing_slots.specs.Calendar.{IsCalendar, with_booking, without_motion}
 use Rattle.hearing_slots.specs.DayNotes.{NotesDays, NotesOneDay, NotesOneDayOf, booked_day, is_noted, noted_day, noted_in}
 use Rattle.hearing_slots.proofs.Filters.{find-filter}

@@ -1,8 +1,9 @@
 -- The first element that passes a test, in a list that is put together from parts.
-use Rattle.std.proofs.Common.{◌≡◌, ℕ, zero, suc, ◌<◌, Bool, length, get_or, arith, true, false, Some, None, List, [], ◌∷◌, ◌++◌, refl, inl, inr}
-use Rattle.std.specs.List.{All, find}
-use Rattle.std.proofs.lemmas.Bool.{cases_Bool}
+use Rattle.std.proofs.Common.{◌≡◌, ℕ, zero, suc, ◌<◌, Bool, not, length, get_or, arith, true, false, Some, None, List, [], ◌∷◌, ◌++◌, refl, inl, inr}
+use Rattle.std.specs.List.{All, filter, find}
+use Rattle.std.proofs.lemmas.Bool.{cases_Bool, not_from_false}
 use Rattle.std.proofs.lemmas.List.Elements.{All-head, All-tail}
+use Rattle.hearing_slots.proofs.Filters.{filter_all}
 
 -- none, where no element passes
 pub find_absent : {X : Type 0} (p : X → Bool) (xs : List X) → All (λ x. p x ≡ false) xs → find p xs ≡ None
@@ -66,3 +67,7 @@ find-None p (x ∷ xs) h k d within = elim (cases_Bool (p x)) [
   each : {X : Type 0} (p : X → Bool) (x : X) (xs : List X) → p x ≡ false → All (λ y. p y ≡ false) xs → All (λ y. p y ≡ false) (x ∷ xs)
   each p x xs fails rest zero d within = fails
   each p x xs fails rest (suc k) d within = rest k d (omega arith)
+
+-- and to leave out what passes leaves the list as it is
+pub filter_absent : {X : Type 0} (p : X → Bool) (xs : List X) → find p xs ≡ None → filter (λ x. not (p x)) xs ≡ xs
+filter_absent p xs h = filter_all (λ x. not (p x)) xs (λ k d within. not_from_false _ (find-None p xs h k d within))

@@ -1,13 +1,13 @@
 -- Which bookings a calendar holds after one is put in or taken out, and which ones a day has.
 use Rattle.std.proofs.Common.{◌≡◌, ◌⊎◌, ℕ, zero, suc, ◌<◌, ◌≤◌, ℤ, Bool, true, false, not, Some, List, [], ◌∷◌, length, get_or, sym, subst, arith, inl, inr, IfOk, Result, Ok, Err}
-use Rattle.std.specs.List.{AllWithin, Contains, filter}
+use Rattle.std.specs.List.{All, AllWithin, Contains, filter}
 use Rattle.std.specs.List.Sorted.{IsPartitionPoint, IsPartitionedBy}
 use Rattle.std.proofs.lemmas.Int.{ints}
 use Rattle.std.proofs.lemmas.Bool.{cases_Bool, both_ways, not-true, not_from_false, false_from_ne_true}
 use Rattle.std.proofs.lemmas.List.Elements.{All-contains, All-contains_itself, All-filter, filter_passes, Contains-append_left, Contains-append_right, Contains-append_cases}
 use Rattle.hearing_slots.specs.declared.booking.Booking.{Booking}
-use Rattle.hearing_slots.specs.Booking.{is_of, is_on, begins_before}
-use Rattle.hearing_slots.specs.Calendar.{IsCalendar, IsConflict, HoldsWith, HoldsWithout, HoldsDay, on_day, in_place, without_motion, with_booking}
+use Rattle.hearing_slots.specs.Booking.{SharesSlot, is_of, is_on, begins_before}
+use Rattle.hearing_slots.specs.Calendar.{IsCalendar, IsConflict, IsFree, HoldsWith, HoldsWithout, HoldsDay, on_day, in_place, without_motion, with_booking}
 use Rattle.hearing_slots.specs.Laws.{OverlapIsASharedSlot, BookingKeepsCalendar, RemovalKeepsCalendar}
 use Rattle.hearing_slots.proofs.Filters.{parted}
 use Rattle.hearing_slots.proofs.Order.{begins_before-trans, SharesSlot-from_test, test_from_SharesSlot}
@@ -115,20 +115,23 @@ parting p (x ∷ xs) parts = elim (cases_Bool (p x)) [
   back p x xs i rest zero d low high = absurd (omega arith)
   back p x xs i rest (suc k) d low high = rest k d (omega arith) (omega arith)
 
+-- of the case and motion none is left
+pub of_others : (case motion : ℕ) (bookings : List Booking) → All (λ a. is_of case motion a ≡ false) (without_motion case motion bookings)
+of_others case motion bookings k d within = not-true _ (filter_passes (λ (a : Booking). not (is_of case motion a)) bookings k d within)
+
+-- where a booking conflicts with none, none of other motions shares a slot with it
+pub apart_from_others : (b : Booking) (bookings : List Booking) → IsFree bookings b.day b.first b.count (Some (b.case, b.motion)) → All (λ a. SharesSlot a b.day b.first b.count → ⊥) (without_motion b.case b.motion bookings)
+apart_from_others b bookings free k d within shared =
+    All-filter (λ (a : Booking). not (is_of b.case b.motion a)) (λ a. IsConflict b.day b.first b.count (Some (b.case, b.motion)) a → ⊥) bookings free k d within (of_others b.case b.motion bookings k d within, shared)
+
 pub booking_keeps : BookingKeepsCalendar
 unfolding with_booking
 booking_keeps b bookings calendar within free =
-    let other = λ (a : Booking). not (is_of b.case b.motion a) in
     let others = without_motion b.case b.motion bookings in
-    let left : IsCalendar others = IsCalendar-filter other bookings calendar in
-    let kept = filter_passes other bookings in
-    let apart = All-filter other (λ a. IsConflict b.day b.first b.count (Some (b.case, b.motion)) a → ⊥) bookings free in
+    let left : IsCalendar others = IsCalendar-filter (λ (a : Booking). not (is_of b.case b.motion a)) bookings calendar in
     let in_order = λ (x y : Booking). begins_before x y ≡ true in
     let place = parting (λ a. begins_before a b) others (parted in_order (λ a. begins_before a b) others left.sorted (λ a d h k. begins_before-trans a d b h k)) in
-    rw (in_place-at b others place.0 place.1 place.2) (IsCalendar-insert others place.0 b left within
-    (λ k d below shared. apart k d below (not-true _ (kept k d below), shared))
-    (λ k d below. not-true _ (kept k d below))
-    place.1 place.2)
+    rw (in_place-at b others place.0 place.1 place.2) (IsCalendar-insert others place.0 b left within (apart_from_others b bookings free) (of_others b.case b.motion bookings) place.1 place.2)
 
 pub removal_keeps : RemovalKeepsCalendar
 removal_keeps case motion bookings calendar = IsCalendar-filter (λ b. not (is_of case motion b)) bookings calendar

@@ -74,3 +74,15 @@ pub found_own : (case motion : ℕ) (bookings : List Booking) (gone : Booking) �
 found_own case motion bookings gone h =
     let passes = (find-Some (is_of case motion) bookings gone h).passes in
     (grind arith, grind arith)
+
+-- so it is found by its own case and motion
+pub found_by_own : (case motion : ℕ) (bookings : List Booking) (gone : Booking) → find (is_of case motion) bookings ≡ Some gone → find (is_of gone.case gone.motion) bookings ≡ Some gone
+found_by_own case motion bookings gone h =
+    let own = found_own case motion bookings gone h in
+    subst (λ (c : ℕ). find (is_of c gone.motion) bookings ≡ Some gone) (sym own.0) (subst (λ (m : ℕ). find (is_of case m) bookings ≡ Some gone) (sym own.1) h)
+
+-- and the bookings without its own case and motion are those without the case and motion
+pub without_own : (case motion : ℕ) (bookings : List Booking) (gone : Booking) → find (is_of case motion) bookings ≡ Some gone → without_motion gone.case gone.motion bookings ≡ without_motion case motion bookings
+without_own case motion bookings gone h =
+    let own = found_own case motion bookings gone h in
+    ap (λ (c : ℕ). without_motion c gone.motion bookings) own.0 ∙ ap (λ (m : ℕ). without_motion case m bookings) own.1

@@ -1,5 +1,5 @@
 -- The bookings of a calendar in blocks of 256 days in a row.
-use Rattle.std.specs.Prelude.{◌≡◌, ℕ, ℤ, pos, ◌<ℤ◌, true, List, flat_map, All, AllPairs}
+use Rattle.std.specs.Prelude.{◌≡◌, ℕ, ℤ, pos, ◌<ℤ◌, true, Option, Some, None, List, [], flat_map, All, AllPairs}
 use Rattle.std.specs.Int.{int_div_euclid}
 use Rattle.hearing_slots.specs.declared.booking.Booking.{Booking}
 use Rattle.hearing_slots.specs.Booking.{is_of}
@@ -17,6 +17,11 @@ pub record BlockView : Type 0 where
 -- the bookings of some blocks, one block after another
 abbrev pub all_in : List BlockView → List Booking
 all_in blocks = flat_map (λ (b : BlockView). b.bookings) blocks
+
+-- the bookings that there are; none where there is nothing
+abbrev pub booked_in : Option (List Booking) → List Booking
+booked_in None = []
+booked_in (Some bookings) = bookings
 
 -- the blocks are by number, and each booking is in the block of its day
 pub record AreBlocks (blocks : List BlockView) : Type 0 where

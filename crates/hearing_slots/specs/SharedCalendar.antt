@@ -7,4 +7,4 @@ use Rattle.hearing_slots.specs.declared.shared_calendar.SharedCalendar.TheInside
 
 -- the bookings in order; there are none where nothing is held
 abbrev pub shared_bookings : Inside → List Booking
-shared_bookings c = elim c.held [ Nothing ↦ [] | Few timetable ↦ (arc_value timetable).bookings | Many blocks ↦ arc_value blocks ]
+shared_bookings c = elim c.held [ Nothing ↦ [] | Few agenda ↦ arc_value agenda | Many blocks ↦ arc_value blocks ]

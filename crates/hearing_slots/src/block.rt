@@ -2,11 +2,11 @@
 
 ghost use Rattle.std.specs.Prelude.{◌≡◌, [], Some, IfOk};
 ghost use Rattle.hearing_slots.specs.Booking.{IsWithinDay};
-ghost use Rattle.hearing_slots.specs.Calendar.{IsCalendar, IsFree, with_booking, without_motion};
+ghost use Rattle.hearing_slots.specs.Calendar.{IsFree, with_booking, without_motion};
 ghost use Rattle.hearing_slots.specs.Blocks.{block_of};
 
+use crate::agenda::Agenda;
 use crate::booking::Booking;
-use crate::timetable::Timetable;
 use court_clock::Day;
 use std::alloc::{AllocError, Global};
 use std::marker::Model;
@@ -26,7 +26,7 @@ pub(crate) fn block_of(day: Day) -> i32
 #[derive(Debug, Drop)]
 pub struct Block {
     number: i32,
-    shared: Arc<Timetable>,
+    shared: Arc<Agenda>,
 }
 
 impl Model for Block {
@@ -35,7 +35,7 @@ impl Model for Block {
 
     ghost Value = { BlockView };
 
-    ghost view = { λ b. record { number = b.number; bookings = (arc_value b.shared).bookings } };
+    ghost view = { λ b. record { number = b.number; bookings = arc_value b.shared } };
 }
 
 impl Block {
@@ -43,14 +43,14 @@ impl Block {
     pub(crate) fn new(alloc: Global, day: Day) -> Result<Block, AllocError>
         ensures { IfOk result (λ block. block ≡ record { number = block_of day; bookings = [] }) }
     {
-        Block::of(alloc, block_of(day), Timetable::new(alloc))
+        Block::of(alloc, block_of(day), Agenda::new(alloc))
     }
 
     /// The block of that number, with these bookings.
-    fn of(alloc: Global, number: i32, timetable: Timetable) -> Result<Block, AllocError>
-        ensures { IfOk result (λ block. block ≡ record { number = number; bookings = timetable.bookings }) }
+    fn of(alloc: Global, number: i32, agenda: Agenda) -> Result<Block, AllocError>
+        ensures { IfOk result (λ block. block ≡ record { number = number; bookings = agenda }) }
     {
-        let shared = Arc::new(alloc, timetable)?;
+        let shared = Arc::new(alloc, agenda)?;
         Ok(Block { number, shared })
     }
 
@@ -61,9 +61,9 @@ impl Block {
         self.number
     }
 
-    /// The bookings in order, and the slots that they take.
-    pub(crate) fn timetable(&self) -> &Timetable
-        ensures { result.now.bookings ≡ self.now.bookings }
+    /// The bookings in order.
+    pub(crate) fn agenda(&self) -> &Agenda
+        ensures { result.now ≡ self.now.bookings }
     {
         &self.shared
     }
@@ -72,7 +72,7 @@ impl Block {
     pub fn bookings(&self) -> &[Booking]
         ensures { result.now ≡ self.now.bookings }
     {
-        self.timetable().all()
+        self.agenda().all()
     }
 
     /// The same block, which shares its bookings. `Err` says that there are as many copies as can be counted.
@@ -92,19 +92,17 @@ impl Block {
         requires free { IsFree self.now.bookings booking.day booking.first booking.count (Some (booking.case, booking.motion)) }
         ensures { IfOk result (λ block. block ≡ record self.now { bookings = with_booking booking self.now.bookings }) }
     {
-        let mut timetable = self.timetable().duplicate(alloc)?;
-        let older = timetable.booking_of(booking.case, booking.motion);
-        timetable.put(booking, older);
-        Block::of(alloc, self.number, timetable)
+        Block::of(alloc, self.number, self.agenda().with(alloc, booking)?)
     }
 
     /// A block with the bookings of this one but that of the case and motion. `Err` says that memory ran out.
     pub(crate) fn without(&self, alloc: Global, case: u32, motion: u32) -> Result<Block, AllocError>
         ensures { IfOk result (λ block. block ≡ record self.now { bookings = without_motion case motion self.now.bookings }) }
     {
-        let mut timetable = self.timetable().duplicate(alloc)?;
-        let gone = timetable.booking_of(case, motion);
-        timetable.remove(case, motion, gone);
-        Block::of(alloc, self.number, timetable)
+        Block::of(
+            alloc,
+            self.number,
+            self.agenda().without(alloc, case, motion)?,
+        )
     }
 }

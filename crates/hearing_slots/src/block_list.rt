@@ -4,12 +4,11 @@ ghost use Rattle.std.specs.Prelude.{◌≡◌, Some, IfOk, IfErr, OnOk};
 ghost use Rattle.std.specs.Option.{option_copied};
 ghost use Rattle.hearing_slots.specs.Booking.{IsWithinDay};
 ghost use Rattle.hearing_slots.specs.Calendar.{IsFree, on_day, with_booking, without_motion};
-ghost use Rattle.hearing_slots.specs.Blocks.{AreBlocks, IsBlockAt, IsGapForBlock, LiesIn, all_in, block_of};
-ghost use Rattle.hearing_slots.specs.Timetable.{kept_in};
+ghost use Rattle.hearing_slots.specs.Blocks.{AreBlocks, IsBlockAt, IsGapForBlock, LiesIn, all_in, block_of, booked_in};
 
+use crate::agenda::Agenda;
 use crate::block::{Block, block_of};
 use crate::booking::Booking;
-use crate::timetable::Timetable;
 use court_clock::Day;
 use std::alloc::{AllocError, Global};
 
@@ -43,12 +42,12 @@ pub(crate) fn copies(alloc: Global, blocks: &[Block]) -> Result<Vec<Block>, Allo
 }
 
 /// The bookings of the block in which the day lies, if there are any.
-pub(crate) fn around(blocks: &[Block], day: Day) -> Option<&Timetable>
+pub(crate) fn around(blocks: &[Block], day: Day) -> Option<&Agenda>
     requires { AreBlocks blocks.now }
-    ensures { on_day day (kept_in (option_copied result)) ≡ on_day day (all_in blocks.now) }
+    ensures { on_day day (booked_in (option_copied result)) ≡ on_day day (all_in blocks.now) }
 {
     match search(blocks, day) {
-        Ok(place) => Some(blocks[place].timetable()),
+        Ok(place) => Some(blocks[place].agenda()),
         Err(_) => None,
     }
 }

@@ -4,15 +4,14 @@ ghost use Rattle.std.specs.Prelude.{◌≡◌, ◌⊎◌, [], Some, IfOk};
 ghost use Rattle.std.specs.Option.{option_copied};
 ghost use Rattle.hearing_slots.specs.Booking.{IsWithinDay};
 ghost use Rattle.hearing_slots.specs.Calendar.{IsCalendar, IsFree, on_day, with_booking, without_motion};
-ghost use Rattle.hearing_slots.specs.Blocks.{AreBlocks, LiesIn, all_in, block_of};
+ghost use Rattle.hearing_slots.specs.Blocks.{AreBlocks, LiesIn, all_in, block_of, booked_in};
 ghost use Rattle.hearing_slots.specs.DayNotes.{booked_day};
-ghost use Rattle.hearing_slots.specs.Timetable.{kept_in};
 
+use crate::agenda::Agenda;
 use crate::block::{Block, block_of};
 use crate::block_list::{around, copies, put, take_out};
 use crate::booking::Booking;
 use crate::day_notes::DayNotes;
-use crate::timetable::Timetable;
 use court_clock::Day;
 use std::alloc::{AllocError, Global};
 use std::marker::Model;
@@ -71,8 +70,8 @@ impl Blocks {
     }
 
     /// The bookings of some days around this one, if there are any.
-    pub(crate) fn around(&self, day: Day) -> Option<&Timetable>
-        ensures value { on_day day (kept_in (option_copied result)) ≡ on_day day self.now }
+    pub(crate) fn around(&self, day: Day) -> Option<&Agenda>
+        ensures value { on_day day (booked_in (option_copied result)) ≡ on_day day self.now }
         ensures calendar { IsCalendar self.now }
     {
         around(&self.blocks, day)

@@ -69,10 +69,7 @@ impl Shard {
     fn note_of(&self, case: u32, motion: u32) -> Option<NotedDay>
         ensures { result ≡ find (is_noted case motion) self.now }
     {
-        self.shared
-            .iter()
-            .copied()
-            .find(|note| note.is_of(case, motion))
+        note_in(&self.shared, case, motion)
     }
 
     /// The day that is noted for the motion.
@@ -106,6 +103,13 @@ impl Shard {
     }
 }
 
+/// The note of the motion.
+fn note_in(notes: &[NotedDay], case: u32, motion: u32) -> Option<NotedDay>
+    ensures { result ≡ find (is_noted case motion) notes.now }
+{
+    notes.iter().copied().find(|note| note.is_of(case, motion))
+}
+
 /// The notes of other motions, with room for one more.
 fn others(
     alloc: Global,
@@ -117,6 +121,9 @@ fn others(
 {
     let mut others = Vec::with_capacity(alloc, notes.len().saturating_add(1))?;
     others.extend_from_slice(notes)?;
+    if note_in(notes, case, motion).is_none() {
+        return Ok(others);
+    }
     others.retain(|note: &NotedDay| !note.is_of(case, motion));
     Ok(others)
 }

@@ -1,6 +1,7 @@
 //! The calendar of one judge or one room, in which no two bookings share a slot.
 #![tactic(auto)]
 
+mod agenda;
 mod block;
 mod block_list;
 mod blocks;

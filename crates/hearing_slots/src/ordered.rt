@@ -79,6 +79,28 @@ pub(crate) fn take_out(bookings: &mut Vec<Booking>, gone: Booking)
     bookings.remove(place);
 }
 
+/// The booking of the case and motion; each booking is looked at.
+fn booking_of(bookings: &[Booking], case: u32, motion: u32) -> Option<Booking>
+    ensures { result ≡ find (is_of case motion) bookings.now }
+{
+    bookings
+        .iter()
+        .copied()
+        .find(|booking| booking.is_of(case, motion))
+}
+
+/// Takes out the booking of the case and motion, if there is one; each booking is looked at.
+pub(crate) fn take_out_of(bookings: &mut Vec<Booking>, case: u32, motion: u32)
+    requires { IsCalendar bookings.old.items }
+    ensures items { bookings.new.items ≡ without_motion case motion bookings.old.items }
+    ensures calendar { IsCalendar bookings.new.items }
+{
+    let Some(gone) = booking_of(bookings, case, motion) else {
+        return;
+    };
+    take_out(bookings, gone);
+}
+
 /// Puts the booking in its place, where none is of its case and motion and none shares a slot with it.
 pub(crate) fn place_in(bookings: &mut Vec<Booking>, booking: Booking)
     requires calendar { IsCalendar bookings.old.items }

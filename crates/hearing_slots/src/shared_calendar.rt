@@ -4,15 +4,14 @@ ghost use Rattle.std.specs.Prelude.{◌≡◌, ◌+◌, ◌++◌, ◌≤◌, [],
 ghost use Rattle.std.specs.Option.{option_copied};
 ghost use Rattle.hearing_slots.specs.Booking.{IsWithinDay};
 ghost use Rattle.hearing_slots.specs.Calendar.{IsCalendar, IsFree, IsLeastConflict, HoldsWith, HoldsWithout, HoldsDay, on_day, without_motion, with_booking, first_conflict};
-ghost use Rattle.hearing_slots.specs.Blocks.{all_in};
+ghost use Rattle.hearing_slots.specs.Blocks.{all_in, booked_in};
 ghost use Rattle.hearing_slots.specs.DayNotes.{booked_day};
-ghost use Rattle.hearing_slots.specs.Timetable.{kept_in};
 
+use crate::agenda::Agenda;
 use crate::block::Block;
 use crate::blocks::Blocks;
 use crate::booking::Booking;
 use crate::bookings::Bookings;
-use crate::timetable::Timetable;
 use court_clock::Day;
 use std::alloc::{AllocError, Global};
 use std::marker::Model;
@@ -35,7 +34,7 @@ enum Held {
     // There are none, which takes no memory.
     Nothing,
     // All together.
-    Few(Arc<Timetable>),
+    Few(Arc<Agenda>),
     // In blocks.
     Many(Arc<Blocks>),
 }
@@ -73,7 +72,7 @@ impl SharedCalendar {
     {
         match &self.held {
             Held::Nothing => (&[], &[]),
-            Held::Few(timetable) => (&[], timetable.all()),
+            Held::Few(agenda) => (&[], agenda.all()),
             Held::Many(blocks) => (blocks.list(), &[]),
         }
     }
@@ -96,7 +95,7 @@ impl SharedCalendar {
     {
         match self.around(day) {
             None => None,
-            Some(timetable) => timetable.conflict(day, first, count, except),
+            Some(agenda) => agenda.conflict(day, first, count, except),
         }
     }
 
@@ -119,12 +118,12 @@ impl SharedCalendar {
         ensures holds { IfOk result (HoldsWith booking self.now) }
     {
         match &self.held {
-            Held::Nothing => few_with(alloc, &Timetable::new(alloc), booking),
-            Held::Few(timetable) => {
-                if timetable.all().len() < MOST_FEW {
-                    return few_with(alloc, timetable, booking);
+            Held::Nothing => few_with(alloc, &Agenda::new(alloc), booking),
+            Held::Few(agenda) => {
+                if agenda.all().len() < MOST_FEW {
+                    return few_with(alloc, agenda, booking);
                 }
-                let blocks = Blocks::of(alloc, timetable.all())?;
+                let blocks = Blocks::of(alloc, agenda.all())?;
                 many_with(alloc, &blocks, booking)
             }
             Held::Many(blocks) => many_with(alloc, blocks, booking),
@@ -145,7 +144,7 @@ impl SharedCalendar {
     {
         match &self.held {
             Held::Nothing => Ok(SharedCalendar::empty()),
-            Held::Few(timetable) => few_without(alloc, timetable, case, motion),
+            Held::Few(agenda) => few_without(alloc, agenda, case, motion),
             Held::Many(blocks) => match blocks.day_of(case, motion) {
                 None => self.copy(),
                 Some(day) => many_without(alloc, blocks, day, case, motion),
@@ -160,8 +159,8 @@ impl SharedCalendar {
     {
         match &self.held {
             Held::Nothing => Ok(SharedCalendar::empty()),
-            Held::Few(timetable) => Ok(SharedCalendar {
-                held: Held::Few(Arc::try_clone(timetable)?),
+            Held::Few(agenda) => Ok(SharedCalendar {
+                held: Held::Few(Arc::try_clone(agenda)?),
             }),
             Held::Many(blocks) => Ok(SharedCalendar {
                 held: Held::Many(Arc::try_clone(blocks)?),
@@ -175,30 +174,30 @@ impl SharedCalendar {
     {
         match self.around(day) {
             None => &[],
-            Some(timetable) => timetable.on_day(day),
+            Some(agenda) => agenda.on_day(day),
         }
     }
 
     /// The bookings of some days around this one, if there are any.
-    fn around(&self, day: Day) -> Option<&Timetable>
-        ensures value { on_day day (kept_in (option_copied result)) ≡ on_day day self.now }
+    fn around(&self, day: Day) -> Option<&Agenda>
+        ensures value { on_day day (booked_in (option_copied result)) ≡ on_day day self.now }
         ensures calendar { IsCalendar self.now }
     {
         match &self.held {
             Held::Nothing => None,
-            Held::Few(timetable) => Some(timetable),
+            Held::Few(agenda) => Some(agenda),
             Held::Many(blocks) => blocks.around(day),
         }
     }
 }
 
 /// The calendar that shares these few bookings with its copies.
-fn few(alloc: Global, timetable: Timetable) -> Result<SharedCalendar, AllocError>
-    requires { IsCalendar timetable.bookings }
-    ensures value { IfOk result (λ calendar. calendar ≡ timetable.bookings) }
+fn few(alloc: Global, agenda: Agenda) -> Result<SharedCalendar, AllocError>
+    requires { IsCalendar agenda }
+    ensures value { IfOk result (λ calendar. calendar ≡ agenda) }
     ensures calendar { IfOk result IsCalendar }
 {
-    let shared = Arc::new(alloc, timetable)?;
+    let shared = Arc::new(alloc, agenda)?;
     Ok(SharedCalendar {
         held: Held::Few(shared),
     })
@@ -217,38 +216,28 @@ fn many(alloc: Global, blocks: Blocks) -> Result<SharedCalendar, AllocError>
 }
 
 /// A copy of a few bookings with the new booking.
-fn few_with(
-    alloc: Global,
-    timetable: &Timetable,
-    booking: Booking,
-) -> Result<SharedCalendar, AllocError>
+fn few_with(alloc: Global, agenda: &Agenda, booking: Booking) -> Result<SharedCalendar, AllocError>
     requires within_day { IsWithinDay booking }
-    requires free { IsFree timetable.now.bookings booking.day booking.first booking.count (Some (booking.case, booking.motion)) }
-    ensures value { IfOk result (λ calendar. calendar ≡ with_booking booking timetable.now.bookings) }
+    requires free { IsFree agenda.now booking.day booking.first booking.count (Some (booking.case, booking.motion)) }
+    ensures value { IfOk result (λ calendar. calendar ≡ with_booking booking agenda.now) }
     ensures calendar { IfOk result IsCalendar }
-    ensures holds { IfOk result (HoldsWith booking timetable.now.bookings) }
+    ensures holds { IfOk result (HoldsWith booking agenda.now) }
 {
-    let mut copy = timetable.duplicate(alloc)?;
-    let older = copy.booking_of(booking.case, booking.motion);
-    copy.put(booking, older);
-    few(alloc, copy)
+    few(alloc, agenda.with(alloc, booking)?)
 }
 
 /// A copy of a few bookings without that of the case and motion.
 fn few_without(
     alloc: Global,
-    timetable: &Timetable,
+    agenda: &Agenda,
     case: u32,
     motion: u32,
 ) -> Result<SharedCalendar, AllocError>
-    ensures value { IfOk result (λ calendar. calendar ≡ without_motion case motion timetable.now.bookings) }
+    ensures value { IfOk result (λ calendar. calendar ≡ without_motion case motion agenda.now) }
     ensures calendar { IfOk result IsCalendar }
-    ensures holds { IfOk result (HoldsWithout case motion timetable.now.bookings) }
+    ensures holds { IfOk result (HoldsWithout case motion agenda.now) }
 {
-    let mut copy = timetable.duplicate(alloc)?;
-    let gone = copy.booking_of(case, motion);
-    copy.remove(case, motion, gone);
-    few(alloc, copy)
+    few(alloc, agenda.without(alloc, case, motion)?)
 }
 
 /// Many bookings with the new booking.

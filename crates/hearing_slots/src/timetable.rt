@@ -84,16 +84,6 @@ impl Timetable {
         part_of_day(&self.bookings, day)
     }
 
-    /// The booking of the case and motion; each booking is looked at.
-    pub(crate) fn booking_of(&self, case: u32, motion: u32) -> Option<Booking>
-        ensures { result ≡ find (is_of case motion) self.now.bookings }
-    {
-        self.bookings
-            .iter()
-            .copied()
-            .find(|booking| booking.is_of(case, motion))
-    }
-
     /// The first booking, in order, that shares a slot of the day with the span, other than the excepted one. It is
     /// looked for only where some slot of the span is taken.
     pub(crate) fn conflict(

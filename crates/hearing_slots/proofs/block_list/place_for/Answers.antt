@@ -1,4 +1,4 @@
-use Rattle.std.proofs.Common.{◌≡◌, ◌∙◌, [], List, ap, subst, sym}
+use Rattle.std.proofs.Common.{◌≡◌, ◌∙◌, List, ap, subst, sym}
 use Rattle.std.specs.List.{insert}
 use Rattle.hearing_slots.specs.Blocks.{AreBlocks, BlockView, IsGapForBlock, all_in, block_of}
 use Rattle.hearing_slots.proofs.BlockLemmas.{no_block, opened_blocks, opened_same}

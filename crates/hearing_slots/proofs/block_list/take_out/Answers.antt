@@ -1,4 +1,4 @@
-use Rattle.std.proofs.Common.{◌≡◌, ◌∙◌, List, ap, subst, sym}
+use Rattle.std.proofs.Common.{◌∙◌, ap, subst, sym}
 use Rattle.hearing_slots.specs.Calendar.{without_motion}
 use Rattle.hearing_slots.specs.Blocks.{BlockView, LiesIn, block_of}
 use Rattle.hearing_slots.proofs.BlockLemmas.{taken_all, taken_blocks}

@@ -5,5 +5,5 @@ use Rattle.hearing_slots.proofs.shared_calendar.few_with.Goals as goal
 
 pub returns-clause-holds : goal.returns-clause-holds
 returns-clause-holds c =
-    let value : IfOk c.few.result (λ new. new ≡ with_booking c.args.booking c.args.timetable.now.bookings) = search rules in
-    held_with c.args.booking c.args.timetable.now.bookings c.few.result value
+    let value : IfOk c.few.result (λ new. new ≡ with_booking c.args.booking c.args.agenda.now) = search rules in
+    held_with c.args.booking c.args.agenda.now c.few.result value

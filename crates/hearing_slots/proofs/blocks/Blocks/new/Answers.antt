@@ -1,8 +1,3 @@
-use Rattle.std.proofs.Common.{[], List, sym, subst}
-use Rattle.hearing_slots.specs.declared.day_notes.NotedDay.{NotedDay}
-use Rattle.hearing_slots.specs.Blocks.{AreBlocks, BlockView, all_in}
-use Rattle.hearing_slots.specs.Calendar.{IsCalendar}
-use Rattle.hearing_slots.specs.DayNotes.{NotesDays}
 use Rattle.hearing_slots.proofs.BlockLemmas.{no_blocks}
 use Rattle.hearing_slots.proofs.DayNoteLemmas.{no_days}
 use Rattle.hearing_slots.proofs.blocks.Blocks.new.Goals as goal

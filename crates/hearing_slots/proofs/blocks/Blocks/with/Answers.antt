@@ -1,4 +1,4 @@
-use Rattle.std.proofs.Common.{◌≡◌, ◌⊎◌, ◌∙◌, Some, List, ap, subst, sym}
+use Rattle.std.proofs.Common.{◌≡◌, ◌∙◌, Some, List, ap, subst, sym}
 use Rattle.hearing_slots.specs.declared.booking.Booking.{Booking}
 use Rattle.hearing_slots.specs.Calendar.{IsCalendar, IsFree, with_booking}
 use Rattle.hearing_slots.specs.Blocks.{all_in}

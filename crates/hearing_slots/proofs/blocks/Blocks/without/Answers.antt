@@ -1,4 +1,4 @@
-use Rattle.std.proofs.Common.{◌≡◌, ◌∙◌, Some, List, ap, subst, sym}
+use Rattle.std.proofs.Common.{◌≡◌, ◌∙◌, List, ap, subst, sym}
 use Rattle.hearing_slots.specs.declared.booking.Booking.{Booking}
 use Rattle.hearing_slots.specs.Calendar.{IsCalendar, without_motion}
 use Rattle.hearing_slots.specs.Blocks.{BlockView, LiesIn, all_in, block_of}

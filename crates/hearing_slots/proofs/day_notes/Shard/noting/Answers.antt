@@ -1,6 +1,5 @@
-use Rattle.std.proofs.Common.{◌≡◌, ◌∷◌, [], ◌++◌, ◌∙◌, ap, subst, sym, Some, None, IfOk, List, Option, ℤ, rules}
+use Rattle.std.proofs.Common.{◌≡◌, ◌∷◌, [], ◌++◌, Some, None, IfOk, List, rules}
 use Rattle.hearing_slots.specs.declared.day_notes.NotedDay.{NotedDay}
-use Rattle.hearing_slots.specs.DayNotes.{NotesOneDay}
 use Rattle.hearing_slots.proofs.DayNoteLemmas.{forgotten, made, note_in, note_out}
 use Rattle.hearing_slots.proofs.day_notes.Shard.noting.Goals as goal
 

@@ -18,8 +18,8 @@ returns-in-None-clause-none c = first_conflict-None c.args.self.now c.args.day c
 -- what is found in the block of the day is what would be found in all
 found : (c : goal.After-conflict) → c.conflict.result ≡ first_conflict c.args.self.now c.args.day c.args.first c.args.count c.args.except
 found c =
-    c.conflict.ensures.value
-    ∙ first_conflict-on_day c.in-Some.timetable.now.bookings c.args.self.now c.args.day c.args.first c.args.count c.args.except c.in-Some.ensures.value
+    c.conflict.ensures
+    ∙ first_conflict-on_day c.in-Some.agenda.now c.args.self.now c.args.day c.args.first c.args.count c.args.except c.in-Some.ensures.value
 
 pub returns-in-Some-clause-value : goal.returns-in-Some-clause-value
 returns-in-Some-clause-value c = found c
