@@ -1,5 +1,5 @@
 -- What the text of a calendar means.
-use Rattle.std.specs.Prelude.{◌≡◌, ℕ, ℤ, List}
+use Rattle.std.specs.Prelude.{◌≡◌, ℤ, List}
 use Rattle.std.specs.List.{flat_map}
 use Rattle.std.specs.Str.{IsUtf8}
 use Rattle.case_numbers.specs.declared.names.NamedCase.{NamedCase}

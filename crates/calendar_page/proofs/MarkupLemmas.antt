@@ -1,7 +1,6 @@
 -- Each part of a page is made of elements and escaped texts alone.
-use Rattle.std.proofs.Common.{ℕ, ℤ, Bool, true, false, List, [], ◌∷◌, ◌++◌, Option, Some, None, codes}
+use Rattle.std.proofs.Common.{ℕ, ℤ, Bool, true, false, List, [], ◌∷◌, ◌++◌, Option, Some, None}
 use Rattle.std.specs.Prelude.{if◌then◌else◌}
-use Rattle.std.specs.Fmt.{decimal}
 use Rattle.std.specs.List.{flat_map}
 use Rattle.case_numbers.specs.declared.names.NamedCase.{NamedCase}
 use Rattle.court_clock.specs.Words.{ClockView}
@@ -15,14 +14,14 @@ use Rattle.docket_selection.specs.declared.calendars.JudgeCalendar.{JudgeCalenda
 use Rattle.docket_selection.specs.declared.item.DueItem.{DueItem}
 use Rattle.page_markup.specs.declared.tag.Tag.{Tag}
 use Rattle.page_markup.specs.declared.tag.Tag.TheVariants as tag
-use Rattle.page_markup.specs.Words.{IsMarkup, element, escaped, text_in}
+use Rattle.page_markup.specs.Words.{IsMarkup, element, text_in}
 use Rattle.page_markup.specs.Elements.IsMarkup.{nothing, text, inside, after}
 use Rattle.calendar_texts.specs.Words.{is_day_of, whole_day}
 use Rattle.explained_sheets.specs.declared.explained.ExplainedDeadline.{ExplainedDeadline}
 use Rattle.explained_sheets.specs.declared.explained.ExplainedSheet.{ExplainedSheet}
 use Rattle.calendar_page.specs.Cases.{case_part, case_parts, cases_part, deadline_heads, deadline_row, deadline_rows, deadline_table, hearing_cell, motion_heads, motion_row, motion_table, period_cell, reasons_cell}
-use Rattle.calendar_page.specs.Due.{day_row_if_new, due_heads, due_part, due_row, due_rows, due_table}
-use Rattle.calendar_page.specs.Judges.{booking_heads, booking_row, booking_rows, is_week_of, judge_part, judge_parts, judges_part, week_name, week_row_if_new}
+use Rattle.calendar_page.specs.Due.{due_heads, due_part, due_row, due_rows, due_table}
+use Rattle.calendar_page.specs.Judges.{booking_heads, booking_row, booking_rows, is_week_of, judge_part, judge_parts, judges_part, week_name}
 use Rattle.calendar_page.specs.Page.{ContentIsMarkup, content}
 use Rattle.calendar_page.specs.Phrases.{motion_name}
 use Rattle.calendar_page.specs.Tables.{case_cell, case_link, four_heads, motion_cell, three_heads}

@@ -1,9 +1,8 @@
 -- Quoted texts, read back.
-use Rattle.std.proofs.Common.{◌≡◌, ◌≢◌, ◌∙◌, ◌++◌, ℕ, Bool, true, false, List, [], ◌∷◌, Option, Some, None, option_map, inl, inr, refl, sym, ap, subst, append_assoc}
-use Rattle.std.specs.Prelude.{◌==◌}
+use Rattle.std.proofs.Common.{◌≡◌, ◌∙◌, ◌++◌, ℕ, true, false, List, [], ◌∷◌, Some, option_map, inl, inr, refl, sym, ap, subst, append_assoc}
 use Rattle.std.specs.List.{flat_map}
 use Rattle.std.proofs.lemmas.Bool.Decides.{eqb_tells}
-use Rattle.calendar_sql.specs.Literals.{HasNoQuoteFirst, QuotedReadsBack, Taken, doubled, quoted, taken_after, with_byte}
+use Rattle.calendar_sql.specs.Literals.{HasNoQuoteFirst, QuotedReadsBack, doubled, quoted, taken_after, with_byte}
 
 -- the quote that ends a literal: what comes after it isn't taken
 ended : (rest : List ℕ) → HasNoQuoteFirst rest → taken_after true rest ≡ Some (record { text = []; rest = rest })

@@ -29,8 +29,8 @@ strike_said row (line.Row said) = strike_as row said.work
 abbrev pub entry_at : (kept : List (List ℕ)) → (row : ℕ) → List ℕ
 entry_at kept row = slice_index_or (row_entries kept) (row - 1) []
 
--- how many rows come before one, after an entry that is this note or a row, before which it was this many; none where that row is
--- the one
+-- how many rows are still to be passed after an entry, which is this note or a row, where it was `left` of them before it; none where
+-- the entry is the row that is looked for
 abbrev pub rows_left : Option Note → (left : ℕ) → Option ℕ
 rows_left (Some note) left = Some left
 rows_left None left = if nat_eq left 0 then None else Some (left - 1)

@@ -1,5 +1,5 @@
 -- The sheets of cases, with the reasons of each deadline.
-use Rattle.std.specs.Prelude.{◌≡◌, ℕ, List, [], ◌∷◌, ⊤}
+use Rattle.std.specs.Prelude.{◌≡◌, List, [], ◌∷◌, ⊤}
 use Rattle.court_clock.specs.Words.{ClockView}
 use Rattle.court_days.specs.Words.{DaysView}
 use Rattle.rule_periods.specs.Words.{shown_of}

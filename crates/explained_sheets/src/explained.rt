@@ -25,7 +25,7 @@ pub struct ExplainedSheet {
     pub case: u32,
     /// The day on which it was filed.
     pub filed: Day,
-    /// Its deadlines, by number.
+    /// Its deadlines, in the order in which they were started or entered.
     pub deadlines: Vec<ExplainedDeadline>,
     /// Its motions.
     pub motions: SheetMotions,

@@ -1,5 +1,5 @@
 -- The numbers that a court's file gives to deadlines and motions.
-use Rattle.std.specs.Prelude.{ℕ, ℤ, pos, int_le, nat_abs, Bool, ◌&&◌, List, [], ◌∷◌, ◌++◌, Option, Some, None, codes, is_some, option_to_list, if◌then◌else◌}
+use Rattle.std.specs.Prelude.{ℕ, ℤ, pos, int_le, nat_abs, Bool, ◌&&◌, List, [], ◌++◌, Option, Some, None, codes, is_some, option_to_list, if◌then◌else◌}
 use Rattle.std.specs.Option.{option_and_then}
 use Rattle.toml.specs.Data.{Data, Items, no_items, item, Members, as_array, as_integer, as_table, at, get_member}
 use Rattle.court_file_text.specs.Words.{toml_of}
@@ -69,6 +69,6 @@ moved_numbers file = numbers_in (option_and_then table_of_numbers (toml_of file)
 abbrev pub has_key : (key file : List ℕ) → Bool
 has_key key file = is_some (option_and_then (get_member key) (toml_of file))
 
--- so at that of the table
+-- it has a table of numbers
 abbrev pub has_numbers : (file : List ℕ) → Bool
 has_numbers file = has_key (codes "kept_numbers") file

@@ -1,4 +1,3 @@
-use Rattle.std.proofs.Common.{◌∙◌}
 use Rattle.std.proofs.lemmas.Bool.{both_ways}
 use Rattle.toml.specs.View.{table_view}
 use Rattle.court_file_text.proofs.CallerLemmas.{toml_of-text, toml_of-none}
