@@ -25,8 +25,8 @@ impl Termination for Ended {
     }
 }
 
-// No contract says what a process is called with, or what its streams hold. The merge gate runs each program twice by
-// this call: once with words that are refused, and once on an input that can't lose a byte unseen.
+// No contract says what a process is called with, or what its streams hold. The merge gate runs each program by this call,
+// on words without which its rows are at fault and on an input that can't lose a byte unseen.
 
 /// Runs the program on the process's own words and streams. `main` hands over its runtime twice, since only there can it
 /// start threads.

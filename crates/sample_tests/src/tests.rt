@@ -1,9 +1,12 @@
-//! What no clause says and no whole run shows: instants, changes that leave older values as they were, full lists,
-//! and calls that the program doesn't make.
+//! What no clause says and no whole run shows: instants, changes that leave older values as they were, full lists, reasons that are
+//! written out, clerks whose rows are held, and calls that the program doesn't make.
 mod calendars;
+mod clerks;
 mod clock;
 mod days;
 mod deadlines;
+mod docket;
+mod reasons;
 mod shared_calendars;
 
 use court_clock::Day;

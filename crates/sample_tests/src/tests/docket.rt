@@ -1,7 +1,7 @@
 //! Lists of commands on a docket, and what it then shows. Whole runs show the rest.
 
-use court_clock::Day;
-use court_days::{Court, HolidayList};
+use super::{court, day};
+use court_days::HolidayList;
 use docket_core::Docket;
 use docket_rows::{Answer, Command, Query, Refusal, Setting, Sheet, View};
 use hearing_slots::{Need, Panel};
@@ -13,12 +13,7 @@ use std::test::Fail;
 
 /// The docket before any command.
 fn opening(alloc: Global) -> Result<Docket, Fail> {
-    let court = Court::from_bytes(alloc, sample_court::file().as_bytes())?;
-    Ok(Docket::new(alloc, &court)?)
-}
-
-fn day(rt: &impl Abort, text: &str) -> Day {
-    Day::from_text(text).expect(rt, "a day")
+    Ok(Docket::new(alloc, &court(alloc)?)?)
 }
 
 /// Fails unless the command is answered so.
@@ -39,20 +34,21 @@ fn open_case(rt: &impl Abort) -> Command {
     Command::OpenCase { case: 1, filed }
 }
 
-/// The docket with case 1 open.
-fn with_case(rt: &impl Abort, alloc: Global) -> Result<Docket, Fail> {
-    let mut docket = opening(alloc)?;
-    gives(rt, alloc, &mut docket, &open_case(rt), &Answer::Opened)?;
-    Ok(docket)
+// A test owns its docket and nothing else, and hands it to a function that has the ways out.
+
+/// Opens case 1, and then in vain once more.
+fn opens_once(rt: &impl Abort, alloc: Global, docket: &mut Docket) -> Result<(), Fail> {
+    gives(rt, alloc, docket, &open_case(rt), &Answer::Opened)?;
+    let again = Answer::Refused(Refusal::CaseIsOpen);
+    gives(rt, alloc, docket, &open_case(rt), &again)?;
+    assert!(rt; docket.is_open(1) && !docket.is_open(2));
+    Ok(())
 }
 
 #[test]
 fn a_case_is_opened_once(rt: HostRuntime) -> Result<(), Fail> {
-    let mut docket = with_case(&rt, rt.alloc())?;
-    let again = Answer::Refused(Refusal::CaseIsOpen);
-    gives(&rt, rt.alloc(), &mut docket, &open_case(&rt), &again)?;
-    assert!(rt; docket.is_open(1) && !docket.is_open(2));
-    Ok(())
+    let mut docket = opening(rt.alloc())?;
+    opens_once(&rt, rt.alloc(), &mut docket)
 }
 
 /// An answer to the complaint that was served on 3 March 2025.
@@ -71,14 +67,6 @@ fn last(rt: &impl Abort, text: &str) -> Shown {
         day: day(rt, text),
         act: Act::Service,
     }
-}
-
-/// The docket with that deadline.
-fn with_deadline(rt: &impl Abort, alloc: Global) -> Result<Docket, Fail> {
-    let mut docket = with_case(rt, alloc)?;
-    let started = Answer::Started(1, last(rt, "2025-03-24"));
-    gives(rt, alloc, &mut docket, &start(rt), &started)?;
-    Ok(docket)
 }
 
 /// A holiday on the deadline's last day.
@@ -105,19 +93,21 @@ fn shown(alloc: Global, docket: &Docket) -> Result<Option<Shown>, Fail> {
     }
 }
 
+/// Starts a deadline of case 1, and enters a holiday on its last day.
+fn shows_the_holiday(rt: &impl Abort, alloc: Global, docket: &mut Docket) -> Result<(), Fail> {
+    gives(rt, alloc, docket, &open_case(rt), &Answer::Opened)?;
+    let started = Answer::Started(1, last(rt, "2025-03-24"));
+    gives(rt, alloc, docket, &start(rt), &started)?;
+    gives(rt, alloc, docket, &holiday(rt), &Answer::HolidayEntered)?;
+    assert!(rt; shown(alloc, docket)? == Some(last(rt, "2025-03-25")));
+    Ok(())
+}
+
 /// Deadlines aren't stored.
 #[test]
 fn a_deadline_is_shown_by_the_days_as_docketed(rt: HostRuntime) -> Result<(), Fail> {
-    let mut docket = with_deadline(&rt, rt.alloc())?;
-    gives(
-        &rt,
-        rt.alloc(),
-        &mut docket,
-        &holiday(&rt),
-        &Answer::HolidayEntered,
-    )?;
-    assert!(rt; shown(rt.alloc(), &docket)? == Some(last(&rt, "2025-03-25")));
-    Ok(())
+    let mut docket = opening(rt.alloc())?;
+    shows_the_holiday(&rt, rt.alloc(), &mut docket)
 }
 
 /// A motion that was served on 29 August 2025.
@@ -143,32 +133,26 @@ fn book(rt: &impl Abort) -> Command {
     })
 }
 
-/// The docket with that hearing.
-fn with_hearing(rt: &impl Abort, alloc: Global) -> Result<Docket, Fail> {
-    let mut docket = with_case(rt, alloc)?;
-    gives(
-        rt,
-        alloc,
-        &mut docket,
-        &motion(rt),
-        &Answer::MotionEntered(1),
-    )?;
-    gives(rt, alloc, &mut docket, &book(rt), &Answer::Booked)?;
-    Ok(docket)
-}
-
 /// How many hearings the judge has.
 fn booked(docket: &Docket, judge: u8) -> Option<usize> {
     docket.calendar(judge).map(|calendar| calendar.all().len())
 }
 
+/// Books a hearing before both judges, and cancels it.
+fn books_and_cancels(rt: &impl Abort, alloc: Global, docket: &mut Docket) -> Result<(), Fail> {
+    gives(rt, alloc, docket, &open_case(rt), &Answer::Opened)?;
+    gives(rt, alloc, docket, &motion(rt), &Answer::MotionEntered(1))?;
+    gives(rt, alloc, docket, &book(rt), &Answer::Booked)?;
+    assert!(rt; booked(docket, 0) == Some(1) && booked(docket, 1) == Some(1));
+    assert!(rt; booked(docket, 2).is_none());
+    let cancel = Command::Cancel { case: 1, motion: 1 };
+    gives(rt, alloc, docket, &cancel, &Answer::Cancelled)?;
+    assert!(rt; booked(docket, 0) == Some(0));
+    Ok(())
+}
+
 #[test]
 fn a_hearing_stands_in_the_calendars_of_its_panel(rt: HostRuntime) -> Result<(), Fail> {
-    let mut docket = with_hearing(&rt, rt.alloc())?;
-    assert!(rt; booked(&docket, 0) == Some(1) && booked(&docket, 1) == Some(1));
-    assert!(rt; booked(&docket, 2).is_none());
-    let cancel = Command::Cancel { case: 1, motion: 1 };
-    gives(&rt, rt.alloc(), &mut docket, &cancel, &Answer::Cancelled)?;
-    assert!(rt; booked(&docket, 0) == Some(0));
-    Ok(())
+    let mut docket = opening(rt.alloc())?;
+    books_and_cancels(&rt, rt.alloc(), &mut docket)
 }

@@ -1,7 +1,7 @@
 use Rattle.std.proofs.Common.{◌≡◌, ℕ, length, ap, sym, ◌∙◌, subst}
 use Rattle.clerk_workers.specs.Words.{AreInOrder, AreOfClerks}
 use Rattle.clerk_workers.proofs.CallerLemmas.{open_in_order, open_long}
-use Rattle.sample_clerks.proofs.tests.answers_in.Goals as goal
+use Rattle.sample_tests.proofs.tests.clerks.answers_in.Goals as goal
 
 pub run_clerks-requires-clause-in_order : goal.run_clerks-requires-clause-in_order
 run_clerks-requires-clause-in_order g c κs within =

@@ -1,4 +1,4 @@
-use Rattle.sample_clerks.proofs.tests.answers_to.Given as goal
+use Rattle.sample_tests.proofs.tests.clerks.answers_to.Given as goal
 
 -- the ledger is that of the blank, and names the history and the court that are published
 abbrev pub ghosts-answers_in-L-Ledger : goal.ghosts-answers_in-L-Ledger

@@ -1,6 +1,7 @@
 //! Reasons worked by hand over the calendars of their years, and from the Committee Note of 2009 to Rule 6(a).
 
-use court_clock::{Day, Direction, Instant};
+use super::{court, day};
+use court_clock::{Direction, Instant};
 use court_days::{Court, Days, Outage};
 use deadline_reasons::{Cause, Reason, derivations_end_in_what_is_shown, reasons_of};
 use rule_periods::{
@@ -10,14 +11,6 @@ use rule6::{Act, ServiceKind};
 use std::alloc::Global;
 use std::process::Abort;
 use std::test::Fail;
-
-fn court(alloc: Global) -> Result<Court, Fail> {
-    Ok(Court::from_bytes(alloc, sample_court::file().as_bytes())?)
-}
-
-fn day(rt: &impl Abort, text: &str) -> Day {
-    Day::from_text(text).expect(rt, "a day")
-}
 
 /// A period that is entered for filing, with no mark.
 fn entered(length: Length, direction: Direction) -> Period {

@@ -5,9 +5,9 @@ ghost use Rattle.docket_rows.specs.Words.{setup_of};
 ghost use Rattle.published_docket.specs.Words.{trail_view};
 ghost use Rattle.clerk_workers.specs.Words.{AreOfClerks};
 
+use super::{court, day};
 use clerk_gates::{Gate, OpenGate};
 use clerk_workers::{SharedReply, run_clerks};
-use court_clock::Day;
 use court_days::Court;
 use docket_rows::{Answer, Command, Query, Refusal, View};
 use hearing_slots::Need;
@@ -165,7 +165,7 @@ fn answers_to<R: Threads + Wait + Sync + Abort, G: Gate>(
 ) -> Result<Vec<SharedReply>, Fail>
     requires { AreOfClerks seats rows.now }
 {
-    let court = Court::from_bytes(alloc, sample_court::file().as_bytes())?;
+    let court = court(alloc)?;
     for _try in 0..8 {
         let publisher = Publisher::new(alloc, &court, seats)?;
         let blank = Blank::new(64);
@@ -181,7 +181,7 @@ fn answers_to<R: Threads + Wait + Sync + Abort, G: Gate>(
 fn open(rt: &impl Abort, clerk: u8, case: u32) -> Row
     ensures { result.clerk ≡ clerk }
 {
-    let filed = Day::from_text("2025-03-03").expect(rt, "a day");
+    let filed = day(rt, "2025-03-03");
     Row {
         clerk,
         work: Work::Command(Command::OpenCase { case, filed }),
@@ -200,7 +200,7 @@ fn sheet(clerk: u8) -> Row
 fn motion(rt: &impl Abort, clerk: u8) -> Row
     ensures { result.clerk ≡ clerk }
 {
-    let served = Day::from_text("2025-08-29").expect(rt, "a day");
+    let served = day(rt, "2025-08-29");
     Row {
         clerk,
         work: Work::Command(Command::Motion {
