@@ -1,6 +1,7 @@
 //! A clerk's desk: rows from standard input are kept in a folder's journal, and each is answered once it is kept.
 #![tactic(auto)]
 
+mod beside;
 mod command;
 mod folder;
 mod task;

@@ -8,14 +8,36 @@ use written_fields::DateOrder;
 pub enum Task {
     /// A new folder, with the court's file of this name.
     Open(String),
-    /// Rows, which are kept and answered.
-    Enter,
     /// Rows, which are kept and answered, except those that draw a warning. The day counts as today, if there is one.
     EnterCarefully(Option<Day>),
+    /// What no other program may enter rows beside.
+    Alone(Alone),
+    /// What is done beside another program that may enter rows.
+    Beside(Beside),
+}
+
+/// What is done while no other program has the folder's journal open.
+#[derive(Debug, Drop)]
+pub enum Alone {
+    /// Rows, which are kept and answered.
+    Enter,
     /// Rows, which are kept together if no line has a fault, and then answered.
     EnterTogether,
     /// Rows as people write them, which are kept together if no line has a fault, and then answered.
     EnterWritten(Style),
+    /// The court's file and all rows, as clerk_office reads them.
+    Rows,
+    /// How many rows are kept, or what is damaged.
+    Check,
+    /// Another court's file, of this name, and whether it is taken though answers differ.
+    Court(String, bool),
+    /// A row that is struck.
+    Strike(Struck),
+}
+
+/// What is done of a copy of the folder's journal.
+#[derive(Debug, Drop)]
+pub enum Beside {
     /// Rows, which are answered and not kept.
     Try,
     /// Rows, which are answered as `EnterCarefully` answers them, and not kept.
@@ -26,16 +48,8 @@ pub enum Task {
     Plain(Style),
     /// Questions, which are answered.
     Ask,
-    /// The court's file and all rows, as clerk_office reads them.
-    Rows,
     /// The cases that have names.
     Cases,
-    /// How many rows are kept, or what is damaged.
-    Check,
-    /// Another court's file, of this name, and whether it is taken though answers differ.
-    Court(String, bool),
-    /// A row that is struck.
-    Strike(Struck),
     /// The rows that are struck.
     Struck,
 }

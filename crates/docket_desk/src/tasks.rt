@@ -1,15 +1,13 @@
 //! What the program does.
-ghost use Rattle.std.specs.Prelude.{◌≡◌, false};
+ghost use Rattle.std.specs.Prelude.{◌≡◌, ◌<◌, ◌≤◌, length, false};
 ghost use Rattle.office_streams.specs.Words.{has_failed};
 
-use crate::folder::{copied_beside, entries_beside, journal_name, make_folder, opened, read_file};
-use crate::task::{Struck, Task};
-use crate::written::{enter_written, plain, try_written};
+use crate::beside::done_beside;
+use crate::folder::{FolderDesk, journal_name, make_folder, opened, read_file};
+use crate::task::{Alone, Struck, Task};
+use crate::written::enter_written;
 use court_clock::Day;
-use desk_program::{
-    Desk, DeskFault, ask, check_court, open_file, write_cases, write_count, write_rows,
-    write_struck,
-};
+use desk_program::{Desk, DeskFault, check_court, open_file, write_count, write_rows};
 use docket_entries::standing_file;
 use durable_session::SessionFault;
 use numbers_table::has_numbers;
@@ -30,18 +28,19 @@ fn open_folder(rt: &HostRuntime, folder: &str, court: &str) -> Result<(), DeskFa
     }
 }
 
-// Keeps the rows of standard input, and answers each.
-fn enter<W: Write>(rt: &HostRuntime, writer: &mut Watched<W>, folder: &str) -> Result<(), DeskFault>
-    requires { has_failed writer.old ≡ false }
-{
-    let (mut desk, entries) = opened(rt, folder)?;
-    drop(entries);
+/// All of standard input.
+pub(crate) fn whole_input(rt: &HostRuntime) -> Result<Vec<u8>, DeskFault> {
     let mut reader = Watched::new(rt.stdin());
-    let ended = desk.enter(rt.alloc(), &mut reader, writer);
-    drop(desk.into_disk());
-    match ended {
-        Ok(()) => Ok(()),
-        Err(fault) => Err(DeskFault::Session(fault)),
+    match read_all(rt.alloc(), &mut reader) {
+        Ok(input) => Ok(input),
+        Err(OfficeFault::OutOfMemory) => Err(DeskFault::OutOfMemory),
+        Err(_) => {
+            if reader.failed() {
+                Err(DeskFault::Unkept(SessionFault::Read))
+            } else {
+                Err(DeskFault::LongInput)
+            }
+        }
     }
 }
 
@@ -65,19 +64,18 @@ fn enter_carefully<W: Write>(
     }
 }
 
-/// All of standard input.
-pub(crate) fn whole_input(rt: &HostRuntime) -> Result<Vec<u8>, DeskFault> {
+// Keeps the rows of standard input, and answers each.
+fn enter<W: Write>(
+    rt: &HostRuntime,
+    writer: &mut Watched<W>,
+    desk: &mut FolderDesk,
+) -> Result<(), DeskFault>
+    requires { has_failed writer.old ≡ false }
+{
     let mut reader = Watched::new(rt.stdin());
-    match read_all(rt.alloc(), &mut reader) {
-        Ok(input) => Ok(input),
-        Err(OfficeFault::OutOfMemory) => Err(DeskFault::OutOfMemory),
-        Err(_) => {
-            if reader.failed() {
-                Err(DeskFault::Unkept(SessionFault::Read))
-            } else {
-                Err(DeskFault::LongInput)
-            }
-        }
+    match desk.enter(rt.alloc(), &mut reader, writer) {
+        Ok(()) => Ok(()),
+        Err(fault) => Err(DeskFault::Session(fault)),
     }
 }
 
@@ -85,62 +83,12 @@ pub(crate) fn whole_input(rt: &HostRuntime) -> Result<Vec<u8>, DeskFault> {
 fn enter_together<W: Write>(
     rt: &HostRuntime,
     writer: &mut Watched<W>,
-    folder: &str,
+    desk: &mut FolderDesk,
 ) -> Result<(), DeskFault>
     requires { has_failed writer.old ≡ false }
 {
-    let (mut desk, entries) = opened(rt, folder)?;
-    drop(entries);
     let input = whole_input(rt)?;
-    let ended = desk.enter_together(rt.alloc(), &input, writer);
-    drop(desk.into_disk());
-    ended
-}
-
-// Answers rows as they would be answered if they were entered, on a copy of the journal, beside a program that may enter rows.
-fn try_folder<W: Write>(
-    rt: &HostRuntime,
-    writer: &mut Watched<W>,
-    folder: &str,
-) -> Result<(), DeskFault>
-    requires { has_failed writer.old ≡ false }
-{
-    let desk = copied_beside(rt, folder)?;
-    let mut reader = Watched::new(rt.stdin());
-    match desk.try_rows(rt.alloc(), &mut reader, writer) {
-        (Ok(()), _) => Ok(()),
-        (Err(fault), _) => Err(DeskFault::Unkept(fault)),
-    }
-}
-
-// The same, where rows that draw a warning are answered with it.
-fn try_carefully<W: Write>(
-    rt: &HostRuntime,
-    writer: &mut Watched<W>,
-    folder: &str,
-    today: Option<Day>,
-) -> Result<(), DeskFault>
-    requires { has_failed writer.old ≡ false }
-{
-    let desk = copied_beside(rt, folder)?;
-    let mut reader = Watched::new(rt.stdin());
-    match desk.try_carefully(rt.alloc(), today, &mut reader, writer) {
-        (Ok(()), _) => Ok(()),
-        (Err(fault), _) => Err(DeskFault::Unkept(fault)),
-    }
-}
-
-// Answers questions, beside a program that may enter rows.
-fn ask_folder<W: Write>(
-    rt: &HostRuntime,
-    writer: &mut Watched<W>,
-    folder: &str,
-) -> Result<(), DeskFault>
-    requires { has_failed writer.old ≡ false }
-{
-    let entries = entries_beside(rt, folder)?;
-    let mut reader = Watched::new(rt.stdin());
-    ask(rt.alloc(), &entries, &mut reader, writer)
+    desk.enter_together(rt.alloc(), &input, writer)
 }
 
 // What is said where the court's file has numbers of its own, by which programs that read these rows count.
@@ -154,94 +102,116 @@ fn note_other_numbers(rt: &HostRuntime) {
 }
 
 // Writes the court's file, the names of cases, the numbers that aren't places, a line `%%` and the rows that stand.
-fn rows<W: Write>(rt: &HostRuntime, writer: &mut Watched<W>, folder: &str) -> Result<(), DeskFault>
-    requires { has_failed writer.old ≡ false }
+fn rows<W: Write>(
+    rt: &HostRuntime,
+    writer: &mut Watched<W>,
+    desk: &FolderDesk,
+    entries: &[Vec<u8>],
+) -> Result<(), DeskFault>
+    requires works { has_failed writer.old ≡ false }
+    requires few { length entries.now ≤ 1000000 }
 {
-    let (desk, entries) = opened(rt, folder)?;
-    if has_numbers(rt.alloc(), standing_file(&entries))? {
+    if has_numbers(rt.alloc(), standing_file(entries))? {
         note_other_numbers(rt);
     }
-    let ended = write_rows(
+    write_rows(
         rt.alloc(),
         desk.standing(),
         desk.moved(),
         desk.cases(),
-        &entries,
+        entries,
         writer,
-    );
-    drop(desk.into_disk());
-    ended
-}
-
-// Writes the cases that have names, beside a program that may enter rows.
-fn cases<W: Write>(rt: &HostRuntime, writer: &mut Watched<W>, folder: &str) -> Result<(), DeskFault>
-    requires { has_failed writer.old ≡ false }
-{
-    let desk = copied_beside(rt, folder)?;
-    write_cases(rt.alloc(), desk.cases(), writer)
-}
-
-// Says how many rows the journal has.
-fn check<W: Write>(rt: &HostRuntime, writer: &mut Watched<W>, folder: &str) -> Result<(), DeskFault>
-    requires { has_failed writer.old ≡ false }
-{
-    let (desk, entries) = opened(rt, folder)?;
-    drop(entries);
-    let count = desk.rows();
-    drop(desk.into_disk());
-    write_count(rt.alloc(), count, writer)
+    )
 }
 
 // Goes by another court's file from here on.
 fn change<W: Write>(
     rt: &HostRuntime,
     writer: &mut Watched<W>,
-    folder: &str,
+    desk: &mut FolderDesk,
+    entries: &[Vec<u8>],
     court: &str,
     accept: bool,
 ) -> Result<(), DeskFault>
-    requires { has_failed writer.old ≡ false }
+    requires works { has_failed writer.old ≡ false }
+    requires some { 0 < length entries.now }
+    requires few { length entries.now ≤ 1000000 }
 {
     let file = read_file(rt, court)?;
-    let (mut desk, entries) = opened(rt, folder)?;
-    let ended = desk.change(rt.alloc(), &entries, &file, accept, writer);
-    drop(desk.into_disk());
-    ended
+    desk.change(rt.alloc(), entries, &file, accept, writer)
 }
 
 // Strikes a row.
 fn strike<W: Write>(
     rt: &HostRuntime,
     writer: &mut Watched<W>,
-    folder: &str,
+    desk: &mut FolderDesk,
+    entries: &[Vec<u8>],
     struck: &Struck,
 ) -> Result<(), DeskFault>
-    requires { has_failed writer.old ≡ false }
+    requires works { has_failed writer.old ≡ false }
+    requires some { 0 < length entries.now }
+    requires few { length entries.now ≤ 1000000 }
 {
-    let (mut desk, entries) = opened(rt, folder)?;
     let remark = struck.remark.as_bytes();
-    let ended = desk.strike(
+    desk.strike(
         rt.alloc(),
-        &entries,
+        entries,
         struck.row,
         remark,
         struck.accept,
         writer,
-    );
-    drop(desk.into_disk());
-    ended
+    )
 }
 
-// Writes the rows that are struck, beside a program that may enter rows.
-fn list_struck<W: Write>(
+// Does a task on the folder's desk. Its entries are dropped before rows are read.
+fn done_on<W: Write>(
     rt: &HostRuntime,
     writer: &mut Watched<W>,
+    task: &Alone,
+    desk: &mut FolderDesk,
+    entries: Vec<Vec<u8>>,
+) -> Result<(), DeskFault>
+    requires works { has_failed writer.old ≡ false }
+    requires some { 0 < length entries.items }
+    requires few { length entries.items ≤ 1000000 }
+{
+    match task {
+        Alone::Rows => rows(rt, writer, desk, &entries),
+        Alone::Court(court, accept) => {
+            change(rt, writer, desk, &entries, court.as_str(), *accept)
+        }
+        Alone::Strike(struck) => strike(rt, writer, desk, &entries, struck),
+        Alone::Check => write_count(rt.alloc(), desk.rows(), writer),
+        Alone::Enter => {
+            drop(entries);
+            enter(rt, writer, desk)
+        }
+        Alone::EnterTogether => {
+            drop(entries);
+            enter_together(rt, writer, desk)
+        }
+        Alone::EnterWritten(style) => {
+            drop(entries);
+            enter_written(rt, writer, desk, *style)
+        }
+    }
+}
+
+// Does a task while no other program has the folder's journal open. It owns the desk and nothing else: a function that owned
+// more would be dear to prove, since each way out of it drops all.
+fn done_alone<W: Write>(
+    rt: &HostRuntime,
+    writer: &mut Watched<W>,
+    task: &Alone,
     folder: &str,
 ) -> Result<(), DeskFault>
     requires { has_failed writer.old ≡ false }
 {
-    let entries = entries_beside(rt, folder)?;
-    write_struck(rt.alloc(), &entries, writer)
+    let (mut desk, entries) = opened(rt, folder)?;
+    let ended = done_on(rt, writer, task, &mut desk, entries);
+    drop(desk.into_disk());
+    ended
 }
 
 /// Does what is asked for.
@@ -255,20 +225,8 @@ pub fn done<W: Write>(
 {
     match task {
         Task::Open(court) => open_folder(rt, folder, court.as_str()),
-        Task::Enter => enter(rt, writer, folder),
         Task::EnterCarefully(today) => enter_carefully(rt, writer, folder, *today),
-        Task::EnterTogether => enter_together(rt, writer, folder),
-        Task::EnterWritten(style) => enter_written(rt, writer, folder, *style),
-        Task::Try => try_folder(rt, writer, folder),
-        Task::TryCarefully(today) => try_carefully(rt, writer, folder, *today),
-        Task::TryWritten(style) => try_written(rt, writer, folder, *style),
-        Task::Plain(style) => plain(rt, writer, folder, *style),
-        Task::Ask => ask_folder(rt, writer, folder),
-        Task::Rows => rows(rt, writer, folder),
-        Task::Cases => cases(rt, writer, folder),
-        Task::Check => check(rt, writer, folder),
-        Task::Court(court, accept) => change(rt, writer, folder, court.as_str(), *accept),
-        Task::Strike(struck) => strike(rt, writer, folder, struck),
-        Task::Struck => list_struck(rt, writer, folder),
+        Task::Alone(task) => done_alone(rt, writer, task, folder),
+        Task::Beside(task) => done_beside(rt, writer, task, folder),
     }
 }

@@ -1,11 +1,12 @@
 //! What the words of the command line ask for.
 
 use crate::command::command;
-use crate::task::{Struck, Style, Task};
+use crate::task::{Alone, Beside, Struck, Style, Task};
 use clap::ArgMatches;
 use court_clock::Day;
 use office_options::{OptionsFault, argument_texts, fault_from};
 use std::alloc::Global;
+use text_options::day_option;
 use written_fields::DateOrder;
 
 const OPEN_WORDS: &str = "'open' needs the court's file: open FOLDER --court FILE";
@@ -99,7 +100,7 @@ fn court_task(alloc: Global, said: &Said<'_>) -> Result<Task, OptionsFault> {
         return Err(wrong(alloc, WARN_WORDS));
     }
     match said.file {
-        Some(file) => Ok(Task::Court(String::from_str(alloc, file)?, said.accept)),
+        Some(file) => Ok(Task::Alone(Alone::Court(String::from_str(alloc, file)?, said.accept))),
         None => Err(wrong(alloc, COURT_WORDS)),
     }
 }
@@ -111,7 +112,11 @@ fn is_line(text: &str) -> bool {
 
 // When a row is struck, by whom and why.
 fn remark_of(alloc: Global, said: &Said<'_>) -> Result<String, OptionsFault> {
-    let (Some(reason), Some(by), Some(day)) = (said.reason, said.by, today_of(alloc, said)?) else {
+    let (Some(reason), Some(by), Some(day)) = (
+        said.reason,
+        said.by,
+        day_option(alloc, "today", said.today)?,
+    ) else {
         return Err(wrong(alloc, STRIKE_WORDS));
     };
     if !is_line(reason) || !is_line(by) {
@@ -134,11 +139,11 @@ fn strike_task(alloc: Global, said: &Said<'_>) -> Result<Task, OptionsFault> {
             "'strike' takes a row by its number, with which its answer begins",
         ));
     };
-    Ok(Task::Strike(Struck {
+    Ok(Task::Alone(Alone::Strike(Struck {
         row,
         remark: remark_of(alloc, said)?,
         accept: said.accept,
-    }))
+    })))
 }
 
 // How rows are written.
@@ -157,33 +162,12 @@ fn style_of(alloc: Global, said: &Said<'_>) -> Result<Style, OptionsFault> {
     })
 }
 
-// The text is no day.
-fn no_day(alloc: Global, text: &str) -> OptionsFault {
-    match format!(in alloc;
-        "invalid value '{text}' for '--today <DAY>': write a day as 2025-09-15"
-    ) {
-        Ok(what) => wrong(alloc, what.as_str()),
-        Err(_) => OptionsFault::OutOfMemory,
-    }
-}
-
-// The day that counts as today, if one does.
-fn today_of(alloc: Global, said: &Said<'_>) -> Result<Option<Day>, OptionsFault> {
-    let Some(text) = said.today else {
-        return Ok(None);
-    };
-    match Day::from_text(text) {
-        Some(day) => Ok(Some(day)),
-        None => Err(no_day(alloc, text)),
-    }
-}
-
 // Rows that are held back if they draw a warning.
 fn careful_day(alloc: Global, said: &Said<'_>) -> Result<Option<Day>, OptionsFault> {
     if !said.warn || said.together || said.has_style() {
         return Err(wrong(alloc, WARN_WORDS));
     }
-    today_of(alloc, said)
+    day_option(alloc, "today", said.today)
 }
 
 // Rows that are kept, one after another or together.
@@ -195,9 +179,9 @@ fn enter_task(alloc: Global, said: &Said<'_>) -> Result<Task, OptionsFault> {
         return Ok(Task::EnterCarefully(careful_day(alloc, said)?));
     }
     match (said.together, said.written) {
-        (true, true) => Ok(Task::EnterWritten(style_of(alloc, said)?)),
-        (true, false) if !said.has_style() => Ok(Task::EnterTogether),
-        (false, false) if !said.has_style() => Ok(Task::Enter),
+        (true, true) => Ok(Task::Alone(Alone::EnterWritten(style_of(alloc, said)?))),
+        (true, false) if !said.has_style() => Ok(Task::Alone(Alone::EnterTogether)),
+        (false, false) if !said.has_style() => Ok(Task::Alone(Alone::Enter)),
         _ => Err(wrong(alloc, WRITTEN_WORDS)),
     }
 }
@@ -208,15 +192,15 @@ fn trial_task(alloc: Global, said: &Said<'_>) -> Result<Task, OptionsFault> {
         return Err(wrong(alloc, "'try' takes a folder: rows come from standard input"));
     }
     if said.has_warnings() {
-        return Ok(Task::TryCarefully(careful_day(alloc, said)?));
+        return Ok(Task::Beside(Beside::TryCarefully(careful_day(alloc, said)?)));
     }
     if said.written {
-        return Ok(Task::TryWritten(style_of(alloc, said)?));
+        return Ok(Task::Beside(Beside::TryWritten(style_of(alloc, said)?)));
     }
     if said.has_style() {
         return Err(wrong(alloc, WRITTEN_WORDS));
     }
-    Ok(Task::Try)
+    Ok(Task::Beside(Beside::Try))
 }
 
 // Rows that are only read.
@@ -227,7 +211,7 @@ fn reading_task(alloc: Global, said: &Said<'_>) -> Result<Task, OptionsFault> {
     if said.has_warnings() {
         return Err(wrong(alloc, WARN_WORDS));
     }
-    Ok(Task::Plain(style_of(alloc, said)?))
+    Ok(Task::Beside(Beside::Plain(style_of(alloc, said)?)))
 }
 
 // A task to which nothing is said but the folder.
@@ -239,11 +223,11 @@ fn plain_task(alloc: Global, name: &str, said: &Said<'_>) -> Result<Task, Option
         return Err(wrong(alloc, WARN_WORDS));
     }
     match name {
-        "ask" => Ok(Task::Ask),
-        "rows" => Ok(Task::Rows),
-        "cases" => Ok(Task::Cases),
-        "struck" => Ok(Task::Struck),
-        "check" => Ok(Task::Check),
+        "ask" => Ok(Task::Beside(Beside::Ask)),
+        "rows" => Ok(Task::Alone(Alone::Rows)),
+        "cases" => Ok(Task::Beside(Beside::Cases)),
+        "struck" => Ok(Task::Beside(Beside::Struck)),
+        "check" => Ok(Task::Alone(Alone::Check)),
         _ => Err(wrong(alloc, "there is no such task")),
     }
 }

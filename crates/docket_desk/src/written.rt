@@ -1,15 +1,16 @@
 //! Rows as people write them.
-ghost use Rattle.std.specs.Prelude.{◌≡◌, false, OnOk};
+ghost use Rattle.std.specs.Prelude.{◌≡◌, ◌≤◌, length, false, OnOk};
 ghost use Rattle.office_streams.specs.Words.{has_failed};
 
-use crate::folder::{copied_beside, entries_beside, opened};
+use crate::folder::{FolderDesk, copied_beside, entries_beside};
 use crate::task::Style;
 use crate::tasks::whole_input;
 use court_days::Court;
-use desk_program::DeskFault;
-use docket_entries::Docketed;
+use desk_program::{Desk, DeskFault};
+use docket_entries::{Docketed, Standing};
 use durable_session::{SessionFault, is_finished};
 use office_streams::{Watched, write_all};
+use sqlite_disk::Memory;
 use std::alloc::Global;
 use std::io::Write;
 use written_input::{Reading, json_of, read_input, report_of};
@@ -68,6 +69,30 @@ fn rows_read<W: Write>(
     Err(DeskFault::Faults(count))
 }
 
+// The plain rows that standard input is for that court.
+fn rows_of<W: Write>(
+    rt: &HostRuntime,
+    writer: &mut Watched<W>,
+    court: &Court,
+    style: Style,
+) -> Result<Vec<u8>, DeskFault>
+    requires { has_failed writer.old ≡ false }
+    ensures working { OnOk result (has_failed writer.new ≡ false) }
+{
+    let input = whole_input(rt)?;
+    rows_read(rt.alloc(), court, style, &input, writer)
+}
+
+// What stands after entries.
+fn standing_of(alloc: Global, entries: &[Vec<u8>]) -> Result<Standing, DeskFault>
+    requires { length entries.now ≤ 1000000 }
+{
+    match Docketed::of(alloc, entries) {
+        Ok(Docketed { standing, .. }) => Ok(standing),
+        Err(fault) => Err(DeskFault::from(fault)),
+    }
+}
+
 /// Writes the plain rows that standard input is, or what is wrong with its lines.
 pub fn plain<W: Write>(
     rt: &HostRuntime,
@@ -78,9 +103,8 @@ pub fn plain<W: Write>(
     requires { has_failed writer.old ≡ false }
 {
     let entries = entries_beside(rt, folder)?;
-    let Docketed { standing, .. } = Docketed::of(rt.alloc(), &entries)?;
-    let input = whole_input(rt)?;
-    let rows = rows_read(rt.alloc(), &standing.court, style, &input, writer)?;
+    let standing = standing_of(rt.alloc(), &entries)?;
+    let rows = rows_of(rt, writer, &standing.court, style)?;
     put(writer, &rows)
 }
 
@@ -88,20 +112,29 @@ pub fn plain<W: Write>(
 pub fn enter_written<W: Write>(
     rt: &HostRuntime,
     writer: &mut Watched<W>,
-    folder: &str,
+    desk: &mut FolderDesk,
     style: Style,
 ) -> Result<(), DeskFault>
     requires { has_failed writer.old ≡ false }
 {
-    let (mut desk, entries) = opened(rt, folder)?;
-    drop(entries);
-    let input = whole_input(rt)?;
-    let ended = match rows_read(rt.alloc(), desk.court(), style, &input, writer) {
-        Ok(rows) => desk.enter_together(rt.alloc(), &rows, writer),
-        Err(fault) => Err(fault),
-    };
-    drop(desk.into_disk());
-    ended
+    let rows = rows_of(rt, writer, desk.court(), style)?;
+    desk.enter_together(rt.alloc(), &rows, writer)
+}
+
+// Answers plain rows as they would be answered if they were entered.
+fn answer_rows<W: Write>(
+    alloc: Global,
+    writer: &mut Watched<W>,
+    desk: Desk<Memory>,
+    rows: &[u8],
+) -> Result<(), DeskFault>
+    requires { has_failed writer.old ≡ false }
+{
+    let mut reader = Watched::new(rows);
+    match desk.try_rows(alloc, &mut reader, writer) {
+        (Ok(()), _) => Ok(()),
+        (Err(fault), _) => Err(DeskFault::Unkept(fault)),
+    }
 }
 
 /// Answers the rows of standard input as they would be answered if they were entered, on a copy of the journal.
@@ -114,11 +147,8 @@ pub fn try_written<W: Write>(
     requires { has_failed writer.old ≡ false }
 {
     let desk = copied_beside(rt, folder)?;
-    let input = whole_input(rt)?;
-    let rows = rows_read(rt.alloc(), desk.court(), style, &input, writer)?;
-    let mut reader = Watched::new(rows.as_slice());
-    match desk.try_rows(rt.alloc(), &mut reader, writer) {
-        (Ok(()), _) => Ok(()),
-        (Err(fault), _) => Err(DeskFault::Unkept(fault)),
+    match rows_of(rt, writer, desk.court(), style) {
+        Ok(rows) => answer_rows(rt.alloc(), writer, desk, &rows),
+        Err(fault) => Err(fault),
     }
 }
