@@ -1,6 +1,6 @@
 //! What a journal must hold, from its rows alone: they are taken one after another, with no journal and no disk.
 use anyhow::{Result, bail};
-use docket_entries::{DocketRegister, Docketed, HistoryFault, Standing};
+use docket_entries::{Docketed, HistoryFault};
 use durable_session::Register;
 use std::alloc::Global;
 
@@ -21,24 +21,20 @@ pub struct Expected {
 
 /// What these rows leave and are answered after a court's file, batch by batch.
 pub fn expected_of(alloc: Global, file: &[u8], rows: &str) -> Result<Expected> {
-    let mut entries = Vec::new(alloc);
-    entries.push(Vec::from_slice(alloc, file)?)?;
-    let mut answers = Vec::new(alloc);
-    let mut states = first_states(alloc)?;
-    let mut docketed = docket_of(alloc, &entries)?;
-    take_batches(
-        alloc,
-        &mut docketed,
-        rows,
-        &mut entries,
-        &mut answers,
-        &mut states,
-    )?;
-    Ok(Expected {
-        entries,
-        answers,
-        states,
-    })
+    let mut expected = Expected {
+        entries: Vec::new(alloc),
+        answers: Vec::new(alloc),
+        states: first_states(alloc)?,
+    };
+    expected.entries.push(Vec::from_slice(alloc, file)?)?;
+    fill(alloc, &mut expected, rows)?;
+    Ok(expected)
+}
+
+// Adds what the rows of all batches leave and are answered.
+fn fill(alloc: Global, expected: &mut Expected, rows: &str) -> Result<()> {
+    let mut docketed = docket_of(alloc, &expected.entries)?;
+    take_batches(alloc, &mut docketed, rows, expected)
 }
 
 // The states before the court's file and after it.
@@ -60,22 +56,13 @@ fn take_batches(
     alloc: Global,
     docketed: &mut Docketed,
     rows: &str,
-    entries: &mut Vec<Vec<u8>>,
-    answers: &mut Vec<u8>,
-    states: &mut Vec<State>,
+    expected: &mut Expected,
 ) -> Result<()> {
     for batch in rows.split("--\n") {
-        take_lines(
-            alloc,
-            &docketed.standing,
-            &mut docketed.register,
-            batch,
-            entries,
-            answers,
-        )?;
-        states.push(State {
-            entries: entries.len(),
-            answered: answers.len(),
+        take_lines(alloc, docketed, batch, expected)?;
+        expected.states.push(State {
+            entries: expected.entries.len(),
+            answered: expected.answers.len(),
         })?;
     }
     Ok(())
@@ -84,14 +71,18 @@ fn take_batches(
 // Takes the rows of a batch.
 fn take_lines(
     alloc: Global,
-    standing: &Standing,
-    register: &mut DocketRegister,
+    docketed: &mut Docketed,
     batch: &str,
-    entries: &mut Vec<Vec<u8>>,
-    answers: &mut Vec<u8>,
+    expected: &mut Expected,
 ) -> Result<()> {
     for line in batch.lines() {
-        register.take(standing, alloc, line.as_bytes(), entries, answers)?;
+        docketed.register.take(
+            &docketed.standing,
+            alloc,
+            line.as_bytes(),
+            &mut expected.entries,
+            &mut expected.answers,
+        )?;
     }
     Ok(())
 }

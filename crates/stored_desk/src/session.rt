@@ -51,10 +51,21 @@ fn keep_all(
 ) -> Result<usize> {
     let mut first = Vec::new(alloc);
     first.push(Vec::from_slice(alloc, file)?)?;
-    let mut docketed = docket_of(alloc, &first)?;
     if journal.append(&first).is_err() {
         return Ok(0);
     }
+    keep_rows(alloc, journal, &first, rows, answers)
+}
+
+// Keeps rows after the first entry.
+fn keep_rows(
+    alloc: Global,
+    journal: &mut Journal<Device>,
+    first: &[Vec<u8>],
+    rows: &str,
+    answers: &mut Vec<u8>,
+) -> Result<usize> {
+    let mut docketed = docket_of(alloc, first)?;
     keep_batches(alloc, journal, &mut docketed, rows, answers)
 }
 

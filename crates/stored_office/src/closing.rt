@@ -6,7 +6,7 @@ use crate::dockets::push_docket;
 use anyhow::{Result, bail};
 use court_days::Court;
 use docket_rows::{Answer, Command};
-use office_seats::{CloseError, CloseRefused, NamesOffice, Office, Tally};
+use office_seats::{CloseError, CloseRefused, Journal, NamesOffice, Office, Tally};
 use office_texts::{push_answer, push_number};
 use std::alloc::{AllocError, Global};
 use std::sync::Wait;
@@ -39,9 +39,7 @@ pub fn push_closed<L: NamesOffice, R: Wait>(
     }
     match result {
         Ok(journal) => {
-            text.push_str("closed\n")?;
-            push_entries(text, court, journal.entries())?;
-            push_docket(alloc, text, court, &journal.docket(alloc, court)?)?;
+            push_journal(alloc, text, court, &journal)?;
             Ok(None)
         }
         Err(
@@ -58,6 +56,29 @@ pub fn push_closed<L: NamesOffice, R: Wait>(
         }
         Err(_) => bail!("no memory is left"),
     }
+}
+
+/// Adds the entries of a journal, a line each, and the sheets and calendars of the docket after it.
+fn push_journal(
+    alloc: Global,
+    text: &mut String,
+    court: &Court,
+    journal: &Journal,
+) -> Result<(), AllocError> {
+    text.push_str("closed\n")?;
+    push_entries(text, court, journal.entries())?;
+    push_docket_of(alloc, text, court, journal)
+}
+
+/// Adds the sheets and calendars of the docket after a journal.
+fn push_docket_of(
+    alloc: Global,
+    text: &mut String,
+    court: &Court,
+    journal: &Journal,
+) -> Result<(), AllocError> {
+    let docket = journal.docket(alloc, court)?;
+    push_docket(alloc, text, court, &docket)
 }
 
 /// Adds a line for each entry: its place, its clerk and its answer.

@@ -42,17 +42,49 @@ pub fn push_replay(
     } else {
         "no"
     })?;
-    let mut docket = Docket::new(alloc, court)?;
-    let differs = first_difference(alloc, &mut docket, entries)?;
+    let (differs, same) = replayed(alloc, court, journal)?;
     text.push_str("\nfirst answer that a replay differs in: ")?;
     match differs {
         Some(place) => push_number(text, place)?,
         None => text.push_str("none")?,
     }
     text.push_str("\nthe docket shows what the replay shows: ")?;
-    let same = show_the_same(alloc, court, &docket, &journal.docket(alloc, court)?)?;
     text.push_str(if same { "yes\n" } else { "no\n" })?;
     Ok(())
+}
+
+/// Gives a new docket the journal's commands one by one. The place, counted from 1, of the first that it answers otherwise, if
+/// there is one, and whether it shows the same as the journal's docket.
+fn replayed(
+    alloc: Global,
+    court: &Court,
+    journal: &Journal,
+) -> Result<(Option<u64>, bool), AllocError> {
+    let mut docket = Docket::new(alloc, court)?;
+    compared(alloc, court, journal, &mut docket)
+}
+
+/// The same of a docket that has had no command yet.
+fn compared(
+    alloc: Global,
+    court: &Court,
+    journal: &Journal,
+    docket: &mut Docket,
+) -> Result<(Option<u64>, bool), AllocError> {
+    let differs = first_difference(alloc, docket, journal.entries())?;
+    let same = shows_the_journal(alloc, court, journal, docket)?;
+    Ok((differs, same))
+}
+
+/// Whether the docket shows the same as the journal's.
+fn shows_the_journal(
+    alloc: Global,
+    court: &Court,
+    journal: &Journal,
+    docket: &Docket,
+) -> Result<bool, AllocError> {
+    let of_journal = journal.docket(alloc, court)?;
+    show_the_same(alloc, court, docket, &of_journal)
 }
 
 /// How many cases were opened.
