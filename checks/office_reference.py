@@ -33,8 +33,9 @@ class Words(argparse.ArgumentParser):
 def options_in(words):
     """How many clerks there are, and how many entries the journal takes, by the words of a command line."""
     parser = Words(add_help=False, allow_abbrev=False)
-    parser.add_argument("--clerks", type=int, default=1, choices=range(1, 65))
-    parser.add_argument("--journal", type=int, default=100000, choices=range(1000001))
+    # with no metavar argparse writes out all choices each time, and a million of them take a fifth of a second
+    parser.add_argument("--clerks", type=int, default=1, choices=range(1, 65), metavar="N")
+    parser.add_argument("--journal", type=int, default=100000, choices=range(1000001), metavar="N")
     return parser.parse_args(words)
 
 
