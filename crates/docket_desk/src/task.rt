@@ -10,7 +10,9 @@ pub enum Task {
     Open(String),
     /// Rows, which are kept and answered, except those that draw a warning. The day counts as today, if there is one.
     EnterCarefully(Option<Day>),
-    /// What no other program may enter rows beside.
+    /// Another court's file, of this name, and whether it is taken though answers differ.
+    Court(String, bool),
+    /// What else is done while no other program has the journal open.
     Alone(Alone),
     /// What is done beside another program that may enter rows.
     Beside(Beside),
@@ -29,8 +31,8 @@ pub enum Alone {
     Rows,
     /// How many rows are kept, or what is damaged.
     Check,
-    /// Another court's file, of this name, and whether it is taken though answers differ.
-    Court(String, bool),
+    /// Another court's file, with these bytes, and whether it is taken though answers differ.
+    Court(Vec<u8>, bool),
     /// A row that is struck.
     Strike(Struck),
 }

@@ -124,23 +124,6 @@ fn rows<W: Write>(
     )
 }
 
-// Goes by another court's file from here on.
-fn change<W: Write>(
-    rt: &HostRuntime,
-    writer: &mut Watched<W>,
-    desk: &mut FolderDesk,
-    entries: &[Vec<u8>],
-    court: &str,
-    accept: bool,
-) -> Result<(), DeskFault>
-    requires works { has_failed writer.old ≡ false }
-    requires some { 0 < length entries.now }
-    requires few { length entries.now ≤ 1000000 }
-{
-    let file = read_file(rt, court)?;
-    desk.change(rt.alloc(), entries, &file, accept, writer)
-}
-
 // Strikes a row.
 fn strike<W: Write>(
     rt: &HostRuntime,
@@ -178,9 +161,7 @@ fn done_on<W: Write>(
 {
     match task {
         Alone::Rows => rows(rt, writer, desk, &entries),
-        Alone::Court(court, accept) => {
-            change(rt, writer, desk, &entries, court.as_str(), *accept)
-        }
+        Alone::Court(file, accept) => desk.change(rt.alloc(), &entries, file, *accept, writer),
         Alone::Strike(struck) => strike(rt, writer, desk, &entries, struck),
         Alone::Check => write_count(rt.alloc(), desk.rows(), writer),
         Alone::Enter => {
@@ -198,8 +179,8 @@ fn done_on<W: Write>(
     }
 }
 
-// Does a task while no other program has the folder's journal open. It owns the desk and nothing else: a function that owned
-// more would be dear to prove, since each way out of it drops all.
+// Does a task while no other program has the folder's journal open. It owns the desk, and hands it to functions that have more
+// ways out: a function that owns a desk and has many is dear to prove, since each drops all that it owns.
 fn done_alone<W: Write>(
     rt: &HostRuntime,
     writer: &mut Watched<W>,
@@ -214,6 +195,20 @@ fn done_alone<W: Write>(
     ended
 }
 
+// Goes by another court's file from here on. It is read first, so that where it can't be the journal isn't opened.
+fn change<W: Write>(
+    rt: &HostRuntime,
+    writer: &mut Watched<W>,
+    folder: &str,
+    court: &str,
+    accept: bool,
+) -> Result<(), DeskFault>
+    requires { has_failed writer.old ≡ false }
+{
+    let task = Alone::Court(read_file(rt, court)?, accept);
+    done_alone(rt, writer, &task, folder)
+}
+
 /// Does what is asked for.
 pub fn done<W: Write>(
     rt: &HostRuntime,
@@ -226,6 +221,7 @@ pub fn done<W: Write>(
     match task {
         Task::Open(court) => open_folder(rt, folder, court.as_str()),
         Task::EnterCarefully(today) => enter_carefully(rt, writer, folder, *today),
+        Task::Court(court, accept) => change(rt, writer, folder, court.as_str(), *accept),
         Task::Alone(task) => done_alone(rt, writer, task, folder),
         Task::Beside(task) => done_beside(rt, writer, task, folder),
     }

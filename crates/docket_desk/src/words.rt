@@ -100,7 +100,7 @@ fn court_task(alloc: Global, said: &Said<'_>) -> Result<Task, OptionsFault> {
         return Err(wrong(alloc, WARN_WORDS));
     }
     match said.file {
-        Some(file) => Ok(Task::Alone(Alone::Court(String::from_str(alloc, file)?, said.accept))),
+        Some(file) => Ok(Task::Court(String::from_str(alloc, file)?, said.accept)),
         None => Err(wrong(alloc, COURT_WORDS)),
     }
 }
