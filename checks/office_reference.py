@@ -30,12 +30,23 @@ class Words(argparse.ArgumentParser):
         raise CannotTell(message)
 
 
+class Once(argparse.Action):
+    """An option that may be given once."""
+
+    def __call__(self, parser, namespace, values, option_string=None):
+        given = namespace.__dict__.setdefault("given", set())
+        if self.dest in given:
+            parser.error("argument {}: given twice".format(option_string))
+        given.add(self.dest)
+        setattr(namespace, self.dest, values)
+
+
 def options_in(words):
     """How many clerks there are, and how many entries the journal takes, by the words of a command line."""
     parser = Words(add_help=False, allow_abbrev=False)
     # with no metavar argparse writes out all choices each time, and a million of them take a fifth of a second
-    parser.add_argument("--clerks", type=int, default=1, choices=range(1, 65), metavar="N")
-    parser.add_argument("--journal", type=int, default=100000, choices=range(1000001), metavar="N")
+    parser.add_argument("--clerks", type=int, default=1, choices=range(1, 65), metavar="N", action=Once)
+    parser.add_argument("--journal", type=int, default=100000, choices=range(1000001), metavar="N", action=Once)
     return parser.parse_args(words)
 
 

@@ -9,8 +9,10 @@ use crate::division::divide;
 use crate::fault::OfficeFault;
 use court_days::Court;
 use court_file_text::CourtFault;
-use office_rows::{Row, RowError, read_rows, rows_are_bounded};
+use office_rows::{Row, RowError, rows_are_bounded};
+use parallel_rows::read_rows_by;
 use std::alloc::Global;
+use std::thread::Threads;
 
 /// What an input holds that has no fault.
 #[derive(Drop)]
@@ -24,13 +26,18 @@ pub struct CheckedInput {
 /// The court and the rows of an input, or its first fault: one of the court's file, or else the first of a row that has
 /// one. Rows may be of that number of clerks. `OutOfMemory` alone comes where memory ran out.
 #[tactic(auto, unfolding(crate::specs::Office::input_of))]
-pub fn check_input(alloc: Global, input: &[u8], clerks: u8) -> Result<CheckedInput, OfficeFault>
+pub fn check_input<H: Threads + Sync>(
+    rt: &H,
+    alloc: Global,
+    input: &[u8],
+    clerks: u8,
+) -> Result<CheckedInput, OfficeFault>
     ensures said { AnswersInput IsChecked result (input_of clerks input.now) }
     ensures clerks { IfOk result (λ checked. All (IsOfClerk clerks) checked.rows.items) }
 {
     let (file, rows) = divide(input);
     let court = court_of(alloc, file)?;
-    let rows = rows_behind(alloc, rows, clerks, &court)?;
+    let rows = rows_after(rt, alloc, rows, clerks, &court)?;
     Ok(CheckedInput { court, rows })
 }
 
@@ -46,7 +53,8 @@ fn court_of(alloc: Global, file: &[u8]) -> Result<Court, OfficeFault>
 }
 
 // The rows that the bytes after the court's file are.
-fn rows_behind(
+fn rows_after<H: Threads + Sync>(
+    rt: &H,
     alloc: Global,
     bytes: &[u8],
     clerks: u8,
@@ -56,7 +64,7 @@ fn rows_behind(
     ensures clerks { IfOk result (λ rows. All (IsOfClerk clerks) rows.items) }
 {
     rows_are_bounded();
-    match read_rows(alloc, bytes, clerks, court) {
+    match read_rows_by(rt, alloc, bytes, clerks, court, clerks) {
         Ok(rows) => Ok(rows),
         Err(RowError::Fault(number, cause)) => Err(OfficeFault::Row(number, cause)),
         Err(RowError::OutOfMemory) => Err(OfficeFault::OutOfMemory),

@@ -20,7 +20,7 @@ pub(crate) fn text_of<H: Threads + Wait + Sync, P: Report>(
 ) -> Result<Vec<u8>, OfficeFault>
     ensures { AnswersInput (λ said text. P.is_text report.now (court_part input.now) said text.items) result (input_of (P.clerk_count report.now) input.now) }
 {
-    let checked = check_input(alloc, input, report.clerks())?;
+    let checked = check_input(rt, alloc, input, report.clerks())?;
     match report.text(rt, alloc, divide(input).0, checked) {
         Ok(text) => Ok(text),
         Err(_) => Err(OfficeFault::OutOfMemory),

@@ -1,0 +1,3 @@
+pub mod RecordLemmas
+pub mod RowLemmas
+pub mod PartLemmas
