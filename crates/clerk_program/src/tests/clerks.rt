@@ -107,7 +107,7 @@ fn run<H: Threads + Wait + Sync>(
     script: &Script,
 ) -> Result<(Vec<u8>, bool), Fail> {
     let input = format!(in alloc; "{}%%\n{rows}", file())?;
-    let checked = check_input(alloc, input.as_bytes(), 2)?;
+    let checked = check_input(rt, alloc, input.as_bytes(), 2)?;
     let options = Options::new(2, 100_000).ok_or("options")?;
     let text = text_of(rt, alloc, checked, options, script)?;
     Ok((text, !script.was_late.load(Ordering::SeqCst)))
