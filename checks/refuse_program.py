@@ -8,8 +8,8 @@ standard error; or it could do without that growth, and writes what it would hav
 refusal must write what the file beside INPUT with the ending `.out` has. Where there is one with the ending `.words`, the
 program is called with the words of that line. Clerks in threads of their own don't ask for memory in the same order in
 each run, so that with several clerks it is chance whose growth is refused. Threads are refused in the same way: a
-clerk's thread that can't be had ends the run as a growth does. The status is 0 where all of that is so. It needs Linux,
-Python 3.8 or later and a C compiler, `cc` or the one that CC names.
+clerk's thread that can't be had ends the run as a growth does, and a reader's the run can do without. The status is 0
+where all of that is so. It needs Linux, Python 3.8 or later and a C compiler, `cc` or the one that CC names.
 """
 import pathlib
 import sys
