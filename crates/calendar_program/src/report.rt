@@ -35,6 +35,8 @@ impl Report for Asked {
     ghost use Rattle.numbers_table.specs.Words.{moved_numbers};
     ghost use Rattle.calendar_program.specs.Calendar.{IsCalendarOf};
 
+    type Text = Vec<u8>;
+
     ghost clerk_count = { λ asked. 1 };
 
     // Cases have the names that the court's file gives them, and deadlines and motions the numbers. The names of holidays are in

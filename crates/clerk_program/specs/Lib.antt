@@ -1,3 +1,4 @@
+pub mod ClerkText
 pub mod Text
 pub mod Choice
 pub mod UniqueText

@@ -1,5 +1,6 @@
 //! The answers of clerks, as what is written of a run.
 
+use crate::clerk_text::ClerkText;
 use crate::text::text_of;
 use clerk_gates::OpenGate;
 use office_options::Options;
@@ -20,6 +21,8 @@ pub struct Answers {
 impl Report for Answers {
     ghost use Rattle.clerk_program.specs.Text.{IsTextOf};
 
+    type Text = ClerkText;
+
     ghost clerk_count = { λ answers. answers.options.clerks };
 
     // The names of holidays are in no text.
@@ -35,7 +38,7 @@ impl Report for Answers {
         alloc: Global,
         _file: &[u8],
         checked: CheckedInput,
-    ) -> Result<Vec<u8>, AllocError> {
+    ) -> Result<ClerkText, AllocError> {
         text_of(rt, alloc, checked, self.options, &OpenGate)
     }
 }

@@ -3,6 +3,7 @@
 #![tactic(auto)]
 
 mod answers;
+mod clerk_text;
 mod laws;
 mod office;
 mod program;
@@ -11,6 +12,7 @@ mod tests;
 mod text;
 
 pub use answers::Answers;
+pub use clerk_text::ClerkText;
 pub use laws::texts_are_unique;
 pub use office::run_office;
 pub use program::ClerkOffice;

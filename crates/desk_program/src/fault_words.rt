@@ -1,9 +1,10 @@
 //! What is said of a line that has a fault: what was found, and what is expected there.
-ghost use Rattle.std.specs.Prelude.{◌≡◌, ◌==◌, ◌++◌, List, OnOk};
+ghost use Rattle.std.specs.Prelude.{◌≡◌, ◌==◌, ◌++◌, List, OnOk, option_map};
 ghost use Rattle.std.specs.List.{after_first, before_first};
-ghost use Rattle.desk_program.specs.FaultWords.{expected, fault_words, field_words, form_text, form_words, found_text, line_words, not_text, part};
+ghost use Rattle.desk_program.specs.FaultWords.{expected, expected_at, fault_words, field_words, form_said, form_words, found_text, line_words, marks, not_text, part};
 
 use office_rows::RowCause;
+use row_columns::{Column, column_at, columns_of, commands_listed, mark_of};
 use std::alloc::{AllocError, Global};
 
 // What comes before the first comma of a text: all of it where there is none.
@@ -42,58 +43,29 @@ fn part(line: &str, commas: u8) -> &str
     before_comma(rest)
 }
 
-// How the rows of a command are written; nothing where there is no such command. What may be left empty is in brackets.
-#[tactic(auto, unfolding(crate::specs::FaultWords::form_text))]
-fn form_text(command: &str) -> &'static str
-    ensures { result.now ≡ form_text command.now }
+// What is expected in a column.
+fn expected(column: Column) -> &'static str
+    ensures { result.now ≡ expected column }
 {
-    match command {
-        "open" => "CLERK,open,CASE,DATE",
-        "start" => "CLERK,start,CASE,PERIOD,DATE,[TIME],[SECOND],[KIND]",
-        "file" => "CLERK,file,CASE,DEADLINE,DATE,TIME,MEANS",
-        "extend" => "CLERK,extend,CASE,DEADLINE,GRANT,DATE,TIME,MOTION?,CAUSE?,NEGLECT?",
-        "motion" => "CLERK,motion,CASE,DATE,NEED",
-        "book" => "CLERK,book,CASE,MOTION,JUDGE,ROOM,DATE,START,SLOTS,NOTICE",
-        "move" => "CLERK,move,CASE,MOTION,JUDGE,ROOM,DATE,START,SLOTS,NOTICE",
-        "cancel" => "CLERK,cancel,CASE,MOTION",
-        "holiday" => "CLERK,holiday,DATE,LIST",
-        "inaccessible" => "CLERK,inaccessible,DATE,FROM,TO",
-        "sheet" => "CLERK,sheet,CASE",
-        "calendar" => "CLERK,calendar,JUDGE,DATE",
-        "compute" => "CLERK,compute,PERIOD,DATE,[TIME],[SECOND],[KIND]",
-        _ => "",
-    }
-}
-
-// What is expected in a field of this name.
-#[tactic(auto, unfolding(crate::specs::FaultWords::expected))]
-fn expected(name: &str) -> &'static str
-    ensures { result.now ≡ expected name.now }
-{
-    match name {
-        "CASE" => "a number, as 7, or the number of a case that was opened, as 1:25-cv-01234",
-        "DEADLINE" => "a number, as 7",
-        "MOTION" => "a number, as 7",
-        "DATE" => "a date, as 2025-09-02",
-        "NOTICE" => "a date, as 2025-09-02",
-        "[SECOND]" => "a date, as 2025-09-02, or nothing",
-        "TIME" => "a time, as 09:30",
-        "FROM" => "a time, as 09:30",
-        "[TIME]" => "a time, as 09:30, or nothing",
-        "START" => "a time on a quarter hour, as 09:30",
-        "TO" => "a time, as 16:30, or 24:00",
-        "PERIOD" => "a period, as 59e or 14d/after/filing/event/plain",
-        "[KIND]" => "a kind of service, A to F, or nothing",
-        "MEANS" => "electronic or paper",
-        "GRANT" => "+7d, +24h, or a date, as 2025-09-02",
-        "MOTION?" => "yes or no",
-        "CAUSE?" => "yes or no",
-        "NEGLECT?" => "yes or no",
-        "NEED" => "days of notice, as 14, or exparte",
-        "JUDGE" => "a judge, or up to three joined by +",
-        "SLOTS" => "half hours, as 2, or quarter hours, as 3q",
-        "LIST" => "federal or state",
-        _ => "what FORMATS.md has under Rows",
+    match column {
+        Column::Case => "a number, as 7, or the number of a case that was opened, as 1:25-cv-01234",
+        Column::Deadline | Column::Motion => "a number, as 7",
+        Column::Date | Column::Notice => "a date, as 2025-09-02",
+        Column::SecondOrNone => "a date, as 2025-09-02, or nothing",
+        Column::Time | Column::From => "a time, as 09:30",
+        Column::TimeOrNone => "a time, as 09:30, or nothing",
+        Column::Start => "a time on a quarter hour, as 09:30",
+        Column::To => "a time, as 16:30, or 24:00",
+        Column::Period => "a period, as 59e or 14d/after/filing/event/plain",
+        Column::ServiceOrNone => "a kind of service, A to F, or nothing",
+        Column::Means => "electronic or paper",
+        Column::Grant => "+7d, +24h, or a date, as 2025-09-02",
+        Column::ByMotion | Column::Cause | Column::Neglect => "yes or no",
+        Column::Need => "days of notice, as 14, or exparte",
+        Column::Judge | Column::Judges => "a judge, or up to three joined by +",
+        Column::Slots => "half hours, as 2, or quarter hours, as 3q",
+        Column::Holidays => "federal or state",
+        Column::Clerk | Column::Command | Column::Room => "what FORMATS.md has under Rows",
     }
 }
 
@@ -113,16 +85,52 @@ fn push_found(alloc: Global, text: &mut Vec<u8>, line: &str, commas: u8) -> Resu
     text.extend_from_slice(said.as_bytes())
 }
 
+// Adds what stands for each of these columns of a command's rows, with a comma between two.
+fn push_marks(text: &mut Vec<u8>, word: &str, columns: &[Column]) -> Result<(), AllocError>
+    ensures { OnOk result (text.new.items ≡ text.old.items ++ marks word.now columns.now) }
+{
+    match columns {
+        [] => Ok(()),
+        [column] => text.extend_from_slice(mark_of(word, *column).as_bytes()),
+        [column, rest @ ..] => {
+            text.extend_from_slice(mark_of(word, *column).as_bytes())?;
+            text.extend_from_slice(b",")?;
+            push_marks(text, word, rest)
+        }
+    }
+}
+
+// Adds how the rows with this command word are written, which have these columns.
+fn push_form_said(
+    text: &mut Vec<u8>,
+    word: &str,
+    columns: Option<&[Column]>,
+) -> Result<(), AllocError>
+    ensures { OnOk result (text.new.items ≡ text.old.items ++ form_said word.now (option_map (λ each. each.now) columns.entry)) }
+{
+    match columns {
+        Some(columns) => push_marks(text, word, columns),
+        None => text.extend_from_slice(b"CLERK,COMMAND and what the command takes"),
+    }
+}
+
 // Adds how the rows of a line's command are written.
 fn push_form(text: &mut Vec<u8>, line: &str) -> Result<(), AllocError>
     ensures { OnOk result (text.new.items ≡ text.old.items ++ form_words line.now) }
 {
-    let form = form_text(part(line, 1));
-    if form.is_empty() {
-        return text.extend_from_slice(b"expected CLERK,COMMAND and what the command takes");
-    }
+    let word = part(line, 1);
     text.extend_from_slice(b"expected ")?;
-    text.extend_from_slice(form.as_bytes())
+    push_form_said(text, word, columns_of(word))
+}
+
+// What is expected in a column of the rows with this command word, counted from 0.
+fn expected_at(word: &str, number: usize) -> &'static str
+    ensures { result.now ≡ expected_at word.now number }
+{
+    match columns_of(word) {
+        Some(columns) => expected(column_at(columns, number)),
+        None => expected(Column::Command),
+    }
 }
 
 // Adds what is expected in a column of a line's command, counted from 1.
@@ -132,7 +140,7 @@ fn push_field(alloc: Global, text: &mut Vec<u8>, line: &str, column: u8) -> Resu
     let commas = column.saturating_sub(1);
     push_found(alloc, text, line, commas)?;
     text.extend_from_slice(b"expected ")?;
-    text.extend_from_slice(expected(part(form_text(part(line, 1)), commas)).as_bytes())
+    text.extend_from_slice(expected_at(part(line, 1), usize::from(commas)).as_bytes())
 }
 
 // Adds what is said of a line that isn't text.
@@ -158,7 +166,8 @@ fn push_line_words(
         }
         RowCause::UnknownCommand => {
             push_found(alloc, text, line, 1)?;
-            text.extend_from_slice(COMMANDS)
+            text.extend_from_slice(b"expected ")?;
+            text.extend_from_slice(commands_listed().as_bytes())
         }
         RowCause::WrongCount => push_form(text, line),
         RowCause::BadField(column) => push_field(alloc, text, line, column),
@@ -168,9 +177,6 @@ fn push_line_words(
         ),
     }
 }
-
-const COMMANDS: &[u8] =
-    b"expected open, start, file, extend, motion, book, move, cancel, holiday, inaccessible, sheet, calendar or compute";
 
 /// Adds what is said of a line that has this fault.
 pub(crate) fn push_fault_words(

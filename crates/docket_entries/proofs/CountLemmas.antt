@@ -20,8 +20,8 @@ use Rattle.office_rows.specs.declared.row.Work.{Work}
 use Rattle.office_rows.specs.declared.row.Work.TheVariants.{Command, Query}
 use Rattle.office_run.specs.declared.reply.Reply.TheVariants.{Made}
 use Rattle.office_run.specs.Words.{docketed_then, reply_to}
-use Rattle.kept_numbers.specs.declared.given.Counted.{Counted}
-use Rattle.kept_numbers.specs.declared.given.Counted.TheVariants as counted
+use Rattle.docket_rows.specs.declared.command.Counted.{Counted}
+use Rattle.docket_rows.specs.declared.command.Counted.TheVariants as counted
 use Rattle.kept_numbers.specs.declared.given.Given.{Given}
 use Rattle.kept_numbers.specs.declared.moved.Moved.{Moved}
 use Rattle.kept_numbers.specs.Words.{given_by, placed}

@@ -12,11 +12,12 @@ use Rattle.office_rows.specs.declared.row.Work.TheVariants as work
 use Rattle.office_rows.specs.Words.{names_of}
 use Rattle.office_run.specs.declared.reply.Reply.{Reply}
 use Rattle.office_run.specs.declared.reply.Reply.TheVariants.{Made, Viewed}
-use Rattle.kept_numbers.specs.declared.given.Counted.{Counted}
-use Rattle.kept_numbers.specs.declared.given.Counted.TheVariants.{Deadline, Motion}
+use Rattle.docket_rows.specs.declared.command.Counted.{Counted}
+use Rattle.docket_rows.specs.declared.command.Counted.TheVariants.{Deadline, Motion}
 use Rattle.kept_numbers.specs.declared.given.Given.{Given}
 use Rattle.kept_numbers.specs.declared.moved.Moved.{Moved}
-use Rattle.kept_numbers.specs.Words.{NumbersView, are_alike, given_by, is_at, number_for, number_in, number_of, numbered, numbers_after, placed, with_number}
+use Rattle.docket_rows.specs.Words.{are_alike}
+use Rattle.kept_numbers.specs.Words.{NumbersView, given_by, is_at, number_for, number_in, number_of, numbered, numbers_after, placed, with_number}
 use Rattle.kept_numbers.proofs.CallerLemmas.{found_after, its_place, none_found}
 use Rattle.row_line.specs.declared.line.Line.{Line}
 use Rattle.row_line.specs.declared.line.Line.TheVariants as line

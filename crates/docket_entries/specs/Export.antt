@@ -1,11 +1,12 @@
 -- The rows of the docket that stands, as they are written for other programs: no row that is struck, and deadlines and motions
 -- by their places, as those programs count them.
-use Rattle.std.specs.Prelude.{ℕ, ◌+◌, List, [], ◌∷◌, ◌++◌, Option, Some, None, drop, nat_eq, take, if◌then◌else◌}
+use Rattle.std.specs.Prelude.{ℕ, ◌+◌, List, [], ◌∷◌, ◌++◌, Option, Some, None, option_map, drop, nat_eq, take, if◌then◌else◌}
 use Rattle.std.specs.Fmt.{decimal}
 use Rattle.csv.specs.Writing.{default_writer, row_text}
 use Rattle.case_numbers.specs.Words.{after_name}
 use Rattle.docket_rows.specs.declared.command.Command.{Command as CommandOf}
-use Rattle.docket_rows.specs.declared.command.Command.TheVariants.{Book, Cancel, Extend, FileAct, MoveHearing}
+use Rattle.docket_rows.specs.declared.command.Subject.{Subject}
+use Rattle.docket_rows.specs.Words.{subject_of}
 use Rattle.office_rows.specs.declared.row.Work.{Work}
 use Rattle.office_rows.specs.declared.row.Work.TheVariants.{Command, Query}
 use Rattle.office_rows.specs.Words.{names_of}
@@ -20,12 +21,7 @@ use Rattle.docket_entries.specs.Entries.{most_clerks}
 
 -- the number of the deadline or the motion that a command names, which is the fourth field of its row
 abbrev pub number_in : CommandOf → Option ℕ
-number_in (FileAct case deadline filing) = Some deadline
-number_in (Extend case deadline request) = Some deadline
-number_in (Book setting) = Some setting.motion
-number_in (MoveHearing setting) = Some setting.motion
-number_in (Cancel case motion) = Some motion
-number_in command = None
+number_in command = option_map (λ (s : Subject). s.number) (subject_of command)
 
 abbrev pub number_asked : Work → Option ℕ
 number_asked (Command command) = number_in command

@@ -18,13 +18,9 @@ use std::alloc::{AllocError, Global};
 fn number_in(command: &Command) -> Option<u32>
     ensures { result ≡ number_in command.now }
 {
-    match command {
-        Command::FileAct { deadline, .. } => Some(*deadline),
-        Command::Extend { deadline, .. } => Some(*deadline),
-        Command::Book(setting) => Some(setting.motion),
-        Command::MoveHearing(setting) => Some(setting.motion),
-        Command::Cancel { motion, .. } => Some(*motion),
-        _ => None,
+    match command.subject() {
+        Some(named) => Some(named.number),
+        None => None,
     }
 }
 

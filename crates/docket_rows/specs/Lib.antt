@@ -12,6 +12,7 @@ pub mod Refusals
 pub mod Rows
 pub mod Seen
 pub mod Step
+pub mod Subject
 pub mod View
 pub mod Words
 pub mod Writes

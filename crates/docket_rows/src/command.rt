@@ -1,6 +1,7 @@
 //! What a clerk can ask of a docket.
 
 ghost use Rattle.std.specs.Prelude.{◌≡◌, IfOk};
+ghost use Rattle.docket_rows.specs.Subject.{are_alike, naming, subject_of};
 
 use crate::hearing::Setting;
 use court_clock::Day;
@@ -89,11 +90,96 @@ pub enum Command {
     },
 }
 
+/// What is counted in a case, from 1 on.
+#[derive(Clone, Copy, Debug, PartialEq, Eq)]
+pub enum Counted {
+    /// Its deadlines.
+    Deadline,
+    /// Its motions.
+    Motion,
+}
+
+impl Counted {
+    /// Whether both are deadlines, or both are motions.
+    pub fn is_like(self, other: Counted) -> bool
+        ensures { result ≡ are_alike self other }
+    {
+        match self {
+            Counted::Deadline => match other {
+                Counted::Deadline => true,
+                Counted::Motion => false,
+            },
+            Counted::Motion => match other {
+                Counted::Deadline => false,
+                Counted::Motion => true,
+            },
+        }
+    }
+}
+
+/// A deadline or a motion, as a command names it.
+#[derive(Clone, Copy, Debug, PartialEq, Eq)]
+pub struct Subject {
+    /// The number of the case.
+    pub case: u32,
+    /// Whether it is a deadline or a motion.
+    pub counted: Counted,
+    /// Its number in the case.
+    pub number: u32,
+}
+
 impl Command {
     /// The same command. It takes no memory.
     pub fn copy(&self) -> Result<Command, AllocError>
         ensures { IfOk result (λ command. command ≡ self.now) }
     {
         Ok(*self)
+    }
+
+    /// The deadline or the motion that the command names by its number. `None` where it names neither, as where it starts
+    /// or enters one.
+    pub fn subject(&self) -> Option<Subject>
+        ensures { result ≡ subject_of self.now }
+    {
+        let (case, counted, number) = match *self {
+            Command::FileAct { case, deadline, .. } | Command::Extend { case, deadline, .. } => {
+                (case, Counted::Deadline, deadline)
+            }
+            Command::Book(setting) | Command::MoveHearing(setting) => {
+                (setting.case, Counted::Motion, setting.motion)
+            }
+            Command::Cancel { case, motion } => (case, Counted::Motion, motion),
+            _ => return None,
+        };
+        Some(Subject {
+            case,
+            counted,
+            number,
+        })
+    }
+
+    /// The same command, with another number for the deadline or the motion that it names.
+    pub fn naming(&self, number: u32) -> Command
+        ensures { result ≡ naming self.now number }
+    {
+        match *self {
+            Command::FileAct { case, filing, .. } => Command::FileAct {
+                case,
+                deadline: number,
+                filing,
+            },
+            Command::Extend { case, request, .. } => Command::Extend {
+                case,
+                deadline: number,
+                request,
+            },
+            Command::Book(setting) => Command::Book(setting.naming(number)),
+            Command::MoveHearing(setting) => Command::MoveHearing(setting.naming(number)),
+            Command::Cancel { case, .. } => Command::Cancel {
+                case,
+                motion: number,
+            },
+            _ => *self,
+        }
     }
 }

@@ -1,5 +1,7 @@
 //! Hearings of motions.
 
+ghost use Rattle.std.specs.Prelude.{◌≡◌};
+
 use court_clock::Day;
 use hearing_slots::Panel;
 
@@ -39,4 +41,15 @@ pub struct Setting {
     pub count: u32,
     /// The day on which the notice of the hearing was served.
     pub notice: Day,
+}
+
+impl Setting {
+    // The same, of another motion of the case.
+    pub(crate) fn naming(&self, number: u32) -> Setting
+        ensures { result ≡ record self.now { motion = number } }
+    {
+        let mut setting = *self;
+        setting.motion = number;
+        setting
+    }
 }

@@ -4,7 +4,7 @@ use Rattle.std.specs.Prelude.{All, nat_eq, nat_le}
 use Rattle.std.proofs.lemmas.Bool.Decides.{nat_tests}
 use Rattle.std.proofs.lemmas.List.{at_drop_more, drop_all}
 use Rattle.std.proofs.lemmas.List.Elements.{All-nil, All-cons}
-use Rattle.kept_numbers.specs.declared.given.Counted.{Counted}
+use Rattle.docket_rows.specs.declared.command.Counted.{Counted}
 use Rattle.kept_numbers.specs.declared.given.Given.{Given}
 use Rattle.kept_numbers.specs.declared.moved.Moved.{Moved}
 use Rattle.kept_numbers.specs.Kept.{after_given, after_one}

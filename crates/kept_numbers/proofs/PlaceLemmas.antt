@@ -2,10 +2,10 @@
 use Rattle.std.proofs.Common.{◌≡◌, ◌∙◌, ℕ, Bool, true, false, cond, ◌||◌, List, [], ◌∷◌, ◌++◌, Option, Some, None, find, nat_eq, refl, ap, arith}
 use Rattle.std.proofs.lemmas.Bool.Decides.{nat_tests}
 use Rattle.std.specs.List.{list_any}
-use Rattle.kept_numbers.specs.declared.given.Counted.{Counted}
-use Rattle.kept_numbers.specs.declared.given.Counted.TheVariants.{Deadline, Motion}
+use Rattle.docket_rows.specs.declared.command.Counted.{Counted}
+use Rattle.docket_rows.specs.declared.command.Counted.TheVariants.{Deadline, Motion}
 use Rattle.kept_numbers.specs.declared.moved.Moved.{Moved}
-use Rattle.kept_numbers.specs.Given.{are_alike}
+use Rattle.docket_rows.specs.Words.{are_alike}
 use Rattle.kept_numbers.specs.Laws.{NumberAndPlaceGoTogether, OthersAreAtTheirPlaces}
 use Rattle.kept_numbers.specs.Moved.{has_number, is_at, number_in, number_of, place_in, place_of}
 

@@ -6,7 +6,6 @@ use Rattle.docket_rows.specs.declared.answer.Answer.{Answer}
 use Rattle.docket_rows.specs.declared.answer.Answer.TheVariants as answer
 use Rattle.docket_rows.specs.declared.command.Command.{Command}
 use Rattle.docket_rows.specs.declared.command.Command.TheVariants as command
-use Rattle.docket_rows.specs.declared.hearing.Setting.{Setting}
 use Rattle.docket_rows.specs.declared.refusal.Refusal.{Refusal}
 use Rattle.docket_rows.specs.declared.refusal.Refusal.TheVariants.{JudgeBusy, RoomBusy, HearingThatDay, NoticeLost}
 use Rattle.docket_rows.specs.declared.sheet.Sheet.{Sheet}
@@ -18,11 +17,11 @@ use Rattle.office_rows.specs.declared.row.Work.{Work}
 use Rattle.office_rows.specs.declared.row.Work.TheVariants as work
 use Rattle.office_run.specs.declared.reply.Reply.{Reply}
 use Rattle.office_run.specs.declared.reply.Reply.TheVariants.{Made, Viewed}
-use Rattle.kept_numbers.specs.declared.given.Counted.{Counted}
-use Rattle.kept_numbers.specs.declared.given.Counted.TheVariants.{Deadline, Motion}
+use Rattle.docket_rows.specs.declared.command.Counted.{Counted}
+use Rattle.docket_rows.specs.declared.command.Counted.TheVariants.{Deadline, Motion}
 use Rattle.kept_numbers.specs.declared.moved.Moved.{Moved}
 use Rattle.kept_numbers.specs.Laws.{WithNoneMovedNothingChanges}
-use Rattle.kept_numbers.specs.Numbered.{case_of, numbered, numbered_answer, numbered_booking, numbered_deadline, numbered_motion, numbered_refusal, numbered_sheet, numbered_view, placed, placed_command, placed_setting}
+use Rattle.kept_numbers.specs.Numbered.{case_of, numbered, numbered_answer, numbered_booking, numbered_deadline, numbered_motion, numbered_refusal, numbered_sheet, numbered_view, placed, placed_command}
 use Rattle.kept_numbers.specs.Moved.{number_in, place_in}
 
 same_place : (case : ℕ) (counted : Counted) (number : ℕ) → place_in [] case counted number ≡ number
@@ -33,14 +32,11 @@ same_number : (case : ℕ) (counted : Counted) (place : ℕ) → number_in [] ca
 unfolding number_in
 same_number case counted place = refl
 
-same_setting : (s : Setting) → placed_setting [] s ≡ s
-same_setting s = ap (λ n. record s { motion = n }) (same_place s.case Motion s.motion)
-
 same_command : (c : Command) → placed_command [] c ≡ c
 same_command (command.FileAct case deadline filing) = ap (λ n. command.FileAct case n filing) (same_place case Deadline deadline)
 same_command (command.Extend case deadline request) = ap (λ n. command.Extend case n request) (same_place case Deadline deadline)
-same_command (command.Book setting) = ap command.Book (same_setting setting)
-same_command (command.MoveHearing setting) = ap command.MoveHearing (same_setting setting)
+same_command (command.Book s) = ap (λ n. command.Book (record s { motion = n })) (same_place s.case Motion s.motion)
+same_command (command.MoveHearing s) = ap (λ n. command.MoveHearing (record s { motion = n })) (same_place s.case Motion s.motion)
 same_command (command.Cancel case motion) = ap (λ n. command.Cancel case n) (same_place case Motion motion)
 same_command other = refl
 

@@ -1,7 +1,7 @@
 -- What is noted of the numbers that were given.
 use Rattle.std.proofs.Common.{◌≡◌, ◌∙◌, ℕ, zero, suc, List, [], ◌∷◌, ◌++◌, Option, drop, max, refl, ap, arith}
 use Rattle.std.specs.Prelude.{slice_index_or}
-use Rattle.kept_numbers.specs.declared.given.Counted.{Counted}
+use Rattle.docket_rows.specs.declared.command.Counted.{Counted}
 use Rattle.kept_numbers.specs.declared.given.Given.{Given}
 use Rattle.kept_numbers.specs.Kept.{after_given}
 use Rattle.kept_numbers.specs.Tops.{slot_of}

@@ -1,23 +1,17 @@
 -- The number that a row gives to the deadline that it starts, or to the motion that it enters.
-use Rattle.std.specs.Prelude.{ℕ, ◌&&◌, Bool, true, false, Option, Some, None, nat_eq}
+use Rattle.std.specs.Prelude.{ℕ, ◌&&◌, Bool, Option, Some, None, nat_eq}
 use Rattle.docket_rows.specs.declared.answer.Answer.{Answer}
 use Rattle.docket_rows.specs.declared.answer.Answer.TheVariants as answer
 use Rattle.docket_rows.specs.declared.command.Command.{Command}
 use Rattle.docket_rows.specs.declared.command.Command.TheVariants as command
+use Rattle.docket_rows.specs.Words.{are_alike}
 use Rattle.office_rows.specs.declared.row.Work.{Work}
 use Rattle.office_rows.specs.declared.row.Work.TheVariants as work
 use Rattle.office_run.specs.declared.reply.Reply.{Reply}
 use Rattle.office_run.specs.declared.reply.Reply.TheVariants.{Made}
-use Rattle.kept_numbers.specs.declared.given.Counted.{Counted}
-use Rattle.kept_numbers.specs.declared.given.Counted.TheVariants.{Deadline, Motion}
+use Rattle.docket_rows.specs.declared.command.Counted.{Counted}
+use Rattle.docket_rows.specs.declared.command.Counted.TheVariants.{Deadline, Motion}
 use Rattle.kept_numbers.specs.declared.given.Given.{Given}
-
--- both are deadlines, or both are motions
-abbrev pub are_alike : Counted → Counted → Bool
-are_alike Deadline Deadline = true
-are_alike Deadline Motion = false
-are_alike Motion Deadline = false
-are_alike Motion Motion = true
 
 -- it is of that case and kind
 abbrev pub is_of : (case : ℕ) → Counted → Given → Bool

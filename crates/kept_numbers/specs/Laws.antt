@@ -3,7 +3,7 @@ use Rattle.std.specs.Prelude.{◌≡◌, ◌<◌, ◌≤◌, ⊤, ℕ, true, fal
 use Rattle.std.specs.List.{list_any}
 use Rattle.office_rows.specs.declared.row.Work.{Work}
 use Rattle.office_run.specs.declared.reply.Reply.{Reply}
-use Rattle.kept_numbers.specs.declared.given.Counted.{Counted}
+use Rattle.docket_rows.specs.declared.command.Counted.{Counted}
 use Rattle.kept_numbers.specs.declared.given.Given.{Given}
 use Rattle.kept_numbers.specs.declared.moved.Moved.{Moved}
 use Rattle.kept_numbers.specs.Given.{is_of}

@@ -1,9 +1,9 @@
 -- What isn't at the place that its number says. All else that is counted in a case has its place as its number.
 use Rattle.std.specs.Prelude.{ℕ, ◌+◌, ◌&&◌, Bool, List, [], ◌∷◌, Option, Some, None, find, max, nat_eq, if◌then◌else◌}
 use Rattle.std.specs.List.{list_any}
-use Rattle.kept_numbers.specs.declared.given.Counted.{Counted}
+use Rattle.docket_rows.specs.declared.command.Counted.{Counted}
+use Rattle.docket_rows.specs.Words.{are_alike}
 use Rattle.kept_numbers.specs.declared.moved.Moved.{Moved}
-use Rattle.kept_numbers.specs.Given.{are_alike}
 
 -- it is of that case and kind
 abbrev pub is_moved : (case : ℕ) → Counted → Moved → Bool

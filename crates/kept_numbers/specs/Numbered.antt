@@ -1,11 +1,12 @@
 -- Works and replies: inside the docket things are counted by their places, and outside they have numbers.
 use Rattle.std.specs.Prelude.{ℕ, List, map}
+use Rattle.std.specs.Option.{option_map_or}
 use Rattle.hearing_slots.specs.declared.booking.Booking.{Booking}
 use Rattle.docket_rows.specs.declared.answer.Answer.{Answer}
 use Rattle.docket_rows.specs.declared.answer.Answer.TheVariants as answer
 use Rattle.docket_rows.specs.declared.command.Command.{Command}
 use Rattle.docket_rows.specs.declared.command.Command.TheVariants as command
-use Rattle.docket_rows.specs.declared.hearing.Setting.{Setting}
+use Rattle.docket_rows.specs.declared.command.Subject.{Subject}
 use Rattle.docket_rows.specs.declared.refusal.Refusal.{Refusal}
 use Rattle.docket_rows.specs.declared.refusal.Refusal.TheVariants.{JudgeBusy, RoomBusy, HearingThatDay, NoticeLost}
 use Rattle.docket_rows.specs.declared.sheet.Sheet.{Sheet}
@@ -13,26 +14,19 @@ use Rattle.docket_rows.specs.declared.sheet.SheetDeadline.{SheetDeadline}
 use Rattle.docket_rows.specs.declared.sheet.SheetMotion.{SheetMotion}
 use Rattle.docket_rows.specs.declared.view.View.{View}
 use Rattle.docket_rows.specs.declared.view.View.TheVariants as view
+use Rattle.docket_rows.specs.Words.{naming, subject_of}
 use Rattle.office_rows.specs.declared.row.Work.{Work}
 use Rattle.office_rows.specs.declared.row.Work.TheVariants as work
 use Rattle.office_run.specs.declared.reply.Reply.{Reply}
 use Rattle.office_run.specs.declared.reply.Reply.TheVariants.{Made, Viewed}
-use Rattle.kept_numbers.specs.declared.given.Counted.TheVariants.{Deadline, Motion}
+use Rattle.docket_rows.specs.declared.command.Counted.TheVariants.{Deadline, Motion}
 use Rattle.kept_numbers.specs.declared.moved.Moved.{Moved}
 use Rattle.kept_numbers.specs.Moved.{number_in, place_in}
 
--- a setting of the motion at the place of its number
-abbrev pub placed_setting : List Moved → Setting → Setting
-placed_setting moved s = record s { motion = place_in moved s.case Motion s.motion }
-
--- a command with the places of the deadline or the motion that it names
+-- a command with the place of the deadline or the motion that it names
 abbrev pub placed_command : List Moved → Command → Command
-placed_command moved (command.FileAct case deadline filing) = command.FileAct case (place_in moved case Deadline deadline) filing
-placed_command moved (command.Extend case deadline request) = command.Extend case (place_in moved case Deadline deadline) request
-placed_command moved (command.Book setting) = command.Book (placed_setting moved setting)
-placed_command moved (command.MoveHearing setting) = command.MoveHearing (placed_setting moved setting)
-placed_command moved (command.Cancel case motion) = command.Cancel case (place_in moved case Motion motion)
-placed_command moved other = other
+placed_command moved command =
+    option_map_or (λ (s : Subject). naming command (place_in moved s.case s.counted s.number)) (subject_of command) command
 
 -- what a row asks for, by places; a query names no deadline and no motion
 unfoldable pub placed : List Moved → Work → Work

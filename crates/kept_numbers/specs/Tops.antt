@@ -1,7 +1,7 @@
 -- The least number after all that were given, by case and kind, in one list.
 use Rattle.std.specs.Prelude.{◌≡◌, ℕ, ◌+◌, ◌*◌, List, Option, max, nat_eq, slice_index_or, if◌then◌else◌}
-use Rattle.kept_numbers.specs.declared.given.Counted.{Counted}
-use Rattle.kept_numbers.specs.declared.given.Counted.TheVariants.{Deadline, Motion}
+use Rattle.docket_rows.specs.declared.command.Counted.{Counted}
+use Rattle.docket_rows.specs.declared.command.Counted.TheVariants.{Deadline, Motion}
 use Rattle.kept_numbers.specs.declared.given.Given.{Given}
 use Rattle.kept_numbers.specs.Kept.{after_given, after_one}
 

@@ -1,5 +1,4 @@
 -- The words of clauses and definitions, for the crates above, from one place.
-pub use Rattle.kept_numbers.specs.Given.{are_alike}
 pub use Rattle.kept_numbers.specs.Kept.{kept_of}
 pub use Rattle.kept_numbers.specs.Numbers.{NumbersView, new_number, no_numbers, number_for, own_or, passed, with_number}
 unfoldable pub use Rattle.kept_numbers.specs.Given.{given_by}

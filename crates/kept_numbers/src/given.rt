@@ -1,19 +1,10 @@
 //! The number that a row gives to the deadline that it starts, or to the motion that it enters.
 ghost use Rattle.std.specs.Prelude.{◌≡◌};
-ghost use Rattle.kept_numbers.specs.Given.{are_alike, given_by, given_to, is_of};
+ghost use Rattle.kept_numbers.specs.Given.{given_by, given_to, is_of};
 
-use docket_rows::{Answer, Command};
+use docket_rows::{Answer, Command, Counted};
 use office_rows::Work;
 use office_run::Reply;
-
-/// What is counted in a case.
-#[derive(Clone, Copy, Debug, PartialEq, Eq)]
-pub enum Counted {
-    /// Its deadlines.
-    Deadline,
-    /// Its motions.
-    Motion,
-}
 
 /// A number that a row gave.
 #[derive(Clone, Copy, Debug, PartialEq, Eq)]
@@ -24,24 +15,6 @@ pub struct Given {
     pub counted: Counted,
     /// The number, counted from 1.
     pub number: u32,
-}
-
-impl Counted {
-    /// Whether both are deadlines, or both are motions.
-    pub fn is_like(self, other: Counted) -> bool
-        ensures { result ≡ are_alike self other }
-    {
-        match self {
-            Counted::Deadline => match other {
-                Counted::Deadline => true,
-                Counted::Motion => false,
-            },
-            Counted::Motion => match other {
-                Counted::Deadline => false,
-                Counted::Motion => true,
-            },
-        }
-    }
 }
 
 impl Given {

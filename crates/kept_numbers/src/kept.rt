@@ -3,8 +3,9 @@ ghost use Rattle.std.specs.Prelude.{◌≡◌, [], IfOk};
 ghost use Rattle.kept_numbers.specs.Kept.{after_given, kept_of};
 ghost use Rattle.kept_numbers.specs.Tops.{AllNoted};
 
-use crate::given::{Counted, Given};
+use crate::given::Given;
 use crate::tops::Tops;
+use docket_rows::Counted;
 use std::alloc::{AllocError, Global};
 use std::marker::Model;
 

@@ -11,7 +11,7 @@ mod placed;
 mod shown;
 mod tops;
 
-pub use given::{Counted, Given, given_by};
+pub use given::{Given, given_by};
 pub use kept::KeptNumbers;
 pub use laws::{
     a_number_is_given_once, a_row_keeps_its_number, nothing_moves_at_first,

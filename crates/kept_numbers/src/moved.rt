@@ -3,7 +3,7 @@ ghost use Rattle.std.specs.Prelude.{◌≡◌, ◌∷◌, ◌++◌, ◌&&◌, []
 ghost use Rattle.std.specs.List.{list_any};
 ghost use Rattle.kept_numbers.specs.Moved.{after_it, after_moved, has_number, is_at, is_moved, number_in, place_in};
 
-use crate::given::Counted;
+use docket_rows::Counted;
 use std::alloc::{AllocError, Global};
 use std::marker::Model;
 

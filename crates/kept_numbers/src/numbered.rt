@@ -2,9 +2,8 @@
 ghost use Rattle.std.specs.Prelude.{◌≡◌, ℕ};
 ghost use Rattle.kept_numbers.specs.Numbered.{case_of, numbered, numbered_answer, numbered_refusal, numbered_view};
 
-use crate::given::Counted;
 use crate::moved::MovedNumbers;
-use docket_rows::{Answer, Command, Refusal, View};
+use docket_rows::{Answer, Command, Counted, Refusal, View};
 use office_rows::Work;
 use office_run::Reply;
 

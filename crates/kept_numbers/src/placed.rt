@@ -1,10 +1,9 @@
 //! What a row asks for, with the places of what it names.
 ghost use Rattle.std.specs.Prelude.{◌≡◌};
-ghost use Rattle.kept_numbers.specs.Numbered.{placed, placed_command, placed_setting};
+ghost use Rattle.kept_numbers.specs.Numbered.{placed, placed_command};
 
-use crate::given::Counted;
 use crate::moved::MovedNumbers;
-use docket_rows::{Command, Setting};
+use docket_rows::Command;
 use office_rows::Work;
 
 impl MovedNumbers {
@@ -27,41 +26,9 @@ impl MovedNumbers {
     pub fn place_command(&self, command: &Command) -> Command
         ensures { result ≡ placed_command self.now command.now }
     {
-        match command {
-            Command::FileAct {
-                case,
-                deadline,
-                filing,
-            } => Command::FileAct {
-                case: *case,
-                deadline: self.place_of(*case, Counted::Deadline, *deadline),
-                filing: *filing,
-            },
-            Command::Extend {
-                case,
-                deadline,
-                request,
-            } => Command::Extend {
-                case: *case,
-                deadline: self.place_of(*case, Counted::Deadline, *deadline),
-                request: *request,
-            },
-            Command::Book(setting) => Command::Book(self.place_setting(setting)),
-            Command::MoveHearing(setting) => Command::MoveHearing(self.place_setting(setting)),
-            Command::Cancel { case, motion } => Command::Cancel {
-                case: *case,
-                motion: self.place_of(*case, Counted::Motion, *motion),
-            },
-            _ => *command,
+        match command.subject() {
+            Some(named) => command.naming(self.place_of(named.case, named.counted, named.number)),
+            None => *command,
         }
-    }
-
-    // A setting of the motion at the place of its number.
-    fn place_setting(&self, setting: &Setting) -> Setting
-        ensures { result ≡ placed_setting self.now setting.now }
-    {
-        let mut placed = *setting;
-        placed.motion = self.place_of(setting.case, Counted::Motion, setting.motion);
-        placed
     }
 }

@@ -2,9 +2,8 @@
 ghost use Rattle.std.specs.Prelude.{◌≡◌, map};
 ghost use Rattle.kept_numbers.specs.Numbered.{numbered_booking, numbered_deadline, numbered_motion, numbered_sheet};
 
-use crate::given::Counted;
 use crate::moved::MovedNumbers;
-use docket_rows::{Sheet, SheetDeadline, SheetDeadlines, SheetMotion, SheetMotions};
+use docket_rows::{Counted, Sheet, SheetDeadline, SheetDeadlines, SheetMotion, SheetMotions};
 use hearing_slots::{Booking, Bookings};
 
 impl MovedNumbers {

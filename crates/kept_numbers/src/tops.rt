@@ -2,9 +2,10 @@
 ghost use Rattle.std.specs.Prelude.{◌≡◌, ◌<◌, ◌≤◌, ◌++◌, ◌∷◌, [], ℕ, length, max, slice_index_or, OnOk};
 ghost use Rattle.kept_numbers.specs.Kept.{after_one};
 ghost use Rattle.kept_numbers.specs.Tops.{Notes, raised, slot_of};
-ghost use Rattle.kept_numbers.specs.declared.given.Counted.{Counted as CountedOf};
+ghost use Rattle.docket_rows.specs.declared.command.Counted.{Counted as CountedOf};
 
-use crate::given::{Counted, Given};
+use crate::given::Given;
+use docket_rows::Counted;
 use std::alloc::{AllocError, Global};
 use std::marker::Model;
 

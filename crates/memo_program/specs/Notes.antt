@@ -14,7 +14,7 @@ use Rattle.docket_rows.specs.declared.refusal.Refusal.{Refusal}
 use Rattle.docket_rows.specs.declared.view.View.{View}
 use Rattle.docket_rows.specs.declared.view.View.TheVariants as view
 use Rattle.docket_rows.specs.Words.{Rows, parts_of}
-use Rattle.kept_numbers.specs.declared.given.Counted.TheVariants.{Motion}
+use Rattle.docket_rows.specs.declared.command.Counted.TheVariants.{Motion}
 use Rattle.kept_numbers.specs.declared.moved.Moved.{Moved}
 use Rattle.kept_numbers.specs.Words.{number_in}
 use Rattle.office_rows.specs.declared.row.Work.{Work}

@@ -8,7 +8,7 @@ use Rattle.docket_rows.specs.declared.answer.Answer.TheVariants as answer
 use Rattle.docket_rows.specs.declared.command.Command.{Command as CommandOf}
 use Rattle.docket_rows.specs.declared.command.Command.TheVariants as command
 use Rattle.docket_rows.specs.Words.{CourtSetup, Rows}
-use Rattle.kept_numbers.specs.declared.given.Counted.TheVariants.{Deadline}
+use Rattle.docket_rows.specs.declared.command.Counted.TheVariants.{Deadline}
 use Rattle.kept_numbers.specs.declared.moved.Moved.{Moved}
 use Rattle.kept_numbers.specs.Words.{number_in}
 use Rattle.office_rows.specs.declared.row.Row.{Row}

@@ -31,6 +31,8 @@ impl Report for Asked {
     ghost use Rattle.memo_program.specs.Names.{holiday_names};
     ghost use Rattle.numbers_table.specs.Words.{moved_numbers};
 
+    type Text = Vec<u8>;
+
     ghost clerk_count = { λ asked. 1 };
 
     // Holidays and cases have the names, and deadlines and motions the numbers, that the court's file gives them.

@@ -7,8 +7,8 @@ ghost use Rattle.memo_program.specs.Sources.{deed_words, numbered_source, source
 
 use court_days::Court;
 use docket_core::Docket;
-use docket_rows::{Answer, Command};
-use kept_numbers::{Counted, MovedNumbers};
+use docket_rows::{Answer, Command, Counted};
+use kept_numbers::MovedNumbers;
 use office_rows::{Row, Work};
 use office_run::{Reply, reply_to};
 use reason_texts::push_note;

@@ -5,8 +5,8 @@ use Rattle.docket_selection.specs.declared.calendars.JudgeCalendar.{JudgeCalenda
 use Rattle.docket_selection.specs.declared.item.DueItem.{DueItem}
 use Rattle.docket_selection.specs.declared.item.Matter.{Matter}
 use Rattle.docket_selection.specs.declared.item.Matter.TheVariants as matter
-use Rattle.kept_numbers.specs.declared.given.Counted.{Counted}
-use Rattle.kept_numbers.specs.declared.given.Counted.TheVariants.{Deadline, Motion}
+use Rattle.docket_rows.specs.declared.command.Counted.{Counted}
+use Rattle.docket_rows.specs.declared.command.Counted.TheVariants.{Deadline, Motion}
 use Rattle.kept_numbers.specs.declared.moved.Moved.{Moved}
 use Rattle.kept_numbers.specs.Words.{number_in, numbered_booking}
 

@@ -1,10 +1,11 @@
 //! Items of what is due, with the numbers of their deadlines and motions.
 ghost use Rattle.std.specs.Prelude.{◌≡◌, map};
-ghost use Rattle.kept_numbers.specs.declared.given.Counted.{Counted as CountedOf};
+ghost use Rattle.docket_rows.specs.declared.command.Counted.{Counted as CountedOf};
 ghost use Rattle.numbered_selection.specs.Numbered.{counted_in, numbered_item};
 
+use docket_rows::Counted;
 use docket_selection::{DueItem, DueTypes, Matter};
-use kept_numbers::{Counted, MovedNumbers};
+use kept_numbers::MovedNumbers;
 
 // What the number of an item is the number of.
 fn counted_in(matter: &Matter) -> Counted

@@ -4,7 +4,7 @@ use Rattle.std.proofs.lemmas.List.{drop_all}
 use Rattle.toml.specs.declared.value.Value.{Value}
 use Rattle.toml.specs.View.{view, items_view}
 use Rattle.toml.proofs.Views.{items_view-drop}
-use Rattle.kept_numbers.specs.declared.given.Counted.{Counted}
+use Rattle.docket_rows.specs.declared.command.Counted.{Counted}
 use Rattle.kept_numbers.specs.declared.moved.Moved.{Moved}
 use Rattle.numbers_table.specs.Reading.{with_entry, with_list}
 

@@ -3,8 +3,8 @@ use Rattle.std.specs.Prelude.{ℕ, ℤ, pos, int_le, nat_abs, Bool, ◌&&◌, Li
 use Rattle.std.specs.Option.{option_and_then}
 use Rattle.toml.specs.Data.{Data, Items, no_items, item, Members, as_array, as_integer, as_table, at, get_member}
 use Rattle.court_file_text.specs.Words.{toml_of}
-use Rattle.kept_numbers.specs.declared.given.Counted.{Counted}
-use Rattle.kept_numbers.specs.declared.given.Counted.TheVariants.{Deadline, Motion}
+use Rattle.docket_rows.specs.declared.command.Counted.{Counted}
+use Rattle.docket_rows.specs.declared.command.Counted.TheVariants.{Deadline, Motion}
 use Rattle.kept_numbers.specs.declared.moved.Moved.{Moved}
 
 -- a number from 1 on that 32 bits hold

@@ -2,10 +2,10 @@
 use Rattle.std.specs.Prelude.{ℕ, ◌==◌, ◌||◌, List, [], ◌++◌, codes, length, if◌then◌else◌}
 use Rattle.std.specs.Fmt.{decimal}
 use Rattle.std.specs.List.{flat_map}
-use Rattle.kept_numbers.specs.declared.given.Counted.{Counted}
-use Rattle.kept_numbers.specs.declared.given.Counted.TheVariants.{Deadline, Motion}
+use Rattle.docket_rows.specs.declared.command.Counted.{Counted}
+use Rattle.docket_rows.specs.declared.command.Counted.TheVariants.{Deadline, Motion}
 use Rattle.kept_numbers.specs.declared.moved.Moved.{Moved}
-use Rattle.kept_numbers.specs.Words.{are_alike}
+use Rattle.docket_rows.specs.Words.{are_alike}
 use Rattle.numbers_table.specs.Reading.{has_numbers}
 
 -- `  [1, 2, 3],`: in case 1 what is at place 2 has number 3

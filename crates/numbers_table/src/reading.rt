@@ -3,7 +3,8 @@ ghost use Rattle.std.specs.Prelude.{◌≡◌, [], IfOk, OnOk, option_map};
 ghost use Rattle.toml.specs.View.{array_view, items_view, table_view, view};
 ghost use Rattle.numbers_table.specs.Reading.{has_key, has_numbers, in_bits, list_at, moved_in, moved_numbers, number_at, number_of, numbers_in, table_of_numbers, with_entry, with_list, with_numbers};
 
-use kept_numbers::{Counted, Moved, MovedNumbers};
+use docket_rows::Counted;
+use kept_numbers::{Moved, MovedNumbers};
 use std::alloc::{AllocError, Global};
 use toml::value::Array;
 use toml::{Table, Value};

@@ -4,7 +4,8 @@ ghost use Rattle.std.specs.List.{flat_map};
 ghost use Rattle.numbers_table.specs.Writing.{numbers_table, row_if, row_text, table_text};
 
 use crate::reading::has_numbers;
-use kept_numbers::{Counted, Moved, MovedNumbers};
+use docket_rows::Counted;
+use kept_numbers::{Moved, MovedNumbers};
 use std::alloc::{AllocError, Global};
 
 /// Adds the table after a court's file, unless each number is its place or the file has the key already. `Err` says that

@@ -2,5 +2,6 @@ pub mod CallerLemmas
 pub mod DivisionLemmas
 pub mod DividerLemmas
 pub mod FileLemmas
+pub mod GatheredLemmas
 pub mod InputLemmas
 pub mod StatusLemmas

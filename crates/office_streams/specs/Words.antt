@@ -7,4 +7,5 @@ pub use Rattle.office_streams.specs.Divider.{FirstDividerDivides, IsDividedAtDiv
 pub use Rattle.office_streams.specs.Fault.{fault_text, no_text_line, told_line, status_number, IsTold, IsToldAs}
 pub use Rattle.office_streams.specs.Office.{Input, IsChecked, IsRunBy, AnswersInput, HasFaultTold, WasReadWhole, names_in, rests_on_input}
 unfoldable pub use Rattle.office_streams.specs.Office.{input_of}
+pub use Rattle.office_streams.specs.Gathered.{IsGathered, Adds}
 pub use Rattle.office_streams.specs.Report.{IsReportRun, input_checked}

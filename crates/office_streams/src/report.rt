@@ -7,12 +7,16 @@ ghost use Rattle.office_streams.specs.Office.{Input};
 ghost use Rattle.office_streams.specs.Report.{input_checked};
 
 use crate::checking::CheckedInput;
+use crate::made::MadeText;
 use std::alloc::{AllocError, Global};
 use std::sync::Wait;
 use std::thread::Threads;
 
 /// What a program writes of a run: its text, and by how many clerks the rows are done.
 pub trait Report {
+    /// The text that is made.
+    type Text: MadeText;
+
     // How many clerks there are.
     ghost clerk_count: { Self → ℕ };
 
@@ -23,7 +27,7 @@ pub trait Report {
     fn clerks(&self) -> u8
         ensures { result ≡ clerk_count self.now };
 
-    /// The bytes of the text of an input that was checked, in which this is the court's file. `Err` says that memory ran
+    /// The text of an input that was checked, in which this is the court's file. `Err` says that memory ran
     /// out, that a thread couldn't be started, or that a clerk got no place to read from. Clause `shared` is the bound
     /// `Sync` once more, for the proofs of `impl`s.
     fn text<H: Threads + Wait + Sync>(
@@ -32,8 +36,8 @@ pub trait Report {
         alloc: Global,
         file: &[u8],
         checked: CheckedInput,
-    ) -> Result<Vec<u8>, AllocError>
+    ) -> Result<Self::Text, AllocError>
         requires shared { IsSync H.row }
         requires rows { All (IsOfClerk (clerk_count self.now)) checked.rows.items }
-        ensures { IfOk result (λ text. is_text self.now file.now (input_checked checked) text.items) };
+        ensures { IfOk result (λ text. is_text self.now file.now (input_checked checked) (Self.Text.bytes text)) };
 }

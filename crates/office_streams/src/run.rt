@@ -8,7 +8,7 @@ ghost use Rattle.office_streams.specs.Watched.{has_ended, has_failed, was_called
 
 use crate::fault::OfficeFault;
 use crate::input::read_all;
-use crate::output::write_all;
+use crate::made::write_text;
 use crate::report::Report;
 use crate::text::text_of;
 use crate::watched::Watched;
@@ -53,5 +53,5 @@ pub fn run_report<H: Threads + Wait + Sync, R: Read, W: Write, P: Report>(
 {
     let input = read_all(alloc, reader)?;
     let text = text_of(rt, alloc, input.as_slice(), report)?;
-    write_all(writer, text.as_slice())
+    write_text(alloc, writer, text)
 }

@@ -11,14 +11,14 @@ use std::alloc::Global;
 use std::sync::Wait;
 use std::thread::Threads;
 
-// The bytes of the text that the report has of an input.
+// The text that the report has of an input.
 pub(crate) fn text_of<H: Threads + Wait + Sync, P: Report>(
     rt: &H,
     alloc: Global,
     input: &[u8],
     report: &P,
-) -> Result<Vec<u8>, OfficeFault>
-    ensures { AnswersInput (λ said text. P.is_text report.now (court_part input.now) said text.items) result (input_of (P.clerk_count report.now) input.now) }
+) -> Result<P::Text, OfficeFault>
+    ensures { AnswersInput (λ said text. P.is_text report.now (court_part input.now) said (P.Text.bytes text)) result (input_of (P.clerk_count report.now) input.now) }
 {
     let checked = check_input(rt, alloc, input, report.clerks())?;
     match report.text(rt, alloc, divide(input).0, checked) {

@@ -16,14 +16,7 @@ use Rattle.parallel_rows.specs.Division.{AreParts, can_be_divided, ends_line, fi
 
 -- no record is begun
 abbrev is_idle : State → Bool
-is_idle st.StartRecord = true
-is_idle st.AfterCr = true
-is_idle st.StartField = false
-is_idle st.InField = false
-is_idle st.InQuoted = false
-is_idle st.AfterQuote = false
-is_idle st.InEscape = false
-is_idle st.InComment = false
+is_idle s = not (ends_at_end s)
 
 -- a record is begun, and no quote is open
 abbrev is_busy : State → Bool

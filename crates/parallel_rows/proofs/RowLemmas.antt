@@ -1,5 +1,5 @@
 -- The rows of records in two parts.
-use Rattle.std.proofs.Common.{◌≡◌, ◌++◌, ◌+◌, ◌≤◌, ◌<◌, ◌∙◌, ℕ, suc, Bool, true, false, List, [], ◌∷◌, Result, Ok, Err, length, cond, leb, ltb, refl, sym, ap, arith}
+use Rattle.std.proofs.Common.{◌≡◌, ◌++◌, ◌+◌, ◌≤◌, ◌<◌, ◌∙◌, ℕ, suc, Bool, true, false, List, [], ◌∷◌, Result, Ok, Err, length, cond, leb, le-leb, le-ltb, ltb, refl, sym, ap, arith}
 use Rattle.std.proofs.lemmas.Bool.Decides.{nat_tests}
 use Rattle.office_rows.specs.declared.row.Row.{Row}
 use Rattle.office_rows.specs.declared.fault.RowCause.{RowCause}
@@ -96,14 +96,8 @@ abbrev pub moved : (before number : ℕ) → Rows → Rows
 moved before number (Ok rows) = cond (leb (before + number + length rows) (most_rows + 1)) (Ok rows) too_many
 moved before number (Err fault) = cond (leb (before + fault.0) most_rows) (Err (before + fault.0, fault.1)) too_many
 
-leb_true : (m n : ℕ) → m ≤ n → leb m n ≡ true
-leb_true m n h = grind (arith, nat_tests)
-
 leb_false : (m n : ℕ) → n < m → leb m n ≡ false
 leb_false m n h = grind (arith, nat_tests)
-
-ltb_false : (m n : ℕ) → n ≤ m → ltb m n ≡ false
-ltb_false m n h = grind (arith, nat_tests)
 
 -- a row and those after it are as many as the whole
 then_moved : (before number : ℕ) (row : Row) (rest : Rows) → then_rows row (moved before (number + 1) rest) ≡ moved before number (then_rows row rest)
@@ -142,7 +136,7 @@ past_most before number records clerks names fields (Ok rows) e past = by rows (
 pub rows_moved : (clerks : ℕ) (names : CourtNames) (before number : ℕ) (records : List (List (List ℕ))) → before + number ≤ most_rows + 1
     → rows_read_from clerks names (before + number) records ≡ moved before number (rows_read_from clerks names number records)
 unfolding rows_read_from
-rows_moved clerks names before number [] few = rw (leb_true (before + number + 0) (most_rows + 1) (omega arith)) refl
+rows_moved clerks names before number [] few = rw (le-leb (before + number + 0) (most_rows + 1) (omega arith)) refl
 rows_moved clerks names before number (fields ∷ records) few = by (ltb most_rows (before + number)) refl (λ less. rows_moved clerks names before (number + 1) records (omega arith))
   where
     whole : Rows
@@ -151,7 +145,7 @@ rows_moved clerks names before number (fields ∷ records) few = by (ltb most_ro
     spelled : (s : Result Row RowCause) → before + number ≤ most_rows
         → rows_read_from clerks names (before + number + 1) records ≡ moved before (number + 1) (rows_read_from clerks names (number + 1) records)
         → from_row (in_row (before + number) s) (rows_read_from clerks names (before + number + 1) records) ≡ moved before number (from_row (in_row number s) (rows_read_from clerks names (number + 1) records))
-    spelled (Err cause) less more = rw (leb_true (before + number) most_rows less) refl
+    spelled (Err cause) less more = rw (le-leb (before + number) most_rows less) refl
     spelled (Ok row) less more = rw more (then_moved before number row (rows_read_from clerks names (number + 1) records))
 
     by : (many : Bool) → ltb most_rows (before + number) ≡ many
@@ -164,7 +158,7 @@ rows_moved clerks names before number (fields ∷ records) few = by (ltb most_ro
     by false e more =
         let less : before + number ≤ most_rows = grind (arith, nat_tests) in
         let next : before + (number + 1) ≡ before + number + 1 = omega arith in
-        rw (ltb_false most_rows number (omega arith)) (spelled (row_of clerks names fields) less (rw next at more less))
+        rw (le-ltb most_rows number (omega arith)) (spelled (row_of clerks names fields) less (rw next at more less))
 
 -- the rows of both parts, of which the first has no fault
 pub rows_joined : (clerks : ℕ) (names : CourtNames) (firsts laters : List (List (List ℕ))) (rows : List Row) → rows_read_from clerks names 1 firsts ≡ Ok rows → length rows ≤ most_rows
@@ -175,7 +169,7 @@ rows_joined clerks names firsts laters rows h few =
 
 -- what both parts come to, by what the later one came to
 pub later_rows : (rows more : List Row) → length rows + length more ≤ most_rows → behind_rows rows (moved (length rows) 1 (Ok more)) ≡ Ok (rows ++ more)
-later_rows rows more few = rw (leb_true (length rows + 1 + length more) (most_rows + 1) (omega arith)) refl
+later_rows rows more few = rw (le-leb (length rows + 1 + length more) (most_rows + 1) (omega arith)) refl
 
 pub many_later : (rows more : List Row) → most_rows < length rows + length more → behind_rows rows (moved (length rows) 1 (Ok more)) ≡ too_many
 many_later rows more many = rw (leb_false (length rows + 1 + length more) (most_rows + 1) (omega arith)) refl

@@ -19,7 +19,7 @@ has_byte c text = list_any (λ b. b == c) text
 abbrev pub can_be_divided : List ℕ → Bool
 can_be_divided text = not (has_byte quote text) && not (has_byte first_of_mark text)
 
--- the last byte ends a line; of no bytes, this is said
+-- the last byte ends a line; of no bytes, `begins` says whether a line begins there
 unfoldable pub ends_line : Bool → List ℕ → Bool
 ends_line begins [] = begins
 ends_line begins (b ∷ text) = ends_line (b == line_end) text

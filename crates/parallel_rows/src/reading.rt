@@ -34,7 +34,7 @@ pub fn read_rows_by<H: Threads + Sync>(
         clerks,
         court,
     };
-    if !can_be_divided(text) {
+    if readers < 2 || !can_be_divided(text) {
         return reader.read(text);
     }
     read_parts(rt, &reader, text, readers)

@@ -3,17 +3,21 @@
 ghost use Rattle.std.specs.Prelude.{◌≡◌};
 ghost use Rattle.refusal_texts.specs.Asked.{deadline_asked, motion_of_refusal, motion_of_setting, request_asked, setting_asked};
 
-use docket_rows::{Command, Refusal, Setting};
+use docket_rows::{Command, Counted, Refusal, Setting, Subject};
 use rule_periods::Request;
 
 /// The case and the number of the deadline that a command is about.
 pub fn deadline_asked(command: &Command) -> Option<(u32, u32)>
     ensures { result ≡ deadline_asked command.now }
 {
-    match *command {
-        Command::FileAct { case, deadline, .. } | Command::Extend { case, deadline, .. } => {
-            Some((case, deadline))
-        }
+    match command.subject() {
+        Some(
+            Subject {
+                case,
+                counted: Counted::Deadline,
+                number,
+            },
+        ) => Some((case, number)),
         _ => None,
     }
 }

@@ -1,4 +1,5 @@
 pub mod CallLemmas
+pub mod HandedLemmas
 pub mod HoldLemmas
 pub mod LineLemmas
 pub mod MergedLemmas

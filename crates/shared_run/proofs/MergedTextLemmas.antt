@@ -1,71 +1,114 @@
--- The text of the answers of all clerks, as far as it is written.
-use Rattle.std.proofs.Common.{◌≡◌, ℕ, ◌+◌, ◌-◌, ◌<◌, ◌≤◌, ◌++◌, List, [], ◌∷◌, length, drop, get_or, set, ap, sym, ◌∙◌, append_assoc, append-nil, subst}
-use Rattle.std.proofs.lemmas.List.{at_drop_all, drop_more}
+-- The lines of all clerks, in the order of the rows.
+use Rattle.std.proofs.Common.{◌≡◌, ℕ, zero, suc, ◌+◌, ◌-◌, ◌<◌, ◌≤◌, ◌++◌, ◌∙◌, List, [], ◌∷◌, length, drop, take, get_or, map, set, ap, sym, refl, subst, arith}
+use Rattle.std.proofs.Math.Seq.{drop-append_seam, take-append_seam}
+use Rattle.std.proofs.lemmas.List.{length-set}
+use Rattle.std.proofs.lemmas.List.Elements.{All-head, All-tail}
 use Rattle.court_days.specs.Words.{CourtView}
 use Rattle.office_rows.specs.declared.row.Row.{Row}
+use Rattle.office_rows.specs.Words.{IsClerk}
 use Rattle.office_run.specs.Words.{row_numbers}
 use Rattle.clerk_workers.specs.declared.answer.SharedReply.{SharedReply}
-use Rattle.office_rows.specs.Words.{IsClerk}
 use Rattle.clerk_workers.specs.Words.{AllHold, AreAsMany, AreOfClerks, list_at}
 use Rattle.clerk_workers.proofs.CallerLemmas.{held_long}
-use Rattle.shared_run.specs.Lines.{HoldTexts, TextsView}
-use Rattle.shared_run.specs.Merged.{IsMergedText, IsNext}
-use Rattle.shared_run.specs.Text.{answer_line, answer_lines}
+use Rattle.shared_run.specs.Lines.{HoldLines, HoldTexts, LinesView, TextsView, texts_of}
+use Rattle.shared_run.specs.Merged.{IsMergedText, first_len, first_text, later_texts, merged_lines, next_text, texts_after}
+use Rattle.shared_run.specs.Text.{answer_line, answer_lines, row_text}
+use Rattle.shared_run.proofs.HoldLemmas.{first_of, texts_held}
 use Rattle.shared_run.proofs.MergedLemmas.{all_merged, first_has, first_left, first_merged, merged}
 
--- the lines that are left are those of these rows, the first of which has that number; with them the text is whole
-pub record IsSoFar (court : CourtView) (left : List TextsView) (number : ℕ) (rows : List Row) (text whole : List ℕ) : Type 0 where
-  pub lists : List (List SharedReply)
-  pub held : AllHold (HoldTexts court) left lists
-  pub as_many : AreAsMany rows lists
-  pub text_is : text ++ answer_lines court number rows (merged rows lists) ≡ whole
+-- texts of which the first is that of an answer
+module _ (court : CourtView) (texts : TextsView) (answer : SharedReply) (others : List SharedReply) (held : HoldTexts court texts (answer ∷ others)) where
+  first_is : first_text texts ≡ row_text court answer
+  first_is =
+      ap (λ (lens : List ℕ). take (first_len lens) texts.bytes) held.lens_are
+      ∙ (ap (λ (bytes : List ℕ). take (length (row_text court answer)) bytes) held.bytes_are
+      ∙ take-append_seam (row_text court answer) (texts_of court others))
 
-module _ (court : CourtView) (left : List TextsView) (number : ℕ) (row : Row) (rows : List Row) (text whole : List ℕ) (clerk : IsClerk (length left) row.clerk) (so_far : IsSoFar court left number (row ∷ rows) text whole) where
-  of_list : IsClerk (length so_far.lists) row.clerk
-  of_list =
-      let P : ℕ → Type 0 = λ n. IsClerk n row.clerk in
-      subst P (sym (held_long (HoldTexts court) left so_far.lists so_far.held)) clerk
+  later_hold : HoldTexts court (later_texts texts) others
+  later_hold = record {
+    bytes_are = ap (λ (t : List ℕ). drop (length t) texts.bytes) first_is
+        ∙ (ap (λ (bytes : List ℕ). drop (length (row_text court answer)) bytes) held.bytes_are
+        ∙ drop-append_seam (row_text court answer) (texts_of court others));
+    lens_are = ap (λ (lens : List ℕ). drop 1 lens) held.lens_are;
+  }
 
-  -- the clerk of the next row has a text left
-  pub next_has : 0 < length (list_at (row.clerk - 1) so_far.lists)
-  next_has = first_has row rows so_far.lists of_list so_far.as_many
+module _ (court : CourtView) where
+  -- the next text of a clerk is that of the first answer in its list
+  next_is : (left : List TextsView) (lists : List (List SharedReply)) (place : ℕ) (answer : SharedReply) (others : List SharedReply) → AllHold (HoldTexts court) left lists → list_at place lists ≡ answer ∷ others → next_text place left ≡ row_text court answer
+  unfolding next_text
+  next_is [] [] place answer others held is = cc is
+  next_is [] (list ∷ lists) place answer others held is = absurd held
+  next_is (texts ∷ left) [] place answer others held is = absurd held
+  next_is (texts ∷ left) (list ∷ lists) zero answer others held is =
+      let P : List SharedReply → Type 0 = λ answers. HoldTexts court texts answers in
+      first_is court texts answer others (subst P is held.0)
+  next_is (texts ∷ left) (list ∷ lists) (suc place) answer others held is = next_is left lists place answer others held.1 is
 
-  -- the line of the next row is written
-  pub line_more : (new : List TextsView) (numbers piece : List ℕ) → numbers ≡ row_numbers number row.clerk → ((lists : List (List SharedReply)) → AllHold (HoldTexts court) left lists → 0 < length (list_at (row.clerk - 1) lists) → IsNext court lists (row.clerk - 1) piece new) → IsSoFar court new (number + 1) rows ((text ++ numbers) ++ piece) whole
-  unfolding answer_line answer_lines
-  line_more new numbers piece is takes =
-      let taken = takes so_far.lists so_far.held next_has in
-      let lists = set so_far.lists (row.clerk - 1) taken.others in
-      let later = answer_lines court (number + 1) rows (merged rows lists) in
-      let line : numbers ++ piece ≡ answer_line court number row.clerk taken.answer = ap (λ (t : List ℕ). t ++ piece) is ∙ ap (λ (t : List ℕ). row_numbers number row.clerk ++ t) taken.text_is in
-      let all = first_merged row rows so_far.lists of_list so_far.as_many taken.answer taken.others taken.list_is in
+  -- what is left after it are the texts of the others
+  after_hold : (left : List TextsView) (lists : List (List SharedReply)) (place : ℕ) (answer : SharedReply) (others : List SharedReply) → AllHold (HoldTexts court) left lists → list_at place lists ≡ answer ∷ others → AllHold (HoldTexts court) (texts_after place left) (set lists place others)
+  unfolding texts_after
+  after_hold [] [] place answer others held is = cc is
+  after_hold [] (list ∷ lists) place answer others held is = absurd held
+  after_hold (texts ∷ left) [] place answer others held is = absurd held
+  after_hold (texts ∷ left) (list ∷ lists) zero answer others held is =
+      let P : List SharedReply → Type 0 = λ answers. HoldTexts court texts answers in
+      (later_hold court texts answer others (subst P is held.0), held.1)
+  after_hold (texts ∷ left) (list ∷ lists) (suc place) answer others held is = (held.0, after_hold left lists place answer others held.1 is)
+
+  -- the lines of rows are those of the answers
+  merged_is : (number : ℕ) (rows : List Row) (left : List TextsView) (lists : List (List SharedReply)) → AllHold (HoldTexts court) left lists → AreOfClerks (length lists) rows → AreAsMany rows lists → merged_lines number rows left ≡ answer_lines court number rows (merged rows lists)
+  unfolding answer_line answer_lines merged_lines
+  merged_is number [] left lists held clerks many = refl
+  merged_is number (row ∷ rows) left lists held clerks many =
+      let place = row.clerk - 1 in
+      let clerk = All-head (λ (r : Row). IsClerk (length lists) r.clerk) row rows clerks in
+      let first = first_of (list_at place lists) (first_has row rows lists clerk many) in
+      let P : ℕ → Type 0 = λ n. AreOfClerks n rows in
+      let others = subst P (sym (length-set lists place first.1)) (All-tail (λ (r : Row). IsClerk (length lists) r.clerk) row rows clerks) in
+      let later = merged_is (number + 1) rows (texts_after place left) (set lists place first.1) (after_hold left lists place first.0 first.1 held first.2) others (first_left row rows lists clerk many first.0 first.1 first.2) in
+      ap (λ (t : List ℕ). (row_numbers number row.clerk ++ t) ++ merged_lines (number + 1) rows (texts_after place left)) (next_is left lists place first.0 first.1 held first.2)
+      ∙ (ap (λ (t : List ℕ). (row_numbers number row.clerk ++ row_text court first.0) ++ t) later
+      ∙ ap (λ (answers : List SharedReply). answer_lines court number (row ∷ rows) answers) (sym (first_merged row rows lists clerk many first.0 first.1 first.2)))
+
+  -- the lines that hold the answers of lists, in the order of the rows
+  pub merged_text : (rows : List Row) (lines : List LinesView) (lists : List (List SharedReply)) → AllHold (HoldLines court) lines lists → AreOfClerks (length lines) rows → AreAsMany rows lists → IsMergedText court rows lists (merged_lines 1 rows (map (λ (each : LinesView). each.texts) lines))
+  merged_text rows lines lists held clerks many =
+      let P : ℕ → Type 0 = λ n. AreOfClerks n rows in
+      let of_lists = subst P (sym (held_long (HoldLines court) lines lists held)) clerks in
+      let all = all_merged rows lists of_lists many in
       record {
-        lists = lists;
-        held = taken.held;
-        as_many = first_left row rows so_far.lists of_list so_far.as_many taken.answer taken.others taken.list_is;
-        text_is = ap (λ (t : List ℕ). t ++ later) (append_assoc text numbers piece)
-            ∙ (append_assoc text (numbers ++ piece) later
-            ∙ (ap (λ (t : List ℕ). text ++ (t ++ later)) line
-            ∙ (ap (λ (answers : List SharedReply). text ++ answer_lines court number (row ∷ rows) answers) (sym all)
-            ∙ so_far.text_is)));
+        answers = merged rows lists;
+        as_many = all.0;
+        merged = all.1;
+        text_is = merged_is 1 rows (map (λ (each : LinesView). each.texts) lines) lists (texts_held court lines lists held) of_lists many;
       }
 
-module _ (court : CourtView) (left : List TextsView) (number i : ℕ) (rows : List Row) (text whole : List ℕ) (so_far : IsSoFar court left number (drop i rows) text whole) where
-  -- the next row, and those after it
-  pub at_next : (row : Row) → i < length rows → row ≡ get_or rows i row → IsSoFar court left number (row ∷ drop (i + 1) rows) text whole
-  at_next row lt at =
-      let P : List Row → Type 0 = λ rs. IsSoFar court left number rs text whole in
-      subst P (drop_more rows i row lt ∙ ap (λ (r : Row). r ∷ drop (i + 1) rows) (sym at)) so_far
+-- the texts of lines
+abbrev pub texts_in : List LinesView → List TextsView
+texts_in lines = map (λ (each : LinesView). each.texts) lines
 
-  -- no row is left
-  pub all_written : length rows ≤ i → text ≡ whole
-  unfolding answer_lines
-  all_written past =
-      let none : answer_lines court number (drop i rows) (merged (drop i rows) so_far.lists) ≡ [] = at_drop_all (λ (rs : List Row). answer_lines court number rs (merged rs so_far.lists)) rows i past in
-      sym (append-nil text) ∙ (ap (λ (t : List ℕ). text ++ t) (sym none) ∙ so_far.text_is)
+-- the next text is that of the lines at the place
+pub next_at : (lines : List LinesView) (place : ℕ) (d : LinesView) → place < length lines → next_text place (texts_in lines) ≡ first_text (get_or lines place d).texts
+unfolding next_text
+next_at [] place d lt = absurd (omega (arith, lt))
+next_at (each ∷ lines) zero d lt = refl
+next_at (each ∷ lines) (suc place) d lt = next_at lines place d (omega (arith, lt))
 
--- the whole text
-pub merged_text : (court : CourtView) (rows : List Row) (lists : List (List SharedReply)) (text : List ℕ) → AreOfClerks (length lists) rows → AreAsMany rows lists → text ≡ answer_lines court 1 rows (merged rows lists) → IsMergedText court rows lists text
-merged_text court rows lists text clerks many is =
-    let all = all_merged rows lists clerks many in
-    record { answers = merged rows lists; as_many = all.0; merged = all.1; text_is = is }
+pub after_at : (lines : List LinesView) (place : ℕ) (d new : LinesView) → place < length lines → new.texts ≡ later_texts (get_or lines place d).texts → texts_in (set lines place new) ≡ texts_after place (texts_in lines)
+unfolding texts_after
+after_at [] place d new lt is = absurd (omega (arith, lt))
+after_at (each ∷ lines) zero d new lt is = ap (λ (t : TextsView). t ∷ texts_in lines) is
+after_at (each ∷ lines) (suc place) d new lt is = ap (λ (left : List TextsView). each.texts ∷ left) (after_at lines place d new (omega (arith, lt)) is)
+
+-- at a place past all clerks there is none, and nothing changes
+pub none_at : (lines : List LinesView) (place : ℕ) → length lines ≤ place → next_text place (texts_in lines) ≡ []
+unfolding next_text
+none_at [] place past = refl
+none_at (each ∷ lines) zero past = absurd (omega (arith, past))
+none_at (each ∷ lines) (suc place) past = none_at lines place (omega (arith, past))
+
+pub same_at : (lines : List LinesView) (place : ℕ) → length lines ≤ place → texts_in lines ≡ texts_after place (texts_in lines)
+unfolding texts_after
+same_at [] place past = refl
+same_at (each ∷ lines) zero past = absurd (omega (arith, past))
+same_at (each ∷ lines) (suc place) past = ap (λ (left : List TextsView). each.texts ∷ left) (same_at lines place (omega (arith, past)))

@@ -1,5 +1,5 @@
 -- The text of a clerk's answers, one after another.
-use Rattle.std.specs.Prelude.{◌≡◌, ℕ, List, [], ◌∷◌, ◌++◌, length}
+use Rattle.std.specs.Prelude.{◌≡◌, ◌≤◌, ℕ, List, [], ◌∷◌, ◌++◌, length}
 use Rattle.court_days.specs.Words.{CourtView}
 use Rattle.clerk_workers.specs.declared.answer.SharedReply.{SharedReply}
 use Rattle.shared_run.specs.Text.{row_text}
@@ -13,6 +13,11 @@ pub record TextsView : Type 0 where
 pub record LinesView : Type 0 where
   pub court : CourtView
   pub texts : TextsView
+
+-- no more bytes, and no more texts, are handed over than there are
+pub record AreWithin (place at : ℕ) (bytes lens : List ℕ) : Type 0 where
+  pub of_bytes : place ≤ length bytes
+  pub of_lens : at ≤ length lens
 
 module _ (court : CourtView) where
   -- the texts of answers, one after another

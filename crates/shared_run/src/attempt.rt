@@ -1,16 +1,17 @@
 //! One office, from its opening to the text of its run.
 
-ghost use Rattle.std.specs.Prelude.{◌≡◌, [], IfOk, IfSome};
+ghost use Rattle.std.specs.Prelude.{◌≡◌, [], IfOk, IfSome, string_bytes};
 ghost use Rattle.std.specs.Arc.{arc_value};
 ghost use Rattle.docket_rows.specs.Words.{setup_of};
 ghost use Rattle.published_docket.specs.Words.{trail_view};
 ghost use Rattle.office_seats.specs.Words.{AreSeats, IsLimit, IsOpened};
 ghost use Rattle.clerk_workers.specs.Words.{AreOfClerks};
+ghost use Rattle.shared_run.specs.Merged.{shared_text};
 ghost use Rattle.shared_run.specs.Text.{IsSharedText};
 
+use crate::closing::closing_of;
 use crate::lines::{Lines, lines_for};
 use crate::named::NamesCourt;
-use crate::text::{closing_of, text_of};
 use clerk_gates::Gate;
 use clerk_workers::{Noted, run_noting};
 use court_days::Court;
@@ -50,8 +51,8 @@ fn opened<L: NamesOffice, R: Wait>(
     }
 }
 
-/// Opens an office, lets its clerks do all rows, closes it, and gives the bytes of the text of the run. None where one
-/// of its seats got no place to read from; no row is done then. Conditions: `L` names the blank and the publisher, the
+/// Opens an office, lets its clerks do all rows, closes it, and gives the lines of all clerks, of whom the first has the first
+/// ones, and the text that comes after them. None where one of its seats got no place to read from; no row is done then. Conditions: `L` names the blank and the publisher, the
 /// publisher is of this court, and the others are those of a run.
 pub(crate) fn attempt<L: NamesOffice + NamesCourt + Send + Sync, R: Threads + Wait + Sync, G: Gate>(
     rt: &R,
@@ -63,7 +64,7 @@ pub(crate) fn attempt<L: NamesOffice + NamesCourt + Send + Sync, R: Threads + Wa
     journal_limit: u32,
     rows: &[Row],
     gate: &G,
-) -> Result<Option<Vec<u8>>, AllocError>
+) -> Result<Option<(Vec<Lines>, String)>, AllocError>
     requires name { blank.name ≡ L.name }
     requires parts { blank.parts ≡ L.parts }
     requires all { L.parts ≡ 64 }
@@ -73,7 +74,7 @@ pub(crate) fn attempt<L: NamesOffice + NamesCourt + Send + Sync, R: Threads + Wa
     requires clerks { AreSeats clerks }
     requires limit { IsLimit journal_limit }
     requires rows { AreOfClerks clerks rows.now }
-    ensures { IfOk result (λ t. IfSome t (λ text. IsSharedText (arc_value court.now) clerks journal_limit rows.now text.items)) }
+    ensures { IfOk result (λ t. IfSome t (λ made. IsSharedText (arc_value court.now) clerks journal_limit rows.now (shared_text rows.now made.0.items (string_bytes made.1)))) }
 {
     let office = opened::<L, R>(rt, alloc, blank, publisher, court, clerks, journal_limit)?;
     let Some((office, seats)) = office else {
@@ -91,5 +92,5 @@ pub(crate) fn attempt<L: NamesOffice + NamesCourt + Send + Sync, R: Threads + Wa
         return Err(AllocError);
     };
     let closing = closing_of(alloc, court, &journal, board)?;
-    Ok(Some(text_of(alloc, rows, &lines, &closing)?))
+    Ok(Some((lines, closing)))
 }

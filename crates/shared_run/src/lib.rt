@@ -3,12 +3,12 @@
 #![tactic(auto)]
 
 mod attempt;
+mod closing;
 mod last_docket;
 mod lines;
-mod merged;
 mod named;
-mod rest;
 mod run;
-mod text;
+mod shared_text;
 
 pub use run::run_shared;
+pub use shared_text::SharedText;

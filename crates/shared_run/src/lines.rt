@@ -3,20 +3,24 @@
 ghost use Rattle.std.specs.Prelude.{◌≡◌, [], All, IfOk, OnOk, length};
 ghost use Rattle.std.specs.Arc.{arc_value};
 ghost use Rattle.office_texts.specs.Words.{AddsText};
+ghost use Rattle.office_streams.specs.Words.{Adds};
 ghost use Rattle.shared_run.specs.Lines.{HoldLines};
+ghost use Rattle.shared_run.specs.Merged.{first_text, later_texts};
 ghost use Rattle.shared_run.specs.Text.{row_text};
 
 use crate::named::NamesCourt;
-use crate::rest::Rest;
 use clerk_workers::{Notes, SharedReply};
 use court_days::Court;
 use office_seats::NamesOffice;
+use office_streams::{Gathered, Watched};
 use office_texts::{push_answer, push_view};
 use std::alloc::{AllocError, Global};
+use std::io::Write;
 use std::marker::Model;
 use std::sync::Arc;
 
-/// The texts of the answers to a clerk's rows, one after another, without the numbers of row and clerk.
+/// The texts of the answers to a clerk's rows, one after another, without the numbers of row and clerk. At the end they are
+/// handed over in their order.
 #[derive(Drop)]
 pub(crate) struct Lines {
     court: Arc<Court>,
@@ -25,15 +29,21 @@ pub(crate) struct Lines {
     lens: Vec<usize>,
     // where the next text is written first
     text: String,
+    // how many bytes, and how many texts, are handed over
+    place: usize,
+    at: usize,
 }
 
 impl Model for Lines {
     ghost use Rattle.std.specs.Arc.{arc_value};
-    ghost use Rattle.shared_run.specs.Lines.{LinesView};
+    ghost use Rattle.std.specs.Prelude.{drop};
+    ghost use Rattle.shared_run.specs.Lines.{AreWithin, LinesView};
 
     ghost Value = { LinesView };
 
-    ghost view = { λ l. record { court = arc_value l.court; texts = record { bytes = l.bytes.items; lens = l.lens.items } } };
+    ghost view = { λ l. record { court = arc_value l.court; texts = record { bytes = drop l.place l.bytes.items; lens = drop l.at l.lens.items } } };
+
+    ghost invariant = { λ l. AreWithin l.place l.at l.bytes.items l.lens.items };
 }
 
 impl Lines {
@@ -46,19 +56,35 @@ impl Lines {
             bytes: Vec::new(alloc),
             lens: Vec::new(alloc),
             text: String::new(alloc),
+            place: 0,
+            at: 0,
         }
     }
 
-    /// How many bytes all texts have. It serves to take the memory of a whole text at once, so no clause says it.
-    pub(crate) fn size(&self) -> usize {
-        self.bytes.len()
+    // The first text that isn't handed over; no bytes where all are.
+    fn first(&self) -> &[u8]
+        ensures { result.now ≡ first_text self.now.texts }
+    {
+        let rest = self.bytes.as_slice().split_at(self.place).1;
+        match self.lens.get(self.at) {
+            Some(len) if *len < rest.len() => rest.split_at(*len).0,
+            Some(_) => rest,
+            None => rest.split_at(0).0,
+        }
     }
 
-    /// All texts, none of which is taken yet.
-    pub(crate) fn all(&self) -> Rest<'_>
-        ensures { result ≡ self.now.texts }
+    /// Hands over the next text.
+    pub(crate) fn hand_next<W: Write>(&mut self, gathered: &mut Gathered, writer: &mut Watched<W>)
+        ensures text { Adds W.contents writer.old gathered.old writer.new gathered.new (first_text self.old.texts) }
+        ensures left { self.new.texts ≡ later_texts self.old.texts }
     {
-        Rest::new(&self.bytes, &self.lens)
+        let text = self.first();
+        let len = text.len();
+        gathered.add(writer, text);
+        self.place += len;
+        if self.at < self.lens.len() {
+            self.at += 1;
+        }
     }
 }
 

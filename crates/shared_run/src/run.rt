@@ -6,6 +6,7 @@ ghost use Rattle.clerk_workers.specs.Words.{AreOfClerks};
 ghost use Rattle.shared_run.specs.Text.{IsSharedText};
 
 use crate::attempt::attempt;
+use crate::shared_text::SharedText;
 use clerk_gates::Gate;
 use court_days::Court;
 use office_rows::Row;
@@ -16,7 +17,7 @@ use std::sync::ledger::Blank;
 use std::sync::{Arc, Wait};
 use std::thread::Threads;
 
-/// The bytes of the text of a run: the answer to each row in turn, then the sheets of all open cases and the calendars
+/// The text of a run: the answer to each row in turn, then the sheets of all open cases and the calendars
 /// of all judges. The clerks share an office, each works in a thread of its own, and the journal takes no more entries
 /// than the limit. The gate is called for each row. `Err` says that memory ran out, that a thread couldn't be started,
 /// or that eight offices in turn had no place for a clerk to read from. Conditions: 1 to 64 clerks, 0 to 1,000,000
@@ -27,19 +28,19 @@ pub fn run_shared<R: Threads + Wait + Sync, G: Gate>(
     court: Court,
     clerks: u8,
     journal_limit: u32,
-    rows: &[Row],
+    rows: Vec<Row>,
     gate: &G,
-) -> Result<Vec<u8>, AllocError>
+) -> Result<SharedText, AllocError>
     requires clerks { AreSeats clerks }
     requires limit { IsLimit journal_limit }
-    requires rows { AreOfClerks clerks rows.now }
-    ensures { IfOk result (λ text. IsSharedText court clerks journal_limit rows.now text.items) }
+    requires rows { AreOfClerks clerks rows.items }
+    ensures { IfOk result (λ text. IsSharedText court clerks journal_limit rows.items text) }
 {
     let court = Arc::new(alloc, court)?;
     for _try in 0..8 {
         let publisher = Publisher::new(alloc, &court, clerks)?;
         let blank = Blank::new(64);
-        let text = attempt::<Brand, R, G>(
+        let made = attempt::<Brand, R, G>(
             rt,
             alloc,
             blank,
@@ -47,11 +48,11 @@ pub fn run_shared<R: Threads + Wait + Sync, G: Gate>(
             &court,
             clerks,
             journal_limit,
-            rows,
+            rows.as_slice(),
             gate,
         )?;
-        if let Some(text) = text {
-            return Ok(text);
+        if let Some((lines, closing)) = made {
+            return Ok(SharedText::new(rows, lines, closing));
         }
     }
     Err(AllocError)

@@ -1,9 +1,10 @@
 //! What to write in place of what was found.
 
 use court_clock::Day;
+use row_columns::Column;
 use std::alloc::{AllocError, Global};
 use written_fields::{DateOrder, Said, date_said, time_said};
-use written_rows::{Column, Fault, Flaw};
+use written_rows::{Fault, Flaw};
 
 /// Whether a byte divides the parts of a date in numbers.
 fn divides(byte: u8) -> bool {
@@ -99,7 +100,7 @@ pub(crate) fn advice(
         Flaw::Unknown(Column::Date | Column::SecondOrNone | Column::Notice | Column::Grant) => {
             for_date(alloc, order, found)
         }
-        Flaw::Unknown(Column::Time) => for_time(alloc, found),
+        Flaw::Unknown(Column::Time | Column::Start) => for_time(alloc, found),
         Flaw::Unclear(column) => String::from_str(alloc, for_two(column)),
         Flaw::Excess => String::from_str(alloc, "a field with a comma in it is written in quotes"),
         _ => Ok(String::new(alloc)),

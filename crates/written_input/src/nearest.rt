@@ -1,27 +1,11 @@
 //! The known word that is nearest to what was found.
 
 use court_days::Court;
+use row_columns::{COMMANDS, Column};
 use std::alloc::{AllocError, Global};
 use strsim::levenshtein;
 use written_fields::{cut_line, folded};
-use written_rows::{Column, Flaw};
-
-/// The command words.
-const COMMANDS: [&str; 13] = [
-    "open",
-    "start",
-    "file",
-    "extend",
-    "motion",
-    "book",
-    "move",
-    "cancel",
-    "holiday",
-    "inaccessible",
-    "compute",
-    "sheet",
-    "calendar",
-];
+use written_rows::Flaw;
 
 /// The headings of columns.
 const HEADINGS: [&str; 23] = [

@@ -1,6 +1,7 @@
 //! What is expected in a field.
 
-use written_rows::{Column, Flaw};
+use row_columns::{Column, commands_listed};
+use written_rows::Flaw;
 
 /// What a column holds.
 fn held(column: Column) -> &'static str {
@@ -12,7 +13,7 @@ fn held(column: Column) -> &'static str {
         Column::Motion => "a motion's number, as 1",
         Column::Period => "a period, as 59(e) or 14d/after/filing/event/plain",
         Column::Date => "a date, as 2025-09-02",
-        Column::Time | Column::From => "a time of day, as 09:30 or 9:30 AM",
+        Column::Time | Column::Start | Column::From => "a time of day, as 09:30 or 9:30 AM",
         Column::TimeOrNone => "a time of day, as 09:30 or 9:30 AM, or nothing",
         Column::SecondOrNone => "a second date, as 2025-09-02, or nothing",
         Column::ServiceOrNone => "a kind of service, A to F or as mail or ECF, or nothing",
@@ -38,9 +39,7 @@ pub(crate) fn expected(flaw: Flaw) -> &'static str {
         Flaw::Unknown(column) => held(column),
         Flaw::Unclear(_) => "one of the two",
         Flaw::Excess => "nothing, since the row has no column for it",
-        Flaw::NoCommand => {
-            "open, start, file, extend, motion, book, move, cancel, holiday, inaccessible, compute, sheet or calendar"
-        }
+        Flaw::NoCommand => commands_listed(),
         Flaw::NoHeading => {
             "a heading: clerk, command, case, deadline, motion, period, date, time, second, kind, means, grant, cause, neglect, need, list, from, to, judge, room, slots, notice or note"
         }

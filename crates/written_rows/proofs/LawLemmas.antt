@@ -10,12 +10,12 @@ use Rattle.row_line.specs.declared.line.Line.TheVariants as line
 use Rattle.row_line.specs.Words.{line_read}
 use Rattle.written_fields.specs.declared.dates.DateOrder.{DateOrder}
 use Rattle.written_fields.specs.Words.{folded, typed}
-use Rattle.written_rows.specs.declared.columns.Column.{Column}
-use Rattle.written_rows.specs.declared.columns.Column.TheVariants.{Command}
+use Rattle.row_columns.specs.declared.columns.Column.{Column}
+use Rattle.row_columns.specs.declared.columns.Column.TheVariants.{Command}
 use Rattle.written_rows.specs.declared.rows.Written.{Written}
 use Rattle.written_rows.specs.declared.rows.Written.TheVariants.{Nothing, Plain, Faulty}
 use Rattle.written_rows.specs.Cases.{asked, asked_if, is_case, name_in}
-use Rattle.written_rows.specs.Columns.{column_at, columns_of}
+use Rattle.row_columns.specs.Words.{column_at, columns_of}
 use Rattle.written_rows.specs.Fault.{FieldFault}
 use Rattle.written_rows.specs.Headings.{heading_faults, heading_of, names_columns, word_at}
 use Rattle.written_rows.specs.Known.{names_known}

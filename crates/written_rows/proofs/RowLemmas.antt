@@ -12,7 +12,7 @@ use Rattle.written_fields.specs.declared.said.Said.TheVariants.{Unknown, Clear, 
 use Rattle.office_rows.specs.Words.{CourtNames}
 use Rattle.written_rows.specs.Fault.{FieldFault}
 use Rattle.written_fields.specs.declared.dates.DateOrder.{DateOrder}
-use Rattle.written_rows.specs.declared.columns.Column.{Column}
+use Rattle.row_columns.specs.declared.columns.Column.{Column}
 use Rattle.written_rows.specs.Headings.{heading_fault, heading_faults, heading_of, index_of, is_filled, word_at}
 use Rattle.written_rows.specs.Names.{chosen, name_said, names_after, when_meant, with_choice, with_name}
 use Rattle.written_rows.specs.Rows.{clear_text, column_faults, column_place, excess_fault, excess_faults, plain_in, said_in, unclear, value_at}

@@ -2,9 +2,9 @@
 -- in place of one.
 use Rattle.std.specs.Prelude.{ℕ, Bool, true, false, List, ◌∷◌, ◌++◌, codes, drop, take, Option, Some, None, if◌then◌else◌}
 use Rattle.case_numbers.specs.Words.{NameView, case_read}
-use Rattle.written_rows.specs.declared.columns.Column.{Column}
-use Rattle.written_rows.specs.declared.columns.Column.TheVariants.{Case}
-use Rattle.written_rows.specs.Columns.{column_at}
+use Rattle.row_columns.specs.declared.columns.Column.{Column}
+use Rattle.row_columns.specs.declared.columns.Column.TheVariants.{Case}
+use Rattle.row_columns.specs.Words.{column_at}
 use Rattle.written_rows.specs.Headings.{word_at}
 
 -- the column of a case

@@ -9,8 +9,8 @@ use Rattle.written_fields.specs.declared.said.Said.{Said}
 use Rattle.written_fields.specs.declared.said.Said.TheVariants.{Unknown, Clear}
 use Rattle.written_fields.specs.declared.dates.DateOrder.{DateOrder}
 use Rattle.written_fields.specs.Words.{answer_said, bare, date_said, folded, list_said, means_said, rule_said, said_map, service_said, time_said}
-use Rattle.written_rows.specs.declared.columns.Column.{Column}
-use Rattle.written_rows.specs.declared.columns.Column.TheVariants.{Clerk, Command, Case, Deadline, Motion, Period, Date, Time, TimeOrNone, SecondOrNone, ServiceOrNone, Means, Grant, ByMotion, Cause, Neglect, Need, Holidays, From, To, Judge, Judges, Room, Slots, Notice}
+use Rattle.row_columns.specs.declared.columns.Column.{Column}
+use Rattle.row_columns.specs.declared.columns.Column.TheVariants.{Clerk, Command, Case, Deadline, Motion, Period, Date, Time, Start, TimeOrNone, SecondOrNone, ServiceOrNone, Means, Grant, ByMotion, Cause, Neglect, Need, Holidays, From, To, Judge, Judges, Room, Slots, Notice}
 use Rattle.written_rows.specs.Names.{name_said, panel_said}
 
 -- this, where it is so, and else nothing that is known
@@ -90,6 +90,7 @@ filled_said names order Motion text = number_said text
 filled_said names order Period text = period_said text
 filled_said names order Date text = said_map day_text (date_said order text)
 filled_said names order Time text = time_if (time_said text)
+filled_said names order Start text = time_if (time_said text)
 filled_said names order TimeOrNone text = time_if (time_said text)
 filled_said names order SecondOrNone text = said_map day_text (date_said order text)
 filled_said names order ServiceOrNone text = word_said ServiceOrNone text

@@ -2,10 +2,9 @@
 use Rattle.std.specs.Prelude.{ℕ, ◌+◌, not, nat_lt, Bool, true, false, List, [], ◌∷◌, ◌++◌, codes, length, unwrap_or, Option, Some, None, if◌then◌else◌}
 use Rattle.std.specs.Str.{bytes_eq}
 use Rattle.csv.specs.Records.{field_at}
-use Rattle.written_fields.specs.Words.{folded}
+use Rattle.written_fields.specs.Words.{folded, is_one_of}
 use Rattle.written_rows.specs.declared.fault.Flaw.{Flaw}
 use Rattle.written_rows.specs.declared.fault.Flaw.TheVariants.{NoHeading, TwiceNamed}
-use Rattle.written_rows.specs.Columns.{heading_said}
 use Rattle.written_rows.specs.Fault.{FieldFault, fault_at}
 
 -- the field of that number, counted from 0; empty where there is none
@@ -25,6 +24,34 @@ index_of name (other ∷ names) = if bytes_eq other name then 0 else index_of na
 -- the name is among them
 abbrev pub has_name : List (List ℕ) → List ℕ → Bool
 has_name names name = nat_lt (index_of name names) (length names)
+
+-- The heading that is meant, for a text that is folded. `note` is that of a column that no row has, and that is passed over.
+unfoldable pub heading_said : List ℕ → Option (List ℕ)
+heading_said word =
+    if is_one_of word (codes "clerk" ∷ []) then Some (codes "clerk")
+    else if is_one_of word (codes "command" ∷ codes "action" ∷ []) then Some (codes "command")
+    else if is_one_of word (codes "case" ∷ codes "caseno" ∷ codes "casenumber" ∷ []) then Some (codes "case")
+    else if is_one_of word (codes "deadline" ∷ codes "deadlineno" ∷ []) then Some (codes "deadline")
+    else if is_one_of word (codes "motion" ∷ codes "motionno" ∷ []) then Some (codes "motion")
+    else if is_one_of word (codes "period" ∷ codes "rule" ∷ []) then Some (codes "period")
+    else if is_one_of word (codes "date" ∷ codes "day" ∷ []) then Some (codes "date")
+    else if is_one_of word (codes "time" ∷ []) then Some (codes "time")
+    else if is_one_of word (codes "second" ∷ codes "seconddate" ∷ []) then Some (codes "second")
+    else if is_one_of word (codes "kind" ∷ codes "service" ∷ codes "serviceby" ∷ []) then Some (codes "kind")
+    else if is_one_of word (codes "means" ∷ []) then Some (codes "means")
+    else if is_one_of word (codes "grant" ∷ codes "extension" ∷ []) then Some (codes "grant")
+    else if is_one_of word (codes "cause" ∷ codes "goodcause" ∷ []) then Some (codes "cause")
+    else if is_one_of word (codes "neglect" ∷ codes "excusableneglect" ∷ []) then Some (codes "neglect")
+    else if is_one_of word (codes "need" ∷ codes "noticedays" ∷ []) then Some (codes "need")
+    else if is_one_of word (codes "list" ∷ codes "holidays" ∷ []) then Some (codes "list")
+    else if is_one_of word (codes "from" ∷ []) then Some (codes "from")
+    else if is_one_of word (codes "to" ∷ []) then Some (codes "to")
+    else if is_one_of word (codes "judge" ∷ codes "judges" ∷ []) then Some (codes "judge")
+    else if is_one_of word (codes "room" ∷ codes "courtroom" ∷ []) then Some (codes "room")
+    else if is_one_of word (codes "slots" ∷ []) then Some (codes "slots")
+    else if is_one_of word (codes "notice" ∷ codes "noticeserved" ∷ []) then Some (codes "notice")
+    else if is_one_of word (codes "note" ∷ codes "notes" ∷ codes "remarks" ∷ codes "comment" ∷ codes "comments" ∷ []) then Some (codes "note")
+    else None
 
 -- the heading that a field says; empty where it says none
 abbrev pub heading_of : List ℕ → List ℕ

@@ -1,4 +1,3 @@
-pub mod Columns
 pub mod Names
 pub mod Fields
 pub mod Known

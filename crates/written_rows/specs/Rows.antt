@@ -13,13 +13,13 @@ use Rattle.written_fields.specs.declared.said.Said.{Said}
 use Rattle.written_fields.specs.declared.said.Said.TheVariants as said
 use Rattle.written_fields.specs.declared.dates.DateOrder.{DateOrder}
 use Rattle.written_fields.specs.Words.{fields_in, folded, separator_of, typed}
-use Rattle.written_rows.specs.declared.columns.Column.{Column}
-use Rattle.written_rows.specs.declared.columns.Column.TheVariants.{Command}
+use Rattle.row_columns.specs.declared.columns.Column.{Column}
+use Rattle.row_columns.specs.declared.columns.Column.TheVariants.{Command}
 use Rattle.written_rows.specs.declared.fault.Flaw.TheVariants.{Excess, NoCommand, Unclear, Unknown}
 use Rattle.written_rows.specs.declared.rows.Written.{Written}
 use Rattle.written_rows.specs.declared.rows.Written.TheVariants as written
 use Rattle.written_rows.specs.Cases.{asked}
-use Rattle.written_rows.specs.Columns.{column_at, columns_of, name_of}
+use Rattle.row_columns.specs.Words.{column_at, columns_of, name_of}
 use Rattle.written_rows.specs.Fault.{FieldFault, fault_at}
 use Rattle.written_rows.specs.Fields.{field_said}
 use Rattle.written_rows.specs.Headings.{heading_faults, heading_of, index_of, is_filled, names_columns, word_at}

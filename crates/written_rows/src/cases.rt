@@ -5,10 +5,10 @@ ghost use Rattle.csv.specs.Records.{fields_of};
 ghost use Rattle.csv.specs.Writing.{default_writer, row_text};
 ghost use Rattle.written_rows.specs.Cases.{asked, is_case, name_in, with_one};
 
-use crate::columns::{Column, column_at};
 use crate::headings::word_at;
 use case_numbers::case_read;
 use csv::StringRecord;
+use row_columns::{Column, column_at};
 use row_line::push_row_text;
 use std::alloc::{AllocError, Global};
 

@@ -3,7 +3,7 @@
 ghost use Rattle.std.specs.Prelude.{◌≡◌, ◌++◌, ◌∷◌, IfOk, OnOk, map};
 ghost use Rattle.written_rows.specs.Fault.{fault_at, fault_in};
 
-use crate::columns::Column;
+use row_columns::Column;
 use std::alloc::{AllocError, Global};
 use written_fields::{place_in, separator_of};
 

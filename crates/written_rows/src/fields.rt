@@ -9,11 +9,11 @@ ghost use Rattle.office_rows.specs.Words.{is_number, names_of};
 ghost use Rattle.written_fields.specs.Words.{date_said, said_map, time_said};
 ghost use Rattle.written_rows.specs.Fields.{case_said, ending_said, field_said, filled_said, grant_said, may_be_empty, need_said, number_said, period_said, slots_number, slots_said, time_if, word_said};
 
-use crate::columns::Column;
 use crate::names::{Named, name_said, owned, panel_said};
 use case_numbers::case_read;
 use court_clock::Day;
 use court_days::Court;
+use row_columns::Column;
 use std::alloc::{AllocError, Global};
 use written_fields::{
     DateOrder, Said, answer_said, bare, date_said, folded, list_said, means_said, rule_said,
@@ -228,7 +228,9 @@ fn filled_said(
         Column::Clerk | Column::Deadline | Column::Motion => number_said(alloc, text),
         Column::Case => case_said(alloc, text),
         Column::Date | Column::SecondOrNone | Column::Notice => day_said(alloc, order, text),
-        Column::Time | Column::TimeOrNone | Column::From => minute_said(alloc, text),
+        Column::Time | Column::Start | Column::TimeOrNone | Column::From => {
+            minute_said(alloc, text)
+        }
         Column::To => ending_said(alloc, text),
         Column::Period => period_said(alloc, text),
         Column::ServiceOrNone

@@ -1,11 +1,10 @@
 //! Lines that name columns.
 
-ghost use Rattle.std.specs.Prelude.{◌≡◌, ◌++◌, ◌∷◌, [], IfOk, OnOk, map, string_bytes};
+ghost use Rattle.std.specs.Prelude.{◌≡◌, ◌++◌, ◌∷◌, [], IfOk, OnOk, map, option_map, string_bytes};
 ghost use Rattle.csv.specs.Records.{fields_of};
 ghost use Rattle.written_rows.specs.Fault.{fault_in};
-ghost use Rattle.written_rows.specs.Headings.{has_name, heading_fault, heading_faults, heading_flaw, heading_of, index_of, names_columns, word_at};
+ghost use Rattle.written_rows.specs.Headings.{has_name, heading_fault, heading_faults, heading_flaw, heading_of, heading_said, index_of, names_columns, word_at};
 
-use crate::columns::heading_said;
 use crate::fault::{Fault, Flaw, fault_at};
 use csv::StringRecord;
 use std::alloc::{AllocError, Global};
@@ -43,6 +42,39 @@ pub(crate) fn names_columns(headings: &StringRecord) -> bool
     ensures { result ≡ names_columns (fields_of headings.now) }
 {
     has_name(headings, "command")
+}
+
+/// The heading that is meant, for a text that is folded. `note` is that of a column that no row has, and that is passed over.
+#[tactic(auto, unfolding(crate::specs::Headings::heading_said))]
+pub fn heading_said(word: &str) -> Option<&'static str>
+    ensures { option_map (λ name. name.now) result ≡ heading_said word.now }
+{
+    match word {
+        "clerk" => Some("clerk"),
+        "command" | "action" => Some("command"),
+        "case" | "caseno" | "casenumber" => Some("case"),
+        "deadline" | "deadlineno" => Some("deadline"),
+        "motion" | "motionno" => Some("motion"),
+        "period" | "rule" => Some("period"),
+        "date" | "day" => Some("date"),
+        "time" => Some("time"),
+        "second" | "seconddate" => Some("second"),
+        "kind" | "service" | "serviceby" => Some("kind"),
+        "means" => Some("means"),
+        "grant" | "extension" => Some("grant"),
+        "cause" | "goodcause" => Some("cause"),
+        "neglect" | "excusableneglect" => Some("neglect"),
+        "need" | "noticedays" => Some("need"),
+        "list" | "holidays" => Some("list"),
+        "from" => Some("from"),
+        "to" => Some("to"),
+        "judge" | "judges" => Some("judge"),
+        "room" | "courtroom" => Some("room"),
+        "slots" => Some("slots"),
+        "notice" | "noticeserved" => Some("notice"),
+        "note" | "notes" | "remarks" | "comment" | "comments" => Some("note"),
+        _ => None,
+    }
 }
 
 // The heading that a field says; empty where it says none.

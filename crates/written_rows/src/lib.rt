@@ -2,7 +2,6 @@
 #![tactic(auto)]
 
 mod cases;
-mod columns;
 mod fault;
 mod fields;
 mod headings;
@@ -11,7 +10,6 @@ mod laws;
 mod names;
 mod rows;
 
-pub use columns::{Column, columns_of, heading_said, name_of};
 pub use fault::{Fault, Flaw};
 pub use fields::field_said;
 pub use laws::{plain_rows_stay, rows_are_plain};

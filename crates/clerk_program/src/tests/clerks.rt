@@ -1,10 +1,11 @@
 //! Two clerks at work, whom a gate holds so that their rows come in one order. On one thread no clerk could go on while
 //! another is held.
 
+use super::{Page, make_page};
 use crate::text::text_of;
 use clerk_gates::Gate;
 use office_options::Options;
-use office_streams::check_input;
+use office_streams::{Watched, check_input, write_text};
 use sample_court::file;
 use std::alloc::Global;
 use std::sync::Wait;
@@ -105,12 +106,14 @@ fn run<H: Threads + Wait + Sync>(
     alloc: Global,
     rows: &str,
     script: &Script,
-) -> Result<(Vec<u8>, bool), Fail> {
+) -> Result<(Watched<Page>, bool), Fail> {
     let input = format!(in alloc; "{}%%\n{rows}", file())?;
     let checked = check_input(rt, alloc, input.as_bytes(), 2)?;
     let options = Options::new(2, 100_000).ok_or("options")?;
     let text = text_of(rt, alloc, checked, options, script)?;
-    Ok((text, !script.was_late.load(Ordering::SeqCst)))
+    let mut writer = Watched::new(make_page(alloc, usize::MAX, usize::MAX));
+    write_text(alloc, &mut writer, text)?;
+    Ok((writer, !script.was_late.load(Ordering::SeqCst)))
 }
 
 #[test]
@@ -124,7 +127,7 @@ fn answers_the_clerk_who_commits_first(rt: HostRuntime) -> Result<(), Fail> {
     assert!(rt; in_time);
     let text =
         "1 1 refused 2 CaseIsOpen\n2 2 opened\ncase 1 filed 2025-03-03\njudge Ames\njudge Brandt\n";
-    assert_eq!(rt; written.as_slice(), text.as_bytes());
+    assert_eq!(rt; written.inner().text.as_slice(), text.as_bytes());
     Ok(())
 }
 
@@ -139,6 +142,6 @@ fn shows_a_clerk_what_another_has_finished(rt: HostRuntime) -> Result<(), Fail> 
     assert!(rt; in_time);
     let text = "1 1 opened\n2 2 refused 1 NoSuchCase\n3 2 sheet\ncase 1 filed 2025-03-03\n\
         case 1 filed 2025-03-03\njudge Ames\njudge Brandt\n";
-    assert_eq!(rt; written.as_slice(), text.as_bytes());
+    assert_eq!(rt; written.inner().text.as_slice(), text.as_bytes());
     Ok(())
 }

@@ -1,6 +1,6 @@
 use Rattle.std.proofs.Common.{◌≡◌, ℕ, drop, max}
 use Rattle.std.specs.Prelude.{slice_index_or}
-use Rattle.kept_numbers.specs.declared.given.Counted.{Counted}
+use Rattle.docket_rows.specs.declared.command.Counted.{Counted}
 use Rattle.kept_numbers.specs.Kept.{after_given}
 use Rattle.kept_numbers.specs.Tops.{slot_of}
 use Rattle.kept_numbers.proofs.kept.tops_of.Given as goal

@@ -9,8 +9,7 @@ pub returns-in-Ok : goal.returns-in-Ok
 returns-in-Ok g c =
     let checked = c.in_ok-checked.checked in
     let IsText = g.P.Report.is_text c.args.report.now in
-    let text = c.in-Ok.text.items in
     let file = court_part c.args.input.now in
-    made_further IsChecked (λ input t. IsText file input t.items) checked c.in-Ok.text (input_of (g.P.Report.clerk_count c.args.report.now) c.args.input.now)
-    (λ input is. subst (λ (i : Input). IsText file i text) (same_input input checked is) (rw c.divide.ensures.court at c.in-Ok.ensures))
+    made_further IsChecked (λ input t. IsText file input (g.P.Text.MadeText.bytes t)) checked c.in-Ok.text (input_of (g.P.Report.clerk_count c.args.report.now) c.args.input.now)
+    (λ input is. subst (λ (i : Input). IsText file i (g.P.Text.MadeText.bytes c.in-Ok.text)) (same_input input checked is) (rw c.divide.ensures.court at c.in-Ok.ensures))
     (rw c.clerks.ensures at c.in_ok-checked.ensures.said)

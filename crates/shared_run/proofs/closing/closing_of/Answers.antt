@@ -5,7 +5,7 @@ use Rattle.docket_core.specs.Words.{parts_held}
 use Rattle.office_run.specs.Words.{closing_text}
 use Rattle.office_run.proofs.CallerLemmas.{closing_same}
 use Rattle.published_docket.specs.Words.{BoardView}
-use Rattle.shared_run.proofs.text.closing_of.Goals as goal
+use Rattle.shared_run.proofs.closing.closing_of.Goals as goal
 
 pub returns-in-Some : goal.returns-in-Some
 returns-in-Some c =

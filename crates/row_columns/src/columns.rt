@@ -1,7 +1,7 @@
-//! The columns of rows, and their headings.
+//! The command words of rows, their columns, and what these are called.
 
 ghost use Rattle.std.specs.Prelude.{◌≡◌, option_map};
-ghost use Rattle.written_rows.specs.Columns.{column_at, columns_of, heading_said, name_of};
+ghost use Rattle.row_columns.specs.Columns.{column_at, columns_of, commands_listed, mark_of, name_of};
 
 /// What a column of a row holds.
 #[derive(Clone, Copy, Debug, PartialEq, Eq)]
@@ -22,6 +22,8 @@ pub enum Column {
     Date,
     /// A time of day.
     Time,
+    /// The time of day at which a hearing begins.
+    Start,
     /// A time of day, or nothing.
     TimeOrNone,
     /// A second date, or nothing.
@@ -56,6 +58,30 @@ pub enum Column {
     Slots,
     /// The day on which notice was served.
     Notice,
+}
+
+/// The command words.
+pub const COMMANDS: [&str; 13] = [
+    "open",
+    "start",
+    "file",
+    "extend",
+    "motion",
+    "book",
+    "move",
+    "cancel",
+    "holiday",
+    "inaccessible",
+    "compute",
+    "sheet",
+    "calendar",
+];
+
+/// The command words, as they are listed in a sentence.
+pub fn commands_listed() -> &'static str
+    ensures { result.now ≡ commands_listed }
+{
+    "open, start, file, extend, motion, book, move, cancel, holiday, inaccessible, compute, sheet or calendar"
 }
 
 /// The columns of the rows with this command word, from the first on.
@@ -111,7 +137,7 @@ pub fn columns_of(word: &str) -> Option<&'static [Column]>
             Column::Judges,
             Column::Room,
             Column::Date,
-            Column::Time,
+            Column::Start,
             Column::Slots,
             Column::Notice,
         ]),
@@ -145,7 +171,7 @@ pub fn columns_of(word: &str) -> Option<&'static [Column]>
 }
 
 /// The column of that number, counted from 0.
-pub(crate) fn column_at(columns: &[Column], number: usize) -> Column
+pub fn column_at(columns: &[Column], number: usize) -> Column
     ensures { result ≡ column_at columns.now number }
 {
     columns.get(number).copied().unwrap_or(Column::Command)
@@ -163,7 +189,7 @@ pub fn name_of(column: Column) -> &'static str
         Column::Motion | Column::ByMotion => "motion",
         Column::Period => "period",
         Column::Date => "date",
-        Column::Time | Column::TimeOrNone => "time",
+        Column::Time | Column::Start | Column::TimeOrNone => "time",
         Column::SecondOrNone => "second",
         Column::ServiceOrNone => "kind",
         Column::Means => "means",
@@ -181,35 +207,36 @@ pub fn name_of(column: Column) -> &'static str
     }
 }
 
-/// The heading that is meant, for a text that is folded. `note` is that of a column that no row has, and that is passed over.
-#[tactic(auto, unfolding(crate::specs::Columns::heading_said))]
-pub fn heading_said(word: &str) -> Option<&'static str>
-    ensures { option_map (λ name. name.now) result ≡ heading_said word.now }
+/// What stands for a column where the form of a row is shown. What may be left empty is in brackets. The command word
+/// stands for itself.
+pub fn mark_of(word: &str, column: Column) -> &str
+    ensures { result.now ≡ mark_of word.now column }
 {
-    match word {
-        "clerk" => Some("clerk"),
-        "command" | "action" => Some("command"),
-        "case" | "caseno" | "casenumber" => Some("case"),
-        "deadline" | "deadlineno" => Some("deadline"),
-        "motion" | "motionno" => Some("motion"),
-        "period" | "rule" => Some("period"),
-        "date" | "day" => Some("date"),
-        "time" => Some("time"),
-        "second" | "seconddate" => Some("second"),
-        "kind" | "service" | "serviceby" => Some("kind"),
-        "means" => Some("means"),
-        "grant" | "extension" => Some("grant"),
-        "cause" | "goodcause" => Some("cause"),
-        "neglect" | "excusableneglect" => Some("neglect"),
-        "need" | "noticedays" => Some("need"),
-        "list" | "holidays" => Some("list"),
-        "from" => Some("from"),
-        "to" => Some("to"),
-        "judge" | "judges" => Some("judge"),
-        "room" | "courtroom" => Some("room"),
-        "slots" => Some("slots"),
-        "notice" | "noticeserved" => Some("notice"),
-        "note" | "notes" | "remarks" | "comment" | "comments" => Some("note"),
-        _ => None,
+    match column {
+        Column::Clerk => "CLERK",
+        Column::Command => word,
+        Column::Case => "CASE",
+        Column::Deadline => "DEADLINE",
+        Column::Motion => "MOTION",
+        Column::Period => "PERIOD",
+        Column::Date => "DATE",
+        Column::Time => "TIME",
+        Column::Start => "START",
+        Column::TimeOrNone => "[TIME]",
+        Column::SecondOrNone => "[SECOND]",
+        Column::ServiceOrNone => "[KIND]",
+        Column::Means => "MEANS",
+        Column::Grant => "GRANT",
+        Column::ByMotion => "MOTION?",
+        Column::Cause => "CAUSE?",
+        Column::Neglect => "NEGLECT?",
+        Column::Need => "NEED",
+        Column::Holidays => "LIST",
+        Column::From => "FROM",
+        Column::To => "TO",
+        Column::Judge | Column::Judges => "JUDGE",
+        Column::Room => "ROOM",
+        Column::Slots => "SLOTS",
+        Column::Notice => "NOTICE",
     }
 }

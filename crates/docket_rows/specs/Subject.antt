@@ -1,0 +1,32 @@
+-- The deadline or the motion that a command names by its number.
+use Rattle.std.specs.Prelude.{ℕ, Bool, true, false, Option, Some, None}
+use Rattle.docket_rows.specs.declared.command.Command.{Command}
+use Rattle.docket_rows.specs.declared.command.Command.TheVariants.{FileAct, Extend, Book, MoveHearing, Cancel}
+use Rattle.docket_rows.specs.declared.command.Counted.{Counted}
+use Rattle.docket_rows.specs.declared.command.Counted.TheVariants.{Deadline, Motion}
+use Rattle.docket_rows.specs.declared.command.Subject.{Subject}
+
+-- both are deadlines, or both are motions
+abbrev pub are_alike : Counted → Counted → Bool
+are_alike Deadline Deadline = true
+are_alike Deadline Motion = false
+are_alike Motion Deadline = false
+are_alike Motion Motion = true
+
+-- the deadline or the motion that a command names, if it names one
+abbrev pub subject_of : Command → Option Subject
+subject_of (FileAct case deadline filing) = Some (record { case = case; counted = Deadline; number = deadline })
+subject_of (Extend case deadline request) = Some (record { case = case; counted = Deadline; number = deadline })
+subject_of (Book s) = Some (record { case = s.case; counted = Motion; number = s.motion })
+subject_of (MoveHearing s) = Some (record { case = s.case; counted = Motion; number = s.motion })
+subject_of (Cancel case motion) = Some (record { case = case; counted = Motion; number = motion })
+subject_of command = None
+
+-- the same command, with this number for what it names
+abbrev pub naming : Command → (number : ℕ) → Command
+naming (FileAct case deadline filing) number = FileAct case number filing
+naming (Extend case deadline request) number = Extend case number request
+naming (Book s) number = Book (record s { motion = number })
+naming (MoveHearing s) number = MoveHearing (record s { motion = number })
+naming (Cancel case motion) number = Cancel case number
+naming command number = command
