@@ -47,7 +47,8 @@ impl Gathered {
         give(writer, piece);
     }
 
-    // Whether the piece found room, where it waits then.
+    // Whether the piece found room, where it waits then. A body that never finds room would meet this clause too: each piece
+    // would be written at once, and only time would show it.
     fn keep(&mut self, piece: &[u8]) -> bool
         ensures { self.new ≡ (if result then self.old ++ piece.now else self.old) }
     {
