@@ -3,7 +3,7 @@
 
     edits_check.py [CRATE ..]
 
-The gate tries a few edits, crates/CRATE/must-fail/, of the crates of days, periods, hearings and the docket, since a
+The gate tries the edits of a few crates, crates/CRATE/must-fail/: Rule 6, periods, decisions, commits and the journal. A
 crate with edits is proved once more for them. Those of checks/edits/CRATE/ are as good, and are tried here: in a copy of
 the tree, in which they take the place of the others, `rt must-fail` is called for these crates. With no word, for all of
 them. The status is that of `rt must-fail`. It needs git, `rt` and Python 3.8 or later.

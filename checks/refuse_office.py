@@ -20,7 +20,7 @@ import sys
 from lib.refusals import PROGRAM_ENDED, lacking, library_that_refuses, swept
 
 # What the line above `out of memory` begins with: that of the opening, and of each call that takes memory.
-CALLS = ("office", "prepare", "commit", "perform", "show", "close")
+CALLS = ("office", "prepare", "commit", "perform", "show")
 REFUSED = b"out of memory\n"
 NO_READER = b"a seat got no place to read from\n"
 

@@ -1,9 +1,9 @@
 pub mod AnsweredLemmas
 pub mod CallerLemmas
-pub mod DeskLemmas
 pub mod MergeLemmas
 pub mod NotedLemmas
 pub mod OrderLemmas
 pub mod RowLemmas
 pub mod RunLemmas
 pub mod WorkLemmas
+pub mod WorkerLemmas

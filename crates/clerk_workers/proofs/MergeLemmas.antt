@@ -7,7 +7,7 @@ use Rattle.office_rows.specs.Words.{IsClerk, IsOfClerk}
 use Rattle.clerk_workers.specs.declared.answer.SharedReply.{SharedReply}
 use Rattle.clerk_workers.specs.Merged.{AreFromTheLast, IsTaken, list_at}
 use Rattle.clerk_workers.specs.Rows.{AreOfClerks, answers_of, works_of}
-use Rattle.clerk_workers.proofs.DeskLemmas.{all_but_last, all_first}
+use Rattle.clerk_workers.proofs.WorkerLemmas.{all_but_last, all_first}
 use Rattle.clerk_workers.proofs.RowLemmas.{answers_other, answers_own, works_append, works_other, works_own}
 
 -- a list with one answer fewer is put back

@@ -1,5 +1,4 @@
 pub mod Answered
-pub mod Desks
 pub mod Merged
 pub mod Noted
 pub mod Rows
@@ -7,3 +6,4 @@ pub mod Runs
 pub mod Steps
 pub mod Words
 pub mod Worked
+pub mod Workers

@@ -1,21 +1,21 @@
 //! What a clerk's thread promises to come to.
 
-use crate::desk::Desk;
 use crate::notes::Notes;
+use crate::worker::Worker;
 use office_rows::Row;
 use office_seats::NamesOffice;
 use std::snapshot::Snapshot;
 use std::thread::Promise;
 
-/// That a clerk who began at this desk has done its rows among these as far as its desk then says.
+/// That a worker who began so has done its rows among these as far as it then says.
 #[derive(Drop)]
 pub(crate) struct Duty<'e, L: NamesOffice, K: Notes<L>> {
-    pub(crate) desk: Snapshot<Desk<L, K>>,
+    pub(crate) worker: Snapshot<Worker<L, K>>,
     pub(crate) rows: &'e [Row],
 }
 
-impl<'e, L: NamesOffice, K: Notes<L>> Promise<Desk<L, K>> for Duty<'e, L, K> {
-    ghost use Rattle.clerk_workers.specs.Desks.{IsWorked};
+impl<'e, L: NamesOffice, K: Notes<L>> Promise<Worker<L, K>> for Duty<'e, L, K> {
+    ghost use Rattle.clerk_workers.specs.Workers.{IsWorked};
 
-    ghost kept_by = { λ p d. IsWorked K.hold L.setup p.rows.now p.desk.value d };
+    ghost kept_by = { λ p d. IsWorked K.hold L.setup p.rows.now p.worker.value d };
 }

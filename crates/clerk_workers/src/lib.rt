@@ -3,8 +3,6 @@
 #![tactic(auto)]
 
 mod answer;
-mod desk;
-mod desks;
 mod duty;
 mod hired;
 mod merge;
@@ -13,6 +11,8 @@ mod noting;
 mod outcome;
 mod progress;
 mod run;
+mod serving;
+mod threads;
 mod worker;
 mod workers;
 

@@ -1,15 +1,15 @@
 //! Runs of several clerks, who note the answers to their rows.
 
 ghost use Rattle.std.specs.Prelude.{◌≡◌, ◌≤◌, [], All, length, vec_capacity};
-ghost use Rattle.clerk_workers.specs.Desks.{AreWorked, seats_at};
+ghost use Rattle.clerk_workers.specs.Workers.{AreWorked, seats_at};
 ghost use Rattle.clerk_workers.specs.Noted.{RunsNoting};
 
-use crate::desk::Desk;
-use crate::desks::{all_are, leave_all, seat_all, unseat_all};
 use crate::notes::Notes;
 use crate::outcome::{Noted, RunFault};
 use crate::progress::Progress;
-use crate::workers::at_work;
+use crate::threads::at_work;
+use crate::worker::Worker;
+use crate::workers::{all_are, leave_all, seat_all, unseat_all};
 use clerk_gates::Gate;
 use office_rows::Row;
 use office_seats::{NamesOffice, Seat, Tally};
@@ -18,27 +18,27 @@ use std::snapshot::Snapshot;
 use std::sync::Wait;
 use std::thread::Threads;
 
-// The result of a run, by how far the clerks came who began at the first desks. The lists are empty, and have room.
+// The result of a run, by how far the workers came who began as the first list says. The lists are empty, and have room.
 fn outcome<L: NamesOffice, K: Notes<L>>(
-    start: &Snapshot<Vec<Desk<L, K>>>,
-    mut desks: Vec<Desk<L, K>>,
+    start: &Snapshot<Vec<Worker<L, K>>>,
+    mut workers: Vec<Worker<L, K>>,
     mut seats: Vec<Seat<L>>,
     mut notes: Vec<K>,
     mut tallies: Vec<Tally<L>>,
     rows: &[Row],
 ) -> Result<Noted<L, K>, RunFault<L>>
-    requires worked { AreWorked K.hold L.setup rows.now start.now.value.items desks.items }
+    requires worked { AreWorked K.hold L.setup rows.now start.now.value.items workers.items }
     requires seats { (seats.items ≡ []) × (length start.now.value.items ≤ vec_capacity seats) }
     requires notes { (notes.items ≡ []) × (length start.now.value.items ≤ vec_capacity notes) }
     requires tallies { (tallies.items ≡ []) × (length start.now.value.items ≤ vec_capacity tallies) }
     ensures { RunsNoting K.hold L.setup rows.now (seats_at start.now.value.items) result }
 {
-    if all_are(desks.as_slice(), Progress::Waiting) {
-        unseat_all(&mut desks, &mut seats);
+    if all_are(workers.as_slice(), Progress::Waiting) {
+        unseat_all(&mut workers, &mut seats);
         return Err(RunFault::NotStarted { seats });
     }
-    let done = all_are(desks.as_slice(), Progress::Done);
-    leave_all(&mut desks, &mut tallies, &mut notes);
+    let done = all_are(workers.as_slice(), Progress::Done);
+    leave_all(&mut workers, &mut tallies, &mut notes);
     if done {
         Ok(Noted { notes, tallies })
     } else {
@@ -67,11 +67,11 @@ pub fn run_noting<L: NamesOffice + Send + Sync, K: Notes<L>, R: Threads + Wait +
     let Ok(tallies) = Vec::with_capacity(alloc, seats.len()) else {
         return Err(RunFault::NotStarted { seats });
     };
-    let Ok(mut desks) = Vec::with_capacity(alloc, seats.len()) else {
+    let Ok(mut workers) = Vec::with_capacity(alloc, seats.len()) else {
         return Err(RunFault::NotStarted { seats });
     };
-    seat_all(&mut seats, &mut notes, &mut desks);
-    let start = Snapshot::of(&desks);
-    let desks = at_work(rt, alloc, desks, rows, gate);
-    outcome(&start, desks, seats, notes, tallies, rows)
+    seat_all(&mut seats, &mut notes, &mut workers);
+    let start = Snapshot::of(&workers);
+    let workers = at_work(rt, alloc, workers, rows, gate);
+    outcome(&start, workers, seats, notes, tallies, rows)
 }

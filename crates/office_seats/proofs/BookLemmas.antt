@@ -1,7 +1,6 @@
 -- One entry more in the book, over plain histories, stores and drafts.
 use Rattle.std.proofs.Common.{◌≡◌, ℕ, ◌+◌, Some, List, [], ◌∷◌, ◌++◌, length, All, option_map, refl, ap, sym, ◌∙◌, subst, arith, length-append}
 use Rattle.std.proofs.lemmas.Option.{same_Some}
-use mathlib.Core.List.{IsPrefix}
 use Rattle.logbook.specs.Pages.{Book}
 use Rattle.docket_rows.specs.declared.answer.Answer.{Answer}
 use Rattle.docket_rows.specs.declared.command.Command.{Command}
@@ -14,8 +13,7 @@ use Rattle.versioned_steps.proofs.CallerLemmas.{may_follow, kept_by, put_by}
 use Rattle.shared_docket.specs.Words.{docket_rules}
 use Rattle.shared_docket.proofs.CallerLemmas.{docket_lawful}
 use Rattle.published_docket.specs.declared.known.Known.{Known}
-use Rattle.published_docket.specs.Words.{TrailView, trail_view}
-use Rattle.published_docket.proofs.CallerLemmas.{prefix_length, prefix_whole}
+use Rattle.published_docket.specs.Words.{trail_view}
 use Rattle.office_seats.specs.Books.{IsBook}
 use Rattle.office_seats.specs.Finished.{DocketDraft, next_entry}
 
@@ -82,9 +80,3 @@ book_opened history setup parts published journal store total is empty same owne
     let P : CourtSetup → Type 0 = λ b. Replays (docket_rules b) [] store in
     let Q : List (Entry Command Answer) → Type 0 = λ j. IsBook history setup published j store total in
     subst Q (sym empty) (record { published_is = is; owner = owner ∙ same; replays = subst P same replays; counted = none })
-
--- two trails of one history, each of which begins with the other, are the same
-pub same_trail : (one other : TrailView) → other.book ≡ one.book → IsPrefix one.log other.log → IsPrefix other.log one.log → other ≡ one
-same_trail one other same begins ends =
-    let log : other.log ≡ one.log = prefix_whole other.log one.log ends (prefix_length one.log other.log begins) in
-    ap (λ (b : Book). record { book = b; log = other.log }) same ∙ ap (λ (l : List (Entry Command Answer)). record { book = one.book; log = l }) log

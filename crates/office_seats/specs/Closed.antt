@@ -44,10 +44,10 @@ pub record IsFirstMissing (seats : ℕ) (tallies : List TallyView) (number : ℕ
   pub missing : Contains (numbers_of tallies) number → ⊥
   pub least : (lesser : ℕ) → 0 < lesser → lesser < number → Contains (numbers_of tallies) lesser
 
--- why an office wasn't closed
+-- why an office wasn't closed; never for want of memory, since closing takes none
 abbrev pub StaysOpen : (seats : ℕ) → List TallyView → CloseError → Type 0
 StaysOpen seats tallies (MissingTally number) = IsFirstMissing seats tallies number
-StaysOpen seats tallies OutOfMemory = HasTallies seats tallies
+StaysOpen seats tallies OutOfMemory = ⊥
 
 -- the journal is legal, and is that of a docket which one clerk gives its commands in order; what each seat had seen is a beginning of it;
 -- the calls of each seat are its entries; it has no other entries

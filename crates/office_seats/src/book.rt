@@ -11,7 +11,7 @@ ghost use Rattle.office_seats.specs.Closed.{HasTallies, IsClosed};
 ghost use Rattle.office_seats.specs.Finished.{Commits, Makes, MakesNow, Settles};
 ghost use Rattle.office_seats.specs.Seen.{KnowsOf};
 
-use crate::closing::{all_seen, copy_entries, merge_all};
+use crate::closing::{merge_all, wait_for_all};
 use crate::done::Done;
 use crate::fault::{CommitError, PerformError};
 use crate::journal::Journal;
@@ -80,14 +80,6 @@ fn copy_writes(
         copies.push((write.0, value))?;
     }
     Ok(copies)
-}
-
-// Whether two trails of one history are the same.
-fn is_same(one: &Trail, other: &Trail) -> bool
-    requires { other.now.book ≡ one.now.book }
-    ensures { result ≡ true → other.now ≡ one.now }
-{
-    one.begins(other) && other.begins(one)
 }
 
 impl<L: NamesOffice> Book<L> {
@@ -249,55 +241,33 @@ impl<L: NamesOffice> Book<L> {
         Some(result)
     }
 
-    /// Gives the journal and its trail, and spends the tallies of all seats, whose calls make it up, as the ledger shows.
-    /// `Err` says that memory ran out; all is then as it was. None where a tally has seen more than this book has, which
-    /// never happens.
-    pub(crate) fn close(
-        &mut self,
-        alloc: Global,
+    /// Ends the book, and gives its journal and the docket as it was published last. It spends the tallies of all seats,
+    /// whose calls make up the journal, as the ledger shows. It waits for readers. There is no docket where memory ran out
+    /// for what was owed to them.
+    pub(crate) fn close<R: Wait>(
+        self,
+        rt: &R,
         rest: &mut Share<L>,
         tallies: &mut Vec<Tally<L>>,
-    ) -> Option<Result<(Journal, Trail), AllocError>>
+    ) -> (Journal, Option<Box<Board>>)
         requires all { L.parts ≡ 64 }
         requires whole { (seats : ℕ) → rest.old.parts + seats ≡ 64 → HasTallies seats tallies.old.items }
         requires parts { rest.old.parts ≤ 64 }
         requires amount { rest.old.amount ≡ 0 }
-        ensures closed { IfSome result (λ r. IfOk r (λ c. IsClosed L.setup tallies.old.items c.0)) }
-        ensures trail { IfSome result (λ r. IfOk r (λ c. c.1 ≡ trail_view L.history c.0)) }
-        ensures few { IfSome result (λ r. OnOk r (rest.old.parts + length tallies.old.items ≤ 64)) }
-        ensures tallies { IfSome result (λ r. OnErr r (tallies.new.items ≡ tallies.old.items)) }
-        ensures rest { IfSome result (λ r. OnErr r (rest.new.parts ≡ rest.old.parts)) }
-        ensures amount { IfSome result (λ r. OnErr r (rest.new.amount ≡ rest.old.amount)) }
-        ensures unseen { IfNone result (tallies.new.items ≡ tallies.old.items) }
-        ensures unseen_rest { IfNone result (rest.new.parts ≡ rest.old.parts) }
-        ensures unseen_amount { IfNone result (rest.new.amount ≡ rest.old.amount) }
-    {
-        if !all_seen(tallies, self.publisher.trail()) {
-            return None;
-        }
-        let Ok(entries) = copy_entries(alloc, &self.journal) else {
-            return Some(Err(AllocError));
-        };
-        merge_all(rest, tallies);
-        self.counted.audit(rest);
-        let trail = self.publisher.trail().again();
-        Some(Ok((Journal::new(entries), trail)))
-    }
-
-    /// Waits for the readers, and gives the docket as it was published last. None where memory ran out for what was owed
-    /// to readers, or where the history isn't the one that was seen, which never happens once the book was closed.
-    pub(crate) fn end<R: Wait>(self, rt: &R, seen: &Trail) -> Option<Box<Board>>
-        requires { seen.now.book ≡ L.history }
-        ensures { IfSome result (λ board. IsShown board.value × (board.value.parts ≡ L.setup) × (board.value.trail ≡ seen.now)) }
+        ensures closed { IsClosed L.setup tallies.old.items result.0 }
+        ensures board { IfSome result.1 (λ board. IsShown board.value × (board.value.parts ≡ L.setup) × (board.value.trail.log ≡ result.0)) }
+        ensures few { rest.old.parts + length tallies.old.items ≤ 64 }
     {
         let Book {
             publisher,
-            journal: _,
+            journal,
             store: _,
-            counted: _,
+            mut counted,
         } = self;
-        let same = is_same(seen, publisher.trail());
-        let board = publisher.end(rt)?;
-        if same { Some(board) } else { None }
+        wait_for_all(rt, tallies, publisher.trail());
+        merge_all(rest, tallies);
+        counted.audit(rest);
+        let board = publisher.end(rt);
+        (Journal::new(journal), board)
     }
 }

@@ -86,7 +86,7 @@ pub enum CloseError {
     /// 1: there is no tally of the seat of this number, the least such. Seats are numbered from 1.
     #[error("the tally of seat {0} is missing")]
     MissingTally(u8),
-    /// 2: no memory was left.
+    /// 2: no memory was left. Closing takes none, so this doesn't come.
     #[error("out of memory")]
     OutOfMemory,
 }

@@ -7,7 +7,7 @@ ghost use Rattle.office_seats.specs.Closed.{AreApart, AreOfSeats, HasTallies, Is
 ghost use Rattle.office_seats.specs.Opened.{IsLate, IsOpened, IsRefused, open_seats};
 
 use crate::book::Book;
-use crate::closing::{closed, first_missing};
+use crate::closing::{first_missing, only_owned};
 use crate::fault::{CloseError, OfficeError};
 use crate::journal::Journal;
 use crate::names_office::NamesOffice;
@@ -55,21 +55,6 @@ pub struct CloseRefused<L: NamesOffice> {
 // Puts the book under a lock that seats share.
 fn locked<L: NamesOffice>(alloc: Global, book: Book<L>) -> Result<Arc<Mutex<Book<L>>>, AllocError> {
     Ok(Arc::new(alloc, Mutex::new(book))?)
-}
-
-// Ends the book where nobody else shares it, as all seats were left, and gives the docket after what was seen.
-fn end_book<L: NamesOffice, R: Wait>(
-    rt: &R,
-    book: Arc<Mutex<Book<L>>>,
-    seen: &Trail,
-) -> Option<Box<Board>>
-    requires { seen.now.book ≡ L.history }
-    ensures { IfSome result (λ board. IsShown board.value × (board.value.parts ≡ L.setup) × (board.value.trail ≡ seen.now)) }
-{
-    match Arc::try_unwrap(book) {
-        Ok(lock) => lock.into_inner().end(rt, seen),
-        Err(_) => None,
-    }
 }
 
 // The seats, numbered from 1. Each takes one part of the rest of the ledger.
@@ -165,14 +150,9 @@ impl<L: NamesOffice> Office<L> {
 
     /// Closes the office, once all its seats were left, and gives the journal of all that their clerks finished: each
     /// tally's calls are its entries of that number, and it has no others. `Err` gives back the office and the tallies.
-    /// It is `MissingTally` of the least number without a tally, or else `OutOfMemory`. The tallies are of seats of
+    /// It is `MissingTally` of the least number without a tally; closing takes no memory. The tallies are of seats of
     /// this office, since `L` names it. If no seat's is missing there is one of each.
-    pub fn close<R: Wait>(
-        self,
-        rt: &R,
-        alloc: Global,
-        tallies: Vec<Tally<L>>,
-    ) -> Result<Journal, CloseRefused<L>>
+    pub fn close<R: Wait>(self, rt: &R, tallies: Vec<Tally<L>>) -> Result<Journal, CloseRefused<L>>
         requires all { L.parts ≡ 64 }
         ensures closed { IfOk result (λ journal. IsClosed L.setup tallies.items journal) }
         ensures whole { OnOk result (HasTallies self tallies.items) }
@@ -182,7 +162,7 @@ impl<L: NamesOffice> Office<L> {
         ensures office { IfErr result (λ r. r.office ≡ self) }
         ensures tallies { IfErr result (λ r. r.tallies.items ≡ tallies.items) }
     {
-        match self.close_shown(rt, alloc, tallies) {
+        match self.close_shown(rt, tallies) {
             Ok((journal, _)) => Ok(journal),
             Err(refused) => Err(refused),
         }
@@ -193,7 +173,6 @@ impl<L: NamesOffice> Office<L> {
     pub fn close_shown<R: Wait>(
         self,
         rt: &R,
-        alloc: Global,
         tallies: Vec<Tally<L>>,
     ) -> Result<(Journal, Option<Box<Board>>), CloseRefused<L>>
         requires all { L.parts ≡ 64 }
@@ -219,16 +198,6 @@ impl<L: NamesOffice> Office<L> {
                 tallies,
             });
         }
-        match closed::<L, R>(rt, alloc, &book, &mut rest, &mut tallies) {
-            Ok((journal, trail)) => {
-                let board = end_book(rt, book, &trail);
-                Ok((journal, board))
-            }
-            Err(AllocError) => Err(CloseRefused {
-                cause: CloseError::OutOfMemory,
-                office: Office { book, seats, rest },
-                tallies,
-            }),
-        }
+        Ok(only_owned(rt, book).close(rt, &mut rest, &mut tallies))
     }
 }

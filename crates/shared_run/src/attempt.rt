@@ -88,7 +88,7 @@ pub(crate) fn attempt<L: NamesOffice + NamesCourt + Send + Sync, R: Threads + Wa
         notes: lines,
         tallies,
     } = noted;
-    let Ok((journal, board)) = office.close_shown(rt, alloc, tallies) else {
+    let Ok((journal, board)) = office.close_shown(rt, tallies) else {
         return Err(AllocError);
     };
     let closing = closing_of(alloc, court, &journal, board)?;

@@ -41,11 +41,11 @@ fn beginning_of(clerk: u8, entries: &[Entry<Command, Answer>], rows: &[Row]) -> 
     let mut count = 0u64;
     for entry in entries {
         if entry.clerk == u32::from(clerk) {
-            let (command, behind) = next_command(clerk, rows, place)?;
+            let (command, after) = next_command(clerk, rows, place)?;
             if command != entry.command {
                 return None;
             }
-            place = behind;
+            place = after;
             count = count.saturating_add(1);
         }
     }

@@ -12,7 +12,7 @@ use clerk_gates::OpenGate;
 use clerk_workers::{Ran, RunFault, run_clerks};
 use court_days::Court;
 use office_rows::{Row, RowError, read_rows, rows_are_bounded};
-use office_seats::{CloseError, CloseRefused, NamesOffice, Office, OfficeError, Seat, Tally};
+use office_seats::{NamesOffice, Office, OfficeError, Seat, Tally};
 use published_docket::Publisher;
 use std::alloc::Global;
 use std::marker::Brand;
@@ -81,7 +81,7 @@ fn is_done<L: NamesOffice + Send + Sync, R: Threads + Wait + Eprint + Sync>(
     match Office::<L>::new(rt, alloc, blank, publisher, court, seats, number) {
         Ok((office, seats)) => {
             let tallies = tallies_of(rt, alloc, text, seats, rows)?;
-            push_closed(rt, alloc, text, office, tallies, opening, rows)?;
+            push_closed(rt, text, office, tallies, opening, rows)?;
             Ok(true)
         }
         Err(OfficeError::NoReader) => {
@@ -134,7 +134,6 @@ fn tallies_of<L: NamesOffice + Send + Sync, R: Threads + Wait + Sync>(
 /// Closes the office, and adds what is found of its journal.
 fn push_closed<L: NamesOffice, R: Wait>(
     rt: &R,
-    alloc: Global,
     text: &mut String,
     office: Office<L>,
     tallies: Vec<Tally<L>>,
@@ -143,19 +142,7 @@ fn push_closed<L: NamesOffice, R: Wait>(
 ) -> Result<()>
     requires all { L.parts ≡ 64 }
 {
-    let mut result = office.close(rt, alloc, tallies);
-    if let Err(
-        CloseRefused {
-            cause: CloseError::OutOfMemory,
-            office,
-            tallies,
-        },
-    ) = result
-    {
-        text.push_str("out of memory\n")?;
-        result = office.close(rt, alloc, tallies);
-    }
-    match result {
+    match office.close(rt, tallies) {
         Ok(journal) => {
             push_beginnings(text, opening.seats, journal.entries(), rows)?;
             Ok(())

@@ -3,18 +3,17 @@
 ghost use Rattle.std.specs.Prelude.{◌≡◌};
 
 use crate::dockets::push_docket;
-use anyhow::{Result, bail};
+use anyhow::Result;
 use court_days::Court;
 use docket_rows::{Answer, Command};
-use office_seats::{CloseError, CloseRefused, Journal, NamesOffice, Office, Tally};
+use office_seats::{CloseError, Journal, NamesOffice, Office, Tally};
 use office_texts::{push_answer, push_number};
 use std::alloc::{AllocError, Global};
 use std::sync::Wait;
 use versioned_steps::Entry;
 
 /// Closes the office with these tallies, and adds what that was answered: the entries of the journal, a line each, and the
-/// sheets and calendars of the docket after it. A close that finds no memory is made once more. It gives the office and the
-/// tallies back where one is missing.
+/// sheets and calendars of the docket after it. It gives the office and the tallies back where one is missing.
 pub fn push_closed<L: NamesOffice, R: Wait>(
     rt: &R,
     alloc: Global,
@@ -25,36 +24,20 @@ pub fn push_closed<L: NamesOffice, R: Wait>(
 ) -> Result<Option<(Office<L>, Vec<Tally<L>>)>>
     requires all { L.parts ≡ 64 }
 {
-    let mut result = office.close(rt, alloc, tallies);
-    if let Err(
-        CloseRefused {
-            cause: CloseError::OutOfMemory,
-            office,
-            tallies,
-        },
-    ) = result
-    {
-        text.push_str("out of memory\n")?;
-        result = office.close(rt, alloc, tallies);
-    }
-    match result {
+    match office.close(rt, tallies) {
         Ok(journal) => {
             push_journal(alloc, text, court, &journal)?;
             Ok(None)
         }
-        Err(
-            CloseRefused {
-                cause: CloseError::MissingTally(number),
-                office,
-                tallies,
-            },
-        ) => {
+        Err(refused) => {
+            let CloseError::MissingTally(number) = refused.cause else {
+                unreachable!()
+            };
             text.push_str("missing ")?;
             push_number(text, u64::from(number))?;
             text.push_str("\n")?;
-            Ok(Some((office, tallies)))
+            Ok(Some((refused.office, refused.tallies)))
         }
-        Err(_) => bail!("no memory is left"),
     }
 }
 

@@ -92,7 +92,7 @@ fn push_worked<L: NamesOffice, R: Wait>(
 {
     push_failures(text, worked.as_slice())?;
     let (tallies, done) = divided(alloc, worked)?;
-    match office.close(rt, alloc, tallies) {
+    match office.close(rt, tallies) {
         Ok(journal) => push_replay(alloc, text, court, &journal, done.as_slice(), task),
         Err(refused) => {
             let cause = refused.cause;

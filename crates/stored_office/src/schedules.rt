@@ -20,7 +20,7 @@ pub fn run_all<R: Threads + Wait + Eprint + Files + AllocGlobal + Sync>(
 ) -> Result<String> {
     let (file, schedules) = input
         .split_once("\n%%\n")
-        .context("no line %% behind the court's file")?;
+        .context("no line %% after the court's file")?;
     let court = Court::from_bytes(alloc, file.as_bytes())?;
     let mut text = String::new(alloc);
     for schedule in schedules.split("\n\n") {
@@ -46,7 +46,7 @@ fn push_schedule<R: Threads + Wait + Eprint + Files + AllocGlobal + Sync>(
     let seats = words.next().context("no number of seats")?.parse()?;
     let number = words
         .next()
-        .context("no number behind that of the seats")?
+        .context("no number after that of the seats")?
         .parse()?;
     let opening = Opening { seats, number };
     match kind {

@@ -257,7 +257,7 @@ fn a_clerk_sees_what_the_other_finished(rt: HostRuntime) -> Result<(), Fail> {
             SharedReply::Viewed(View::Refused(Refusal::NoSuchCase)),
             SharedReply::Viewed(View::Sheet(_)),
         ] => is_made(&rt, first, 1, Answer::Opened),
-        _ => panic!(rt; "the sheet was shown before its case was opened, or not behind it"),
+        _ => panic!(rt; "the sheet was shown before its case was opened, or not after it"),
     }
     Ok(())
 }

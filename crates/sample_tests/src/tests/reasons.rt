@@ -43,7 +43,7 @@ fn has_reasons(
 }
 
 #[test]
-fn three_days_for_mail_are_added_behind_a_weekend(rt: HostRuntime) -> Result<(), Fail> {
+fn three_days_for_mail_are_added_after_a_weekend(rt: HostRuntime) -> Result<(), Fail> {
     derivations_end_in_what_is_shown();
     let court = court(rt.alloc())?;
     has_reasons(

@@ -1,4 +1,4 @@
-use Rattle.std.proofs.Common.{◌≡◌, ℕ, ◌-◌, ◌≤◌, true, List, length, All, ◌∙◌, sym, ap, subst, refl, arith}
+use Rattle.std.proofs.Common.{◌≡◌, ℕ, ◌-◌, ◌≤◌, true, List, length, All, ◌∙◌, sym, ap, subst, arith}
 use mathlib.Core.List.{IsPrefix}
 use Rattle.docket_rows.specs.declared.answer.Answer.{Answer}
 use Rattle.docket_rows.specs.declared.command.Command.{Command}
@@ -6,7 +6,7 @@ use Rattle.versioned_steps.specs.declared.entry.Entry.{Entry}
 use Rattle.versioned_steps.specs.Words.{is_legal}
 use Rattle.shared_docket.specs.Words.{docket_rules}
 use Rattle.published_docket.specs.declared.known.Known.{Known}
-use Rattle.published_docket.specs.Words.{TrailView, trail_view}
+use Rattle.published_docket.specs.Words.{TrailView}
 use Rattle.office_seats.specs.Closed.{TallyView, HasTallies, IsClosed, calls_of}
 use Rattle.office_seats.specs.Places.{Within, places_of}
 use Rattle.office_seats.proofs.ClosingLemmas.{closes, enough}
@@ -27,15 +27,6 @@ returns-clause-closed g c =
     let legal : is_legal (docket_rules setup) h ≡ true = subst P was.published_is c.trail.ensures.legal in
     let log : c.trail.result.now.log ≡ h = ap (λ (t : TrailView). t.log) c.trail.ensures.value ∙ ap (λ (k : Known). k.trail.log) was.published_is in
     let same : c.deref.result.now ≡ ts = c.deref.ensures.value in
-    let seen : All (λ (t : TallyView). IsPrefix t.seen h) ts = rw (log, same) at (c.if-not-all_seen.ensures.seen refl) in
-    let mine : All (λ (t : TallyView). Within t.mine (places_of t.number h)) ts = rw (log, same) at (c.if-not-all_seen.ensures.mine refl) in
-    let journal : h ≡ c.new.result = sym (c.new.ensures ∙ c.in-Ok.ensures ∙ c.deref-2.ensures.value) in
-    subst (IsClosed setup ts) journal (closes seats ts whole setup h few legal seen mine all)
-
-pub returns-clause-trail : goal.returns-clause-trail
-returns-clause-trail g c =
-    let was = c.self.invariant in
-    let h : List (Entry Command Answer) = c.self.inside.journal.items in
-    let journal : h ≡ c.new.result = sym (c.new.ensures ∙ c.in-Ok.ensures ∙ c.deref-2.ensures.value) in
-    let trail : c.again-trail.result ≡ trail_view g.L.NamesOffice.history h = c.again-trail.ensures ∙ c.trail-2.ensures.value ∙ ap (λ (k : Known). k.trail) was.published_is in
-    subst (λ (j : List (Entry Command Answer)). c.again-trail.result ≡ trail_view g.L.NamesOffice.history j) journal trail
+    let seen : All (λ (t : TallyView). IsPrefix t.seen h) ts = rw (log, same) at c.wait_for_all.ensures.seen in
+    let mine : All (λ (t : TallyView). Within t.mine (places_of t.number h)) ts = rw (log, same) at c.wait_for_all.ensures.mine in
+    subst (IsClosed setup ts) (sym c.new.ensures) (closes seats ts whole setup h few legal seen mine all)
