@@ -1,12 +1,12 @@
 -- What a booking, a move or a cancellation does to the calendars of judges and rooms.
-use Rattle.std.specs.Prelude.{ℕ, ◌==◌, Bool, true, false, List, Option, Some, None, if◌then◌else◌}
+use Rattle.std.specs.Prelude.{ℕ, ◌==◌, Bool, true, false, List, Option, Some, None, option_map, if◌then◌else◌}
 use Rattle.std.specs.Option.{option_and_then, option_map_or}
 use Rattle.court_clock.specs.Words.{later_day}
 use Rattle.hearing_slots.specs.declared.booking.Booking.{Booking}
 use Rattle.hearing_slots.specs.declared.need.Need.TheVariants.{ExParte}
 use Rattle.hearing_slots.specs.Words.{with_booking, without_motion}
 use Rattle.docket_rows.specs.declared.command.Command.{Command}
-use Rattle.docket_rows.specs.declared.command.Command.TheVariants.{Book, MoveHearing, Cancel}
+use Rattle.docket_rows.specs.declared.command.HearingOrder.{HearingOrder}
 use Rattle.docket_rows.specs.declared.hearing.Hearing.{Hearing}
 use Rattle.docket_rows.specs.declared.hearing.Setting.{Setting}
 use Rattle.docket_rows.specs.declared.rebooking.CalendarChange.{CalendarChange}
@@ -17,6 +17,7 @@ use Rattle.docket_rows.specs.Cases.{NumberedMotion}
 use Rattle.docket_rows.specs.Hearings.{hearing_asked}
 use Rattle.docket_rows.specs.Parts.{Parts, sits, first_judge}
 use Rattle.docket_rows.specs.Seen.{has_one, motion_in, hearing_in}
+use Rattle.docket_rows.specs.Subject.{order_of}
 
 -- the booking of the hearing that is asked for: `other` is the number of its room in a judge's calendar, and of its first
 -- judge in the room's
@@ -40,14 +41,18 @@ placement_of parts s = record {
   with_judge = booking_of parts (first_judge s.judges) s;
 }
 
--- which hearing of its motion a command takes off the calendar, and which it puts on it; none where the command is no
--- booking, no move and no cancellation
+-- which hearing of its motion an order takes off the calendar, and which it puts on it
+abbrev pub rebooking_by : Parts → HearingOrder → Rebooking
+rebooking_by parts order = record {
+  case = order.case;
+  motion = order.motion;
+  before = hearing_in parts order.case order.motion;
+  after = option_map (placement_of parts) order.setting;
+}
+
+-- the same for a command; none where it is about no hearing
 abbrev pub rebooking_of : Parts → Command → Option Rebooking
-rebooking_of parts (Book s) = Some (record { case = s.case; motion = s.motion; before = None; after = Some (placement_of parts s) })
-rebooking_of parts (MoveHearing s) =
-    Some (record { case = s.case; motion = s.motion; before = hearing_in parts s.case s.motion; after = Some (placement_of parts s) })
-rebooking_of parts (Cancel case motion) = Some (record { case = case; motion = motion; before = hearing_in parts case motion; after = None })
-rebooking_of parts _ = None
+rebooking_of parts command = option_map (rebooking_by parts) (order_of command)
 
 -- a calendar after its change, where it doesn't stay as it is
 abbrev pub changed_by : CalendarChange → List Booking → Option (List Booking)

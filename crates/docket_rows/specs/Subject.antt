@@ -1,9 +1,10 @@
--- The deadline or the motion that a command names by its number.
+-- The deadline or the motion that a command names by its number, and what it does to the hearing of a motion.
 use Rattle.std.specs.Prelude.{ℕ, Bool, true, false, Option, Some, None}
 use Rattle.docket_rows.specs.declared.command.Command.{Command}
 use Rattle.docket_rows.specs.declared.command.Command.TheVariants.{FileAct, Extend, Book, MoveHearing, Cancel}
 use Rattle.docket_rows.specs.declared.command.Counted.{Counted}
 use Rattle.docket_rows.specs.declared.command.Counted.TheVariants.{Deadline, Motion}
+use Rattle.docket_rows.specs.declared.command.HearingOrder.{HearingOrder}
 use Rattle.docket_rows.specs.declared.command.Subject.{Subject}
 
 -- both are deadlines, or both are motions
@@ -30,3 +31,11 @@ naming (Book s) number = Book (record s { motion = number })
 naming (MoveHearing s) number = MoveHearing (record s { motion = number })
 naming (Cancel case motion) number = Cancel case number
 naming command number = command
+
+-- what a command does to the hearing of a motion: with a setting it sets the hearing so, and without one it takes the
+-- hearing off the calendar; none where the command is about no hearing
+abbrev pub order_of : Command → Option HearingOrder
+order_of (Book s) = Some (record { case = s.case; motion = s.motion; setting = Some s })
+order_of (MoveHearing s) = Some (record { case = s.case; motion = s.motion; setting = Some s })
+order_of (Cancel case motion) = Some (record { case = case; motion = motion; setting = None })
+order_of command = None

@@ -16,9 +16,9 @@ pub use Rattle.docket_rows.specs.Clash.{SharesJudge, Clash}
 pub use Rattle.docket_rows.specs.Lawful.{IsNoticed, KeepsNotice, AreLawful, IsSettable, AreSound}
 pub use Rattle.docket_rows.specs.Reads.{calendars_of, calendars_now, about_case, wanted, is_read}
 unfoldable pub use Rattle.docket_rows.specs.Reads.{next_part}
-pub use Rattle.docket_rows.specs.Subject.{are_alike, subject_of, naming}
-pub use Rattle.docket_rows.specs.Rebooking.{booking_of, placement_of, rebooking_of, changed_by, change_to, judge_change, room_change}
-pub use Rattle.docket_rows.specs.Writes.{add_deadline, change_deadline, add_motion, set_hearing, days_written, case_of, record_after, case_after, case_written, judge_written, room_written, changed, part_after}
+pub use Rattle.docket_rows.specs.Subject.{are_alike, subject_of, naming, order_of}
+pub use Rattle.docket_rows.specs.Rebooking.{booking_of, placement_of, rebooking_by, rebooking_of, changed_by, change_to, judge_change, room_change}
+pub use Rattle.docket_rows.specs.Writes.{add_deadline, change_deadline, add_motion, set_hearing, days_written, case_of, hearing_after, record_after, case_after, case_written, judge_written, room_written, changed, part_after}
 unfoldable pub use Rattle.docket_rows.specs.Writes.{written_on}
 pub use Rattle.docket_rows.specs.View.{state_of, sheet_deadline, sheet_hearing, sheet_motion, sheet_of, shown_if_asked, view_of}
 unfoldable pub use Rattle.docket_rows.specs.View.{seen_by}

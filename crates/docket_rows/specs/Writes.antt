@@ -56,6 +56,13 @@ case_of (Cancel case motion) = Some case
 case_of (Holiday day list) = None
 case_of (Inaccessible day from to) = None
 
+-- an open case after a command about the hearing of a motion in it; another command leaves it as it was
+abbrev pub hearing_after : Command → CaseRecordView → CaseRecordView
+hearing_after (Book s) c = set_hearing s.motion (Some (hearing_asked s)) c
+hearing_after (MoveHearing s) c = set_hearing s.motion (Some (hearing_asked s)) c
+hearing_after (Cancel case motion) c = set_hearing motion None c
+hearing_after _ c = c
+
 -- an open case after a command about it
 abbrev pub record_after : Command → CaseRecordView → CaseRecordView
 record_after (Start case period event second service) c = add_deadline (started period event second service) c
@@ -63,10 +70,7 @@ record_after (FileAct case deadline filing) c = change_deadline deadline (λ row
 record_after (Extend case deadline request) c = change_deadline deadline (λ row. with_grant row request.grant) c
 record_after (Motion case served need) c =
     add_motion (record { number = length c.motions + 1; served = served; need = need; hearing = None }) c
-record_after (Book s) c = set_hearing s.motion (Some (hearing_asked s)) c
-record_after (MoveHearing s) c = set_hearing s.motion (Some (hearing_asked s)) c
-record_after (Cancel case motion) c = set_hearing motion None c
-record_after _ c = c
+record_after command c = hearing_after command c
 
 -- a case, open or not, after a command about it
 abbrev pub case_after : Command → Option CaseRecordView → Option CaseRecordView

@@ -1,7 +1,7 @@
 //! What a clerk can ask of a docket.
 
 ghost use Rattle.std.specs.Prelude.{◌≡◌, IfOk};
-ghost use Rattle.docket_rows.specs.Subject.{are_alike, naming, subject_of};
+ghost use Rattle.docket_rows.specs.Subject.{are_alike, naming, order_of, subject_of};
 
 use crate::hearing::Setting;
 use court_clock::Day;
@@ -128,7 +128,38 @@ pub struct Subject {
     pub number: u32,
 }
 
+/// What a command does to the hearing of a motion: it sets it, or takes it off the calendar.
+#[derive(Clone, Copy, Debug, PartialEq, Eq)]
+pub struct HearingOrder {
+    /// The number of the case.
+    pub case: u32,
+    /// The number of the motion in its case.
+    pub motion: u32,
+    /// The hearing that is asked for. None: the hearing is taken off the calendar.
+    pub setting: Option<Setting>,
+}
+
 impl Command {
+    /// What the command does to the hearing of a motion: it sets it, or takes it off the calendar. `None` where it is about
+    /// no hearing.
+    pub fn order(&self) -> Option<HearingOrder>
+        ensures { result ≡ order_of self.now }
+    {
+        match self {
+            Command::Book(s) | Command::MoveHearing(s) => Some(HearingOrder {
+                case: s.case,
+                motion: s.motion,
+                setting: Some(*s),
+            }),
+            Command::Cancel { case, motion } => Some(HearingOrder {
+                case: *case,
+                motion: *motion,
+                setting: None,
+            }),
+            _ => None,
+        }
+    }
+
     /// The same command. It takes no memory.
     pub fn copy(&self) -> Result<Command, AllocError>
         ensures { IfOk result (λ command. command ≡ self.now) }

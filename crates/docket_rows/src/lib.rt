@@ -17,7 +17,7 @@ mod view;
 
 pub use answer::Answer;
 pub use cases::{CaseRecord, SharedCase};
-pub use command::{Command, Counted, Subject};
+pub use command::{Command, Counted, HearingOrder, Subject};
 pub use decision::{Decision, Writes};
 pub use hearing::{Hearing, Setting};
 pub use limits::{LAST_CASE, MOST_DATES, MOST_DEADLINES, MOST_GRANTS, MOST_MOTIONS, MOST_OUTAGES};
