@@ -1,5 +1,5 @@
 -- What holds where a command isn't refused.
-use Rattle.std.proofs.Common.{◌≡◌, ℕ, ◌<◌, ◌≤◌, ◌+◌, ℤ, Bool, true, false, not, ◌==◌, is_none, nat_eq, List, [], ◌∷◌, length, map, find, Option, Some, None, IfSome, option_map, option_and_then, refl, ap, sym, ◌∙◌, arith, inl, inr}
+use Rattle.std.proofs.Common.{◌≡◌, ℕ, ◌<◌, ◌≤◌, ◌+◌, ℤ, Bool, true, false, not, ◌==◌, is_none, is_some, nat_eq, List, [], ◌∷◌, length, map, find, Option, Some, None, IfSome, option_map, option_and_then, refl, ap, sym, ◌∙◌, arith, inl, inr}
 use Rattle.std.proofs.lemmas.Bool.{cases_Bool, false≢true}
 use Rattle.std.proofs.lemmas.Bool.Decides.{nat_tests}
 use Rattle.std.proofs.lemmas.List.Elements.{All-weaker}
@@ -17,7 +17,7 @@ use Rattle.docket_rows.specs.declared.hearing.Setting.{Setting}
 use Rattle.docket_rows.specs.declared.refusal.Refusal.{Refusal}
 use Rattle.docket_rows.specs.declared.refusal.Refusal.TheVariants.{NoSuchDeadline}
 use Rattle.docket_laws.specs.CanSet.{CanSet}
-use Rattle.docket_rows.specs.Words.{CourtSetup, Parts, CaseRecordView, NumberedDeadline, most_deadlines, most_motions, refusal_of, deadlines_in, deadline_in, motions_in, fits_day, sits, start_deadline_refusal, start_deadline_checks, extend_refusal, extend_checks, motion_refusal, motion_checks, hearing_checks, book_refusal, move_refusal, outage_refusal, outage_checks}
+use Rattle.docket_rows.specs.Words.{CourtSetup, Parts, CaseRecordView, NumberedDeadline, most_deadlines, most_motions, refusal_of, deadlines_in, deadline_in, motions_in, hearing_in, fits_day, sits, start_deadline_refusal, start_deadline_checks, extend_refusal, extend_checks, motion_refusal, motion_checks, hearing_checks, book_checks, book_refusal, move_refusal, outage_refusal, outage_checks}
 
 -- no line of the list applies
 abbrev pub NoneOf : {R : Type 0} → List (Option R) → Type 0
@@ -42,6 +42,18 @@ when-not-None false r h = absurd cc
 pub option_map-None : {A B : Type 0} (f : A → B) (o : Option A) → option_map f o ≡ None → o ≡ None
 option_map-None f None h = refl
 option_map-None f (Some x) h = absurd cc
+
+-- what isn't there is none
+pub nothing_found : {A : Type 0} (o : Option A) → is_some o ≡ false → o ≡ None
+nothing_found None h = refl
+nothing_found (Some x) h = absurd (false≢true (sym h))
+
+-- a motion whose hearing may be booked has none
+pub may_book : (setup : CourtSetup) (parts : Parts) (s : Setting) → book_refusal setup parts s ≡ None → hearing_in parts s.case s.motion ≡ None
+unfolding book_refusal
+may_book setup parts s h =
+    let n = none_of (book_checks setup parts s) h in
+    nothing_found _ (when-None _ _ n.1.1.1.1.1.1.1.0)
 
 -- a period that starts suits its service, and has a length
 pub start_made : (c : DaysView) (period : Period) (event : EventView) (second : Option ℤ) (service : Option ServiceKind) → start_refusal c period event second service ≡ None → (suits period second service ≡ true) × (has_length period ≡ true)

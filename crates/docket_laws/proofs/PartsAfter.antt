@@ -1,7 +1,7 @@
 -- After a command the parts are those of the rows after it.
-use Rattle.std.proofs.Common.{◌≡◌, ℕ, ℤ, false, ◌==◌, not, is_some, List, [], ◌∷◌, ◌++◌, Option, Some, None, option_map, refl, ap, sym, ◌∙◌}
+use Rattle.std.proofs.Common.{◌≡◌, ℕ, ℤ, false, ◌==◌, not, List, [], ◌∷◌, ◌++◌, Option, Some, None, option_map, refl, ap, sym, ◌∙◌}
 use Rattle.std.specs.Option.{option_or, unwrap_or}
-use Rattle.std.proofs.lemmas.Bool.{true≢false, not_from_false}
+use Rattle.std.proofs.lemmas.Bool.{not_from_false}
 use Rattle.hearing_slots.specs.declared.booking.Booking.{Booking}
 use Rattle.hearing_slots.specs.declared.need.Need.{Need}
 use Rattle.hearing_slots.proofs.CallerLemmas.{filter_all, find-None}
@@ -11,8 +11,8 @@ use Rattle.docket_rows.specs.declared.hearing.Setting.{Setting}
 use Rattle.docket_rows.specs.declared.part.PartId.{PartId}
 use Rattle.docket_rows.specs.declared.part.PartId.TheVariants.{Court, Judge, Room, Case}
 use Rattle.docket_rows.specs.declared.part.PartValue.TheVariants as value
-use Rattle.docket_rows.specs.Words.{CourtSetup, Rows, Parts, DocketedHearing, CaseRecordView, AreSound, is_hearing, hearing_of, parts_of, part_value, sits, first_judge, hearing_asked, hearing_in, open_case_checks, open_case_refusal, book_checks, book_refusal, refusal, rows_after, changed}
-use Rattle.docket_laws.proofs.MadeLemmas.{none_of, when-None, option_map-None}
+use Rattle.docket_rows.specs.Words.{CourtSetup, Rows, Parts, DocketedHearing, CaseRecordView, AreSound, is_hearing, hearing_of, parts_of, part_value, sits, first_judge, hearing_asked, hearing_in, open_case_checks, open_case_refusal, book_refusal, refusal, rows_after, changed}
+use Rattle.docket_laws.proofs.MadeLemmas.{none_of, when-None, option_map-None, nothing_found, may_book}
 use Rattle.docket_laws.proofs.PartsCalendars.{calendar_cancelled, calendar_moved, booking_seen}
 use Rattle.docket_laws.proofs.PartsCases.{case_after_opening}
 use Rattle.docket_laws.proofs.PartsDeadlines.{case_after_start, case_after_act, case_after_grant}
@@ -33,23 +33,12 @@ calendar_value : (written : Option (List Booking)) (old new : List Booking) → 
 calendar_value None old new e = ap value.Calendar e
 calendar_value (Some bookings) old new e = ap value.Calendar e
 
-nothing_found : {A : Type 0} (o : Option A) → is_some o ≡ false → o ≡ None
-nothing_found None h = refl
-nothing_found (Some x) h = absurd (true≢false h)
-
 -- a case that may be opened isn't open
 may_open : (setup : CourtSetup) (rows : Rows) (case : ℕ) (filed : ℤ) → open_case_refusal (parts_of rows) case filed ≡ None → (parts_of rows).case case ≡ None
 unfolding open_case_refusal
 may_open setup rows case filed h =
     let n = none_of (open_case_checks (parts_of rows) case filed) h in
     nothing_found _ (when-None _ _ n.1.1.0)
-
--- a motion whose hearing may be booked has none
-may_book : (setup : CourtSetup) (parts : Parts) (s : Setting) → book_refusal setup parts s ≡ None → hearing_in parts s.case s.motion ≡ None
-unfolding book_refusal
-may_book setup parts s h =
-    let n = none_of (book_checks setup parts s) h in
-    nothing_found _ (when-None _ _ n.1.1.1.1.1.1.1.0)
 
 -- to book is to move the hearing of a motion that has none
 booked_as_moved : (rows : Rows) (s : Setting) → hearing_of rows s.case s.motion ≡ None → rows_after rows (Book s) ≡ rows_after rows (MoveHearing s)
@@ -58,11 +47,12 @@ booked_as_moved rows s none =
     let all = filter_all (λ h. not (is_hearing s.case s.motion h)) rows.hearings (λ k d within. not_from_false _ (absent k d within)) in
     ap (λ (hs : List DocketedHearing). record rows { hearings = hs ++ record { case = s.case; motion = s.motion; hearing = hearing_asked s } ∷ [] }) (sym all)
 
-written_as_moved : (parts : Parts) (s : Setting) → hearing_in parts s.case s.motion ≡ None → (part : PartId) → changed parts (Book s) part ≡ changed parts (MoveHearing s) part
-written_as_moved parts s none Court = refl
-written_as_moved parts s none (Judge judge) = rw none refl
-written_as_moved parts s none (Room room) = rw none refl
-written_as_moved parts s none (Case n) = refl
+-- and it writes the same
+written_as_moved : (parts : Parts) (s : Setting) (part : PartId) → changed parts (Book s) part ≡ changed parts (MoveHearing s) part
+written_as_moved parts s Court = refl
+written_as_moved parts s (Judge judge) = refl
+written_as_moved parts s (Room room) = refl
+written_as_moved parts s (Case n) = refl
 
 module _ (setup : CourtSetup) (rows : Rows) (sound : AreSound setup rows) where
   after_opening : (case : ℕ) (filed : ℤ) → open_case_refusal (parts_of rows) case filed ≡ None → (part : PartId) → IsAfter rows (OpenCase case filed) part
@@ -100,7 +90,7 @@ module _ (setup : CourtSetup) (rows : Rows) (sound : AreSound setup rows) where
   after_booking : (s : Setting) → book_refusal setup (parts_of rows) s ≡ None → (part : PartId) → IsAfter rows (Book s) part
   after_booking s h part =
       let none = may_book setup (parts_of rows) s h in
-      rw (booked_as_moved rows s (sym (hearing_seen setup rows sound s.case s.motion) ∙ none), written_as_moved (parts_of rows) s none part) (after_move s part)
+      rw (booked_as_moved rows s (sym (hearing_seen setup rows sound s.case s.motion) ∙ none), written_as_moved (parts_of rows) s part) (after_move s part)
 
 -- the whole
 pub parts_after : (setup : CourtSetup) (rows : Rows) (command : Command) → AreSound setup rows → refusal setup (parts_of rows) command ≡ None → (part : PartId) → part_value (parts_of (rows_after rows command)) part ≡ unwrap_or (changed (parts_of rows) command part) (part_value (parts_of rows) part)

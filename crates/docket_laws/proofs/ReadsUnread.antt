@@ -16,7 +16,7 @@ use Rattle.docket_rows.specs.declared.part.PartValue.TheVariants as value
 use Rattle.docket_rows.specs.declared.refusal.Refusal.{Refusal}
 use Rattle.docket_rows.specs.Words.{CourtSetup, Parts, IsSettable, same_part, sits, has_one, is_case_number, has_judges, is_panel, hearing_in, calendars_of, calendars_now, about_case, hearing_checks, book_refusal, move_refusal, refusal, days_written, case_written, judge_written, room_written, changed}
 use Rattle.docket_laws.specs.Reads.{is_wanted}
-use Rattle.docket_laws.proofs.MadeLemmas.{none_of, when-not-None}
+use Rattle.docket_laws.proofs.MadeLemmas.{none_of, when-not-None, may_book}
 use Rattle.docket_laws.proofs.ReadsNumbered.{IsNumbered, numbered}
 use Rattle.docket_laws.proofs.ReadsSame.{panel_read, panel_few}
 
@@ -100,7 +100,7 @@ module _ (setup : CourtSetup) (p : Parts) (settable : (case motion : ℕ) → If
       let places = book_places setup p s made in
       let others = others_none test s.case (Court ∷ calendars_of setup s.judges s.room) (numbered setup p (Book s) made) none in
       let away = not_sitting setup judge s.judges s.room places.panel places.judges others in
-      rw away refl
+      rw (away, may_book setup p s made) refl
   judge_unread (MoveHearing s) made judge none =
       let test = same_part (Judge judge) in
       let places = move_places setup p s made in
@@ -120,7 +120,7 @@ module _ (setup : CourtSetup) (p : Parts) (settable : (case motion : ℕ) → If
       let test = same_part (Room room) in
       let others = others_none test s.case (Court ∷ calendars_of setup s.judges s.room) (numbered setup p (Book s) made) none in
       let away = not_there setup room s.judges s.room (book_places setup p s made).room others in
-      rw away refl
+      rw (away, may_book setup p s made) refl
   room_unread (MoveHearing s) made room none =
       let test = same_part (Room room) in
       let now = calendars_now setup p s.case s.motion in
