@@ -2,7 +2,7 @@
 //! for each command. What it does to the court's days and to calendars is in `writes` and `rebooking` of `docket_core`.
 
 ghost use Rattle.std.specs.Prelude.{◌≡◌, true, None, IfOk, IfErr, IfSome, OnOk, OnErr};
-ghost use Rattle.docket_rows.specs.Words.{answer_if_made, case_after, case_of, next_part, record_after, refusal};
+ghost use Rattle.docket_rows.specs.Words.{answer_if_made, case_after, case_of, hearing_after, next_part, record_after, refusal};
 ghost use Rattle.docket_decisions.specs.Changes.{CanChangeRecord};
 ghost use Rattle.docket_decisions.specs.Memory.{takes_memory};
 
@@ -181,19 +181,23 @@ fn change_record(alloc: Global, case: &mut CaseRecord, command: &Command) -> Res
             ..
         } => case.add_grant(*deadline, request.grant),
         Command::Motion { served, need, .. } => case.add_motion(*served, *need),
-        Command::Book(s) => {
-            case.set_hearing(s.motion, Some(hearing_asked(s)));
+        _ => {
+            change_hearing(case, command);
             Ok(())
         }
-        Command::MoveHearing(s) => {
-            case.set_hearing(s.motion, Some(hearing_asked(s)));
-            Ok(())
-        }
-        Command::Cancel { motion, .. } => {
-            case.set_hearing(*motion, None);
-            Ok(())
-        }
-        _ => Ok(()),
+    }
+}
+
+/// Changes an open case as a command about a hearing of it says; another command leaves it as it was. It takes no memory.
+pub fn change_hearing(case: &mut CaseRecord, command: &Command)
+    requires { CanChangeRecord command.now case.old }
+    ensures { case.new ≡ hearing_after command.now case.old }
+{
+    match command {
+        Command::Book(s) => case.set_hearing(s.motion, Some(hearing_asked(s))),
+        Command::MoveHearing(s) => case.set_hearing(s.motion, Some(hearing_asked(s))),
+        Command::Cancel { motion, .. } => case.set_hearing(*motion, None),
+        _ => {}
     }
 }
 

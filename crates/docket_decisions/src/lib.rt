@@ -16,7 +16,7 @@ mod seen;
 mod sight;
 mod values;
 
-pub use commands::{answer_if_made, case_of_command, change_case, refusal};
+pub use commands::{answer_if_made, case_of_command, change_case, change_hearing, refusal};
 pub use deadlines::{shown_at_start, start_refusal};
 pub use hearings::{hearing_asked, is_court_day, lacks_last_service, later, missed_service, sits};
 pub use reads::Seen;
