@@ -92,10 +92,10 @@ value_changed (Some changed) bookings = refl
 
 abbrev pub CaseIsAfter : DocketView → Command → (case : ℕ) → Rebooking → Type 0
 CaseIsAfter d command case r =
-    value.Case (get_or (rebooked_docket r d).cases case None) ≡ unwrap_or (changed (parts_held d) command (Case case)) (part_value (parts_held d) (Case case))
+    value.Case (get_or (rebooked_docket r command d).cases case None) ≡ unwrap_or (changed (parts_held d) command (Case case)) (part_value (parts_held d) (Case case))
 
 -- a booking, a move and a cancellation change their calendars, and the case
-pub hearing_changed : (d : DocketView) (command : Command) (r : Rebooking) → refusal d.setup (parts_held d) command ≡ None → length d.judges ≡ d.setup.judges → length d.rooms ≡ d.setup.rooms → Some r ≡ rebooking_of (parts_held d) command → IsAfter d command (rebooked_docket r d)
+pub hearing_changed : (d : DocketView) (command : Command) (r : Rebooking) → refusal d.setup (parts_held d) command ≡ None → length d.judges ≡ d.setup.judges → length d.rooms ≡ d.setup.rooms → Some r ≡ rebooking_of (parts_held d) command → IsAfter d command (rebooked_docket r command d)
 hearing_changed d command r made judges rooms is (Judge j) =
     rw (sym is)
     (ap value.Calendar (calendar_of (judge_change r) d.judges j ((stays_when_made d command r made judges rooms is).judges j))

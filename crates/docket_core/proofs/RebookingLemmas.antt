@@ -9,7 +9,7 @@ use Rattle.docket_rows.specs.declared.hearing.Hearing.{Hearing}
 use Rattle.docket_rows.specs.declared.hearing.Setting.{Setting}
 use Rattle.docket_rows.specs.declared.rebooking.CalendarChange.{CalendarChange}
 use Rattle.docket_rows.specs.declared.rebooking.Rebooking.{Rebooking}
-use Rattle.docket_rows.specs.Words.{CourtSetup, Parts, refusal, booking_of, placement_of, rebooking_of, change_to, judge_change, room_change, first_judge, sits}
+use Rattle.docket_rows.specs.Words.{CourtSetup, Parts, refusal, case_of, booking_of, placement_of, rebooking_of, change_to, judge_change, room_change, first_judge, sits}
 use Rattle.docket_laws.specs.Words.{CanSet}
 use Rattle.docket_laws.proofs.CallerLemmas.{can_book, can_move, slots_of}
 use Rattle.docket_core.specs.Rebooking.{CanRebook, calendar_after, calendars_after, CanChange, CanChangeAll}
@@ -57,12 +57,19 @@ can_take_out case motion false bookings = tt
 pub same_rebooking : (P : Rebooking → Type 0) (r s : Rebooking) → Some r ≡ Some s → P s → P r
 same_rebooking P r s is h = subst P (sym (ap (λ o. unwrap_or o r) is)) h
 
+-- the rebooking is in the case that its command is about
+pub rebooked_case : (parts : Parts) (command : Command) (r : Rebooking) → Some r ≡ rebooking_of parts command → case_of command ≡ Some r.case
+rebooked_case parts (Book s) r is = same_rebooking (λ r. Some s.case ≡ Some r.case) r _ is refl
+rebooked_case parts (MoveHearing s) r is = same_rebooking (λ r. Some s.case ≡ Some r.case) r _ is refl
+rebooked_case parts (Cancel case motion) r is = same_rebooking (λ r. Some case ≡ Some r.case) r _ is refl
+rebooked_case parts _ r is = absurd cc
+
 -- so each calendar can be changed
 abbrev pub JudgeCanChange : Parts → (judge : ℕ) → Rebooking → Type 0
 JudgeCanChange parts judge r = CanChange (judge_change r judge) (parts.judge judge)
 
 pub judge_can_change : (parts : Parts) (command : Command) (r : Rebooking) (judge : ℕ) → CanRebook parts command → Some r ≡ rebooking_of parts command → JudgeCanChange parts judge r
-judge_can_change parts (Book s) r judge can is = same_rebooking (JudgeCanChange parts judge) r _ is (judge_can_put parts s None judge can)
+judge_can_change parts (Book s) r judge can is = same_rebooking (JudgeCanChange parts judge) r _ is (judge_can_put parts s _ judge can)
 judge_can_change parts (MoveHearing s) r judge can is = same_rebooking (JudgeCanChange parts judge) r _ is (judge_can_put parts s _ judge can)
 judge_can_change parts (Cancel case motion) r judge can is =
     same_rebooking (JudgeCanChange parts judge) r _ is (can_take_out case motion _ (parts.judge judge))
@@ -72,7 +79,7 @@ abbrev pub RoomCanChange : Parts → (room : ℕ) → Rebooking → Type 0
 RoomCanChange parts room r = CanChange (room_change r room) (parts.room room)
 
 pub room_can_change : (parts : Parts) (command : Command) (r : Rebooking) (room : ℕ) → CanRebook parts command → Some r ≡ rebooking_of parts command → RoomCanChange parts room r
-room_can_change parts (Book s) r room can is = same_rebooking (RoomCanChange parts room) r _ is (room_can_put parts s None room can)
+room_can_change parts (Book s) r room can is = same_rebooking (RoomCanChange parts room) r _ is (room_can_put parts s _ room can)
 room_can_change parts (MoveHearing s) r room can is = same_rebooking (RoomCanChange parts room) r _ is (room_can_put parts s _ room can)
 room_can_change parts (Cancel case motion) r room can is =
     same_rebooking (RoomCanChange parts room) r _ is (can_take_out case motion _ (parts.room room))

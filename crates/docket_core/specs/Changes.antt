@@ -3,9 +3,8 @@ use Rattle.std.specs.Prelude.{◌≡◌, ℕ, List, Option, None, IfSome, option
 use Rattle.std.specs.Option.{option_and_then}
 use Rattle.docket_rows.specs.declared.command.Command.{Command}
 use Rattle.docket_rows.specs.declared.part.PartId.{PartId}
-use Rattle.docket_rows.specs.declared.rebooking.Placement.{Placement}
 use Rattle.docket_rows.specs.declared.rebooking.Rebooking.{Rebooking}
-use Rattle.docket_rows.specs.Words.{CaseRecordView, Parts, part_value, changed, case_of, set_hearing, judge_change, room_change}
+use Rattle.docket_rows.specs.Words.{CaseRecordView, Parts, part_value, changed, case_of, hearing_after, judge_change, room_change}
 use Rattle.docket_decisions.specs.Words.{CanChangeRecord}
 use Rattle.docket_core.specs.Docket.{DocketView, parts_held}
 use Rattle.docket_core.specs.Rebooking.{calendars_after}
@@ -23,10 +22,10 @@ with_case number change cases = set cases number (option_map change (get_or case
 abbrev pub CanChangeCase : Parts → Command → Type 0
 CanChangeCase parts command = IfSome (option_and_then parts.case (case_of command)) (CanChangeRecord command)
 
--- the docket after a booking, a move or a cancellation
-abbrev pub rebooked_docket : Rebooking → DocketView → DocketView
-rebooked_docket r d = record d {
-  cases = with_case r.case (set_hearing r.motion (option_map (λ (p : Placement). p.hearing) r.after)) d.cases;
+-- the docket after a command about a hearing, which does this to the calendars
+abbrev pub rebooked_docket : Rebooking → Command → DocketView → DocketView
+rebooked_docket r command d = record d {
+  cases = with_case r.case (hearing_after command) d.cases;
   judges = calendars_after 0 (judge_change r) d.judges;
   rooms = calendars_after 0 (room_change r) d.rooms;
 }

@@ -1,19 +1,18 @@
 -- When the calendars of a docket can be changed by a booking, a move or a cancellation, and what they are after it.
-use Rattle.std.specs.Prelude.{ℕ, ◌+◌, List, [], ◌∷◌, Some, unwrap_or}
+use Rattle.std.specs.Prelude.{ℕ, ◌+◌, List, [], ◌∷◌, Some, IfSome, unwrap_or}
+use Rattle.std.specs.Option.{option_and_then}
 use Rattle.hearing_slots.specs.declared.booking.Booking.{Booking}
 use Rattle.hearing_slots.specs.Words.{IsWithinDay, IsFree}
 use Rattle.docket_rows.specs.declared.command.Command.{Command}
-use Rattle.docket_rows.specs.declared.command.Command.TheVariants.{Book, MoveHearing}
+use Rattle.docket_rows.specs.declared.command.HearingOrder.{HearingOrder}
 use Rattle.docket_rows.specs.declared.rebooking.CalendarChange.{CalendarChange}
 use Rattle.docket_rows.specs.declared.rebooking.CalendarChange.TheVariants.{Put}
-use Rattle.docket_rows.specs.Words.{Parts, changed_by}
+use Rattle.docket_rows.specs.Words.{Parts, order_of, changed_by}
 use Rattle.docket_laws.specs.Words.{CanSet}
 
--- the hearing of a booking and of a move can be set
+-- the hearing that a command sets can be set
 abbrev pub CanRebook : Parts → Command → Type 0
-CanRebook parts (Book s) = CanSet parts s
-CanRebook parts (MoveHearing s) = CanSet parts s
-CanRebook parts _ = Unit {0}
+CanRebook parts command = IfSome (option_and_then (λ (o : HearingOrder). o.setting) (order_of command)) (CanSet parts)
 
 -- a calendar after its change
 abbrev pub calendar_after : CalendarChange → List Booking → List Booking

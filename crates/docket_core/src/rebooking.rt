@@ -86,30 +86,20 @@ fn placed<S: Sight>(sight: &S, s: &Setting) -> Placement
     }
 }
 
-/// What the command does to calendars; none where it isn't a booking, a move or a cancellation.
+/// What the command does to calendars; none where it is about no hearing.
 pub(crate) fn rebooking_of<S: Sight>(sight: &S, command: &Command) -> Option<Rebooking>
     requires { CanRebook (S.parts sight.now) command.now }
     ensures { result ≡ rebooking_of (S.parts sight.now) command.now }
 {
-    match command {
-        Command::Book(s) => Some(Rebooking {
-            case: s.case,
-            motion: s.motion,
-            before: None,
-            after: Some(placed(sight, s)),
-        }),
-        Command::MoveHearing(s) => Some(Rebooking {
-            case: s.case,
-            motion: s.motion,
-            before: hearing_in(sight, s.case, s.motion),
-            after: Some(placed(sight, s)),
-        }),
-        Command::Cancel { case, motion } => Some(Rebooking {
-            case: *case,
-            motion: *motion,
-            before: hearing_in(sight, *case, *motion),
-            after: None,
-        }),
-        _ => None,
-    }
+    let order = command.order()?;
+    let after = match &order.setting {
+        Some(setting) => Some(placed(sight, setting)),
+        None => None,
+    };
+    Some(Rebooking {
+        case: order.case,
+        motion: order.motion,
+        before: hearing_in(sight, order.case, order.motion),
+        after,
+    })
 }

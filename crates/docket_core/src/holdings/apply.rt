@@ -58,7 +58,7 @@ impl Holdings {
             return Ok(());
         }
         if let Some(rebooking) = rebooking_of(self, command) {
-            return self.rebook(alloc, &rebooking);
+            return self.rebook(alloc, &rebooking, command);
         }
         match case_of_command(command) {
             Some(number) => self.change_case(alloc, number, command),
@@ -67,18 +67,20 @@ impl Holdings {
     }
 
     /// Changes the calendars, and then the case, which takes no memory. An error leaves the docket as it was.
-    fn rebook(&mut self, alloc: Global, rebooking: &Rebooking) -> Result<(), AllocError>
+    fn rebook(
+        &mut self,
+        alloc: Global,
+        rebooking: &Rebooking,
+        command: &Command,
+    ) -> Result<(), AllocError>
+        requires case { IfSome ((parts_held self.old).case rebooking.now.case) (CanChangeRecord command.now) }
         requires judges { CanChangeAll 0 (judge_change rebooking.now) self.old.judges }
         requires rooms { CanChangeAll 0 (room_change rebooking.now) self.old.rooms }
-        ensures ok { OnOk result (self.new ≡ rebooked_docket rebooking.now self.old) }
+        ensures ok { OnOk result (self.new ≡ rebooked_docket rebooking.now command.now self.old) }
         ensures err { OnErr result (self.new ≡ self.old) }
     {
         calendars::rebook(alloc, rebooking, 0, &mut self.judges, &mut self.rooms)?;
-        let hearing = match rebooking.after {
-            Some(placed) => Some(placed.hearing),
-            None => None,
-        };
-        cases::set_hearing(&mut self.cases, rebooking.case, rebooking.motion, hearing);
+        cases::change_hearing_of(&mut self.cases, rebooking.case, command);
         Ok(())
     }
 

@@ -1,12 +1,12 @@
 //! The cases of a docket, changed in place.
 
 ghost use Rattle.std.specs.Prelude.{◌≡◌, true, None, set, get_or, IfSome, OnOk, OnErr};
-ghost use Rattle.docket_rows.specs.Words.{case_after, set_hearing};
+ghost use Rattle.docket_rows.specs.Words.{case_after, hearing_after};
 ghost use Rattle.docket_decisions.specs.Words.{CanChangeRecord, takes_memory};
 ghost use Rattle.docket_core.specs.Changes.{with_case};
 
-use docket_decisions::change_case;
-use docket_rows::{CaseRecord, Command, Hearing};
+use docket_decisions::{change_case, change_hearing};
+use docket_rows::{CaseRecord, Command};
 use std::alloc::{AllocError, Global};
 
 /// Opens or changes the case of that number as the command says. An error leaves the cases as they were.
@@ -28,20 +28,16 @@ pub(crate) fn change(
     change_case(alloc, case, command)
 }
 
-/// Sets the hearing of a motion of the case of that number, or takes it out. It takes no memory.
-pub(crate) fn set_hearing(
-    cases: &mut [Option<CaseRecord>],
-    number: u32,
-    motion: u32,
-    hearing: Option<Hearing>,
-)
-    ensures { cases.new ≡ with_case number (set_hearing motion hearing) cases.old }
+/// Changes the case of that number as a command about a hearing of it says. It takes no memory.
+pub(crate) fn change_hearing_of(cases: &mut [Option<CaseRecord>], number: u32, command: &Command)
+    requires { IfSome (get_or cases.old number None) (CanChangeRecord command.now) }
+    ensures { cases.new ≡ with_case number (hearing_after command.now) cases.old }
 {
     if number as usize >= cases.len() {
         return;
     }
     let case = &mut cases[number as usize];
     if let Some(case) = case {
-        case.set_hearing(motion, hearing);
+        change_hearing(case, command);
     }
 }

@@ -4,11 +4,17 @@ use Rattle.docket_core.specs.Changes.{IsAfter}
 use Rattle.docket_core.specs.Docket.{DocketView, HasPlaces, parts_held}
 use Rattle.docket_core.proofs.ApplyLemmas.{hearing_changed, only_case_changed}
 use Rattle.docket_core.proofs.CaseLemmas.{can_change_record}
-use Rattle.docket_core.proofs.RebookingLemmas.{can_rebook, can_change_all, judge_can_change, room_can_change}
+use Rattle.docket_core.proofs.RebookingLemmas.{can_rebook, rebooked_case, can_change_all, judge_can_change, room_can_change}
 use Rattle.docket_core.proofs.holdings.Holdings.change.Goals as goal
 
 pub rebooking_of-requires : goal.rebooking_of-requires
 rebooking_of-requires c = can_rebook _ _ _ c.requires
+
+pub rebook-requires-clause-case : goal.rebook-requires-clause-case
+rebook-requires-clause-case c =
+    let d = c.args.self.now in
+    can_change_record d.setup (parts_held d) c.args.command.now _ c.requires
+    (ap (option_and_then (parts_held d).case) (rebooked_case (parts_held d) c.args.command.now c.in-Some-rebooking_of.rebooking c.in-Some-rebooking_of.ensures))
 
 pub rebook-requires-clause-judges : goal.rebook-requires-clause-judges
 rebook-requires-clause-judges c =
