@@ -1,7 +1,7 @@
 //! A change of a hearing.
 
-ghost use Rattle.std.specs.Prelude.{◌≡◌, None, if◌then◌else◌};
-ghost use Rattle.hearing_changes.specs.Change.{change_made, is_booked, is_cancelled, is_moved, setting_made};
+ghost use Rattle.std.specs.Prelude.{◌≡◌, None};
+ghost use Rattle.hearing_changes.specs.Change.{change_made, setting_made};
 
 use docket_rows::{Answer, Command, Hearing, Setting};
 
@@ -20,48 +20,13 @@ pub struct HearingChange {
 pub fn change_made(command: &Command, answer: &Answer) -> Option<HearingChange>
     ensures { result ≡ change_made command.now answer.now }
 {
-    match command {
-        Command::Book(setting) => only_if(is_booked(answer), setting_made(setting)),
-        Command::MoveHearing(setting) => only_if(is_moved(answer), setting_made(setting)),
-        Command::Cancel { case, motion } => only_if(
-            is_cancelled(answer),
-            Some(off(*case, *motion)),
-        ),
-        _ => None,
+    if let Answer::Refused(_) = answer {
+        return None;
     }
-}
-
-/// The change, if it was made.
-fn only_if(made: bool, change: Option<HearingChange>) -> Option<HearingChange>
-    ensures { result ≡ (if made then change else None) }
-{
-    if made { change } else { None }
-}
-
-fn is_booked(answer: &Answer) -> bool
-    ensures { result ≡ is_booked answer.now }
-{
-    match answer {
-        Answer::Booked => true,
-        _ => false,
-    }
-}
-
-fn is_moved(answer: &Answer) -> bool
-    ensures { result ≡ is_moved answer.now }
-{
-    match answer {
-        Answer::Moved => true,
-        _ => false,
-    }
-}
-
-fn is_cancelled(answer: &Answer) -> bool
-    ensures { result ≡ is_cancelled answer.now }
-{
-    match answer {
-        Answer::Cancelled => true,
-        _ => false,
+    let order = command.order()?;
+    match order.setting {
+        Some(setting) => setting_made(&setting),
+        None => Some(off(order.case, order.motion)),
     }
 }
 
