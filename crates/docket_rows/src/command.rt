@@ -189,7 +189,8 @@ impl Command {
         })
     }
 
-    /// The same command, with another number for the deadline or the motion that it names.
+    /// The same command, with another number for the deadline or the motion that it names. One that names neither stays as it
+    /// is.
     pub fn naming(&self, number: u32) -> Command
         ensures { result ≡ naming self.now number }
     {

@@ -52,8 +52,8 @@ fn opened<L: NamesOffice, R: Wait>(
 }
 
 /// Opens an office, lets its clerks do all rows, closes it, and gives the lines of all clerks, of whom the first has the first
-/// ones, and the text that comes after them. None where one of its seats got no place to read from; no row is done then. Conditions: `L` names the blank and the publisher, the
-/// publisher is of this court, and the others are those of a run.
+/// ones, and the text that comes after them. None where one of its seats got no place to read from; no row is done then.
+/// Conditions: `L` names the blank and the publisher, the publisher is of this court, and the others are those of a run.
 pub(crate) fn attempt<L: NamesOffice + NamesCourt + Send + Sync, R: Threads + Wait + Sync, G: Gate>(
     rt: &R,
     alloc: Global,

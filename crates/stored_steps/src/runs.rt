@@ -10,12 +10,12 @@ use std::alloc::Global;
 /// For each schedule of the input its line, and then a line for each step. An error says what is wrong with the input, or
 /// that memory ran out.
 pub fn run_all(alloc: Global, input: &str) -> Result<String> {
-    let (file, behind) = input
+    let (file, after) = input
         .split_once("\n%%\n")
-        .context("no line %% behind the court's file")?;
-    let (rows, schedules) = behind
+        .context("no line %% after the court's file")?;
+    let (rows, schedules) = after
         .split_once("%%%%\n")
-        .context("no line %%%% behind the rows")?;
+        .context("no line %%%% after the rows")?;
     let court = Court::from_bytes(alloc, file.as_bytes())?;
     let commands = commands_of(alloc, &court, rows.as_bytes())?;
     let mut text = String::new(alloc);
