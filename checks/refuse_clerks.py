@@ -5,11 +5,11 @@
 
 PROGRAM is stored_office, and INPUT a court's file and one schedule `clerks SEATS LIMIT` with its rows. A run in which a
 growth is refused must end in one of these ways, or it could do without that growth and writes what it writes with ample
-memory. The opening or the close of the office was answered want of memory, once, and succeeded when it was tried again.
+memory. The opening of the office was answered want of memory, once, and succeeded when it was tried again.
 Or the run of the clerks wasn't started, and succeeded with the seats that came back. Or it was stopped: the tallies
 closed the office, and the journal has of each clerk the first commands of its rows, in their order. Or a seat got no
 place to read from, and the office was opened anew. Or the program itself, which reads rows and writes text, found no
-memory, and says so with status 1. Each of the first four must come up, for which all growths are refused again, a few
+memory, and says so with status 1. Each of the first three must come up, for which all growths are refused again, a few
 times at most. The clerks don't ask for memory in the same order in each run, so it is chance whose growth is refused.
 The status is 0 where all of that is so. It needs Linux, Python 3.8 or later and a C compiler, `cc` or the one that CC
 names.
@@ -26,12 +26,10 @@ from refuse_office import NO_READER
 # What a line that is there because memory was refused says, by that line and the word before it.
 TOLD = {
     (b"out of memory", b"clerks"): "opening",
-    (b"out of memory", b"done"): "close",
     (b"not started", b"clerks"): "not started",
 }
 STOPPED = "stopped"
-# The last growths of a run are those of the close, and how many come before is chance. So a way that didn't come up is
-# looked for again, so often at most.
+# It is chance whose growth is refused. So a way that didn't come up is looked for again, this often at most.
 SWEEPS = 8
 FINISHED = re.compile(rb"clerk (\d+): (\d+) of (\d+)")
 
