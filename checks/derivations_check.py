@@ -464,14 +464,21 @@ def ends_near(ended, case, chance):
     return [day_text(chance.choice(ends) + chance.randrange(-1, 2))] if ends else []
 
 
+def by_places(data):
+    """The input without its table of numbers that aren't places: here a deadline is looked for by its place."""
+    return re.sub(rb"\[kept_numbers\]\n(?:\w+ = .*\n)*", b"", data)
+
+
 def main(words):
     program = words[0]
     seed, count = (int(word) for word in (words[1:] + ["1", "10000"][len(words) - 1:]))
     chance = random.Random(seed)
     shown, said, wrong, shapes = 0, 0, 0, {}
-    # (deadline_memo serves one clerk, so it can't read the examples of several, whose words stand beside them)
-    inputs = [path.read_bytes() for path in sorted((TOP / "examples").glob("*.txt")) if not path.with_suffix(".words").exists()]
-    inputs.append((TOP / "crates" / "deadline_memo" / "stdin").read_bytes())
+    # (deadline_memo serves one clerk, so it can't read the examples of several, whose words are beside them; here cases are
+    # looked for by their numbers, so the example in which they have names is left out)
+    inputs = [path.read_bytes() for path in sorted((TOP / "examples").glob("*.txt"))
+              if not path.with_suffix(".words").exists() and b"[case_names]" not in path.read_bytes()]
+    inputs.append(by_places((TOP / "crates" / "deadline_memo" / "stdin").read_bytes()))
     while shown < count or inputs:
         data = inputs.pop() if inputs else an_input(chance)
         for derivation in all_derivations(program, data, chance):
