@@ -7,9 +7,11 @@ Inputs are made at random. clerk_office answers each; from the sheets and calend
 makes the list of what is due, a judge's week and what a page says by itself, and court_calendar must write just that: for
 any days, any judge, any case, and words that say nothing of the court. In half of the inputs the court's file names cases
 (lib/case_names.py), and each is called by its name. A page is read by Python's own reader of HTML; its markup is looked at
-too (lib/pages.py). What it says of the reasons of a deadline must be the lines of deadline_memo. A faulty input must end
-both programs alike, and so must names that no court's file may have, such as `<b>`. Words that write no day, no instant or
-no case must be refused. It needs Python 3.8 or later; the status is 0 where all is alike.
+too (lib/pages.py). What it says of the reasons of a deadline must be the lines of deadline_memo. In half of the inputs rows
+are given to several clerks (lib/several_clerks.py), which changes nothing. A faulty input must end both programs alike, and so
+must names that no court's file may have, such as `<b>`. Words that write no day, no instant or no case must be refused. A judge,
+a case or the day of a week that isn't there must end the program with status 6 and one line on standard error, in each format.
+It needs Python 3.8 or later; the status is 0 where all is alike.
 """
 import datetime
 import random
@@ -21,6 +23,7 @@ from collections import namedtuple
 from lib.case_names import asked, called, made_name, read, with_names
 from lib.made_inputs import INPUTS, made_input
 from lib.pages import faults_of, parts_of
+from lib.several_clerks import with_clerks
 
 # A row at the end that is answered by one line: what follows it are the sheets and the calendars.
 LAST_ROW = b"1,compute,59e,2025-08-04,,,\n"
@@ -30,6 +33,8 @@ ACTS = {"filing": "to file", "service": "to serve"}
 HOSTILE = ["<b>", "&amp;", "&", '\\"', "'", "a>b", "<script>alert(1)</script>", "x" * 33, "x" * 64, ""]
 # Names that a file may have, of the greatest length and of all characters.
 LONG = ["Calloway-Montgomery_von.Humboldt", "-_.-_.-_.-_.-_.-_.-_.-_.-_.-_.-_"]
+# The formats that take a judge and a case.
+CHOOSING = ["due", "page", "ics", "json"]
 # Words that write no day, no instant or no case, the option that is wrong, and what it says is wanted.
 A_DAY = "write a day as 2025-09-15"
 A_CASE = "write a case as its number, 1 to 4096, or as 1:25-cv-01234-ABC"
@@ -301,23 +306,32 @@ def ran(program, words, data):
 
 
 def made_words(chance, names, court, docket, sheets, reasons):
-    """Words, and what is wrong with what the program writes for them, or none."""
+    """Words, and what is wrong with how the program ends that is called with them, or none."""
     def is_text(lines):
         wanted = "".join(line + "\n" for line in lines)
-        return lambda found: None if found == wanted else "wanted\n" + wanted
+        return lambda found: None if found == (0, wanted, "") else "wanted\n" + wanted
+
+    def is_missing(line):
+        wanted = (6, "", "court_calendar: {}\n".format(line))
+        return lambda found: None if found == wanted else "wanted {}".format(wanted)
     judges = sorted(docket.calendars)
     days = [item.day for item in docket.items] or [day_of(court["from"])]
     if judges and chance.random() < 0.4:
         judge, of = chance.choice(judges), chance.choice(days)
+        if chance.random() < 0.2:
+            of = chance.choice([day_of(court["from"]) - datetime.timedelta(1), day_of(court["to"]) + datetime.timedelta(1),
+                                day_of("1900-01-01"), day_of("2199-12-31")])
+            return ["week", "--judge", judge, "--of", str(of)], \
+                is_missing("{} isn't covered: the court's file covers {} to {}".format(of, court["from"], court["to"]))
         return ["week", "--judge", judge, "--of", str(of)], is_text(week_text(names, court, docket, judge, of))
     if chance.random() < 0.1:
-        format_asked = chance.choice(["due", "page"])
-        return [format_asked, "--judge", "Nobody"], is_text(["court_calendar: no judge is named 'Nobody' in the court's file"])
+        asked_for = chance.choice([[name] for name in CHOOSING] + [["json", "--lines"], ["week", "--of", court["from"]]])
+        return asked_for + ["--judge", "Nobody"], is_missing("no judge is named 'Nobody' in the court's file")
     if chance.random() < 0.1:
         name = made_name(chance)
         key, shown = read(name)
         if key not in [read(other)[0] for other in names.values()]:
-            return ["due", "--case", name], is_text(["court_calendar: no case is named '{}' in the court's file".format(shown)])
+            return [chance.choice(CHOOSING), "--case", name], is_missing("no case is named '{}' in the court's file".format(shown))
     words, first, last, judge, case = [chance.choice(["due", "page"])], day_of(court["from"]), day_of(court["to"]), None, None
     if chance.random() < 0.6:
         first = chance.choice(days)
@@ -331,9 +345,12 @@ def made_words(chance, names, court, docket, sheets, reasons):
     if chance.random() < 0.3:
         case = chance.choice([item.case for item in docket.items] + [1, 4096])
         words += ["--case", asked(chance, names, case)]
+        if case not in [sheet.case for sheet in sheets]:
+            return words, is_missing("case {} isn't open: no row has opened it".format(called(names, case)))
     text = due_text(names, court, docket, first, last, judge, case)
     if words[0] == "page":
-        return words, lambda page: page_fault(names, page, text, docket, sheets, reasons, first, last, judge, case)
+        return words, lambda found: "no page" if (found[0], found[2]) != (0, "") else \
+            page_fault(names, found[1], text, docket, sheets, reasons, first, last, judge, case)
     return words, is_text(text)
 
 
@@ -347,20 +364,22 @@ def differs(chance, calendar, clerk, memo, data):
     """How the programs differ on an input, and how often they were compared."""
     status, text, errors = ran(clerk, [], data + LAST_ROW)
     if status != 0:
-        alone = ran(clerk, [], data)
-        other = ran(calendar, ["due"], data)
+        given = with_clerks(chance, data)[0]
+        alone = ran(clerk, ["--clerks", "64"], given)
+        other = ran(calendar, ["due"], given)
         return (None if alone[0] == 0 or other == alone else "a fault told otherwise"), 1
     court = dict(re.findall(r'^\s*(opens|closes|from|to)\s*=\s*"([^"]*)"', data.decode().split("%%")[0], re.MULTILINE))
     lines = closing_of(text)
     named_data, names = with_names(chance, data)
+    given = with_clerks(chance, named_data)[0]
     docket, sheets = docket_of(names, lines), sheets_of(lines)
     reasons = reasons_of(closing_of(ran(memo, [], data + LAST_ROW)[1]))
     for _ in range(5):
         words, fault_in = made_words(chance, names, court, docket, sheets, reasons)
-        status, text, errors = ran(calendar, words, named_data)
-        fault = fault_in(text) if (status, errors) == (0, "") else "status {}: {}".format(status, errors)
+        found = ran(calendar, words, given)
+        fault = fault_in(found)
         if fault is not None:
-            return "{}: {}\n{}".format(" ".join(words), text, fault), 5
+            return "{}: {}\n{}".format(" ".join(words), found, fault), 5
     return None, 5
 
 

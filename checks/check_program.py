@@ -4,7 +4,7 @@
     check_program.py PROGRAM
 
 PROGRAM is a clerk_office or a deadline_memo, as its file is called. The gate sees one run of each, which ends with 0. Here
-each status from 0 to 5 is met: with what stands on standard input, on the command line and behind the two outputs, the
+each status is met, from 0 to 5 of clerk_office and to 6 of deadline_memo: with what stands on standard input, on the command line and behind the two outputs, the
 status, standard output and standard error must be what is written below; of the long texts that tell of the command line
 a part must be. It needs Python 3.8 and Linux (/dev/full, a limit of memory), and nothing else. The last line counts the
 runs as 'N passed, M failed'; the status is 0 where none failed.
@@ -97,8 +97,8 @@ def common_runs(name, why, refused):
         ("a divider alone", [], b"%%\n", 2, b"", b"court fault 2 Missing zone\n"),
         ("no TOML", [], b"zone = \n%%\n" + ROW, 2, b"", b"court fault 1 NotToml\n"),
         ("a name twice", [], ROWS.replace(b'"R1"', b'"R1", "R1"'), 2, b"", b"court fault 9 TwiceNamed R1\n"),
-        ("a clerk too many", [], ROWS + b"2" + ROW[1:], 3, b"", b"row 2 fault 1 BadClerk\n"),
-        ("the clerk 64", [], COURT + b"%%\n64" + ROW[1:], 3, b"", b"row 1 fault 1 BadClerk\n"),
+        ("a clerk more than there may be", [], ROWS + b"65" + ROW[1:], 3, b"", b"row 2 fault 1 BadClerk\n"),
+        ("the clerk 0", [], COURT + b"%%\n0" + ROW[1:], 3, b"", b"row 1 fault 1 BadClerk\n"),
         ("another command", [], COURT + b"%%\n1,fly,1,\"1\"\n", 3, b"", b"row 1 fault 2 UnknownCommand\n"),
         ("a field too few", [], ROWS + b"1,sheet\n", 3, b"", b"row 2 fault 3 WrongCount\n"),
         ("a field that can't be read", [], ROWS + b"1,sheet,one\n", 3, b"", b"row 2 fault 4 BadField 3\n"),
@@ -108,6 +108,8 @@ def common_runs(name, why, refused):
 
 
 OFFICE_RUNS = [
+    ("a clerk too many", [], ROWS + b"2" + ROW[1:], 3, b"", b"row 2 fault 1 BadClerk\n"),
+    ("the clerk 64", [], COURT + b"%%\n64" + ROW[1:], 3, b"", b"row 1 fault 1 BadClerk\n"),
     ("one clerk and a journal", ["--clerks", "1", "--journal=0"], ROWS, 0, LINE + JUDGE, b""),
     ("help with the options", ["--help"], b"", 0, Has(b"Usage: clerk_office [OPTIONS]\n"), b""),
     ("a short request for help", ["-h"], ROWS, 0, Has(b"--journal <N>"), b""),
@@ -174,7 +176,10 @@ MEMO_RUNS = [(name, [], named(entries), 0, LINE + reasons(cause) + JUDGE, b"") f
     ("help with an example of one case", ["--help"], b"", 0, Has(b"deadline_memo --case 1 --today 2025-08-21 < day.txt"), b""),
     ("a case", ["--case", "1"], OPEN_CASE, 0, CASE, b""),
     ("a case and a day", ["--today=2025-03-03", "--case=1"], OPEN_CASE, 0, CASE, b""),
-    ("a case that isn't open", ["--case", "2"], OPEN_CASE, 0, TOLD + b"case 2 isn't open: no row has opened it\n", b""),
+    ("rows of three clerks", [], COURT + b"%%\n64" + ROW[1:] + b"2" + ROW[1:] + ROW, 0,
+     b"".join(clerk + LINE[3:] + reasons(b"Labor Day") for clerk in (b"1 64", b"2 2", b"3 1")) + JUDGE, b""),
+    ("a case that another clerk opened", ["--case", "1"], COURT + OPEN, 0, CASE, b""),
+    ("a case that isn't open", ["--case", "2"], OPEN_CASE, 6, b"", TOLD + b"case 2 isn't open: no row has opened it\n"),
     ("a day that is none", ["--case", "1", "--today", "2025-02-29"], OPEN_CASE, 1, b"", NO_DAY.replace(b"X", b"2025-02-29")),
     ("an empty day", ["--case", "1", "--today="], OPEN_CASE, 1, b"", NO_DAY.replace(b"X", b"")),
     ("a day that is none, and a fault of the court's file", ["--case", "1", "--today", "X"], b"", 1, b"", NO_DAY),
@@ -182,15 +187,15 @@ MEMO_RUNS = [(name, [], named(entries), 0, LINE + reasons(cause) + JUDGE, b"") f
     ("no day and no case", ["--today", "X"], OPEN_CASE, 1, b"", NO_CASE),
     ("a day that is none, and help after it", ["--case", "1", "--today", "X", "--help"], b"", 0, Has(b"--case 1 --today"), b""),
     ("a fault of the court's file and a case", ["--case", "1"], b"", 2, b"", b"court fault 2 Missing zone\n"),
-    ("the greatest number of a case", ["--case", "4096"], OPEN_CASE, 0, Has(b"case 4096 isn't open"), b""),
+    ("the greatest number of a case", ["--case", "4096"], OPEN_CASE, 6, b"", Has(b"case 4096 isn't open")),
     ("a case too many", ["--case", "4097"], OPEN_CASE, 1, b"", usage(b"invalid value '4097' for '--case <N>'")),
     ("no case", ["--case", "0"], OPEN_CASE, 1, b"", usage(b"invalid value '0' for '--case <N>'")),
     ("a case that is no number", ["--case", "one"], OPEN_CASE, 1, b"", usage(b"invalid value 'one' for '--case <N>'")),
     ("a case that has a name", ["--case", "1"], NAMED_CASE, 0, NAMED, b""),
     ("a case by its name", ["--case", "1:25-CV-12-XYZ"], NAMED_CASE, 0, NAMED, b""),
     ("a sheet of a case that has a name", [], NAMED_CASE + b"1,sheet,1\n", 0, Has(b"sheet\n" + NAMED), b""),
-    ("a name that no case has", ["--case", "25-cv-12"], NAMED_CASE, 0,
-     TOLD + b"no case is named '25-cv-00012' in the court's file\n", b""),
+    ("a name that no case has", ["--case", "25-cv-12"], NAMED_CASE, 6, b"",
+     TOLD + b"no case is named '25-cv-00012' in the court's file\n"),
     ("a name that isn't whole", ["--case", "1:25-cv"], NAMED_CASE, 1, b"", usage(b"invalid value '1:25-cv' for '--case <N>'")),
     ("a case twice", ["--case=1", "--case=1"], OPEN_CASE, 1, b"", Has(b"cannot be used multiple times")),
     ("a day without its text", ["--case=1", "--today"], OPEN_CASE, 1, b"", usage(b"a value is required for '--today <DAY>'")),

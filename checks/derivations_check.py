@@ -165,7 +165,7 @@ def whole_case(ended, output, case, today):
     file, court, docket, sources = ended
     lines = output.decode().split("\n")[:-1]
     if case_of(docket, case) is None:
-        expect(lines == ["deadline_memo: case {} isn't open: no row has opened it".format(case)], "a case that isn't open is shown")
+        expect(lines == ["status 6", "deadline_memo: case {} isn't open: no row has opened it".format(case)], "a case that isn't open is shown")
         return
     filed, days = case_of(docket, case).filed, docket.days
     calendar = Calendar(court.clock, days.first, days.last, list(days.federal), list(days.state),
@@ -436,7 +436,10 @@ def shape(texts):
 
 
 def run_of(program, data, *words):
+    """What the program writes, or the status and the line where what is asked for isn't there."""
     ran = subprocess.run([program, *words], input=data, stdout=subprocess.PIPE, stderr=subprocess.PIPE)
+    if ran.returncode == 6 and not ran.stdout:
+        return b"status 6\n" + ran.stderr
     if ran.returncode:
         sys.exit("status {}: {}".format(ran.returncode, ran.stderr.decode()))
     return ran.stdout

@@ -9,7 +9,8 @@ each calendar, and the two texts must be the same. Each instant must be that of 
 of the court's zone of its own (reference/civil.py). Each reason of a deadline must be a line of deadline_memo below it, in
 the same order. In half of the inputs the court's file names cases (lib/case_names.py): then a name must be beside the number
 of each case that has one, and nowhere else. With a judge, a case or days the JSON must be that part of the whole, and with
---lines its answers, a line each. A faulty input must end both programs alike. It needs Python 3.8 or later; the status is
+--lines its answers, a line each. In half of the inputs rows are given to several clerks (lib/several_clerks.py), whose numbers
+the answers must have. A faulty input must end both programs alike. It needs Python 3.8 or later; the status is
 0 where all is alike.
 
 With --schema each text is also held to docs/court_calendar.schema.json, which needs Debian's python3-jsonschema.
@@ -22,9 +23,10 @@ import re
 import subprocess
 import sys
 
-from lib.case_names import asked, with_names
+from lib.case_names import asked, called, with_names
 from lib.json_text import office_text
 from lib.made_inputs import INPUTS, made_input
+from lib.several_clerks import renumbered, with_clerks
 from reference.civil import day_of_text, instant_at, offset_at, zone_of_text
 
 SCHEMA = pathlib.Path(__file__).resolve().parent.parent / "docs" / "court_calendar.schema.json"
@@ -171,16 +173,18 @@ def ran(program, words, data):
 
 def differs(chance, calendar, clerk, memo, data, valid):
     """How the JSON of an input differs from the texts of clerk_office and deadline_memo, or none."""
-    status, text, errors = ran(clerk, [], data)
     plain, (data, names) = data, with_names(chance, data)
+    data, clerks = with_clerks(chance, data)
+    status, text, errors = ran(clerk, [], plain)
     found = ran(calendar, ["json"], data)
     if status != 0 or found[0] != 0:
-        return None if (found[0], found[2].replace("court_calendar", "clerk_office")) == (status, errors) and not found[1] \
+        several = ran(clerk, ["--clerks", "64"], data)
+        return None if status != 0 and (found[0], found[2]) == (several[0], several[2]) and (found[0] == 0 or not found[1]) \
             else "a fault told otherwise"
     whole = read(found[1])
     if whole is None:
         return "another text of the same value"
-    if office_text(whole) != text.decode():
+    if office_text(whole) != renumbered(text.decode(), clerks):
         return "another docket"
     lines = ran(calendar, ["json", "--lines"], data)[1].splitlines(keepends=True)
     if [read(line) for line in lines] != whole["answers"]:
@@ -191,7 +195,11 @@ def differs(chance, calendar, clerk, memo, data, valid):
     if fault or not valid(whole):
         return fault or "not of the schema"
     words, chosen = made_words(chance, names, whole)
-    part = read(ran(calendar, words, data)[1])
+    found = ran(calendar, words, data)
+    if chosen[3] not in [None] + [sheet["case"] for sheet in whole["cases"]]:
+        wanted = "court_calendar: case {} isn't open: no row has opened it\n".format(called(names, chosen[3]))
+        return None if found == (6, b"", wanted) else "a case that isn't open is shown"
+    part = read(found[1])
     return None if part == part_of(whole, *chosen) else " ".join(words)
 
 

@@ -8,7 +8,8 @@ the server is one of its own, in a folder that is removed at the end. Both are a
 and what they say, written as court_calendar writes it, must be the texts of `due` and `week`. The rows of each table must be
 those of the JSON and of the answers of clerk_office, each once and in order, and each instant that of its day and time, by
 a reading of the court's zone of its own (reference/civil.py). In half of the inputs the court's file names cases
-(lib/case_names.py): then the table of cases must have their names. A faulty input must end both programs alike. The questions in
+(lib/case_names.py): then the table of cases and the answers must have their names. In half of them rows are given to several
+clerks (lib/several_clerks.py), whose numbers the answers must have. A faulty input must end both programs alike. The questions in
 docs/CALENDAR.md must be answered as written. It needs Debian's sqlite3 and postgresql, and Python 3.8 or later; the status is
 0 where all is alike.
 """
@@ -24,8 +25,9 @@ import subprocess
 import sys
 import tempfile
 
-from lib.case_names import called, with_names
+from lib.case_names import called, named_answer, with_names
 from lib.made_inputs import INPUTS, made_input
+from lib.several_clerks import with_clerks
 from reference.civil import day_of_text, instant_at, zone_of_text
 
 DUE = """SELECT due_day, COALESCE(due_time, '00:00:00'), case_number, 0, number, due_time, term, timely, NULL FROM deadlines
@@ -206,7 +208,12 @@ def or_empty(value):
     return "" if value is None else str(value)
 
 
-def wanted_rows(whole, rows, answers):
+def event_time(text):
+    """The time of an event. A row without one has 00:00, which is no value here."""
+    return "" if text == "00:00" else time_of(text)
+
+
+def wanted_rows(whole, rows, answers, clerks):
     found = {table: [] for table in TABLES}
     for sheet in whole["cases"]:
         case = str(sheet["case"])
@@ -215,7 +222,7 @@ def wanted_rows(whole, rows, answers):
             number, filed = str(d["number"]), d["filed"]
             act = ("", "", "") if filed is None else (filed["day"], time_of(filed["time"]), str(int(filed["means"] == "paper")))
             found["deadlines"].append((
-                case, number, d["event"]["day"], time_of(d["event"]["time"]), or_empty(d["second_day"]), or_empty(d["service"]),
+                case, number, d["event"]["day"], event_time(d["event"]["time"]), or_empty(d["second_day"]), or_empty(d["service"]),
                 or_empty(d["last_day"]), "" if d["end"] is None else instant(d["end"]), *act,
                 {"timely": "1", "late": "0"}.get(d["state"], "")))
             found["grants"] += [(case, number, str(place + 1), or_empty(g["days"]), or_empty(g["hours"]), or_empty(g["until"]))
@@ -230,7 +237,7 @@ def wanted_rows(whole, rows, answers):
         if words == "outage entered":
             _, _, day, begins, ends = row.split(",")
             found["outages"].append((str(len(found["outages"]) + 1), day, time_of(begins), time_of(ends)))
-    found["answers"] = [(str(place + 1), "1", words.split(" ")[1] if words.startswith("refused ") else "", words)
+    found["answers"] = [(str(place + 1), str(clerks[place] if clerks else 1), words.split(" ")[1] if words.startswith("refused ") else "", words)
                         for place, words in enumerate(answers)]
     return found
 
@@ -303,11 +310,13 @@ def is_in_order(script):
 
 
 def differs(chance, calendar, clerk, databases, data):
-    status, text, errors = ran([clerk], data)
     plain, (data, names) = data, with_names(chance, data)
+    data, clerks = with_clerks(chance, data)
+    status = ran([clerk], plain)[0]
     found = ran([calendar, "sql"], data)
     if status != 0 or found[0] != 0:
-        return None if (found[0], found[2].replace("court_calendar", "clerk_office")) == (status, errors) and not found[1] \
+        several = ran([clerk, "--clerks", "64"], data)
+        return None if status != 0 and (found[0], found[2]) == (several[0], several[2]) and (found[0] == 0 or not found[1]) \
             else "another fault"
     head, rows = data.decode().split("%%", 1)
     rows = [row for row in rows.splitlines()[1:] if row]
@@ -315,9 +324,9 @@ def differs(chance, calendar, clerk, databases, data):
     longer = ran([clerk], (plain if plain.endswith(b"\n") else plain + b"\n") + LAST_ROW)
     if longer[0] != 0:
         return None
-    answers = answers_of(whole_text[1], closing_of(longer[1], len(rows)))
+    answers = [named_answer(names, answer) for answer in answers_of(whole_text[1], closing_of(longer[1], len(rows)))]
     whole = json.loads(ran([calendar, "json"], data)[1])
-    wanted = wanted_rows(whole, rows, answers)
+    wanted = wanted_rows(whole, rows, answers, clerks)
     if not is_in_order(found[1]):
         return "a row that isn't in its place"
     first, last, closes = whole["court"]["from"], whole["court"]["to"], whole["court"]["closes"]

@@ -70,3 +70,13 @@ def called(names, case):
 def asked(chance, names, case):
     """A word for `--case` that calls the case: its number, or a way to write its name."""
     return spelled(chance, names[case]) if case in names and chance.random() < 0.7 else str(case)
+
+
+# Where an answer says the number of a case: the first line of a sheet, a line of a calendar, and a refusal that names a motion.
+CASE_LINES = re.compile(r"^(case |\S+ \S+ \S+ case |refused (?:20 JudgeBusy|21 RoomBusy|23 HearingThatDay|24 NoticeLost) )([0-9]+)(?= )",
+                        re.MULTILINE)
+
+
+def named_answer(names, answer):
+    """An answer with the names of cases in place of their numbers."""
+    return CASE_LINES.sub(lambda found: found[1] + called(names, int(found[2])), answer)

@@ -1,5 +1,5 @@
 -- Lines that are sent one after another.
-use Rattle.std.proofs.Common.{◌≡◌, ◌<◌, ◌≤◌, ◌+◌, ◌∙◌, ℕ, List, [], ◌∷◌, ◌++◌, length, get_or, drop, append_assoc, append-nil, sym, ap, subst}
+use Rattle.std.proofs.Common.{◌≡◌, ◌<◌, ◌≤◌, ◌+◌, ◌∙◌, ℕ, List, [], ◌∷◌, ◌++◌, length, get_or, drop, Option, option_to_list, append_assoc, append-nil, sym, ap, subst}
 use Rattle.std.specs.List.{flat_map}
 use Rattle.std.proofs.lemmas.List.{at_drop_more, at_drop_all}
 use Rattle.std.specs.Str.{IsUtf8}
@@ -31,6 +31,17 @@ lines_more f xs i x old new whole within is added all =
 pub no_lines_more : {X : Type 0} (f : X → List (List ℕ)) (xs : List X) (i : ℕ) (old whole : List ℕ) → length xs ≤ i → old ++ sent (flat_map f (drop i xs)) ≡ whole → old ≡ whole
 no_lines_more f xs i old whole past all =
     sym (append-nil old) ∙ ap (λ t. old ++ t) (sym (at_drop_all (λ ys. sent (flat_map f ys)) xs i past)) ∙ all
+
+-- what one item more gives, if anything
+pub item_more : {X Y : Type 0} (f : X → Option Y) (xs : List X) (i : ℕ) (x : X) (old new whole : List Y) → i < length xs → x ≡ get_or xs i x → new ≡ old ++ option_to_list (f x) → old ++ flat_map (λ y. option_to_list (f y)) (drop i xs) ≡ whole → new ++ flat_map (λ y. option_to_list (f y)) (drop (i + 1) xs) ≡ whole
+item_more f xs i x old new whole within is added all =
+    let rest = flat_map (λ y. option_to_list (f y)) (drop (i + 1) xs) in
+    let step = at_drop_more (flat_map (λ y. option_to_list (f y))) xs i x within ∙ ap (λ y. option_to_list (f y) ++ rest) (sym is) in
+    ap (λ t. t ++ rest) added ∙ append_assoc old (option_to_list (f x)) rest ∙ ap (λ t. old ++ t) (sym step) ∙ all
+
+pub all_items : {X Y : Type 0} (f : X → Option Y) (xs : List X) (i : ℕ) (old whole : List Y) → length xs ≤ i → old ++ flat_map (λ y. option_to_list (f y)) (drop i xs) ≡ whole → old ≡ whole
+all_items f xs i old whole past all =
+    sym (append-nil old) ∙ ap (λ t. old ++ t) (sym (at_drop_all (flat_map (λ y. option_to_list (f y))) xs i past)) ∙ all
 
 -- a text that is what is sent of some lines has no long line
 pub short_text : (text start : List ℕ) (lines : List (List ℕ)) → start ≡ [] → text ≡ start ++ sent lines → IsUtf8 text → HasShortLines text

@@ -1,9 +1,9 @@
 -- Each line of a calendar is a content line.
 use Rattle.std.specs.Prelude.{pos, ◌+ℤ◌}
-use Rattle.std.proofs.Common.{◌≡◌, ◌∙◌, ◌+◌, ℕ, ℤ, Bool, true, false, ◌&&◌, ◌==◌, nat_lt, List, [], ◌∷◌, ◌++◌, length, codes, refl, inl, inr, ltb-true}
+use Rattle.std.proofs.Common.{◌≡◌, ◌∙◌, ◌+◌, ℕ, ℤ, Bool, true, false, ◌&&◌, nat_lt, List, [], ◌∷◌, ◌++◌, length, codes, refl, ltb-true}
 use Rattle.std.specs.List.{flat_map, list_all}
 use Rattle.std.specs.Fmt.{decimal}
-use Rattle.std.proofs.lemmas.Bool.{cases_Bool, and_from, and_parts}
+use Rattle.std.proofs.lemmas.Bool.{and_from, and_parts}
 use Rattle.std.proofs.lemmas.List.Folds.{list_all-append}
 use Rattle.court_clock.specs.Words.{ClockView}
 use Rattle.case_numbers.specs.declared.names.NamedCase.{NamedCase}
@@ -51,15 +51,15 @@ head_are = both (property (codes "BEGIN") (codes "VCALENDAR") ∷ []) (property 
 begin_are : (stamp : ℤ) (item : DueItem) → are_lines (begin_lines stamp item)
 unfolding begin_lines
 begin_are stamp item =
-    more (property (codes "BEGIN") (codes "VEVENT")) (property (codes "UID") (uid item) ∷ property (codes "DTSTAMP") (utc_text stamp) ∷ [])
-    (named (codes "BEGIN") (codes "VEVENT") refl)
-    (more (property (codes "UID") (uid item)) (property (codes "DTSTAMP") (utc_text stamp) ∷ []) (named (codes "UID") (uid item) refl) (one (codes "DTSTAMP") (utc_text stamp) refl))
+    let id = property (codes "UID") (uid item) in
+    let written = property (codes "DTSTAMP") (utc_text stamp) in
+    let changed = property (codes "LAST-MODIFIED") (utc_text stamp) in
+    more (property (codes "BEGIN") (codes "VEVENT")) (id ∷ written ∷ changed ∷ []) (named (codes "BEGIN") (codes "VEVENT") refl)
+    (more id (written ∷ changed ∷ []) (named (codes "UID") (uid item) refl)
+    (more written (changed ∷ []) (named (codes "DTSTAMP") (utc_text stamp) refl) (one (codes "LAST-MODIFIED") (utc_text stamp) refl)))
 
-sequence_are : (changes : ℕ) → are_lines (sequence_lines changes)
-sequence_are changes = elim (cases_Bool (changes == 0)) [
-  | inl none ↦ rw none refl
-  | inr some ↦ rw some (one (codes "SEQUENCE") (decimal changes) refl)
-]
+sequence_are : (revision : ℕ) → are_lines (sequence_lines revision)
+sequence_are revision = one (codes "SEQUENCE") (decimal revision) refl
 
 status_are : (cancelled : Bool) → are_lines (status_lines cancelled)
 status_are true = one (codes "STATUS") (codes "CANCELLED") refl
@@ -111,7 +111,7 @@ event_are : (court : CourtView) (named_cases : List NamedCase) (stamp : ℤ) (a 
 unfolding event_lines
 event_are court named_cases stamp a =
     let begin = begin_lines stamp a.item in
-    let sequence = sequence_lines a.changes in
+    let sequence = sequence_lines a.revision in
     let status = status_lines a.cancelled in
     let times = time_lines court.clock a.item.day a.item.matter in
     let words = word_lines court named_cases a in
@@ -119,7 +119,7 @@ event_are court named_cases stamp a =
     (both (begin ++ sequence ++ status ++ times) words
     (both (begin ++ sequence ++ status) times
     (both (begin ++ sequence) status
-    (both begin sequence (begin_are stamp a.item) (sequence_are a.changes))
+    (both begin sequence (begin_are stamp a.item) (sequence_are a.revision))
     (status_are a.cancelled))
     (time_are court.clock a.item.day a.item.matter))
     (word_are court named_cases a))

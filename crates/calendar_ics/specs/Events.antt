@@ -1,5 +1,5 @@
 -- The events of a calendar (RFC 5545, 3.6.1).
-use Rattle.std.specs.Prelude.{ℕ, ◌+◌, ◌==◌, ℤ, pos, ◌+ℤ◌, Bool, true, false, List, [], ◌∷◌, ◌++◌, Option, Some, None, codes, if◌then◌else◌}
+use Rattle.std.specs.Prelude.{ℕ, ◌+◌, ℤ, pos, ◌+ℤ◌, Bool, true, false, List, [], ◌∷◌, ◌++◌, Option, Some, None, codes}
 use Rattle.std.specs.Fmt.{decimal}
 use Rattle.case_numbers.specs.Words.{case_text}
 use Rattle.case_numbers.specs.declared.names.NamedCase.{NamedCase}
@@ -40,13 +40,14 @@ begin_lines stamp item =
     property (codes "BEGIN") (codes "VEVENT")
     ∷ property (codes "UID") (uid item)
     ∷ property (codes "DTSTAMP") (utc_text stamp)
+    ∷ property (codes "LAST-MODIFIED") (utc_text stamp)
     ∷ []
 
--- how often the event was changed, if it was
-abbrev pub sequence_lines : (changes : ℕ) → List (List ℕ)
-sequence_lines changes = if changes == 0 then [] else property (codes "SEQUENCE") (decimal changes) ∷ []
+-- a calendar program takes an event over one with a lower number
+abbrev pub sequence_lines : (revision : ℕ) → List (List ℕ)
+sequence_lines revision = property (codes "SEQUENCE") (decimal revision) ∷ []
 
--- that the event is off, if it is
+-- that the event is off the calendar, if it is
 abbrev pub status_lines : (cancelled : Bool) → List (List ℕ)
 status_lines true = property (codes "STATUS") (codes "CANCELLED") ∷ []
 status_lines false = []
@@ -80,10 +81,11 @@ abbrev pub time_lines : ClockView → (day : ℤ) → Matter → List (List ℕ)
 time_lines clock day (Deadline d) = end_lines day d.shown
 time_lines clock day (Hearing h) = span_lines clock h.hearing
 
--- a program that doesn't know the status of an event shows its summary all the same
-abbrev pub off_words : (cancelled : Bool) → List ℕ
-off_words true = codes "Cancelled: "
-off_words false = []
+-- a program that doesn't know the status of an event shows its summary all the same; a deadline that is off this calendar runs on
+abbrev pub off_words : (cancelled : Bool) → Matter → List ℕ
+off_words true (Hearing h) = codes "Cancelled: "
+off_words true (Deadline d) = codes "Off this calendar: "
+off_words false matter = []
 
 -- what is to be done within a period of the Rules, or an entered period in words
 abbrev pub what_words : Period → List ℕ
@@ -106,7 +108,7 @@ name_words court number (Hearing h) = matter_words court number (Hearing h)
 
 -- `Case 1 motion 1: hearing before Ames+Brandt, room R1`; a case that has a name is called by it
 unfoldable pub summary : CourtView → List NamedCase → Appointment → List ℕ
-summary court named a = off_words a.cancelled ++ codes "Case " ++ case_text named a.item.case ++ name_words court a.item.number a.item.matter
+summary court named a = off_words a.cancelled a.item.matter ++ codes "Case " ++ case_text named a.item.case ++ name_words court a.item.number a.item.matter
 
 -- the room of a hearing
 abbrev pub place_lines : CourtView → Matter → List (List ℕ)
@@ -182,7 +184,7 @@ word_lines court named a =
 unfoldable pub event_lines : CourtView → List NamedCase → (stamp : ℤ) → Appointment → List (List ℕ)
 event_lines court named stamp a =
     begin_lines stamp a.item
-    ++ sequence_lines a.changes
+    ++ sequence_lines a.revision
     ++ status_lines a.cancelled
     ++ time_lines court.clock a.item.day a.item.matter
     ++ word_lines court named a

@@ -1,13 +1,14 @@
 //! What a calendar program shows.
 
 ghost use Rattle.std.specs.Prelude.{◌≡◌, ◌++◌, map, IfOk, OnOk};
-ghost use Rattle.calendar_ics.specs.Appointments.{appointment_of, appointments_of, changes_in, changes_of};
+ghost use Rattle.calendar_ics.specs.Appointments.{appointment_of, appointments_of};
 
 use crate::cancelled::push_off;
+use crate::left::push_off_deadlines;
 use court_clock::{Day, Instant};
 use docket_rows::Hearing;
-use docket_selection::{Choice, DueItem, DueTypes, Matter};
-use hearing_changes::{HearingHistories, HearingHistory};
+use docket_selection::{Choice, DueItem, DueTypes};
+use hearing_changes::HearingHistories;
 use hearing_slots::Panel;
 use std::alloc::{AllocError, Global};
 
@@ -16,9 +17,9 @@ use std::alloc::{AllocError, Global};
 pub struct Appointment {
     /// The deadline or the hearing; a hearing that is off as it was set last.
     pub item: DueItem,
-    /// How often the hearing was changed since it was set first; 0 for a deadline.
-    pub changes: u64,
-    /// Whether the hearing is off.
+    /// The number of the last row that changed its case or the court's days.
+    pub revision: u64,
+    /// Whether it is off the calendar.
     pub cancelled: bool,
 }
 
@@ -26,19 +27,23 @@ pub struct Appointment {
 /// appointments has a variable of this type.
 pub(crate) type AppointmentTypes = Option<(DueTypes, DueItem, Hearing, Panel, Day, Instant)>;
 
-/// The items, and then the chosen hearings that are off, by case and motion. `Err` says that memory ran out.
+/// The items; then the deadlines, among what is due before any judge, of cases in which the chosen judge has no hearing any more;
+/// and then the chosen hearings that are off, by case and motion. The histories are as that judge saw them. `Err` says that memory
+/// ran out.
 #[tactic(auto, unfolding(crate::specs::Appointments::appointments_of))]
 pub fn appointments_of(
     alloc: Global,
     choice: &Choice,
     histories: &HearingHistories,
     items: &[DueItem],
+    others: &[DueItem],
 ) -> Result<Vec<Appointment>, AllocError>
-    ensures { IfOk result (λ list. list.items ≡ appointments_of choice.now histories.now items.now) }
+    ensures { IfOk result (λ list. list.items ≡ appointments_of choice.now histories.now items.now others.now) }
 {
     let _types: DueTypes = None;
     let mut list = Vec::new(alloc);
     push_items(&mut list, histories, items)?;
+    push_off_deadlines(alloc, &mut list, histories, others)?;
     push_off(&mut list, choice, histories)?;
     Ok(list)
 }
@@ -64,26 +69,7 @@ fn appointment_of(histories: &HearingHistories, item: &DueItem) -> Appointment
 {
     Appointment {
         item: *item,
-        changes: changes_in(histories, item),
+        revision: histories.revision(item.case),
         cancelled: false,
-    }
-}
-
-/// How often an item was changed since it was set first.
-fn changes_in(histories: &HearingHistories, item: &DueItem) -> u64
-    ensures { result ≡ changes_in histories.now item.now.case item.now.number item.now.matter }
-{
-    match &item.matter {
-        Matter::Deadline(_) => 0,
-        Matter::Hearing(_) => changes_of(histories.of(item.case, item.number)),
-    }
-}
-
-fn changes_of(history: Option<HearingHistory>) -> u64
-    ensures { result ≡ changes_of history }
-{
-    match history {
-        Some(history) => history.changes,
-        None => 0,
     }
 }

@@ -67,18 +67,27 @@ fn off_hearing(
 ) -> Option<Appointment>
     ensures { result ≡ off_hearing choice.now histories.now case motion }
 {
-    chosen_only(choice, set_off(case, motion, histories.of(case, motion)))
+    let revision = histories.revision(case);
+    chosen_only(
+        choice,
+        set_off(revision, case, motion, histories.of(case, motion)),
+    )
 }
 
 /// The hearing of a motion, if it is off.
-fn set_off(case: u32, motion: u32, history: Option<HearingHistory>) -> Option<Appointment>
-    ensures { result ≡ set_off case motion history }
+fn set_off(
+    revision: u64,
+    case: u32,
+    motion: u32,
+    history: Option<HearingHistory>,
+) -> Option<Appointment>
+    ensures { result ≡ set_off revision case motion history }
 {
     let history = history?;
     if history.cancelled {
         Some(Appointment {
             item: item_of(case, motion, &history),
-            changes: history.changes,
+            revision,
             cancelled: true,
         })
     } else {

@@ -33,7 +33,7 @@ pub(crate) fn push_event(
 {
     let item = &appointment.item;
     push_begin(text, line, value, stamp, item)?;
-    push_sequence(text, line, value, appointment.changes)?;
+    push_sequence(text, line, value, appointment.revision)?;
     push_status(text, line, appointment.cancelled)?;
     push_times(text, line, value, court.clock(), item.day, &item.matter)?;
     push_words(text, line, value, court, cases, appointment)?;
@@ -54,7 +54,8 @@ fn push_begin(
 {
     push_property(text, line, "BEGIN", "VEVENT")?;
     push_uid(text, line, value, item)?;
-    push_instant(text, line, value, "DTSTAMP", stamp)
+    push_instant(text, line, value, "DTSTAMP", stamp)?;
+    push_instant(text, line, value, "LAST-MODIFIED", stamp)
 }
 
 /// Adds what a calendar program knows an event by.
@@ -115,20 +116,17 @@ fn push_day(
     push_property(text, line, name, value.as_str())
 }
 
-/// Adds how often the event was changed, if it was.
+/// Adds the number by which a calendar program takes an event over an earlier one.
 fn push_sequence(
     text: &mut String,
     line: &mut String,
     value: &mut String,
-    changes: u64,
+    revision: u64,
 ) -> Result<(), AllocError>
-    ensures { OnOk result (AddsText text.old text.new (sent (sequence_lines changes))) }
+    ensures { OnOk result (AddsText text.old text.new (sent (sequence_lines revision))) }
 {
-    if changes == 0 {
-        return Ok(());
-    }
     value.clear();
-    push_number(value, changes)?;
+    push_number(value, revision)?;
     push_property(text, line, "SEQUENCE", value.as_str())
 }
 

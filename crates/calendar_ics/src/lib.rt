@@ -6,6 +6,7 @@ mod calendar;
 mod cancelled;
 mod events;
 mod laws;
+mod left;
 mod lists;
 mod times;
 mod words;

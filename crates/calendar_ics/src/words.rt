@@ -82,16 +82,22 @@ fn push_summary(
     ensures { OnOk result (AddsText value.old value.new (summary court.now cases.now.named appointment.now)) }
 {
     let item = &appointment.item;
-    value.push_str(off_words(appointment.cancelled))?;
+    value.push_str(off_words(appointment.cancelled, &item.matter))?;
     value.push_str("Case ")?;
     push_case_text(value, cases, item.case)?;
     push_called(value, court, item.number, &item.matter)
 }
 
-fn off_words(cancelled: bool) -> &'static str
-    ensures { result.now ≡ off_words cancelled }
+fn off_words(cancelled: bool, matter: &Matter) -> &'static str
+    ensures { result.now ≡ off_words cancelled matter.now }
 {
-    if cancelled { "Cancelled: " } else { "" }
+    if !cancelled {
+        return "";
+    }
+    match matter {
+        Matter::Hearing(_) => "Cancelled: ",
+        Matter::Deadline(_) => "Off this calendar: ",
+    }
 }
 
 /// Adds what a deadline or a hearing is called in its case.

@@ -30,7 +30,7 @@ IsFlag (Some text) given = (text ≡ codes "true" → given ≡ true) × (text �
 
 -- a subcommand with what it was given asks for that: the name is the text of its option, a case, a day
 -- and the instant are those that the texts of their options write, and answers are to be lines where
--- that flag is given
+-- that flag is given; the words say nothing of the clock's time
 pub record IsAskedBy (name : Text) (given : List Row) (asked : Asked) : Type 0 where
   pub task : asked.task ≡ task_of name
   pub judge : option_map string_bytes asked.judge ≡ first_of (codes "judge") given

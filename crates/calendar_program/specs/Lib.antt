@@ -4,3 +4,4 @@ pub mod Calendar
 pub mod Changes
 pub mod Chosen
 pub mod CommandLine
+pub mod Opened

@@ -28,19 +28,20 @@ fn number_appointments(moved: &MovedNumbers, appointments: &mut [Appointment])
     }
 }
 
-/// The events of these items, and of the chosen hearings that are off, with the numbers of deadlines and motions. A hearing's
-/// history is found by the place of its motion. `Err` says that memory ran out.
+/// The events of these items, and of the deadlines among the others and the chosen hearings that are off, with the numbers of
+/// deadlines and motions. A hearing's history is found by the place of its motion. `Err` says that memory ran out.
 pub(crate) fn numbered_appointments(
     alloc: Global,
     moved: &MovedNumbers,
     choice: &Choice,
     histories: &HearingHistories,
     items: &[DueItem],
+    others: &[DueItem],
 ) -> Result<Vec<Appointment>, AllocError>
-    ensures { IfOk result (λ list. list.items ≡ map (numbered_appointment moved.now) (appointments_of choice.now histories.now items.now)) }
+    ensures { IfOk result (λ list. list.items ≡ map (numbered_appointment moved.now) (appointments_of choice.now histories.now items.now others.now)) }
 {
     let _types: DueTypes = None;
-    let mut list = appointments_of(alloc, choice, histories, items)?;
+    let mut list = appointments_of(alloc, choice, histories, items, others)?;
     number_appointments(moved, &mut list);
     Ok(list)
 }

@@ -52,18 +52,22 @@ pub struct Asked {
     pub of: Option<Day>,
     /// The instant at which a calendar is written.
     pub stamp: Option<Instant>,
+    /// The instant that the clock shows, at which one is written where none is asked for.
+    pub clock_time: Instant,
     /// Whether answers are to be lines.
     pub lines: bool,
 }
 
-/// What a subcommand of that name asks for with what it was given. BadWords where a text writes no day, no instant or no
+/// What a subcommand of that name asks for with what it was given, at the clock's time. BadWords where a text writes no day, no instant or no
 /// case, and OutOfMemory where memory runs out.
 pub(crate) fn asked_by(
     alloc: Global,
+    clock_time: Instant,
     name: &str,
     given: &ArgMatches<'_>,
 ) -> Result<Asked, OptionsFault>
     ensures asked { IfOk result (λ asked. IsAskedBy name.now (rows_of (found_of given.now)) asked) }
+    ensures timed { IfOk result (λ asked. asked.clock_time ≡ clock_time) }
     ensures faults { IsAnswerFor (faults_given (rows_of (found_of given.now))) result }
     ensures taken { are_given_taken (rows_of (found_of given.now)) ≡ true → IfErr result (λ fault. fault ≡ OptionsFault.OutOfMemory) }
 {
@@ -96,6 +100,7 @@ pub(crate) fn asked_by(
         to,
         of,
         stamp,
+        clock_time,
         lines: given.get_flag("lines"),
     })
 }

@@ -1,7 +1,7 @@
 //! What is chosen of a court by what was asked for.
 
-ghost use Rattle.std.specs.Prelude.{◌≡◌, pos, option_map, string_bytes};
-ghost use Rattle.calendar_program.specs.Chosen.{case_given, choice_asked, choice_of, chosen_of, due_chosen, ics_chosen, json_chosen, judge_given, page_chosen, week_chosen};
+ghost use Rattle.std.specs.Prelude.{◌≡◌, option_map, string_bytes};
+ghost use Rattle.calendar_program.specs.Chosen.{case_given, choice_asked, choice_of, chosen_by, chosen_of, day_missing, due_chosen, ics_chosen, json_chosen, judge_given, page_chosen, uncovered, week_chosen};
 
 use crate::asked::{Asked, Task};
 use case_names::{CaseCalled, number_called};
@@ -36,8 +36,42 @@ pub enum Chosen {
     Sql,
 }
 
+/// What isn't there of what is asked for.
+#[derive(Clone, Copy, Debug, PartialEq, Eq)]
+pub enum Missing {
+    /// No case has the name in the court's file.
+    Case,
+    /// No judge has the name there.
+    Judge,
+    /// The day of a week isn't covered.
+    Day(Day),
+    /// No row has opened the case of this number.
+    Closed(u32),
+}
+
+/// The types inside what is chosen. The checker finds them only where they have names, so a function that takes what is chosen out
+/// of a result has a variable of this type.
+pub(crate) type ChosenTypes = Option<(Listing, Choice, Day, Instant)>;
+
+/// What is chosen of the court by what is asked for, or the first that isn't there of it, but for a case that isn't open.
+#[tactic(auto, unfolding(crate::specs::Chosen::chosen_of))]
+pub(crate) fn chosen_of(court: &Court, cases: &Cases, asked: &Asked) -> Result<Chosen, Missing>
+    ensures { result ≡ chosen_of court.now cases.now.named asked.now }
+{
+    let Some(case) = case_given(cases, &asked.case) else {
+        return Err(Missing::Case);
+    };
+    let Some(chosen) = chosen_by(court, case, asked) else {
+        return Err(Missing::Judge);
+    };
+    match day_missing(court, &chosen) {
+        Some(day) => Err(Missing::Day(day)),
+        None => Ok(chosen),
+    }
+}
+
 /// The number of the case that is asked for, if one is. None where no case has that name.
-pub(crate) fn case_given(cases: &Cases, called: &Option<CaseCalled>) -> Option<Option<u32>>
+fn case_given(cases: &Cases, called: &Option<CaseCalled>) -> Option<Option<u32>>
     ensures { result ≡ case_given cases.now.named called.now }
 {
     match called {
@@ -50,9 +84,9 @@ pub(crate) fn case_given(cases: &Cases, called: &Option<CaseCalled>) -> Option<O
 }
 
 /// What is chosen of the court, and of that case or of any. None where the court's file names no such judge.
-#[tactic(auto, unfolding(crate::specs::Chosen::chosen_of))]
-pub(crate) fn chosen_of(court: &Court, case: Option<u32>, asked: &Asked) -> Option<Chosen>
-    ensures { result ≡ chosen_of court.now case asked.now }
+#[tactic(auto, unfolding(crate::specs::Chosen::chosen_by))]
+fn chosen_by(court: &Court, case: Option<u32>, asked: &Asked) -> Option<Chosen>
+    ensures { result ≡ chosen_by court.now case asked.now }
 {
     match asked.task {
         Task::Due => due_chosen(court, case, asked),
@@ -62,6 +96,26 @@ pub(crate) fn chosen_of(court: &Court, case: Option<u32>, asked: &Asked) -> Opti
         Task::Json => json_chosen(court, case, asked),
         Task::Sql => Some(Chosen::Sql),
     }
+}
+
+/// The day of the week that is chosen, where the court's file doesn't cover it.
+fn day_missing(court: &Court, chosen: &Chosen) -> Option<Day>
+    ensures { result ≡ day_missing court.now.days chosen.now }
+{
+    match chosen {
+        Chosen::Listed(Listing::Week(_, day)) => uncovered(court, *day),
+        _ => None,
+    }
+}
+
+/// The day, where the court's file doesn't cover it.
+fn uncovered(court: &Court, day: Day) -> Option<Day>
+    ensures { result ≡ uncovered court.now.days day }
+{
+    if court.days().covered(day) {
+        return None;
+    }
+    Some(day)
 }
 
 fn due_chosen(court: &Court, case: Option<u32>, asked: &Asked) -> Option<Chosen>
@@ -82,7 +136,7 @@ fn ics_chosen(court: &Court, case: Option<u32>, asked: &Asked) -> Option<Chosen>
     ensures { result ≡ ics_chosen court.now case asked.now }
 {
     let choice = choice_asked(court, case, asked, true)?;
-    let stamp = asked.stamp.unwrap_or(first_stamp());
+    let stamp = asked.stamp.unwrap_or(asked.clock_time);
     Some(Chosen::Listed(Listing::Ics(choice, stamp)))
 }
 
@@ -144,15 +198,5 @@ fn judge_given(court: &Court, name: &Option<String>) -> Option<u8>
     match name {
         Some(name) => court.judge(name.as_str()),
         None => None,
-    }
-}
-
-/// The first instant of 1970, in UTC.
-fn first_stamp() -> Instant
-    ensures { result ≡ pos 0 }
-{
-    match Instant::new(0) {
-        Some(stamp) => stamp,
-        None => unreachable!(),
     }
 }

@@ -9,6 +9,7 @@ ghost use Rattle.calendar_program.specs.CommandLine.{bare_command, choosing_shap
 
 use crate::asked::{Asked, asked_by};
 use clap::{Arg, ArgAction, ArgMatches, Command};
+use court_clock::Instant;
 use office_options::{OptionsFault, fault_from};
 use std::alloc::{AllocError, Global};
 use text_options::{text_argument, with_text};
@@ -42,7 +43,7 @@ const ABOUT_PAGE: &str = "One HTML page: what is due, each judge's hearings, and
 
 const ABOUT_ICS: &str = "Deadlines and hearings for calendar programs, as iCalendar (RFC 5545)";
 
-const STAMP: &str = "When it is written, as 20250915T120000Z; else 19700101T000000Z";
+const STAMP: &str = "When it is written, as 20250915T120000Z; else the clock's time";
 
 const LINES: &str = "The answers of all rows alone, an object a line";
 
@@ -143,30 +144,40 @@ fn command<'a>(alloc: Global) -> Result<Command<'a>, AllocError>
     json.subcommand(sql(alloc))
 }
 
-/// What the words ask for, which are those after the program's name. BadWords where `clap` refuses the words or a text
+/// What the words ask for, which are those after the program's name, at the clock's time. BadWords where `clap` refuses the words or a text
 /// writes no day, no instant or no case, Help where they ask for the help or the version first, and OutOfMemory where
 /// memory runs out.
-pub(crate) fn asked_of(alloc: Global, words: &[&str]) -> Result<Asked, OptionsFault>
+pub(crate) fn asked_of(
+    alloc: Global,
+    clock_time: Instant,
+    words: &[&str],
+) -> Result<Asked, OptionsFault>
     ensures asked { IfOk result (λ asked. IsAsked (texts words.now) asked) }
+    ensures timed { IfOk result (λ asked. asked.clock_time ≡ clock_time) }
     ensures faults { IsAnswerFor (faults_of (texts words.now)) result }
     ensures taken { are_taken (texts words.now) ≡ true → IfErr result (λ fault. fault ≡ OptionsFault.OutOfMemory) }
 {
     let command = command(alloc)?;
     match command.try_get_matches_from(words) {
-        Ok(matches) => asked_in(alloc, &matches),
+        Ok(matches) => asked_in(alloc, clock_time, &matches),
         Err(error) => Err(fault_from(alloc, &error)),
     }
 }
 
 /// What the matches of words ask for. BadWords where a text writes no day, no instant or no case, and OutOfMemory where
 /// memory runs out.
-fn asked_in(alloc: Global, matches: &ArgMatches<'_>) -> Result<Asked, OptionsFault>
+fn asked_in(
+    alloc: Global,
+    clock_time: Instant,
+    matches: &ArgMatches<'_>,
+) -> Result<Asked, OptionsFault>
     ensures asked { IfOk result (λ asked. IfSome (subcommand_rows_of matches.now) (λ met. IsAskedBy met.0 met.1 asked)) }
+    ensures timed { IfOk result (λ asked. asked.clock_time ≡ clock_time) }
     ensures faults { IsAnswerFor (faults_met (subcommand_rows_of matches.now)) result }
     ensures taken { are_met_taken (subcommand_rows_of matches.now) ≡ true → IfErr result (λ fault. fault ≡ OptionsFault.OutOfMemory) }
 {
     match matches.subcommand() {
-        Some((name, given)) => asked_by(alloc, name, given),
+        Some((name, given)) => asked_by(alloc, clock_time, name, given),
         // `clap` has refused words without a subcommand.
         None => Err(OptionsFault::OutOfMemory),
     }

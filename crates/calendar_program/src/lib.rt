@@ -4,14 +4,18 @@
 mod appointments;
 mod asked;
 mod chosen;
+mod clock;
 mod command;
 mod docket;
 mod due;
 mod ics;
+mod missing;
+mod opened;
 mod page;
 mod program;
 mod report;
 mod week;
 
 pub use asked::{Asked, Task};
+pub use clock::clock_time;
 pub use program::CourtCalendar;

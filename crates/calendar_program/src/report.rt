@@ -1,31 +1,33 @@
 //! The calendar, as what is written of a run.
 
-ghost use Rattle.std.specs.Prelude.{◌≡◌, string_bytes, IfOk, OnOk};
+ghost use Rattle.std.specs.Prelude.{◌≡◌, IfOk};
 ghost use Rattle.case_names.specs.Words.{case_names};
 ghost use Rattle.docket_rows.specs.Words.{Rows, setup_of};
 ghost use Rattle.numbers_table.specs.Words.{moved_numbers};
 ghost use Rattle.office_run.specs.Words.{Holds};
-ghost use Rattle.calendar_program.specs.Calendar.{IsCalendar, IsListing, IsOfCase, IsTextOf, called_given, changes_by, docketed_by, no_case, no_judge, word_given};
-ghost use Rattle.office_texts.specs.Words.{AddsText};
+ghost use Rattle.calendar_program.specs.Calendar.{IsCalendar, IsListing, IsMissing, IsTextOf, changes_by, docketed_by};
+ghost use Rattle.office_streams.specs.Words.{IsFinding};
 
 use crate::asked::Asked;
-use crate::chosen::{Chosen, Listing, case_given, chosen_of};
+use crate::chosen::{Chosen, ChosenTypes, Listing};
 use crate::docket::docket_after;
 use crate::due::due_text;
 use crate::ics::ics_text;
+use crate::missing::missing_line;
+use crate::opened::found_of;
 use crate::page::page_text;
 use crate::week::week_text;
 use calendar_json::{answer_lines, json_text};
 use calendar_sql::sql_text;
-use case_names::{CaseCalled, case_names, push_called};
+use case_names::case_names;
 use case_numbers::Cases;
 use court_days::Court;
 use docket_core::Docket;
-use hearing_changes::HearingChange;
+use hearing_changes::RowChange;
 use kept_numbers::MovedNumbers;
 use numbers_table::moved_numbers;
 use office_rows::Row;
-use office_streams::{CheckedInput, Report};
+use office_streams::{CheckedInput, Finding, Report};
 use std::alloc::{AllocError, Global};
 use std::sync::Wait;
 use std::thread::Threads;
@@ -33,17 +35,24 @@ use std::thread::Threads;
 impl Report for Asked {
     ghost use Rattle.case_names.specs.Words.{case_names};
     ghost use Rattle.numbers_table.specs.Words.{moved_numbers};
-    ghost use Rattle.calendar_program.specs.Calendar.{IsCalendarOf};
+    ghost use Rattle.calendar_program.specs.Calendar.{IsCalendarOf, IsMissingOf};
 
     type Text = Vec<u8>;
 
-    ghost clerk_count = { λ asked. 1 };
+    // The rows are one history, whoever gave them.
+    ghost clerk_count = { λ asked. 64 };
 
     // Cases have the names that the court's file gives them, and deadlines and motions the numbers. The names of holidays are in
     // no text.
     ghost is_text = { λ asked file. IsCalendarOf asked (case_names file) (moved_numbers file) };
 
+    ghost is_missing = { λ asked file. IsMissingOf asked (case_names file) };
+
     fn clerks(&self) -> u8 {
+        64
+    }
+
+    fn readers(&self) -> u8 {
         1
     }
 
@@ -53,19 +62,20 @@ impl Report for Asked {
         alloc: Global,
         file: &[u8],
         checked: CheckedInput,
-    ) -> Result<Vec<u8>, AllocError> {
+    ) -> Result<Finding<Vec<u8>>, AllocError> {
         checked_calendar(alloc, self, file, &checked)
     }
 }
 
-/// The text of an input that was checked, in which this is the court's file. `Err` says that memory ran out.
+/// The text of an input that was checked, in which this is the court's file, or the line that says what isn't there. `Err` says
+/// that memory ran out.
 fn checked_calendar(
     alloc: Global,
     asked: &Asked,
     file: &[u8],
     checked: &CheckedInput,
-) -> Result<Vec<u8>, AllocError>
-    ensures { IfOk result (λ text. IsCalendar asked.now checked.now.court (case_names file.now) (moved_numbers file.now) checked.now.rows.items text.items) }
+) -> Result<Finding<Vec<u8>>, AllocError>
+    ensures { IfOk result (IsFinding (λ text. text.items) (IsCalendar asked.now checked.now.court (case_names file.now) (moved_numbers file.now) checked.now.rows.items) (IsMissing asked.now checked.now.court (case_names file.now) checked.now.rows.items)) }
 {
     let cases = case_names(alloc, file)?;
     let moved = moved_numbers(alloc, file)?;
@@ -79,8 +89,7 @@ fn checked_calendar(
     )
 }
 
-/// What was asked for of the court's docket after all rows, or a line that says which case or which judge the court's file
-/// doesn't name.
+/// What was asked for of the court's docket after all rows, or the line that says what isn't there.
 fn calendar_of(
     alloc: Global,
     court: &Court,
@@ -88,30 +97,13 @@ fn calendar_of(
     moved: &MovedNumbers,
     rows: &[Row],
     asked: &Asked,
-) -> Result<Vec<u8>, AllocError>
-    ensures { IfOk result (λ text. IsCalendar asked.now court.now cases.now.named moved.now rows.now text.items) }
+) -> Result<Finding<Vec<u8>>, AllocError>
+    ensures { IfOk result (IsFinding (λ text. text.items) (IsCalendar asked.now court.now cases.now.named moved.now rows.now) (IsMissing asked.now court.now cases.now.named rows.now)) }
 {
-    match case_given(cases, &asked.case) {
-        Some(case) => of_case(alloc, court, cases, moved, rows, asked, case),
-        None => Ok(no_case(alloc, &asked.case)?.into_bytes()),
-    }
-}
-
-/// What was asked for of that case or of any, or a line that says which judge the court's file doesn't name.
-fn of_case(
-    alloc: Global,
-    court: &Court,
-    cases: &Cases,
-    moved: &MovedNumbers,
-    rows: &[Row],
-    asked: &Asked,
-    case: Option<u32>,
-) -> Result<Vec<u8>, AllocError>
-    ensures { IfOk result (λ text. IsOfCase asked.now court.now cases.now.named moved.now rows.now case text.items) }
-{
-    match chosen_of(court, case, asked) {
-        Some(chosen) => text_of(alloc, court, cases, moved, rows, &chosen),
-        None => Ok(no_judge(alloc, &asked.judge)?.into_bytes()),
+    let _types: ChosenTypes = None;
+    match found_of(alloc, court, cases, rows, asked)? {
+        Ok(chosen) => Ok(Finding::Text(text_of(alloc, court, cases, moved, rows, &chosen)?)),
+        Err(missing) => Ok(Finding::Missing(missing_line(alloc, court, cases, asked, &missing)?)),
     }
 }
 
@@ -157,7 +149,7 @@ fn listing_of(
     cases: &Cases,
     moved: &MovedNumbers,
     docket: &Docket,
-    changes: Vec<HearingChange>,
+    changes: Vec<RowChange>,
     listing: &Listing,
 ) -> Result<Vec<u8>, AllocError>
     requires court { docket.now.setup ≡ setup_of court.now }
@@ -170,44 +162,5 @@ fn listing_of(
         Listing::Ics(choice, stamp) => ics_text(
             alloc, court, cases, moved, docket, changes, choice, *stamp,
         ),
-    }
-}
-
-/// The line of a judge that the court's file doesn't name.
-fn no_judge(alloc: Global, word: &Option<String>) -> Result<String, AllocError>
-    ensures { IfOk result (λ line. string_bytes line ≡ no_judge word.now) }
-{
-    let word = word_given(word);
-    format!(in alloc; "court_calendar: no judge is named '{word}' in the court's file\n")
-}
-
-/// The text of a word, where it was given.
-fn word_given(word: &Option<String>) -> &str
-    ensures { result.now ≡ word_given word.now }
-{
-    match word {
-        Some(word) => word.as_str(),
-        None => "",
-    }
-}
-
-/// The line of a case that the court's file doesn't name.
-fn no_case(alloc: Global, called: &Option<CaseCalled>) -> Result<String, AllocError>
-    ensures { IfOk result (λ line. string_bytes line ≡ no_case called.now) }
-{
-    let mut line = String::new(alloc);
-    line.push_str("court_calendar: no case is named '")?;
-    push_called_given(&mut line, called)?;
-    line.push_str("' in the court's file\n")?;
-    Ok(line)
-}
-
-/// Adds what a case was called, where one was given.
-fn push_called_given(line: &mut String, called: &Option<CaseCalled>) -> Result<(), AllocError>
-    ensures { OnOk result (AddsText line.old line.new (called_given called.now)) }
-{
-    match called {
-        Some(called) => push_called(line, called),
-        None => Ok(()),
     }
 }

@@ -1,5 +1,6 @@
 -- The rows of answers.
 use Rattle.std.specs.Prelude.{ℕ, ◌+◌, ◌-◌, List, [], ◌∷◌, ◌++◌, length, take, codes}
+use Rattle.case_numbers.specs.declared.names.NamedCase.{NamedCase}
 use Rattle.court_days.specs.Words.{CourtView}
 use Rattle.docket_rows.specs.declared.answer.Answer.TheVariants as answer
 use Rattle.docket_rows.specs.declared.view.View.TheVariants as view
@@ -7,7 +8,8 @@ use Rattle.docket_rows.specs.Words.{Rows, refusal_number, setup_of}
 use Rattle.office_rows.specs.declared.row.Row.{Row}
 use Rattle.office_run.specs.declared.reply.Reply.{Reply}
 use Rattle.office_run.specs.declared.reply.Reply.TheVariants.{Made, Viewed}
-use Rattle.office_run.specs.Words.{docketed_then, reply_text, reply_to}
+use Rattle.office_run.specs.Words.{docketed_then, reply_to}
+use Rattle.named_answers.specs.Words.{named_reply}
 use Rattle.kept_numbers.specs.declared.moved.Moved.{Moved}
 use Rattle.kept_numbers.specs.Words.{numbered}
 use Rattle.calendar_sql.specs.Rows.{SqlValue, null, number, row_of, text}
@@ -18,17 +20,17 @@ refusal_value (Made (answer.Refused refusal)) = number (refusal_number refusal)
 refusal_value (Viewed (view.Refused refusal)) = number (refusal_number refusal)
 refusal_value _ = null
 
--- what clerk_office writes of a reply, without the end of its last line
-unfoldable pub answer_words : CourtView → Reply → List ℕ
-answer_words court reply = take (length (reply_text court reply) - 1) (reply_text court reply)
+-- what is written of a reply, with the names of cases, without the end of its last line
+unfoldable pub answer_words : CourtView → List NamedCase → Reply → List ℕ
+answer_words court named reply = take (length (named_reply court named reply) - 1) (named_reply court named reply)
 
 -- the row of that number, counted from 1, and that of its clerk, with what it was answered
-unfoldable pub answer_row : CourtView → (place clerk : ℕ) → Reply → List ℕ
-answer_row court place clerk reply = row_of (codes "answers") place (number clerk ∷ refusal_value reply ∷ text (answer_words court reply) ∷ [])
+unfoldable pub answer_row : CourtView → List NamedCase → (place clerk : ℕ) → Reply → List ℕ
+answer_row court named place clerk reply = row_of (codes "answers") place (number clerk ∷ refusal_value reply ∷ text (answer_words court named reply) ∷ [])
 
 -- what each row is answered, where the first has that number; deadlines and motions have the numbers that they keep
-unfoldable pub answer_rows : CourtView → List Moved → (docketed : Rows) → (place : ℕ) → List Row → List ℕ
-answer_rows court moved docketed place [] = []
-answer_rows court moved docketed place (row ∷ rows) =
-    answer_row court place row.clerk (numbered moved row.work (reply_to (setup_of court) docketed row.work))
-    ++ answer_rows court moved (docketed_then (setup_of court) docketed row.work) (place + 1) rows
+unfoldable pub answer_rows : CourtView → List NamedCase → List Moved → (docketed : Rows) → (place : ℕ) → List Row → List ℕ
+answer_rows court named moved docketed place [] = []
+answer_rows court named moved docketed place (row ∷ rows) =
+    answer_row court named place row.clerk (numbered moved row.work (reply_to (setup_of court) docketed row.work))
+    ++ answer_rows court named moved (docketed_then (setup_of court) docketed row.work) (place + 1) rows

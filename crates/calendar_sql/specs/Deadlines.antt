@@ -1,5 +1,5 @@
 -- The rows of deadlines, and of their extensions.
-use Rattle.std.specs.Prelude.{ℕ, Bool, true, false, List, [], ◌∷◌, ◌++◌, Option, Some, None, codes}
+use Rattle.std.specs.Prelude.{ℕ, ◌==◌, Bool, true, false, List, [], ◌∷◌, ◌++◌, Option, Some, None, codes, if◌then◌else◌}
 use Rattle.court_clock.specs.Words.{CivilTime, ClockView, civil_of}
 use Rattle.rule6.specs.declared.service.ServiceKind.{ServiceKind}
 use Rattle.rule6.specs.declared.service.ServiceKind.TheVariants.{HandA, LeftB, MailC, ClerkD, ElectronicE, OtherF}
@@ -30,12 +30,16 @@ service_letter OtherF = codes "F"
 abbrev pub service_value : ServiceKind → SqlValue
 service_value kind = text (service_letter kind)
 
+-- the time of day of an event; NULL where it is 00:00, which a row that gives none has too
+abbrev pub event_time : (minute : ℕ) → SqlValue
+event_time minute = if minute == 0 then null else minute_value minute
+
 -- the period, from what it runs, and the kind of service
 unfoldable pub started_values : DeadlineRowView → List SqlValue
 started_values r =
     text (period_words r.period)
     ∷ day_value r.event.day
-    ∷ minute_value r.event.minute
+    ∷ event_time r.event.minute
     ∷ or_null day_value r.second
     ∷ or_null service_value r.service
     ∷ []

@@ -31,7 +31,7 @@ deadlines_table =
     ++ codes "  number INTEGER NOT NULL,\n"
     ++ codes "  term VARCHAR(80) NOT NULL,\n"
     ++ codes "  event_day DATE NOT NULL,\n"
-    ++ codes "  event_time TIME NOT NULL,\n"
+    ++ codes "  event_time TIME,\n"
     ++ codes "  second_day DATE,\n"
     ++ codes "  service CHAR(1) CHECK (service IN ('A', 'B', 'C', 'D', 'E', 'F')),\n"
     ++ codes "  last_day DATE,\n"

@@ -51,6 +51,6 @@ script_text court named moved rows =
     let opening = opening_rows (setup_of court) in
     transaction_front
     ++ tables named
-    ++ answer_rows court moved opening 1 rows
+    ++ answer_rows court named moved opening 1 rows
     ++ docketed_text court named moved (docketed_after (setup_of court) opening rows)
     ++ transaction_end

@@ -2,31 +2,34 @@
 
 ghost use Rattle.std.specs.Prelude.{◌≡◌, ◌-◌, ◌++◌, [], ◌∷◌, OnOk, length, string_bytes, take};
 ghost use Rattle.docket_rows.specs.Words.{opening_rows, setup_of};
-ghost use Rattle.office_run.specs.Words.{Holds, docketed_after, reply_text};
+ghost use Rattle.office_run.specs.Words.{Holds, docketed_after};
 ghost use Rattle.calendar_sql.specs.Answers.{answer_row, answer_rows, answer_words, refusal_value};
 ghost use Rattle.calendar_sql.specs.Rows.{AddsValues, text};
 
 use crate::script::Script;
+use case_numbers::Cases;
 use court_days::Court;
 use docket_core::Docket;
 use docket_rows::{Answer, View};
 use kept_numbers::MovedNumbers;
+use named_answers::push_named_reply;
 use office_rows::Row;
-use office_run::{Reply, push_reply, reply_to};
+use office_run::{Reply, reply_to};
 use std::alloc::{AllocError, Global};
 
-/// Carries out each row in turn, and adds what it is answered, with the numbers of deadlines and motions. `Err` says that
+/// Carries out each row in turn, and adds what it is answered, with the names of cases and the numbers of deadlines and motions. `Err` says that
 /// memory ran out.
 pub(crate) fn push_answers(
     alloc: Global,
     out: &mut Script,
     court: &Court,
+    cases: &Cases,
     moved: &MovedNumbers,
     docket: &mut Docket,
     rows: &[Row],
 ) -> Result<(), AllocError>
     requires { Holds (setup_of court.now) docket.old (opening_rows (setup_of court.now)) }
-    ensures answers { OnOk result (out.new ≡ out.old ++ answer_rows court.now moved.now (opening_rows (setup_of court.now)) 1 rows.now) }
+    ensures answers { OnOk result (out.new ≡ out.old ++ answer_rows court.now cases.now.named moved.now (opening_rows (setup_of court.now)) 1 rows.now) }
     ensures docket { OnOk result (Holds (setup_of court.now) docket.new (docketed_after (setup_of court.now) (opening_rows (setup_of court.now)) rows.now)) }
 {
     let mut line = String::new(alloc);
@@ -34,7 +37,7 @@ pub(crate) fn push_answers(
     for row in rows {
         let reply = reply_to(alloc, docket, &row.work)?;
         let numbered = moved.number_reply(&row.work, reply);
-        push_answer(out, &mut line, court, place, row.clerk, &numbered)?;
+        push_answer(out, &mut line, court, cases, place, row.clerk, &numbered)?;
         place += 1;
     }
     Ok(())
@@ -46,31 +49,33 @@ fn push_answer(
     out: &mut Script,
     line: &mut String,
     court: &Court,
+    cases: &Cases,
     place: u64,
     clerk: u8,
     reply: &Reply,
 ) -> Result<(), AllocError>
-    ensures { OnOk result (out.new ≡ out.old ++ answer_row court.now place clerk reply.now) }
+    ensures { OnOk result (out.new ≡ out.old ++ answer_row court.now cases.now.named place clerk reply.now) }
 {
     out.begin_row("answers", place)?;
     out.number(u64::from(clerk))?;
     push_refusal(out, reply)?;
-    push_words(out, line, court, reply)?;
+    push_words(out, line, court, cases, reply)?;
     out.end_row()
 }
 
-/// Adds what clerk_office writes of a reply, without the end of its last line.
+/// Adds what is written of a reply, with the names of cases, without the end of its last line.
 #[tactic(auto, unfolding(crate::specs::Answers::answer_words))]
 fn push_words(
     out: &mut Script,
     line: &mut String,
     court: &Court,
+    cases: &Cases,
     reply: &Reply,
 ) -> Result<(), AllocError>
-    ensures { OnOk result (AddsValues out.old out.new (text (answer_words court.now reply.now) ∷ [])) }
+    ensures { OnOk result (AddsValues out.old out.new (text (answer_words court.now cases.now.named reply.now) ∷ [])) }
 {
     line.clear();
-    push_reply(line, court, reply)?;
+    push_named_reply(line, court, cases, reply)?;
     out.text_of(without_end(line))
 }
 

@@ -2,14 +2,14 @@
 
 ghost use Rattle.std.specs.Prelude.{◌≡◌, ◌<◌, ◌++◌, [], ◌∷◌, IfSome, OnOk};
 ghost use Rattle.court_clock.specs.Words.{civil_of};
-ghost use Rattle.calendar_sql.specs.Deadlines.{civil_values, deadline_row, deadline_rows, deadline_values, ends_values, filed_values, grant_row, grant_values, is_paper, service_letter, service_value, started_values, timely_value};
+ghost use Rattle.calendar_sql.specs.Deadlines.{civil_values, deadline_row, deadline_rows, deadline_values, ends_values, event_time, filed_values, grant_row, grant_values, is_paper, service_letter, service_value, started_values, timely_value};
 ghost use Rattle.calendar_sql.specs.Rows.{AddsValues, null, numbered, or_null};
 ghost use Rattle.calendar_sql.specs.Times.{day_value, instant_value};
 
 use crate::script::Script;
 use court_clock::{Clock, Day, Instant};
 use docket_rows::{SheetDeadline, State};
-use rule_periods::{DeadlineRow, Grant};
+use rule_periods::{DeadlineRow, Event, Grant};
 use rule6::{Filing, Means, ServiceKind, Shown};
 use std::alloc::AllocError;
 
@@ -62,9 +62,19 @@ fn push_started(out: &mut Script, row: &DeadlineRow) -> Result<(), AllocError>
     let event = row.event();
     out.period(&row.period())?;
     out.day(event.day())?;
-    out.minute(u32::from(event.minute()))?;
+    push_event_time(out, event)?;
     out.day_if_any(row.second())?;
     push_service(out, row.service())
+}
+
+/// Adds the time of day of an event, unless it is 00:00.
+fn push_event_time(out: &mut Script, event: Event) -> Result<(), AllocError>
+    ensures { OnOk result (AddsValues out.old out.new (event_time event.minute ∷ [])) }
+{
+    match event.minute() {
+        0 => out.null(),
+        minute => out.minute(u32::from(minute)),
+    }
 }
 
 /// Adds the kind of service, if there is one.

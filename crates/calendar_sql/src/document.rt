@@ -15,7 +15,8 @@ use office_rows::Row;
 use std::alloc::{AllocError, Global};
 
 /// One transaction of SQL: it makes the tables, and puts into them what each row was answered and what is docketed after
-/// the last. `cases` has the names of cases: the table of cases has a column for them where there are any. Deadlines and
+/// the last. `cases` has the names of cases, which answers have in place of numbers: the table of cases has a column for them where
+/// there are any. Deadlines and
 /// motions have the numbers that `moved` says, while rows name them by their places. `Err` says that memory ran out.
 #[tactic(auto, unfolding(crate::specs::Script::script_text))]
 pub fn sql_text(
@@ -31,7 +32,7 @@ pub fn sql_text(
     let mut docket = Docket::new(alloc, court)?;
     push_front(&mut out)?;
     push_tables(&mut out, cases)?;
-    push_answers(alloc, &mut out, court, moved, &mut docket, rows)?;
+    push_answers(alloc, &mut out, court, cases, moved, &mut docket, rows)?;
     push_docketed(alloc, &mut out, court, cases, moved, &docket)?;
     push_end(&mut out)?;
     Ok(out.into_bytes())

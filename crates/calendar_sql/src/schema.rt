@@ -71,7 +71,7 @@ fn push_deadlines(out: &mut Script) -> Result<(), AllocError>
   number INTEGER NOT NULL,
   term VARCHAR(80) NOT NULL,
   event_day DATE NOT NULL,
-  event_time TIME NOT NULL,
+  event_time TIME,
   second_day DATE,
   service CHAR(1) CHECK (service IN ('A', 'B', 'C', 'D', 'E', 'F')),
   last_day DATE,

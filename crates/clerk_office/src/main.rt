@@ -2,10 +2,10 @@
 //! row, the docket sheets and the judges' calendars to standard output.
 #![tactic(auto)]
 
-use clerk_program::ClerkOffice;
-use office_program::{Ended, run_on_process};
+use clerk_program::run_clerk_office;
+use office_program::Ended;
 
 /// Runs the program on the process's own words and streams, and ends with its status.
 fn main(rt: HostRuntime) -> Ended {
-    run_on_process(&rt, &rt, &ClerkOffice)
+    run_clerk_office(&rt, &rt)
 }

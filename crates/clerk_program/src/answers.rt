@@ -4,7 +4,7 @@ use crate::clerk_text::ClerkText;
 use crate::text::text_of;
 use clerk_gates::OpenGate;
 use office_options::Options;
-use office_streams::{CheckedInput, Report};
+use office_streams::{CheckedInput, Finding, Report};
 use std::alloc::{AllocError, Global};
 use std::sync::Wait;
 use std::thread::Threads;
@@ -28,7 +28,14 @@ impl Report for Answers {
     // The names of holidays are in no text.
     ghost is_text = { λ answers file. IsTextOf answers.options.clerks answers.options.journal };
 
+    // There is a text of each input.
+    ghost is_missing = { λ answers file input line. ⊥ };
+
     fn clerks(&self) -> u8 {
+        self.options.clerks
+    }
+
+    fn readers(&self) -> u8 {
         self.options.clerks
     }
 
@@ -38,7 +45,8 @@ impl Report for Answers {
         alloc: Global,
         _file: &[u8],
         checked: CheckedInput,
-    ) -> Result<ClerkText, AllocError> {
-        text_of(rt, alloc, checked, self.options, &OpenGate)
+    ) -> Result<Finding<ClerkText>, AllocError> {
+        let text = text_of(rt, alloc, checked, self.options, &OpenGate)?;
+        Ok(Finding::Text(text))
     }
 }

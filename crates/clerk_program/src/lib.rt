@@ -15,4 +15,4 @@ pub use answers::Answers;
 pub use clerk_text::ClerkText;
 pub use laws::texts_are_unique;
 pub use office::run_office;
-pub use program::ClerkOffice;
+pub use program::{ClerkOffice, run_clerk_office};

@@ -48,5 +48,8 @@ pub fn run_office<H: Threads + Wait + Sync, R: Read, W: Write>(
     // Want of memory has one name only.
     ensures memory { result ≢ Err (OfficeFault.Court CourtFault.OutOfMemory) }
 {
-    run_report(rt, alloc, reader, writer, &Answers { options })
+    match run_report(rt, alloc, reader, writer, &Answers { options })? {
+        None => Ok(()),
+        Some(_) => unreachable!(),
+    }
 }

@@ -1,9 +1,14 @@
 //! The clerk's program.
 
+ghost use Rattle.std.specs.Prelude.{◌≤◌};
+ghost use Rattle.office_program.specs.Process.{ended_status};
+
 use crate::answers::Answers;
 use office_options::{OptionsFault, options_of};
-use office_program::Program;
+use office_program::{Ended, Program, run_on_process};
 use std::alloc::Global;
+use std::sync::Wait;
+use std::thread::Threads;
 
 /// The program `clerk_office`: its words say how many clerks there are, and how many entries their journal takes.
 #[derive(Clone, Copy, Debug)]
@@ -26,4 +31,12 @@ impl Program for ClerkOffice {
         let options = options_of(alloc, words)?;
         Ok(Answers { options })
     }
+}
+
+/// Runs the program on the process's own words and streams. It has a text of each input, so it never ends with the status of what
+/// isn't there.
+pub fn run_clerk_office<H: Threads + Wait + Sync>(rt: &HostRuntime, threads: &H) -> Ended
+    ensures { ended_status result ≤ 5 }
+{
+    run_on_process(rt, threads, &ClerkOffice)
 }

@@ -2,10 +2,13 @@
 //! judge's week, a page, iCalendar, JSON or SQL to standard output.
 #![tactic(auto)]
 
-use calendar_program::CourtCalendar;
+use calendar_program::{CourtCalendar, clock_time};
 use office_program::{Ended, run_on_process};
 
 /// Runs the program on the process's own words and streams, and ends with its status.
 fn main(rt: HostRuntime) -> Ended {
-    run_on_process(&rt, &rt, &CourtCalendar)
+    let program = CourtCalendar {
+        clock_time: clock_time(&rt),
+    };
+    run_on_process(&rt, &rt, &program)
 }

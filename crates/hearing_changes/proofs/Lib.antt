@@ -1,1 +1,3 @@
+pub mod DocketLemmas
 pub mod HistoryLemmas
+pub mod RevisionLemmas

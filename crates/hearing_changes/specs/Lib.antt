@@ -1,4 +1,6 @@
 pub mod Change
 pub mod History
+pub mod Laws
 pub mod Noted
+pub mod Revision
 pub mod Words

@@ -1,7 +1,7 @@
-//! A change of a hearing.
+//! What a row changed of what calendars show.
 
 ghost use Rattle.std.specs.Prelude.{◌≡◌, None};
-ghost use Rattle.hearing_changes.specs.Change.{change_made, setting_made};
+ghost use Rattle.hearing_changes.specs.Change.{change_asked, change_made, hearing_change, setting_made};
 
 use docket_rows::{Answer, Command, Hearing, Setting};
 
@@ -16,13 +16,57 @@ pub struct HearingChange {
     pub hearing: Option<Hearing>,
 }
 
-/// What a command that was so answered changed of a hearing, if anything.
-pub fn change_made(command: &Command, answer: &Answer) -> Option<HearingChange>
-    ensures { result ≡ change_made command.now answer.now }
+/// What is changed.
+#[derive(Clone, Copy, Debug, PartialEq, Eq)]
+pub enum Change {
+    /// The court's days: a holiday or an outage was entered.
+    Days,
+    /// A deadline of the case of that number: it was started or extended, or an act was recorded for it.
+    Deadline(u32),
+    /// The hearing of a motion.
+    Hearing(HearingChange),
+}
+
+/// A change, with the row that made it.
+#[derive(Clone, Copy, Debug, PartialEq, Eq)]
+pub struct RowChange {
+    /// The number of the row, from 1.
+    pub row: u64,
+    /// What it changed.
+    pub change: Change,
+}
+
+/// What the row of that number changed, if anything, by a command that was so answered.
+pub fn change_made(row: u64, command: &Command, answer: &Answer) -> Option<RowChange>
+    ensures { result ≡ change_made row command.now answer.now }
 {
     if let Answer::Refused(_) = answer {
         return None;
     }
+    let change = change_asked(command)?;
+    Some(RowChange { row, change })
+}
+
+/// What a command asks for changes.
+fn change_asked(command: &Command) -> Option<Change>
+    ensures { result ≡ change_asked command.now }
+{
+    match command {
+        Command::Start { case, .. }
+        | Command::FileAct { case, .. }
+        | Command::Extend { case, .. } => Some(Change::Deadline(*case)),
+        Command::Holiday { .. } | Command::Inaccessible { .. } => Some(Change::Days),
+        Command::OpenCase { .. } | Command::Motion { .. } => None,
+        Command::Book(_) | Command::MoveHearing(_) | Command::Cancel { .. } => {
+            Some(Change::Hearing(hearing_change(command)?))
+        }
+    }
+}
+
+/// What a command about the hearing of a motion asks for.
+fn hearing_change(command: &Command) -> Option<HearingChange>
+    ensures { result ≡ hearing_change command.now }
+{
     let order = command.order()?;
     match order.setting {
         Some(setting) => setting_made(&setting),

@@ -1,64 +1,57 @@
 //! What became of a hearing.
 
-ghost use Rattle.std.specs.Prelude.{◌≡◌, ◌+◌, ◌<◌, ◌^◌, option_map};
-ghost use Rattle.std.specs.Option.{ForSome};
-ghost use Rattle.hearing_changes.specs.History.{called_off, followed, set_again};
+ghost use Rattle.std.specs.Prelude.{◌≡◌, option_map};
+ghost use Rattle.hearing_changes.specs.History.{called_off, changed_to, is_before};
 
-use crate::change::HearingChange;
 use docket_rows::Hearing;
 
-/// What became of the hearing of a motion.
+/// What became of the hearing of a motion, as a judge saw it or as all did.
 #[derive(Clone, Copy, Debug, PartialEq, Eq)]
 pub struct HearingHistory {
-    /// How often it was changed since it was set first.
-    pub changes: u64,
-    /// As it was set last.
+    /// As it was set last before the judge.
     pub hearing: Hearing,
-    /// Whether it was taken off the calendar, and not set again.
+    /// Whether it was taken off the judge's calendar since: off all calendars, or moved to other judges.
     pub cancelled: bool,
 }
 
-/// The hearing after one change more.
-pub(crate) fn followed(
+/// The hearing after a change that sets it, or takes it off.
+pub(crate) fn changed_to(
+    judge: Option<u8>,
     before: Option<HearingHistory>,
-    change: &HearingChange,
+    hearing: Option<Hearing>,
 ) -> Option<HearingHistory>
-    requires { ForSome before (λ h. h.changes + 1 < 2 ^ 64) }
-    ensures { result ≡ followed before change.now }
+    ensures { result ≡ changed_to judge before hearing }
 {
-    match change.hearing {
-        Some(hearing) => Some(set_again(before, hearing)),
+    match hearing {
+        Some(hearing) => {
+            if is_before(judge, &hearing) {
+                return Some(HearingHistory {
+                    hearing,
+                    cancelled: false,
+                });
+            }
+            called_off(before)
+        }
         None => called_off(before),
     }
 }
 
-/// A hearing that is set again, or for the first time.
-fn set_again(before: Option<HearingHistory>, hearing: Hearing) -> HearingHistory
-    requires { ForSome before (λ h. h.changes + 1 < 2 ^ 64) }
-    ensures { result ≡ set_again before hearing }
+/// Whether the judge is in the panel of a hearing; each hearing is before any judge.
+fn is_before(judge: Option<u8>, hearing: &Hearing) -> bool
+    ensures { result ≡ is_before judge hearing.now }
 {
-    match before {
-        Some(before) => HearingHistory {
-            changes: before.changes + 1,
-            hearing,
-            cancelled: false,
-        },
-        None => HearingHistory {
-            changes: 0,
-            hearing,
-            cancelled: false,
-        },
+    match judge {
+        Some(judge) => hearing.judges.judges().contains(&judge),
+        None => true,
     }
 }
 
-/// A hearing that is taken off the calendar.
+/// A hearing that is taken off the judge's calendar, if it was on it.
 fn called_off(before: Option<HearingHistory>) -> Option<HearingHistory>
-    requires { ForSome before (λ h. h.changes + 1 < 2 ^ 64) }
     ensures { result ≡ option_map called_off before }
 {
     match before {
         Some(before) => Some(HearingHistory {
-            changes: before.changes + 1,
             hearing: before.hearing,
             cancelled: true,
         }),

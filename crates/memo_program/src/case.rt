@@ -1,8 +1,8 @@
 //! The memo of one case.
 
-ghost use Rattle.std.specs.Prelude.{◌≡◌, ◌++◌, IfOk, OnOk, string_bytes};
-ghost use Rattle.memo_program.specs.Case.{IsCaseMemo, IsCaseShown, closed_line};
-ghost use Rattle.memo_program.specs.Texts.{Pushes};
+ghost use Rattle.std.specs.Prelude.{◌≡◌, IfOk, string_bytes};
+ghost use Rattle.memo_program.specs.Case.{IsCaseClosed, IsCaseMemo, IsCaseShown, IsClosed, closed_line};
+ghost use Rattle.office_streams.specs.Words.{IsFinding};
 
 use crate::detail::Detail;
 use crate::sheets::push_sheet;
@@ -13,10 +13,11 @@ use court_days::{Court, Days};
 use docket_rows::{Query, View};
 use kept_numbers::MovedNumbers;
 use office_rows::Row;
+use office_streams::Finding;
 use reason_texts::HolidayName;
 use std::alloc::{AllocError, Global};
 
-/// The whole sheet of a case as it is after all rows, with the numbers of its deadlines and motions, or a line where the case
+/// The whole sheet of a case as it is after all rows, with the numbers of its deadlines and motions, or the line of a case that
 /// isn't open. `Err` says that memory ran out.
 pub(crate) fn case_text(
     alloc: Global,
@@ -27,8 +28,8 @@ pub(crate) fn case_text(
     rows: &[Row],
     case: u32,
     today: Option<Day>,
-) -> Result<String, AllocError>
-    ensures { IfOk result (λ text. IsCaseMemo court.now names.now cases.now.named moved.now rows.now case today (string_bytes text)) }
+) -> Result<Finding<String>, AllocError>
+    ensures { IfOk result (IsFinding string_bytes (IsCaseMemo court.now names.now cases.now.named moved.now rows.now case today) (IsCaseClosed court.now cases.now.named moved.now rows.now case)) }
 {
     let mut made = Vec::new(alloc);
     let docket = docket_after(alloc, court, rows, case, &mut made)?;
@@ -36,10 +37,8 @@ pub(crate) fn case_text(
     let detail = Detail::Whole { today, sources };
     let view = docket.show(alloc, &Query::Sheet(case))?;
     let numbered = moved.number_view(view);
-    let mut text = String::new(alloc);
-    push_case_shown(
+    case_shown(
         alloc,
-        &mut text,
         court,
         names,
         cases,
@@ -47,14 +46,12 @@ pub(crate) fn case_text(
         &detail,
         case,
         &numbered,
-    )?;
-    Ok(text)
+    )
 }
 
-/// Adds the sheet of a case with that much detail, where the view is one, and else the line of a case that isn't open.
-fn push_case_shown(
+/// The sheet of a case with that much detail, where the view is one, and else the line of a case that isn't open.
+fn case_shown(
     alloc: Global,
-    text: &mut String,
     court: &Court,
     names: &[HolidayName],
     cases: &Cases,
@@ -62,20 +59,26 @@ fn push_case_shown(
     detail: &Detail,
     case: u32,
     view: &View,
-) -> Result<(), AllocError>
-    ensures { Pushes (IsCaseShown court.now names.now cases.now.named days.now detail.now case view.now) result text.old text.new }
+) -> Result<Finding<String>, AllocError>
+    ensures { IfOk result (IsFinding string_bytes (IsCaseShown court.now names.now cases.now.named days.now detail.now view.now) (IsClosed cases.now.named case view.now)) }
 {
     match view {
-        View::Sheet(sheet) => push_sheet(alloc, text, court, names, cases, days, detail, sheet),
-        _ => push_closed(text, cases, case),
+        View::Sheet(sheet) => {
+            let mut text = String::new(alloc);
+            push_sheet(alloc, &mut text, court, names, cases, days, detail, sheet)?;
+            Ok(Finding::Text(text))
+        }
+        _ => Ok(Finding::Missing(closed_line(alloc, cases, case)?)),
     }
 }
 
-/// Adds the line of a case that isn't open.
-fn push_closed(text: &mut String, cases: &Cases, case: u32) -> Result<(), AllocError>
-    ensures { OnOk result (string_bytes text.new ≡ string_bytes text.old ++ closed_line cases.now.named case) }
+/// The line of a case that isn't open.
+fn closed_line(alloc: Global, cases: &Cases, case: u32) -> Result<String, AllocError>
+    ensures { IfOk result (λ line. string_bytes line ≡ closed_line cases.now.named case) }
 {
-    text.push_str("deadline_memo: case ")?;
-    push_case_text(text, cases, case)?;
-    text.push_str(" isn't open: no row has opened it\n")
+    let mut line = String::new(alloc);
+    line.push_str("deadline_memo: case ")?;
+    push_case_text(&mut line, cases, case)?;
+    line.push_str(" isn't open: no row has opened it\n")?;
+    Ok(line)
 }

@@ -2,9 +2,10 @@
 
 ghost use Rattle.std.specs.Prelude.{◌≡◌, IfOk, string_bytes};
 ghost use Rattle.case_names.specs.Words.{case_names};
-ghost use Rattle.memo_program.specs.Answer.{IsAnswer, IsCalled, no_case};
+ghost use Rattle.memo_program.specs.Answer.{IsAnswer, IsCalled, IsCalledMissing, IsMissing, no_case};
 ghost use Rattle.memo_program.specs.Names.{holiday_names};
 ghost use Rattle.numbers_table.specs.Words.{moved_numbers};
+ghost use Rattle.office_streams.specs.Words.{IsFinding};
 
 use crate::asked::Asked;
 use crate::case::case_text;
@@ -17,28 +18,35 @@ use court_days::Court;
 use kept_numbers::MovedNumbers;
 use numbers_table::moved_numbers;
 use office_rows::Row;
-use office_streams::{CheckedInput, Report};
+use office_streams::{CheckedInput, Finding, Report};
 use reason_texts::HolidayName;
 use std::alloc::{AllocError, Global};
 use std::sync::Wait;
 use std::thread::Threads;
 
-/// The reply to each row of one clerk with the reasons of each deadline that it shows, then the sheets of all open cases
+/// The reply to each row with the reasons of each deadline that it shows, then the sheets of all open cases
 /// and the calendars of all judges; or the sheet of the case that is asked for.
 impl Report for Asked {
     ghost use Rattle.case_names.specs.Words.{case_names};
-    ghost use Rattle.memo_program.specs.Answer.{IsAnswerOf};
+    ghost use Rattle.memo_program.specs.Answer.{IsAnswerOf, IsMissingOf};
     ghost use Rattle.memo_program.specs.Names.{holiday_names};
     ghost use Rattle.numbers_table.specs.Words.{moved_numbers};
 
     type Text = Vec<u8>;
 
-    ghost clerk_count = { λ asked. 1 };
+    // The rows are one history, whoever gave them.
+    ghost clerk_count = { λ asked. 64 };
 
     // Holidays and cases have the names, and deadlines and motions the numbers, that the court's file gives them.
     ghost is_text = { λ asked file. IsAnswerOf asked (holiday_names file) (case_names file) (moved_numbers file) };
 
+    ghost is_missing = { λ asked file. IsMissingOf asked (case_names file) (moved_numbers file) };
+
     fn clerks(&self) -> u8 {
+        64
+    }
+
+    fn readers(&self) -> u8 {
         1
     }
 
@@ -48,19 +56,23 @@ impl Report for Asked {
         alloc: Global,
         file: &[u8],
         checked: CheckedInput,
-    ) -> Result<Vec<u8>, AllocError> {
-        Ok(checked_answer(alloc, self, file, &checked)?.into_bytes())
+    ) -> Result<Finding<Vec<u8>>, AllocError> {
+        match checked_answer(alloc, self, file, &checked)? {
+            Finding::Text(text) => Ok(Finding::Text(text.into_bytes())),
+            Finding::Missing(line) => Ok(Finding::Missing(line)),
+        }
     }
 }
 
-/// The text of an input that was checked, in which this is the court's file. `Err` says that memory ran out.
+/// The text of an input that was checked, in which this is the court's file, or the line that says that the case isn't there. `Err`
+/// says that memory ran out.
 fn checked_answer(
     alloc: Global,
     asked: &Asked,
     file: &[u8],
     checked: &CheckedInput,
-) -> Result<String, AllocError>
-    ensures { IfOk result (λ text. IsAnswer asked.now checked.now.court (holiday_names file.now) (case_names file.now) (moved_numbers file.now) checked.now.rows.items (string_bytes text)) }
+) -> Result<Finding<String>, AllocError>
+    ensures { IfOk result (IsFinding string_bytes (IsAnswer asked.now checked.now.court (holiday_names file.now) (case_names file.now) (moved_numbers file.now) checked.now.rows.items) (IsMissing asked.now checked.now.court (case_names file.now) (moved_numbers file.now) checked.now.rows.items)) }
 {
     let names = holiday_names(alloc, file)?;
     let cases = case_names(alloc, file)?;
@@ -85,16 +97,16 @@ fn answer(
     cases: &Cases,
     moved: &MovedNumbers,
     rows: &[Row],
-) -> Result<String, AllocError>
-    ensures { IfOk result (λ text. IsAnswer asked.now court.now names.now cases.now.named moved.now rows.now (string_bytes text)) }
+) -> Result<Finding<String>, AllocError>
+    ensures { IfOk result (IsFinding string_bytes (IsAnswer asked.now court.now names.now cases.now.named moved.now rows.now) (IsMissing asked.now court.now cases.now.named moved.now rows.now)) }
 {
     match &asked.case {
         Some(called) => called_text(alloc, court, names, cases, moved, rows, called, asked.today),
-        None => memo_text(alloc, court, names, cases, moved, rows),
+        None => Ok(Finding::Text(memo_text(alloc, court, names, cases, moved, rows)?)),
     }
 }
 
-/// The memo of the case that is so called, or a line that says that the court's file doesn't name it.
+/// The memo of the case that is so called, or the line that says that it isn't there.
 fn called_text(
     alloc: Global,
     court: &Court,
@@ -104,12 +116,12 @@ fn called_text(
     rows: &[Row],
     called: &CaseCalled,
     today: Option<Day>,
-) -> Result<String, AllocError>
-    ensures { IfOk result (λ text. IsCalled court.now names.now cases.now.named moved.now rows.now called.now today (string_bytes text)) }
+) -> Result<Finding<String>, AllocError>
+    ensures { IfOk result (IsFinding string_bytes (IsCalled court.now names.now cases.now.named moved.now rows.now called.now today) (IsCalledMissing court.now cases.now.named moved.now rows.now called.now)) }
 {
     match number_called(cases, called) {
         Some(case) => case_text(alloc, court, names, cases, moved, rows, case, today),
-        None => no_case(alloc, called),
+        None => Ok(Finding::Missing(no_case(alloc, called)?)),
     }
 }
 

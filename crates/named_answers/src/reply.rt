@@ -30,8 +30,8 @@ pub fn push_named_line(
     push_named_reply(text, court, cases, reply)
 }
 
-// Adds the text of a reply, with the ends of its lines.
-fn push_named_reply(
+/// Adds the text of a reply, with the names of cases that have one and with the ends of its lines. `Err` says that memory ran out.
+pub fn push_named_reply(
     text: &mut String,
     court: &Court,
     cases: &Cases,

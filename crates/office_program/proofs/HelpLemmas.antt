@@ -13,13 +13,13 @@ if_any None all = tt
 if_any (Some x) all = all x
 
 -- the help is written whole and the status is 0 or, where a write failed, a beginning of it and the status is 4
-pub ends_with_help : {R : Type 0} (faults_of : List Text → Kinds) (takes : List Text → Bool) (IsChosen : List Text → R → Type 0) (clerk_count : R → ℕ) (IsText : R → (file : List ℕ) → Input → List ℕ → Type 0)
+pub ends_with_help : {R : Type 0} (faults_of : List Text → Kinds) (takes : List Text → Bool) (IsChosen : List Text → R → Type 0) (clerk_count : R → ℕ) (IsText IsMissing : R → (file : List ℕ) → Input → List ℕ → Type 0)
     → (words : List Text) (old new : Option (List ℕ)) (G : List ℕ → Type 0) (status : ℕ) (input : List ℕ) (text : String Global) (failed : Bool)
     → AnswersWords faults_of takes IsChosen words (Err (Help text))
     → (failed ≡ false → Appends old new (string_bytes text)) → (failed ≡ true → AppendsFront old new (string_bytes text))
     → (failed ≡ false → status ≡ 0) → (failed ≡ true → status ≡ 4)
-    → IsEnding faults_of takes IsChosen clerk_count IsText words old new G status input
-ends_with_help faults_of takes IsChosen clerk_count IsText words old new G status input text false answer whole front worked not_worked =
+    → IsEnding faults_of takes IsChosen clerk_count IsText IsMissing words old new G status input
+ends_with_help faults_of takes IsChosen clerk_count IsText IsMissing words old new G status input text false answer whole front worked not_worked =
     let none : status ≡ 0 = worked refl in
     record {
       answered = λ e. inl (record { text = text; answer = answer; is_so = whole refl });
@@ -28,8 +28,9 @@ ends_with_help faults_of takes IsChosen clerk_count IsText words old new G statu
         | inr three ↦ absurd (omega (arith, three, none))
       ];
       cut = λ e. absurd (omega (arith, e, none));
+      missed = λ e. absurd (omega (arith, e, none));
     }
-ends_with_help faults_of takes IsChosen clerk_count IsText words old new G status input text true answer whole front worked not_worked =
+ends_with_help faults_of takes IsChosen clerk_count IsText IsMissing words old new G status input text true answer whole front worked not_worked =
     let four : status ≡ 4 = not_worked refl in
     record {
       answered = λ e. absurd (omega (arith, e, four));
@@ -38,6 +39,7 @@ ends_with_help faults_of takes IsChosen clerk_count IsText words old new G statu
         | inr three ↦ absurd (omega (arith, three, four))
       ];
       cut = λ e. inl (record { text = text; answer = answer; is_so = front refl });
+      missed = λ e. absurd (omega (arith, e, four));
     }
 
 -- nor is it called a mistake

@@ -2,6 +2,7 @@
 
 ghost use Rattle.std.specs.Prelude.{◌≤◌};
 ghost use Rattle.office_program.specs.Process.{ended_status};
+ghost use Rattle.office_program.specs.Program.{NeverMiss};
 
 use crate::program::Program;
 use crate::run::run_program;
@@ -35,7 +36,8 @@ pub fn run_on_process<H: Threads + Wait + Sync, P: Program>(
     threads: &H,
     program: &P,
 ) -> Ended
-    ensures { ended_status result ≤ 5 }
+    ensures known { ended_status result ≤ 6 }
+    ensures never_missing { NeverMiss P.Report.is_missing → ended_status result ≤ 5 }
 {
     let words = arguments_of(rt);
     let mut reader = Watched::new(rt.stdin());

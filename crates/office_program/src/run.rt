@@ -4,12 +4,14 @@ ghost use Rattle.std.specs.Prelude.{◌≡◌, ◌≢◌, ◌≤◌, ◌⊎◌, 
 ghost use Rattle.std.specs.IoError.{error_kind};
 ghost use Rattle.office_options.specs.Words.{HasMistake, IsRefused, arguments_in};
 ghost use Rattle.office_streams.specs.Words.{IsGiven, IsToldAs, WasCutShort, has_ended, has_failed, no_text_line, told_line, was_called_again, watched};
-ghost use Rattle.office_program.specs.Program.{IsEnding, WithText};
+ghost use Rattle.office_program.specs.Program.{IsEnding, NeverMiss, WithText};
 
 use crate::program::Program;
 use crate::words::report_behind;
 use office_options::OptionsFault;
-use office_streams::{OfficeFault, Watched, ended_by, helped, refused, run_report, unread};
+use office_streams::{
+    OfficeFault, Watched, ended_by, helped, missing, refused, run_report, unread,
+};
 use std::alloc::Global;
 use std::io;
 use std::io::{ErrorKind, Read, Write};
@@ -18,8 +20,8 @@ use std::thread::Threads;
 
 /// Writes the report that the words choose, of which the first is the program's name. The status is 0 where
 /// every row was answered, and where help or the version was asked for and is written instead; 1 where a word is no text
-/// or the words have a mistake; and else that of the fault, of which one line goes to `errors`, as does
-/// what is wrong with the words. A line that can't be written there is lost.
+/// or the words have a mistake; 6 where what they ask for isn't there; and else that of the fault, of which one line goes to
+/// `errors`, as does what is wrong with the words and what isn't there. A line that can't be written there is lost.
 pub fn run_program<H: Threads + Wait + Sync, P: Program, R: Read, W: Write, E: Write>(
     rt: &H,
     alloc: Global,
@@ -50,15 +52,16 @@ pub fn run_program<H: Threads + Wait + Sync, P: Program, R: Read, W: Write, E: W
     ensures no_words { IfErr words (λ e. reader.new ≡ reader.old) }
     ensures no_report { IfOk words (λ all. P.faults (arguments_in (map string_bytes all.items)) ≢ [] → reader.new ≡ reader.old) }
 
-    // What the statuses 0, 2, 3 and 4 say of the words, and of what was read, written and told.
+    // What the statuses 0, 2, 3, 4 and 6 say of the words, and of what was read, written and told.
     ensures ending { IfOk words (λ all. IfSome (R.remaining (watched reader.old)) (λ input.
-        IsEnding P.faults P.takes P.is_chosen P.Report.clerk_count P.Report.is_text (arguments_in (map string_bytes all.items)) (W.contents (watched writer.old)) (W.contents (watched writer.new))
+        IsEnding P.faults P.takes P.is_chosen P.Report.clerk_count P.Report.is_text P.Report.is_missing (arguments_in (map string_bytes all.items)) (W.contents (watched writer.old)) (W.contents (watched writer.new))
         (IsGiven E.contents errors.old errors.new) result input)) }
     ensures worked { result ≡ 0 → has_failed writer.new ≡ false }
     ensures quiet { result ≡ 0 → errors.new ≡ errors.old }
     ensures nothing_written { result ≢ 0 → result ≢ 4 → writer.new ≡ writer.old }
     ensures no_memory { result ≡ 5 → IsGiven E.contents errors.old errors.new (told_line OfficeFault.OutOfMemory) }
-    ensures known { result ≤ 5 }
+    ensures known { result ≤ 6 }
+    ensures never_missing { NeverMiss P.Report.is_missing → result ≤ 5 }
 
     // A read or a write that fails is answered as such, and is the last one.
     ensures failed { result ≡ 4 →
@@ -84,7 +87,8 @@ pub fn run_program<H: Threads + Wait + Sync, P: Program, R: Read, W: Write, E: W
         }
     };
     match run_report(rt, alloc, reader, writer, &report) {
-        Ok(()) => 0,
+        Ok(None) => 0,
+        Ok(Some(line)) => missing(errors, line.as_str()),
         Err(fault) => ended_by(alloc, errors, &fault),
     }
 }

@@ -1,5 +1,5 @@
 -- Pieces that are handed over one after another.
-use Rattle.std.proofs.Common.{◌≡◌, ◌++◌, ◌+◌, ◌∙◌, ℕ, List, Option, [], true, false, length, take, subst, sym, ap, refl, append_assoc, append-nil, length-append}
+use Rattle.std.proofs.Common.{◌≡◌, ◌++◌, ◌∙◌, ℕ, List, Option, [], true, false, length, take, subst, sym, ap, refl, append_assoc, append-nil, length-append}
 use Rattle.std.proofs.KnownBytes.{Appends-nil, Appends-trans}
 use Rattle.std.proofs.Math.Seq.{take-append-add}
 use Rattle.std.proofs.Transfers.{starts_with_of_append, starts_with_trans}
@@ -7,7 +7,7 @@ use Rattle.std.specs.Io.{StartsWith}
 use Rattle.std.specs.Io.KnownBytes.{Appends}
 use Rattle.office_streams.specs.declared.watched.Watched.{Watched}
 use Rattle.office_streams.specs.Gathered.{Adds, IsGathered}
-use Rattle.office_streams.specs.Limits.{AppendsFront, IsGiven}
+use Rattle.office_streams.specs.Limits.{IsGiven}
 use Rattle.office_streams.specs.Watched.{has_failed, watched}
 
 -- a text begins with its front and a beginning of the rest

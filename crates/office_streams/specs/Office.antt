@@ -89,7 +89,7 @@ IsRunBy IsText old new (Err ReadFault) said = ⊤
 IsRunBy IsText old new (Err OutOfMemory) said = ⊤
 
 -- the answer rests on the whole input
-abbrev pub rests_on_input : Result (Unit {0}) OfficeFault → Bool
+abbrev pub rests_on_input : {X : Type 0} → Result X OfficeFault → Bool
 rests_on_input (Ok done) = true
 rests_on_input (Err (Court fault)) = true
 rests_on_input (Err (Row number cause)) = true

@@ -8,4 +8,4 @@ pub use Rattle.office_streams.specs.Fault.{fault_text, no_text_line, told_line, 
 pub use Rattle.office_streams.specs.Office.{Input, IsChecked, IsRunBy, AnswersInput, HasFaultTold, WasReadWhole, names_in, rests_on_input}
 unfoldable pub use Rattle.office_streams.specs.Office.{input_of}
 pub use Rattle.office_streams.specs.Gathered.{IsGathered, Adds}
-pub use Rattle.office_streams.specs.Report.{IsReportRun, input_checked}
+pub use Rattle.office_streams.specs.Report.{IsFinding, IsReportRun, MayMiss, input_checked}

@@ -24,20 +24,21 @@ pub struct CheckedInput {
 }
 
 /// The court and the rows of an input, or its first fault: one of the court's file, or else the first of a row that has
-/// one. Rows may be of that number of clerks. `OutOfMemory` alone comes where memory ran out.
+/// one. Rows may be of that number of clerks, and that many threads read them. `OutOfMemory` alone comes where memory ran out.
 #[tactic(auto, unfolding(crate::specs::Office::input_of))]
 pub fn check_input<H: Threads + Sync>(
     rt: &H,
     alloc: Global,
     input: &[u8],
     clerks: u8,
+    readers: u8,
 ) -> Result<CheckedInput, OfficeFault>
     ensures said { AnswersInput IsChecked result (input_of clerks input.now) }
     ensures clerks { IfOk result (λ checked. All (IsOfClerk clerks) checked.rows.items) }
 {
     let (file, rows) = divide(input);
     let court = court_of(alloc, file)?;
-    let rows = rows_after(rt, alloc, rows, clerks, &court)?;
+    let rows = rows_after(rt, alloc, rows, clerks, &court, readers)?;
     Ok(CheckedInput { court, rows })
 }
 
@@ -59,12 +60,13 @@ fn rows_after<H: Threads + Sync>(
     bytes: &[u8],
     clerks: u8,
     court: &Court,
+    readers: u8,
 ) -> Result<Vec<Row>, OfficeFault>
     ensures rows { AnswersRowsOf (λ rows. rows.items) result (rows_read clerks (names_of court.now) bytes.now) }
     ensures clerks { IfOk result (λ rows. All (IsOfClerk clerks) rows.items) }
 {
     rows_are_bounded();
-    match read_rows_by(rt, alloc, bytes, clerks, court, clerks) {
+    match read_rows_by(rt, alloc, bytes, clerks, court, readers) {
         Ok(rows) => Ok(rows),
         Err(RowError::Fault(number, cause)) => Err(OfficeFault::Row(number, cause)),
         Err(RowError::OutOfMemory) => Err(OfficeFault::OutOfMemory),

@@ -17,6 +17,9 @@ use std::io::{ErrorKind, Write};
 // The status of a run whose words the program doesn't take.
 const BAD_WORDS: u8 = 1;
 
+// The status of a run in which what was asked for isn't there.
+const MISSING: u8 = 6;
+
 /// Writes the help or the version, which the words ask for. The status is 0, or that of a write fault, whose line goes to
 /// `errors`.
 pub fn helped<W: Write, E: Write>(
@@ -57,6 +60,14 @@ pub fn refused<E: Write>(errors: &mut Watched<E>, text: &str) -> u8
     ensures line { IsGiven E.contents errors.old errors.new text.now }
 {
     told(errors, text, BAD_WORDS)
+}
+
+/// Tells what isn't there of what was asked for, and gives the status.
+pub fn missing<E: Write>(errors: &mut Watched<E>, line: &str) -> u8
+    ensures status { result ≡ 6 }
+    ensures line { IsGiven E.contents errors.old errors.new line.now }
+{
+    told(errors, line, MISSING)
 }
 
 /// Tells of the fault, as far as its line can be written, and gives the status. Where there is no memory for the line, it

@@ -18,7 +18,7 @@ mod watched;
 
 pub use checking::{CheckedInput, check_input};
 pub use division::divide;
-pub use endings::{ended_by, helped, refused, unread};
+pub use endings::{ended_by, helped, missing, refused, unread};
 pub use fault::OfficeFault;
 pub use fault_lines::{fault_line, status_of};
 pub use gathered::Gathered;
@@ -26,6 +26,6 @@ pub use input::{MAX_INPUT_BYTES, MAX_READ_CALLS, read_all};
 pub use laws::first_divider_divides;
 pub use made::{MadeText, write_text};
 pub use output::write_all;
-pub use report::Report;
+pub use report::{Finding, Report};
 pub use run::run_report;
 pub use watched::Watched;

@@ -108,7 +108,7 @@ fn run<H: Threads + Wait + Sync>(
     script: &Script,
 ) -> Result<(Watched<Page>, bool), Fail> {
     let input = format!(in alloc; "{}%%\n{rows}", file())?;
-    let checked = check_input(rt, alloc, input.as_bytes(), 2)?;
+    let checked = check_input(rt, alloc, input.as_bytes(), 2, 2)?;
     let options = Options::new(2, 100_000).ok_or("options")?;
     let text = text_of(rt, alloc, checked, options, script)?;
     let mut writer = Watched::new(make_page(alloc, usize::MAX, usize::MAX));

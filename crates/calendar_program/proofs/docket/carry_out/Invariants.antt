@@ -1,4 +1,4 @@
-use Rattle.std.proofs.Common.{◌≡◌, ◌++◌, drop, take}
+use Rattle.std.proofs.Common.{◌≡◌, ◌+◌, ◌++◌, drop, take}
 use Rattle.docket_rows.specs.Words.{opening_rows, setup_of}
 use Rattle.office_run.specs.Words.{Holds, docketed_after}
 use Rattle.calendar_program.specs.Changes.{changes_made}
@@ -11,5 +11,6 @@ invariant-loop-row l =
     let docketed = docketed_after setup (opening_rows setup) (take l.row-index l.rows) in
     record {
       holds : Holds setup l.docket docketed;
-      so_far : l.changes.items ++ changes_made setup docketed (drop l.row-index l.rows) ≡ l.fn.changes.items ++ changes_made setup (opening_rows setup) l.rows;
+      numbered : l.number ≡ l.row-index + 1;
+      so_far : l.changes.items ++ changes_made setup docketed l.number (drop l.row-index l.rows) ≡ l.fn.changes.items ++ changes_made setup (opening_rows setup) 1 l.rows;
     }

@@ -16,6 +16,7 @@ unfolding answer_rows
 loop-row-preserved c =
     let court = c.args.court.now in
     let moved = c.args.moved.now in
+    let cases = c.args.cases.now.named in
     let setup = setup_of court in
     let rows = c.args.rows.now in
     let i = c.loop-row.row-index in
@@ -26,10 +27,10 @@ loop-row-preserved c =
     let replied = c.in_ok-reply.ensures setup docketed c.loop-row.invariant.holds in
     let more : docketed_after setup (opening_rows setup) (take (i + 1) rows) ≡ docketed_then setup docketed row.work =
     docketed_at setup (opening_rows setup) rows i row c.loop-row-test.true ∙ ap (λ r. docketed_then setup docketed r.work) (sym c.row-item.is) in
-    let here = answer_row court n row.clerk in
-    let later = answer_rows court moved (docketed_then setup docketed row.work) (n + 1) (drop (i + 1) rows) in
+    let here = answer_row court cases n row.clerk in
+    let later = answer_rows court cases moved (docketed_then setup docketed row.work) (n + 1) (drop (i + 1) rows) in
     let same : here c.number_reply-numbered.result ≡ here (numbered moved row.work (reply_to setup docketed row.work)) = ap here (c.number_reply-numbered.ensures ∙ ap (numbered moved row.work) replied.0) in
-    let step = at_drop_more (answer_rows court moved docketed n) rows i row c.loop-row-test.true ∙ ap (λ r. answer_rows court moved docketed n (r ∷ drop (i + 1) rows)) (sym c.row-item.is) in
+    let step = at_drop_more (answer_rows court cases moved docketed n) rows i row c.loop-row-test.true ∙ ap (λ r. answer_rows court cases moved docketed n (r ∷ drop (i + 1) rows)) (sym c.row-item.is) in
     record {
       place = omega arith;
       holds = subst (Holds setup c.reply_to.new.docket) (sym more) replied.1;
@@ -42,5 +43,5 @@ returns-clause-answers c =
     let court = c.args.court.now in
     let setup = setup_of court in
     let past : length c.args.rows.now ≤ c.loop-row.row-index = omega (arith, c.loop-row-test.false) in
-    let none = at_drop_all (answer_rows court c.args.moved.now (docketed_after setup (opening_rows setup) (take c.loop-row.row-index c.args.rows.now)) c.loop-row.place) c.args.rows.now c.loop-row.row-index past in
+    let none = at_drop_all (answer_rows court c.args.cases.now.named c.args.moved.now (docketed_after setup (opening_rows setup) (take c.loop-row.row-index c.args.rows.now)) c.loop-row.place) c.args.rows.now c.loop-row.row-index past in
     sym (append-nil _) ∙ rw none at c.loop-row.invariant.so_far

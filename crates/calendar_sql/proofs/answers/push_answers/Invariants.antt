@@ -13,5 +13,5 @@ invariant-loop-row l =
     record {
       place : l.place ≡ l.row-index + 1;
       holds : Holds setup l.docket docketed;
-      so_far : l.out ++ answer_rows l.court l.moved docketed l.place (drop l.row-index l.rows) ≡ l.fn.out ++ answer_rows l.court l.moved (opening_rows setup) 1 l.rows;
+      so_far : l.out ++ answer_rows l.court l.cases.named l.moved docketed l.place (drop l.row-index l.rows) ≡ l.fn.out ++ answer_rows l.court l.cases.named l.moved (opening_rows setup) 1 l.rows;
     }

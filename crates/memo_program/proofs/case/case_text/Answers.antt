@@ -1,12 +1,9 @@
-use Rattle.std.proofs.Common.{◌≡◌, ◌++◌, ◌∙◌, string_bytes, map, sym, ap, subst}
+use Rattle.std.proofs.Common.{◌≡◌, ◌++◌, ◌∙◌, map, ap}
 use Rattle.docket_rows.specs.declared.query.Query.TheVariants as query
 use Rattle.docket_rows.specs.Words.{opening_rows, setup_of, view_of}
 use Rattle.kept_numbers.specs.Words.{numbered_view}
 use Rattle.office_run.specs.Words.{docketed_after}
-use Rattle.memo_program.specs.declared.detail.Detail.TheVariants.{Whole}
-use Rattle.memo_program.specs.Case.{IsCaseOf}
 use Rattle.memo_program.specs.Sources.{numbered_source, sources_made}
-use Rattle.memo_program.specs.Texts.{Adds}
 use Rattle.memo_program.proofs.DocketLemmas.{days_held}
 use Rattle.memo_program.proofs.case.case_text.Goals as goal
 
@@ -17,11 +14,9 @@ returns c =
     let docketed = docketed_after setup (opening_rows setup) c.args.rows.now in
     let placed = sources_made setup c.args.case (opening_rows setup) 1 c.args.rows.now in
     let made = map (numbered_source c.args.moved.now c.args.case) placed in
-    let IsShown = IsCaseOf court c.args.names.now c.args.cases.now.named c.args.moved.now docketed c.args.case (Whole c.args.today made) in
     let holds = c.in_ok-docket.ensures.docket in
     let listed = c.in_ok-docket.ensures.sources ∙ ap (λ l. l ++ placed) c.new-made.ensures.items in
     let sources : c.numbered-sources.result ≡ made = c.numbered-sources.ensures ∙ ap (map (numbered_source c.args.moved.now c.args.case)) listed in
     let days = c.days.ensures ∙ days_held setup c.in_ok-docket.docket docketed holds in
     let view = c.number_view-numbered.ensures ∙ ap (numbered_view c.args.moved.now) (c.in_ok-view.ensures.rows docketed holds.stands ∙ ap (λ b. view_of b docketed (query.Sheet c.args.case)) holds.setup_is) in
-    let shown : Adds IsShown (string_bytes c.new-text.result) (string_bytes c.push_case_shown.new.text) = rw sources at (rw view at (rw days at c.in_ok-push_case_shown.ensures)) in
-    subst IsShown (sym (shown.appended ∙ ap (λ t. t ++ shown.added) c.new-text.ensures.bytes)) shown.is_kind
+    rw sources at (rw view at (rw days at c.case_shown.ensures))

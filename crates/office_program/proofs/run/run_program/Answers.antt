@@ -12,7 +12,7 @@ pub returns-in-Err-Help-clause-ending : goal.returns-in-Err-Help-clause-ending
 returns-in-Err-Help-clause-ending g c =
     let answer : AnswersWords g.P.Program.faults g.P.Program.takes g.P.Program.is_chosen (arguments_in (map string_bytes c.in-Ok.all.items)) (Err (Help c.in-Err-Help.text)) = rw (c.as_slice.ensures.value, c.in-Err-Help.is, c.in-Err-Help.field-0-is) at c.report_behind.ensures in
     let given = rw c.as_str.ensures.value at c.helped.ensures.text in
-    rw c.in-Ok.is (if_any _ (λ input. ends_with_help g.P.Program.faults g.P.Program.takes g.P.Program.is_chosen g.P.Report.Report.clerk_count g.P.Report.Report.is_text _ _ _ _ _ input c.in-Err-Help.text (has_failed c.helped.new.writer) answer given.whole given.front (λ e. (c.helped.ensures.worked e).0) (λ e. (c.helped.ensures.failed e).numbered)))
+    rw c.in-Ok.is (if_any _ (λ input. ends_with_help g.P.Program.faults g.P.Program.takes g.P.Program.is_chosen g.P.Report.Report.clerk_count g.P.Report.Report.is_text g.P.Report.Report.is_missing _ _ _ _ _ input c.in-Err-Help.text (has_failed c.helped.new.writer) answer given.whole given.front (λ e. (c.helped.ensures.worked e).0) (λ e. (c.helped.ensures.failed e).numbered)))
 
 pub returns-in-Err-Help-clause-told : goal.returns-in-Err-Help-clause-told
 returns-in-Err-Help-clause-told g c =
@@ -44,4 +44,4 @@ returns-clause-ending g c =
     let words = arguments_in (map string_bytes c.in-Ok.all.items) in
     let answer : AnswersWords g.P.Program.faults g.P.Program.takes g.P.Program.is_chosen words (Ok report) = rw (c.as_slice.ensures.value, c.in-Ok-report_behind.is) at c.report_behind.ensures in
     let run = c.in-Err-run_report.ensures.run in
-    rw c.in-Ok.is (ends_if_known g.P.Program.faults g.P.Program.takes g.P.Program.is_chosen g.P.Report.Report.clerk_count g.P.Report.Report.is_text words report answer.faults answer.chosen _ _ _ _ fault _ run (λ other. ap (λ w. g.W.Write.contents (watched w)) (c.in-Err-run_report.ensures.nothing_written (λ e. other (cc e)))) c.ended_by-in-Err-run_report.ensures)
+    rw c.in-Ok.is (ends_if_known g.P.Program.faults g.P.Program.takes g.P.Program.is_chosen g.P.Report.Report.clerk_count g.P.Report.Report.is_text g.P.Report.Report.is_missing words report answer.faults answer.chosen _ _ _ _ fault _ run (λ other. ap (λ w. g.W.Write.contents (watched w)) (c.in-Err-run_report.ensures.nothing_written (λ e. other (cc e)))) c.ended_by-in-Err-run_report.ensures)

@@ -1,0 +1,254 @@
+"""The events that a calendar must have, by what clerk_office says of its input."""
+import datetime
+import os
+import re
+import subprocess
+import time
+from collections import namedtuple
+
+from lib.case_names import called
+from lib.period_words import RULES
+from reference.periods import period_of_text
+from reference.rule6 import FILING
+
+# A row at the end that is answered by one line: what follows it are the sheets and the calendars.
+LAST_ROW = b"1,compute,59e,2025-08-04,,,\n"
+UNITS = {"d": ("day", "days"), "h": ("hour", "hours")}
+ACTS = {"filing": "to file", "service": "to serve"}
+STATES = {"timely": ", filed in time", "late": ", filed late"}
+
+Item = namedtuple("Item", "day second case kind number summary description begins ends room panel")
+Hearing = namedtuple("Hearing", "day first count panel room notice affidavits")
+Docket = namedtuple("Docket", "items before beyond")
+# An input, as clerk_office answers it: its court's file, its judges, its rows, the answers to them, and its docket.
+Answered = namedtuple("Answered", "court judges rows answers docket")
+
+
+# The court's clock, by the C library
+
+
+class Clock:
+    """What a zone's clock shows, and the first instant at which it shows a civil time."""
+
+    def __init__(self, zone):
+        fixed = re.fullmatch(r"([+-])(\d\d):(\d\d)", zone)
+        if fixed:
+            sign, hours, minutes = fixed.groups()
+            zone = "<XXX>{}{}:{}".format("-" if sign == "+" else "+", hours, minutes)
+        self.zone = zone
+
+    def offset(self, instant):
+        os.environ["TZ"] = self.zone
+        time.tzset()
+        return time.localtime(instant).tm_gmtoff
+
+    def instant(self, day, second):
+        civil = (day - datetime.date(1970, 1, 1)).days * 86400 + second
+        offsets = {self.offset(civil + days * 86400) for days in range(-200, 201, 50)} | {self.offset(civil)}
+        shown = [civil - offset for offset in offsets if self.offset(civil - offset) == offset]
+        return min(shown) if shown else civil - min(offsets)
+
+    def utc(self, day, second):
+        return datetime.datetime.fromtimestamp(self.instant(day, second), datetime.timezone.utc)
+
+
+# What clerk_office says
+
+
+def day_of(text):
+    return datetime.date.fromisoformat(text)
+
+
+def seconds(text):
+    return sum(int(part) * unit for part, unit in zip(text.split(":"), (3600, 60, 1)))
+
+
+def quarters(text):
+    return int(text[:-1]) if text.endswith("q") else 2 * int(text)
+
+
+def period_in_words(code):
+    """What a deadline is called, and how its period is described."""
+    if "/" not in code:
+        _, what, section, event = RULES[code]
+        return what, "{}, {} (Fed. R. Civ. P. {})".format(what, event, section)
+    length, side, act, start, mark = code.split("/")
+    count = int(length[:-1])
+    words = "{} {} {} {}, {}".format(count, UNITS[length[-1]][count != 1], side,
+                                     "service" if start == "served" else "the event", ACTS[act])
+    words = words if mark == "plain" else "{} ({})".format(words, mark)
+    return words, words
+
+
+def deadline_item(names, case, words, closes):
+    number, code, end = int(words[1]), words[2], words[3]
+    if end == "beyond":
+        return None
+    what, described = period_in_words(code)
+    day, state = day_of(words[4]), words[6] if end == "until" else words[5]
+    summary = "Case {} deadline {}: {}{}".format(called(names, case), number, what, STATES.get(state, ""))
+    if end == "until":
+        ending, second = "The time ends at {} on the court's clock".format(words[5]), seconds(words[5])
+        begins = (day, second)
+    else:
+        ending, second, begins = "The time ends with this day, at midnight", 0, None
+        if period_of_text(code).act == FILING:
+            ending += "; for filing on paper when the clerk's office closes, at " + closes
+    return Item(day, second, case, 0, number, summary, "Period: {}.\n{}.".format(described, ending), begins, None, None,
+                None)
+
+
+def hearing_item(names, case, number, hearing):
+    second = 900 * hearing.first
+    summary = "Case {} motion {}: hearing before {}, room {}".format(called(names, case), number, hearing.panel,
+                                                                    hearing.room)
+    description = "Notice of the hearing was served on {}.".format(hearing.notice)
+    if hearing.affidavits not in (None, "none"):
+        description += "\nThe last day to serve an opposing affidavit is {} (Fed. R. Civ. P. 6(c)(2)).".format(
+            hearing.affidavits)
+    return Item(hearing.day, second, case, 1, number, summary, description, (hearing.day, second),
+                (hearing.day, second + 900 * hearing.count), "Room " + hearing.room, hearing.panel.split("+"))
+
+
+def hearing_of(words):
+    """The hearing that `DATE HH:MM SLOTS JUDGE ROOM notice DATE affidavits DATE` shows."""
+    return Hearing(day_of(words[0]), seconds(words[1]) // 900, quarters(words[2]), words[3], words[4], words[6], words[8])
+
+
+def docket_of(names, lines, closes):
+    """What the sheets at the end of a text say, where cases have these names: the items, the judges before whom each case has a
+    hearing, and the deadlines that end beyond the days covered."""
+    items, before, beyond, case, motion = [], {}, set(), None, None
+    for line in lines:
+        words = line.split(" ")
+        if words[0] == "case":
+            case = int(words[1])
+        elif words[0] == "deadline":
+            items.append(deadline_item(names, case, words, closes))
+            if items[-1] is None:
+                beyond.add(uid(case, 0, int(words[1])))
+        elif words[0] == "motion":
+            motion = int(words[1])
+        elif words[0] == "hearing":
+            item = hearing_item(names, case, motion, hearing_of(words[1:]))
+            items.append(item)
+            before.setdefault(case, set()).update(item.panel)
+        elif words[0] == "judge":
+            break
+    return Docket([item for item in items if item], before, beyond)
+
+
+def histories_of(rows, answers, judge):
+    """What became of the hearing of each motion, as that judge saw it or as all did: as it was set last, and whether it is
+    off."""
+    known = {}
+    for number, row in enumerate(rows, 1):
+        fields = row.split(",")
+        answer = answers.get(number, "")
+        if fields[1] not in ("book", "move", "cancel") or answer.startswith("refused"):
+            continue
+        key = int(fields[2]), int(fields[3])
+        if fields[1] != "cancel" and (judge is None or judge in fields[4].split("+")):
+            known[key] = Hearing(day_of(fields[6]), seconds(fields[7]) // 900, quarters(fields[8]), fields[4], fields[5],
+                                 fields[9], None), False
+        elif key in known:
+            known[key] = known[key][0], True
+    return known
+
+
+def revisions_of(rows, answers):
+    """The last row that changed the court's days (at 0), and the last that changed a deadline or a hearing of each case."""
+    last = {}
+    for number, row in enumerate(rows, 1):
+        fields = row.split(",")
+        if not answers.get(number, "refused").startswith("refused"):
+            if fields[1] in ("holiday", "inaccessible"):
+                last[0] = number
+            elif fields[1] in ("start", "file", "extend", "book", "move", "cancel"):
+                last[int(fields[2])] = number
+    return last
+
+
+# What a calendar must have
+
+
+def uid(case, kind, number):
+    return "case-{}-{}-{}@jerghuma".format(case, ("deadline", "motion")[kind], number)
+
+
+def entries_wanted(names, docket, rows, answers, choice):
+    """The items that a calendar has, in order, each with whether it is off the calendar."""
+    first, last, judge, case = choice
+    histories = histories_of(rows, answers, judge)
+
+    def is_chosen(item):
+        return (case is None or item.case == case) and first <= item.day <= last
+
+    def is_judged(item):
+        return judge is None or judge in (item.panel or docket.before.get(item.case, ()))
+
+    def has_left(of):
+        had = [off for key, (_, off) in histories.items() if key[0] == of]
+        return judge is not None and bool(had) and all(had)
+    due = sorted(filter(is_chosen, docket.items), key=lambda i: (i.day, i.second, i.case, i.kind, i.number))
+    entries = [(item, False) for item in due if is_judged(item)]
+    entries += [(item._replace(summary="Off this calendar: " + item.summary), True) for item in due
+                if item.kind == 0 and has_left(item.case)]
+    for key, (hearing, off) in sorted(histories.items()):
+        item = hearing_item(names, *key, hearing)
+        if off and is_chosen(item):
+            entries.append((item._replace(summary="Cancelled: " + item.summary), True))
+    return entries
+
+
+def event_wanted(clock, item, revision, off, stamp):
+    event = {"UID": uid(item.case, item.kind, item.number), "DTSTAMP": stamp, "LAST-MODIFIED": stamp, "SEQUENCE": revision,
+             "SUMMARY": item.summary, "DESCRIPTION": item.description}
+    if off:
+        event["STATUS"] = "CANCELLED"
+    if item.kind:
+        event.update(DTSTART=clock.utc(*item.begins), DTEND=ended(clock, item), LOCATION=item.room)
+    else:
+        event["TRANSP"] = "TRANSPARENT"
+        if item.begins:
+            event["DTSTART"] = clock.utc(*item.begins)
+        else:
+            event.update(DTSTART=item.day, DTEND=item.day + datetime.timedelta(1))
+    return event
+
+
+def ended(clock, item):
+    day, second = item.ends
+    return clock.utc(day + datetime.timedelta(second // 86400), second % 86400)
+
+
+# An input
+
+
+def ran(program, words, data):
+    done = subprocess.run([program, *words], input=data, stdout=subprocess.PIPE, stderr=subprocess.PIPE, check=False)
+    return done.returncode, done.stdout, done.stderr
+
+
+def answers_of(lines):
+    """The first line of the answer to each row, by the row's number."""
+    found = {}
+    for line in lines:
+        numbered = re.match(r"([0-9]+) 1 (.*)", line)
+        if numbered:
+            found[int(numbered[1])] = numbered[2]
+    return found
+
+
+def answered(clerk, names, data):
+    """The input as clerk_office answers it, where cases have these names; none where it has a fault."""
+    status, text, _ = ran(clerk, [], data + LAST_ROW)
+    if status != 0:
+        return None
+    head, rows = data.decode().split("%%", 1)
+    court = dict(re.findall(r'^\s*(zone|opens|closes|from|to)\s*=\s*["\']([^"\']*)["\']', head, re.MULTILINE))
+    lines = text.decode().splitlines()
+    closing = max(at for at, line in enumerate(lines) if re.match(r"[0-9]+ 1 ", line)) + 1
+    judges = re.search(r"^\s*judges\s*=\s*\[([^\]]*)\]", head, re.MULTILINE)
+    return Answered(court, re.findall(r"[^\s\"',]+", judges[1]), [row for row in rows.splitlines()[1:] if row], answers_of(lines[:closing]),
+                    docket_of(names, lines[closing:], court["closes"]))
