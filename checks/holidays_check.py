@@ -10,7 +10,7 @@ Friday:
 - those of the United States, from 1970 to 2069: what `check` says that an empty list lacks, and what python3-holidays has;
 - those of each state and of the United States, from 2016 to 2069: what `write` writes for a court of the state, and what
   each library has;
-- those that `write` writes for a hundred years, and the rules of checks/lib/holiday_rules.py.
+- those that `write` writes for each court and a hundred years, and the rules of checks/lib/holiday_rules.py.
 
 Each difference must be one that is explained below. A line for each comparison says how many days agree. The status is
 0 where nothing is left unexplained.
@@ -23,7 +23,8 @@ import tempfile
 import warnings
 from datetime import date
 
-from courts_days import differences, list_of, names_of
+from courts_days import differences, list_of, names_of, written
+from lib import holiday_rules
 
 DEBIAN_PACKAGES = "/usr/lib/python3/dist-packages"
 FIRST_OF_FEDERAL, FIRST, LAST = 1970, 2016, 2069
@@ -131,16 +132,10 @@ ONLY_LIBRARY = [
 ]
 
 
-def written(program, court, first, last):
-    """The file that the program writes for a court."""
-    words = [program, "write", "--court", court, "--from", str(first), "--to", str(last)]
-    return subprocess.run(words, capture_output=True, text=True, check=True).stdout
-
-
 def days_of(text):
     """The days that a court's file lists, with their names."""
     names = names_of(text)
-    return {day: names[day] for key in ("federal", "state") for day in list_of(text, key)}
+    return {day: names[day][0].replace(", observed", "") for key in ("federal", "state") for day in list_of(text, key)}
 
 
 def lacking(program, first, last):
@@ -224,7 +219,7 @@ def main():
         left += compared(court, "python3-holidays", ours, of_holidays(holidays, state, FIRST, LAST))
         if usa and calendar:
             left += compared(court, "python3-workalendar", ours, of_workalendar(usa, calendar, FIRST, LAST))
-        left += sum(as_ruled(program, court, *years) for years in LONG_SPANS)
+    left += sum(as_ruled(program, court, *years) for court in holiday_rules.COURTS for years in LONG_SPANS)
     print("each difference is explained" if not left else f"{left} differences aren't explained")
     sys.exit(1 if left else 0)
 

@@ -1,6 +1,6 @@
 """Rules of observance of the holidays that courts' files list, written apart from the program that writes the files.
 
-Holidays of the United States are those that Fed. R. Civ. P. 6(a)(6)(A) names, observed as 5 U.S.C. 6103(b) and
+Holidays of the United States are those that Fed. R. Civ. P. 6(a)(6)(A) names, observed as 5 U.S.C. 6103(b)(1) and
 Executive Order 11582 say. Holidays of a state are those that its statute names and the United States do not have,
 observed by that statute's own rule; a day of the federal list isn't listed again, and a Saturday or a Sunday isn't
 listed at all. The statutes' texts weren't at hand when these rules were written: they were compared with two libraries
@@ -8,6 +8,7 @@ listed at all. The statutes' texts weren't at hand when these rules were written
 United States go back to 1970. It needs Python 3.8 or later.
 """
 from datetime import date, timedelta
+from typing import NamedTuple
 
 MONDAY, TUESDAY, THURSDAY, FRIDAY, SATURDAY, SUNDAY = 0, 1, 3, 4, 5, 6
 
@@ -94,15 +95,22 @@ def friday_or_monday(day):
 class Holiday:
     """A holiday, by the rule for its day and the rule for weekends, in the years in which it is one."""
 
-    def __init__(self, name, of_year, observed=stays, since=1, until=9999, every=1, offset=0):
+    def __init__(self, name, of_year, observed=stays, since=1, until=9999, every=1, offset=0, law=None):
         self.name, self.of_year, self.observed = name, of_year, observed
         self.since, self.until, self.every, self.offset = since, until, every, offset
+        self.law = law
 
     def kept_in(self, year):
-        """The day on which the holiday of that year is observed, if it is one in that year."""
+        """The day on which the holiday of that year is observed, if it is one in that year, and the day that is set."""
         if self.since <= year <= self.until and year % self.every == self.offset:
-            return self.observed(self.of_year(year))
+            return self.observed(self.of_year(year)), self.of_year(year)
         return None
+
+    def law_of(self, day, own):
+        """What makes the observed day a holiday: its own law, or for a day of the federal list the weekend's."""
+        if self.law or own == day:
+            return self.law or "5 U.S.C. 6103(a)"
+        return "5 U.S.C. 6103(b)(1)" if day < own else "Executive Order 11582"
 
 
 FEDERAL = [
@@ -120,7 +128,7 @@ FEDERAL = [
 ]
 
 # of the capital's region, 5 U.S.C. 6103(c); where another holiday is on that day, the day has the other's name
-INAUGURATION_DAY = Holiday("Inauguration Day", inauguration_day, every=4, offset=1)
+INAUGURATION_DAY = Holiday("Inauguration Day", inauguration_day, every=4, offset=1, law="5 U.S.C. 6103(c)")
 
 LINCOLN = Holiday("Lincoln's Birthday", fixed(2, 12), monday_for_sunday)
 GENERAL_ELECTION = Holiday("General Election Day", ELECTION_DAY, every=2)
@@ -203,27 +211,73 @@ STATES = {
     "washington": [Holiday("Native American Heritage Day", DAY_AFTER_THANKSGIVING)],
 }
 
+# the statute of each state, as a written file cites it
+STATUTES = {
+    "alaska": "Alaska Stat. section 44.12.010 and those after it",
+    "arizona": "Ariz. Rev. Stat. section 1-301",
+    "california": "Cal. Gov't Code sections 6700 and 6701",
+    "colorado": "Colo. Rev. Stat. section 24-11-101",
+    "district_of_columbia": "D.C. Code section 28-2701",
+    "florida": "Fla. Stat. section 683.01",
+    "georgia": "O.C.G.A. section 1-4-1",
+    "guam": "1 Guam Code Ann. section 1000",
+    "hawaii": "Haw. Rev. Stat. sections 8-1 and 8-2",
+    "illinois": "205 ILCS 630/17",
+    "massachusetts": "Mass. Gen. Laws ch. 4, section 7, cl. 18",
+    "new_jersey": "N.J. Stat. Ann. section 36:1-1, and Pub. L. 2020, ch. 76",
+    "new_york": "N.Y. Gen. Constr. Law section 24",
+    "pennsylvania": "44 Pa. Stat. section 11",
+    "puerto_rico": "P.R. Act No. 111-2014",
+    "texas": "Tex. Gov't Code section 662.003(b)",
+    "virginia": "Va. Code section 2.2-3300",
+    "washington": "Wash. Rev. Code section 1.16.050",
+}
+
+# the days of which it is in doubt whether the state declares them holidays, by their names
+DOUBTFUL = {"california": "Admission Day", "illinois": "Good Friday", "new_jersey": "Lincoln's Birthday"}
+
 EASTERN, CENTRAL, PACIFIC = ("EST5EDT,M3.2.0/2,M11.1.0/2", "CST6CDT,M3.2.0/2,M11.1.0/2", "PST8PDT,M3.2.0/2,M11.1.0/2")
-# the zone of each state, where its courts sit, or most of them
-ZONES = {
-    "alaska": "AKST9AKDT,M3.2.0/2,M11.1.0/2",
-    "arizona": "MST7",
-    "california": PACIFIC,
-    "colorado": "MST7MDT,M3.2.0/2,M11.1.0/2",
-    "district_of_columbia": EASTERN,
-    "florida": EASTERN,
-    "georgia": EASTERN,
-    "guam": "ChST-10",
-    "hawaii": "HST10",
-    "illinois": CENTRAL,
-    "massachusetts": EASTERN,
-    "new_jersey": EASTERN,
-    "new_york": EASTERN,
-    "pennsylvania": EASTERN,
-    "puerto_rico": "AST4",
-    "texas": CENTRAL,
-    "virginia": EASTERN,
-    "washington": PACIFIC,
+MOUNTAIN = "MST7MDT,M3.2.0/2,M11.1.0/2"
+# each district court whose file can be written, as 28 U.S.C. 81 to 131 name the districts: by its code its title, and the
+# zone in which it sits. Western Texas sits in El Paso and northern Florida in Pensacola too, an hour earlier
+COURTS = {
+    "alaska": ("District of Alaska", "AKST9AKDT,M3.2.0/2,M11.1.0/2"),
+    "arizona": ("District of Arizona", "MST7"),
+    "california_central": ("Central District of California", PACIFIC),
+    "california_eastern": ("Eastern District of California", PACIFIC),
+    "california_northern": ("Northern District of California", PACIFIC),
+    "california_southern": ("Southern District of California", PACIFIC),
+    "colorado": ("District of Colorado", MOUNTAIN),
+    "district_of_columbia": ("District of Columbia", EASTERN),
+    "florida_middle": ("Middle District of Florida", EASTERN),
+    "florida_northern": ("Northern District of Florida", EASTERN),
+    "florida_southern": ("Southern District of Florida", EASTERN),
+    "georgia_middle": ("Middle District of Georgia", EASTERN),
+    "georgia_northern": ("Northern District of Georgia", EASTERN),
+    "georgia_southern": ("Southern District of Georgia", EASTERN),
+    "guam": ("District of Guam", "ChST-10"),
+    "hawaii": ("District of Hawaii", "HST10"),
+    "illinois_central": ("Central District of Illinois", CENTRAL),
+    "illinois_northern": ("Northern District of Illinois", CENTRAL),
+    "illinois_southern": ("Southern District of Illinois", CENTRAL),
+    "massachusetts": ("District of Massachusetts", EASTERN),
+    "new_jersey": ("District of New Jersey", EASTERN),
+    "new_york_eastern": ("Eastern District of New York", EASTERN),
+    "new_york_northern": ("Northern District of New York", EASTERN),
+    "new_york_southern": ("Southern District of New York", EASTERN),
+    "new_york_western": ("Western District of New York", EASTERN),
+    "pennsylvania_eastern": ("Eastern District of Pennsylvania", EASTERN),
+    "pennsylvania_middle": ("Middle District of Pennsylvania", EASTERN),
+    "pennsylvania_western": ("Western District of Pennsylvania", EASTERN),
+    "puerto_rico": ("District of Puerto Rico", "AST4"),
+    "texas_eastern": ("Eastern District of Texas", CENTRAL),
+    "texas_northern": ("Northern District of Texas", CENTRAL),
+    "texas_southern": ("Southern District of Texas", CENTRAL),
+    "texas_western": ("Western District of Texas", CENTRAL),
+    "virginia_eastern": ("Eastern District of Virginia", EASTERN),
+    "virginia_western": ("Western District of Virginia", EASTERN),
+    "washington_eastern": ("Eastern District of Washington", PACIFIC),
+    "washington_western": ("Western District of Washington", PACIFIC),
 }
 
 
@@ -232,15 +286,32 @@ def state_of(court):
     return max((state for state in STATES if court == state or court.startswith(state + "_")), key=len)
 
 
-def listed(holidays, first, last_year):
-    """The days from Monday to Friday of these years on which the holidays are observed, each with its name. A New
-    Year's Day of the year after may be among them. Of two on one day the first of the list has it."""
+class Listed(NamedTuple):
+    """A holiday as it is listed on a day: its name, the day that is set, the law, and whether it is in doubt."""
+    name: str
+    own: date
+    law: str
+    doubtful: bool
+
+    def named(self, day):
+        """What the day is called: the holiday's name, with a word where it is observed in place of another day."""
+        return self.name if self.own == day else f"{self.name}, observed"
+
+    def comment(self, day):
+        """What stands after the day in its list."""
+        of = "" if self.own == day else f" (for {'Saturday' if day < self.own else 'Sunday'}, {self.own})"
+        return f"{self.name}{of}{'; doubtful, for the court to say' if self.doubtful else ''}"
+
+
+def listed(holidays, first, last_year, law=None, doubtful=None):
+    """The days from Monday to Friday of these years on which the holidays are observed. A New Year's Day of the year
+    after may be among them. Of two on one day the first of the list has it."""
     days = {}
     for holiday in reversed(holidays):
         for year in range(first, last_year + 2):
-            kept = holiday.kept_in(year)
-            if kept and first <= kept.year <= last_year and kept.weekday() < SATURDAY:
-                days[kept] = holiday.name
+            day, own = holiday.kept_in(year) or (None, None)
+            if day and first <= day.year <= last_year and day.weekday() < SATURDAY:
+                days[day] = Listed(holiday.name, own, law or holiday.law_of(day, own), holiday.name == doubtful)
     return days
 
 
@@ -253,4 +324,5 @@ def federal_days(state, first, last_year):
 def state_days(state, first, last_year):
     """The days of the state's list, which the federal list hasn't."""
     federal = federal_days(state, first, last_year)
-    return {day: name for day, name in listed(STATES[state], first, last_year).items() if day not in federal}
+    days = listed(STATES[state], first, last_year, STATUTES[state], DOUBTFUL.get(state))
+    return {day: holiday for day, holiday in days.items() if day not in federal}

@@ -1,1 +1,2 @@
+pub mod CourtLemmas
 pub mod SpanLemmas

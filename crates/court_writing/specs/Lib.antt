@@ -1,3 +1,4 @@
+pub mod Courts
 pub mod Listed
 pub mod Written
 pub mod Words

@@ -1,6 +1,9 @@
--- What is written for a court: a file whose span is whole years, and whose lists have just the days of the definitions.
-use Rattle.std.specs.Prelude.{◌≡◌, ℕ, ◌+◌, ℤ, pos, nat_le, ◌≤ℤ◌, ◌&&◌, Bool, List, Ok, is_some}
-use Rattle.court_days.specs.Words.{CourtFile, DaysView, court_in, is_among}
+-- What is written for a court: a file with its zone and example hours, whose span is whole years, and whose lists have just
+-- the days of the definitions.
+use Rattle.std.specs.Prelude.{◌≡◌, ℕ, ◌+◌, ℤ, pos, nat_le, ◌≤ℤ◌, ◌&&◌, Bool, List, Ok, Some, is_some}
+use Rattle.court_clock.specs.Words.{zone_of_text}
+use Rattle.toml.specs.Data.{Members}
+use Rattle.court_days.specs.Words.{CourtFile, DaysView, court_in, court_of, is_among}
 use Rattle.state_holidays.specs.Words.{on}
 use Rattle.state_holidays.specs.declared.state.State.{State}
 use Rattle.court_writing.specs.Listed.{federal_on, state_on}
@@ -20,7 +23,19 @@ pub record AreDaysOf (state : State) (from to : ℤ) (days : DaysView) : Type 0 
   pub last : days.to ≡ on 12 31 to
   pub listed : (d : ℤ) → days.from ≤ℤ d → d ≤ℤ days.to → IsListed state days d
 
--- the text is a court's file with those days
-abbrev pub IsFileOf : State → ℕ → ℕ → List ℕ → Type 0
-IsFileOf state from to text =
-    (file : CourtFile) × (court_in text ≡ Ok file) × AreDaysOf state (pos from) (pos to) file.days
+-- the court's file has the zone with this text, the example hours from 08:30 to 17:00, and those days
+pub record IsOfCourt (state : State) (zone : List ℕ) (from to : ℤ) (file : CourtFile) : Type 0 where
+  pub zone_is : zone_of_text zone ≡ Some file.zone
+  pub opens : file.opens ≡ 510
+  pub closes : file.closes ≡ 1020
+  pub days : AreDaysOf state from to file.days
+
+-- the document says that
+abbrev pub IsDocumentOf : State → (zone : List ℕ) → (from to : ℕ) → Members → Type 0
+IsDocumentOf state zone from to document =
+    (file : CourtFile) × (court_of document ≡ Ok file) × IsOfCourt state zone (pos from) (pos to) file
+
+-- the text is that court's file
+abbrev pub IsFileOf : State → (zone : List ℕ) → (from to : ℕ) → List ℕ → Type 0
+IsFileOf state zone from to text =
+    (file : CourtFile) × (court_in text ≡ Ok file) × IsOfCourt state zone (pos from) (pos to) file

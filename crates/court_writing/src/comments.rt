@@ -49,7 +49,7 @@ pub(crate) fn push_names_head(text: &mut String) -> Result<(), AllocError> {
 judges = [\"Ames\", \"Brandt\", \"Calloway\"]
 rooms = [\"1\", \"2\", \"3\"]
 
-# What each of these holidays is called, with the statute that names it. `deadline_memo` prints the names.
+# What each of these holidays is called, with the law that sets its day. `deadline_memo` prints the names.
 [holiday_names]
 ",
     )

@@ -1,6 +1,9 @@
 //! The district courts whose files can be written.
 
-ghost use Rattle.std.specs.Prelude.{◌≡◌, IfSome};
+ghost use Rattle.std.specs.Prelude.{◌≡◌, map, option_map};
+ghost use Rattle.std.specs.List.{find};
+ghost use Rattle.std.specs.Str.{bytes_eq};
+ghost use Rattle.court_writing.specs.Courts.{district_named, districts, of_district, zone_text};
 
 use crate::zones::ZoneName;
 use state_holidays::State;
@@ -246,19 +249,31 @@ static COURTS: [CourtName; 37] = [
 
 impl CourtName {
     /// The courts whose files can be written, in the order of their codes.
-    pub fn all() -> &'static [CourtName] {
+    #[tactic(auto, unfolding(crate::specs::Courts::districts))]
+    pub fn all() -> &'static [CourtName]
+        ensures { map (λ c. of_district c.code.now c.state (zone_text c.zone)) result.now ≡ districts }
+    {
         &COURTS[..]
     }
 
     /// The court with the code. None where there is none.
     pub fn named(code: &str) -> Option<CourtName>
-        ensures { IfSome result (λ c. c.code.now ≡ code.now) }
+        ensures { option_map (λ c. of_district c.code.now c.state (zone_text c.zone)) result ≡ district_named code.now }
     {
-        for court in CourtName::all() {
-            if court.code == code {
-                return Some(*court);
-            }
-        }
-        None
+        first_named(CourtName::all(), code)
     }
+}
+
+/// The first of the courts that has the code.
+fn first_named(courts: &[CourtName], code: &str) -> Option<CourtName>
+    ensures { result ≡ find (λ c. bytes_eq c.code.now code.now) courts.now }
+{
+    courts.iter().copied().find(|court| has_code(court, code))
+}
+
+/// Whether it is the court with the code.
+fn has_code(court: &CourtName, code: &str) -> bool
+    ensures { result ≡ bytes_eq court.now.code.now code.now }
+{
+    court.code == code
 }

@@ -3,7 +3,7 @@
 ghost use Rattle.std.specs.Prelude.{◌≤◌, pos};
 ghost use Rattle.state_holidays.specs.Words.{IsStated};
 
-use crate::holiday::{Listed, listed_on};
+use crate::holiday::{Listed, SetOn, first_listed, listed_on};
 use crate::notes::{FEDERAL_NOTE, STATE_RULE, state_note};
 use court_clock::Day;
 use court_days::HolidayList;
@@ -54,27 +54,31 @@ fn push_year(
         let Some(day) = day_of_year(year, place) else {
             continue;
         };
-        if let Some(listed) = listed_on(state, list, day) {
+        if let Some(listed) = listed_on(state, list, day, year) {
             if !begun {
                 write!(text, "    # {year}\n")?;
                 begun = true;
             }
-            push_line(text, listed, day, year)?;
+            push_line(text, state, &listed, day)?;
         }
     }
     Ok(())
 }
 
 /// Adds the line of a holiday in its list.
-fn push_line(text: &mut String, listed: Listed, day: Day, year: u16) -> Result<(), AllocError>
-    requires { IsStated (pos year) }
-{
-    let name = listed.name();
+fn push_line(text: &mut String, state: State, listed: &Listed, day: Day) -> Result<(), AllocError> {
+    let (name, doubt) = (listed.name(), listed.doubt(state));
     write!(text, "    \"{day}\", # {name}")?;
-    match listed.in_place_of(day, year as i16) {
-        Some(weekend) if day.weekday() == 4 => write!(text, " (for Saturday, {weekend})\n"),
-        Some(weekend) => write!(text, " (for Sunday, {weekend})\n"),
-        None => text.push_str("\n"),
+    push_set_on(text, listed.set_on())?;
+    write!(text, "{doubt}\n")
+}
+
+/// Adds the day that the law sets for a holiday which is listed on another.
+fn push_set_on(text: &mut String, set_on: SetOn) -> Result<(), AllocError> {
+    match set_on {
+        SetOn::ThatDay => Ok(()),
+        SetOn::Saturday(set) => write!(text, " (for Saturday, {set})"),
+        SetOn::Sunday(set) => write!(text, " (for Sunday, {set})"),
     }
 }
 
@@ -102,13 +106,17 @@ fn push_names_of(text: &mut String, state: State, year: u16) -> Result<(), Alloc
         let Some(day) = day_of_year(year, place) else {
             continue;
         };
-        let federal = listed_on(state, HolidayList::Federal, day);
-        if let Some(listed) = federal.or(listed_on(state, HolidayList::State, day)) {
-            let (name, statute) = (listed.name(), listed.statute(state));
-            write!(text, "{day} = \"{name}\" # {statute}\n")?;
+        if let Some(listed) = first_listed(state, day, year) {
+            push_name(text, state, &listed, day)?;
         }
     }
     Ok(())
+}
+
+/// Adds what a holiday is called, and the law that makes its day one.
+fn push_name(text: &mut String, state: State, listed: &Listed, day: Day) -> Result<(), AllocError> {
+    let (name, observed, law) = (listed.name(), listed.observed(), listed.law(state));
+    write!(text, "{day} = \"{name}{observed}\" # {law}\n")
 }
 
 /// The day at a place of the year, counted from 0. None after its end.

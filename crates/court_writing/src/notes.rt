@@ -5,12 +5,14 @@ use state_holidays::State;
 /// What is said of the federal list.
 pub(crate) const FEDERAL_NOTE: &str =
     "# Legal holidays of the United States, Fed. R. Civ. P. 6(a)(6)(A) and 5 U.S.C. 6103(a), each on the day when it is
-# observed: the Friday before, where it falls on a Saturday (5 U.S.C. 6103(b)); the Monday after, where it falls on a
-# Sunday (Executive Order 11582). A Saturday or a Sunday isn't listed, because a holiday changes nothing on it.
+# observed: the Friday before, where it falls on a Saturday (5 U.S.C. 6103(b)(1)); the Monday after, where it falls on
+# a Sunday (Executive Order 11582). A Saturday or a Sunday isn't listed, because a holiday changes nothing on it.
 # Juneteenth is a holiday from 2021 on.
-# For the court to say: days that the President or Congress declares holidays, Rule 6(a)(6)(B), aren't listed.
-# Whether an order that closes the executive departments, as on some 24 and 26 December and on days of mourning,
-# declares one is for the court to say; a court that holds so adds the day here.
+# For the court to say: days that the President or Congress declares holidays, Rule 6(a)(6)(B), aren't listed. The
+# President closed the executive departments on 2018-12-05, 2018-12-24, 2019-12-24, 2020-12-24, 2024-12-24, 2025-01-09,
+# 2025-12-24 and 2025-12-26; look up what came later. A court that holds such an order to declare a holiday adds the
+# day here. If its clerk's office alone was closed, it enters an outage: `1,inaccessible,2025-01-09,00:00,24:00`
+# extends what was to be filed on that day to the first accessible day after it, Rule 6(a)(3)(A).
 ";
 
 /// What is said of each state's list.
@@ -37,9 +39,9 @@ pub(crate) fn state_note(state: State) -> &'static str {
 # kept on the Monday, section 6701, and one on a Saturday on no other day.
 # For the court to say: Good Friday is a holiday from noon to three o'clock only, and isn't listed; nor are days that
 # section 6700 has since 2023 and later (Genocide Remembrance Day on 24 April, Lunar New Year, Diwali), the day after
-# Thanksgiving, which is given to employees, and days that the Governor appoints. Whether a day that the state's own
-# courts don't keep, Code of Civil Procedure section 135, as Admission Day, is one that the state declares in the
-# sense of Rule 6(a)(6)(C) is for the court to say too.
+# Thanksgiving, which is given to employees, and days that the Governor appoints. Admission Day is marked doubtful:
+# the state's own courts don't keep it, Code of Civil Procedure section 135, so whether the state declares it in the
+# sense of Rule 6(a)(6)(C) is for the court to say. A court that holds it to be none takes it out.
 ",
         State::Colorado =>
             "# Holidays of the State of Colorado that aren't in the list above, Colorado Revised Statutes section 24-11-101:
@@ -87,9 +89,9 @@ pub(crate) fn state_note(state: State) -> &'static str {
 # 630/17, to which 5 ILCS 70/1.11 leads for the computing of time. One on a Sunday is kept on the Monday, and one on
 # a Saturday on no other day. Election days are those of general elections for members of the House of
 # Representatives, in even years.
-# For the court to say: whether a holiday of that Act, such as Good Friday, is one that the state declares in the
-# sense of Rule 6(a)(6)(C); and whether Lincoln's Birthday on a Saturday is kept on the Friday, as other lists have
-# it.
+# For the court to say: Good Friday is marked doubtful, since that Act is one of banks, and the state's offices are open
+# on it; a court that holds that the state doesn't declare it, Rule 6(a)(6)(C), takes it out. And whether Lincoln's
+# Birthday on a Saturday is kept on the Friday, as other lists have it.
 ",
         State::Massachusetts =>
             "# Holidays of the Commonwealth of Massachusetts that aren't in the list above, Massachusetts General Laws chapter 4,
@@ -101,8 +103,9 @@ pub(crate) fn state_note(state: State) -> &'static str {
             "# Holidays of the State of New Jersey that aren't in the list above, New Jersey Statutes section 36:1-1, and Public
 # Law 2020, chapter 76, which makes the third Friday of June Juneteenth Day from 2021 on. A Lincoln's Birthday on a
 # Sunday is kept on the Monday, and one on a Saturday on no other day. General elections are held in each year.
-# For the court to say: section 36:1-1 names Lincoln's Birthday, on which the state's offices are open; the day after
-# Thanksgiving, on which they are closed, isn't listed, nor are days that the Governor appoints.
+# For the court to say: Lincoln's Birthday is marked doubtful, since section 36:1-1 names it and the state's offices are
+# open on it; a court that holds that it is none takes it out. The day after Thanksgiving, on which they are closed,
+# isn't listed, nor are days that the Governor appoints.
 ",
         State::NewYork =>
             "# Holidays of the State of New York that aren't in the list above, General Construction Law section 24. A Lincoln's

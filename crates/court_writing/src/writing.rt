@@ -1,10 +1,14 @@
 //! The text of a court's file.
 
-ghost use Rattle.std.specs.Prelude.{◌≡◌, ◌↔◌, true, false, IfOk, Err, pos};
+ghost use Rattle.std.specs.Prelude.{◌≡◌, ◌↔◌, true, false, IfOk, Ok, Err, Some, pos};
 ghost use Rattle.std.specs.String.{string_bytes};
+ghost use Rattle.toml.specs.View.{table_view};
 ghost use Rattle.jiff_core.specs.Calendar.{days_from_civil};
+ghost use Rattle.court_file_text.specs.Words.{text_at, toml_of};
+ghost use Rattle.court_file_text.specs.declared.key.Key.TheVariants as Key;
 ghost use Rattle.state_holidays.specs.Words.{IsStated};
-ghost use Rattle.court_writing.specs.Written.{are_years, AreDaysOf, IsFileOf};
+ghost use Rattle.court_writing.specs.Courts.{zone_text};
+ghost use Rattle.court_writing.specs.Written.{are_years, AreDaysOf, IsDocumentOf, IsFileOf};
 ghost use Rattle.court_writing.specs.declared.fault.WriteFault.TheVariants.{BadYears};
 
 use crate::comments::{push_head, push_names_head};
@@ -12,34 +16,94 @@ use crate::courts::CourtName;
 use crate::days::are_listed;
 use crate::fault::WriteFault;
 use crate::lists::{push_list, push_names};
+use crate::zones::ZoneName;
 use court_clock::Day;
 use court_days::{Court, Days, HolidayList};
-use court_file_text::CourtFault;
+use court_file_text::{CourtFault, Key, text_at};
 use state_holidays::{State, on};
 use std::alloc::{AllocError, Global};
+use toml::Table;
+
+/// When the clerk's office opens in the example, in minutes from midnight, and when it closes.
+const OPENS: u16 = 510;
+
+const CLOSES: u16 = 1020;
 
 /// The court's file for the years from the first to the last: its zone, example hours, its holidays with their names,
 /// and names of judges and rooms that are to be replaced. `BadYears` where the years aren't some of 2016 to 2199 in
 /// their order, or are more than a hundred. The text is read back before it is given, and `NotReadBack` says that it
 /// isn't that court's file; `OutOfMemory` says that memory ran out.
 pub fn court_text(alloc: Global, court: CourtName, from: u16, to: u16) -> Result<String, WriteFault>
-    ensures written { IfOk result (λ text. IsFileOf court.state from to (string_bytes text)) }
+    ensures written { IfOk result (λ text. IsFileOf court.state (zone_text court.zone) from to (string_bytes text)) }
     ensures years { (result ≡ Err BadYears) ↔ (are_years from to ≡ false) }
 {
     if !are_years(from, to) {
         return Err(WriteFault::BadYears);
     }
     let text = text_of(alloc, court, from, to)?;
-    match Court::from_bytes(alloc, text.as_bytes()) {
-        Ok(read) => {
-            if !are_days_of(court.state, from, to, read.days()) {
-                return Err(WriteFault::NotReadBack);
+    let file = document_of(alloc, text.as_bytes())?;
+    check_document(alloc, court, from, to, &file)?;
+    Ok(text)
+}
+
+/// The document that a text is. `NotReadBack` says that it is none.
+fn document_of(alloc: Global, text: &[u8]) -> Result<Table, WriteFault>
+    ensures read { IfOk result (λ file. toml_of text.now ≡ Some (table_view file)) }
+    ensures no_years { result ≡ Err BadYears → ⊥ }
+{
+    match toml::table_from_slice(alloc, text) {
+        Ok(file) => Ok(file),
+        Err(error) => {
+            if error.is_memory() {
+                return Err(WriteFault::OutOfMemory);
             }
-            Ok(text)
+            Err(WriteFault::NotReadBack)
+        }
+    }
+}
+
+/// Whether the document is the court's file: `NotReadBack` if it isn't.
+fn check_document(
+    alloc: Global,
+    court: CourtName,
+    from: u16,
+    to: u16,
+    file: &Table,
+) -> Result<(), WriteFault>
+    requires { are_years from to ≡ true }
+    ensures written { IfOk result (λ _. IsDocumentOf court.state (zone_text court.zone) from to (table_view file.now)) }
+    ensures no_years { result ≡ Err BadYears → ⊥ }
+{
+    match Court::from_table(alloc, file) {
+        Ok(read) => {
+            if has_zone(file, court.zone) && is_of_years(court.state, from, to, &read) {
+                return Ok(());
+            }
+            Err(WriteFault::NotReadBack)
         }
         Err(CourtFault::OutOfMemory) => Err(WriteFault::OutOfMemory),
         Err(_) => Err(WriteFault::NotReadBack),
     }
+}
+
+/// Whether the document names the zone.
+fn has_zone(file: &Table, zone: ZoneName) -> bool
+    ensures { result ≡ true → text_at Key.Zone (table_view file.now) ≡ Ok (zone_text zone) }
+{
+    match text_at(file, Key::Zone) {
+        Ok(text) => text == zone.text(),
+        Err(_) => false,
+    }
+}
+
+/// Whether the court has the example hours and the days of the years.
+fn is_of_years(state: State, from: u16, to: u16, read: &Court) -> bool
+    requires { are_years from to ≡ true }
+    ensures hours { result ≡ true → (read.now.clock.opens ≡ 510) × (read.now.clock.closes ≡ 1020) }
+    ensures days { result ≡ true → AreDaysOf state (pos from) (pos to) read.now.days }
+{
+    let clock = read.clock();
+    clock.opens() == OPENS && clock.closes() == CLOSES && are_days_of(state, from, to, read.days())
 }
 
 /// Whether a file can be written for the years.

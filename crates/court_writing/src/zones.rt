@@ -1,5 +1,8 @@
 //! The zones of district courts.
 
+ghost use Rattle.std.specs.Prelude.{◌≡◌};
+ghost use Rattle.court_writing.specs.Courts.{zone_text};
+
 /// The zone of a court's clock.
 #[derive(Clone, Copy, Debug, PartialEq, Eq)]
 pub enum ZoneName {
@@ -22,7 +25,9 @@ pub enum ZoneName {
 
 impl ZoneName {
     /// The zone, as a court's file has it.
-    pub fn text(self) -> &'static str {
+    pub fn text(self) -> &'static str
+        ensures { result.now ≡ zone_text self }
+    {
         match self {
             ZoneName::Eastern | ZoneName::EasternAndCentral => "EST5EDT,M3.2.0/2,M11.1.0/2",
             ZoneName::Central | ZoneName::CentralAndMountain => "CST6CDT,M3.2.0/2,M11.1.0/2",

@@ -1,0 +1,45 @@
+-- The first of a list that passes a test, seen through a view, and what a court's document says of its zone.
+use Rattle.std.proofs.Common.{◌≡◌, ℕ, Bool, true, false, List, [], ◌∷◌, Option, Some, None, Result, Ok, Err, refl, sym, ap, ◌∙◌, map, option_map, ok_or, if◌then◌else◌}
+use Rattle.std.specs.List.{find}
+use Rattle.court_clock.specs.Words.{Zone, zone_of_text}
+use Rattle.court_file_text.specs.declared.fault.CourtFault.{CourtFault}
+use Rattle.court_file_text.specs.declared.fault.CourtFault.TheVariants.{BadZone}
+use Rattle.court_file_text.specs.declared.key.Key.TheVariants as key
+use Rattle.court_file_text.specs.Words.{◌>>=◌, names_at, text_at}
+use Rattle.court_days.specs.Words.{CourtFile, court_of}
+use Rattle.court_days.specs.Court.{days_at, hours_at, zone_at}
+
+-- a view of the first item whose view passes is the first view that passes
+pub found : {A B : Type 0} (view : A → B) (test : B → Bool) (xs : List A) → option_map view (find (λ x. test (view x)) xs) ≡ find test (map view xs)
+found view test [] = refl
+found view test (x ∷ xs) = by_test (test (view x)) (found view test xs)
+  where
+    by_test : (b : Bool) → option_map view (find (λ x. test (view x)) xs) ≡ find test (map view xs) → option_map view (if b then Some x else find (λ x. test (view x)) xs) ≡ (if b then Some (view x) else find test (map view xs))
+    by_test true rest = refl
+    by_test false rest = rest
+
+-- a reading in steps succeeds where its first step gives something and the rest succeeds with that
+steps : {A B : Type 0} (r : Result A CourtFault) (more : A → Result B CourtFault) (y : B) → (r >>= more) ≡ Ok y → (x : A) × (r ≡ Ok x) × (more x ≡ Ok y)
+steps (Ok x) more y e = (x, refl, e)
+steps (Err fault) more y e = absurd (cc e)
+
+-- what is read is there
+there : (o : Option Zone) (fault : CourtFault) (zone : Zone) → ok_or o fault ≡ Ok zone → o ≡ Some zone
+there (Some z) fault zone e = cc e
+there None fault zone e = absurd (cc e)
+
+-- a document with this text of a zone has that zone
+pub zone_read : (members : _) (file : CourtFile) (text : List ℕ) → court_of members ≡ Ok file → text_at key.Zone members ≡ Ok text → zone_of_text text ≡ Some file.zone
+unfolding court_of zone_at
+zone_read members file text e named =
+    let zone = steps (zone_at members) _ file e in
+    let hours = steps (hours_at members) _ file zone.2 in
+    let days = steps (days_at members) _ file hours.2 in
+    let judges = steps (names_at key.Judges members) _ file days.2 in
+    let rooms = steps (names_at key.Rooms members) _ file judges.2 in
+    let read : CourtFile = record { zone = zone.0; opens = hours.0.0; closes = hours.0.1; days = days.0; judges = judges.0; rooms = rooms.0 } in
+    let same : read ≡ file = cc rooms.2 in
+    let written = steps (text_at key.Zone members) (λ t. ok_or (zone_of_text t) BadZone) zone.0 zone.1 in
+    let text_is : written.0 ≡ text = cc (sym written.1 ∙ named) in
+    let here : zone_of_text written.0 ≡ Some zone.0 = there (zone_of_text written.0) BadZone zone.0 written.2 in
+    ap zone_of_text (sym text_is) ∙ here ∙ ap (λ (f : CourtFile). Some f.zone) same
