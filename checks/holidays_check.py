@@ -4,7 +4,7 @@
     holidays_check.py PROGRAM
 
 PROGRAM is court_file. The libraries are Debian's python3-holidays (compared: 0.10.1) and python3-workalendar (compared:
-17.0.0); where the first isn't there, nothing is compared, and a line says so. Compared are the days from Monday to
+17.0.0); where the first isn't there, only the rules are compared, and a line says so. Compared are the days from Monday to
 Friday:
 
 - those of the United States, from 1970 to 2069: what `check` says that an empty list lacks, and what python3-holidays has;
@@ -197,7 +197,7 @@ def libraries():
     try:
         import holidays
     except ImportError:
-        sys.exit("python3-holidays isn't installed, so nothing was compared: apt-get install python3-holidays")
+        sys.exit("python3-holidays isn't installed, so only the rules were compared: apt-get install python3-holidays")
     try:
         from workalendar import usa
     except ImportError:
@@ -211,15 +211,16 @@ def main():
         sys.exit(__doc__)
     program = sys.argv[1]
     warnings.simplefilter("ignore")
+    left = sum(as_ruled(program, court, *years) for court in holiday_rules.COURTS for years in LONG_SPANS)
+    print(f"{len(holiday_rules.COURTS)} courts and the rules, {' and '.join('%d to %d' % years for years in LONG_SPANS)}: {left} differences")
     holidays, usa = libraries()
     ours = lacking(program, FIRST_OF_FEDERAL, LAST)
-    left = compared("united_states", "python3-holidays", ours, of_holidays(holidays, None, FIRST_OF_FEDERAL, LAST))
+    left += compared("united_states", "python3-holidays", ours, of_holidays(holidays, None, FIRST_OF_FEDERAL, LAST))
     for court, (state, calendar) in COURTS.items():
         ours = days_of(written(program, court, FIRST, LAST))
         left += compared(court, "python3-holidays", ours, of_holidays(holidays, state, FIRST, LAST))
         if usa and calendar:
             left += compared(court, "python3-workalendar", ours, of_workalendar(usa, calendar, FIRST, LAST))
-    left += sum(as_ruled(program, court, *years) for court in holiday_rules.COURTS for years in LONG_SPANS)
     print("each difference is explained" if not left else f"{left} differences aren't explained")
     sys.exit(1 if left else 0)
 
