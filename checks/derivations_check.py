@@ -409,7 +409,7 @@ def line_spoiled(text):
         yield "a rule of another day", swapped(text, found[1], other)
         yield "a rule of the day before", swapped(text, found[1], day_text(day_of_text(found[1]) - 1))
     yield "another service", swapped(text, "by mail", "by hand")
-    yield "service by hand", swapped(text, "on the clerk", "by hand")
+    yield "service by hand", swapped(text, "by leaving with the clerk", "by hand")
     yield "filing for service", swapped(text, "last day, to midnight", "last day, to 17:00, e-filing to midnight")
     yield "service for filing", swapped(text, ", e-filing to midnight", "")
     yield "the clocks left out", re.sub(r", clocks (forward|back) \d+ min", lambda found: " " * len(found[0]), text)

@@ -23,7 +23,7 @@ AFTER, BEFORE = "after", "before"
 DAY = 86400
 COLUMN = 50
 AMENDED = day_of_text("2016-12-01")
-KINDS = {"A": "by hand", "B": "at office or home", "C": "by mail", "D": "on the clerk", "E": "electronically",
+KINDS = {"A": "by hand", "B": "at office or home", "C": "by mail", "D": "by leaving with the clerk", "E": "electronically",
          "F": "by other means"}
 LAST_DAY = {AFTER: "6(a)(1)(C)", BEFORE: "6(a)(1)(C), 6(a)(5)"}
 SAME_TIME = {AFTER: "6(a)(2)(C)", BEFORE: "6(a)(2)(C), 6(a)(5)"}

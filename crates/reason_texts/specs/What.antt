@@ -44,7 +44,7 @@ abbrev pub kind_text : ServiceKind → List ℕ
 kind_text HandA = codes "by hand"
 kind_text LeftB = codes "at office or home"
 kind_text MailC = codes "by mail"
-kind_text ClerkD = codes "on the clerk"
+kind_text ClerkD = codes "by leaving with the clerk"
 kind_text ElectronicE = codes "electronically"
 kind_text OtherF = codes "by other means"
 

@@ -221,7 +221,7 @@ fn kind_words(kind: ServiceKind) -> &'static str
         ServiceKind::HandA => "by hand",
         ServiceKind::LeftB => "at office or home",
         ServiceKind::MailC => "by mail",
-        ServiceKind::ClerkD => "on the clerk",
+        ServiceKind::ClerkD => "by leaving with the clerk",
         ServiceKind::ElectronicE => "electronically",
         ServiceKind::OtherF => "by other means",
     }
