@@ -72,7 +72,7 @@ fn push_read(
         CourtFault::BadSpan => push_bad_span(sheet),
         CourtFault::TooMany(_) => push_too_many(sheet, key),
         _ => {
-            let mark = sheet.mark_of(key, item);
+            let mark = sheet.mark_of(key, item)?;
             sheet.begin_fault(key, mark)?;
             sheet.end("this can't be read")
         }
@@ -108,7 +108,7 @@ fn push_missing(
 }
 
 fn push_wrong_kind(sheet: &mut Sheet<'_>, key: Key, item: Option<usize>) -> Result<(), AllocError> {
-    let mark = sheet.mark_of(key, item);
+    let mark = sheet.mark_of(key, item)?;
     let shown = sheet.shown(mark);
     let example = example_of(key);
     sheet.begin_fault(key, mark)?;
@@ -135,7 +135,7 @@ fn push_bad_date(
     item: Option<usize>,
     text: &str,
 ) -> Result<(), AllocError> {
-    let mark = sheet.mark_of(key, item);
+    let mark = sheet.mark_of(key, item)?;
     let shown = sheet.shown(mark);
     sheet.begin_fault(key, mark)?;
     write!(sheet.text, "{shown} is no date; ")?;
@@ -143,7 +143,7 @@ fn push_bad_date(
 }
 
 fn push_bad_zone(sheet: &mut Sheet<'_>) -> Result<(), AllocError> {
-    let mark = sheet.value_mark(Key::Zone);
+    let mark = sheet.value_mark(Key::Zone)?;
     let shown = sheet.shown(mark);
     sheet.begin_fault(Key::Zone, mark)?;
     write!(sheet.text, "{shown} is no zone; ")?;
@@ -151,9 +151,9 @@ fn push_bad_zone(sheet: &mut Sheet<'_>) -> Result<(), AllocError> {
 }
 
 fn push_bad_hours(sheet: &mut Sheet<'_>, key: Key) -> Result<(), AllocError> {
-    let mark = sheet.value_mark(key);
+    let mark = sheet.value_mark(key)?;
     let shown = sheet.shown(mark);
-    let opens = sheet.shown(sheet.value_mark(Key::Opens));
+    let opens = sheet.shown(sheet.value_mark(Key::Opens)?);
     sheet.begin_fault(key, mark)?;
     if minute_from_text(shown.trim_matches('"')).is_some() && key == Key::Closes {
         write!(
@@ -169,9 +169,9 @@ fn push_bad_hours(sheet: &mut Sheet<'_>, key: Key) -> Result<(), AllocError> {
 }
 
 fn push_bad_span(sheet: &mut Sheet<'_>) -> Result<(), AllocError> {
-    let mark = sheet.value_mark(Key::To);
+    let mark = sheet.value_mark(Key::To)?;
     let to = sheet.shown(mark);
-    let from = sheet.shown(sheet.value_mark(Key::From));
+    let from = sheet.shown(sheet.value_mark(Key::From)?);
     sheet.begin_fault(Key::To, mark)?;
     let ends = Day::from_text(to.trim_matches('"'));
     let begins = Day::from_text(from.trim_matches('"'));
@@ -194,7 +194,7 @@ fn push_bad_span(sheet: &mut Sheet<'_>) -> Result<(), AllocError> {
 }
 
 fn push_too_many(sheet: &mut Sheet<'_>, key: Key) -> Result<(), AllocError> {
-    let mark = sheet.value_mark(key);
+    let mark = sheet.value_mark(key)?;
     sheet.begin_fault(key, mark)?;
     match key {
         Key::Judges | Key::Rooms => sheet.end(
@@ -207,7 +207,7 @@ fn push_too_many(sheet: &mut Sheet<'_>, key: Key) -> Result<(), AllocError> {
 }
 
 fn push_bad_name(sheet: &mut Sheet<'_>, key: Key, item: Option<usize>) -> Result<(), AllocError> {
-    let mark = sheet.mark_of(key, item);
+    let mark = sheet.mark_of(key, item)?;
     let shown = sheet.shown(mark);
     sheet.begin_fault(key, mark)?;
     write!(sheet.text, "{shown} is no name that rows can use")?;
@@ -223,9 +223,10 @@ fn push_twice(
     item: Option<usize>,
     name: &str,
 ) -> Result<(), AllocError> {
-    let mark = sheet.mark_of(key, item);
+    let mark = sheet.mark_of(key, item)?;
     let shown = sheet.shown(mark);
-    let first = sheet.place(sheet.mark_of(key, first_named(file, key, name)));
+    let first = sheet.mark_of(key, first_named(file, key, name))?;
+    let first = sheet.place(first);
     sheet.begin_fault(key, mark)?;
     write!(sheet.text, "{shown} is there before")?;
     if let Some(first) = first {

@@ -6,6 +6,7 @@ use crate::syntax_lines::push_syntax;
 use crate::warning_lines::push_warnings;
 use court_file_check::{Asked, Checked};
 use std::alloc::{AllocError, Global};
+use toml::Table;
 
 /// What is said of a court's file.
 #[derive(Debug, Drop)]
@@ -27,7 +28,7 @@ pub fn report_of(
     asked: &Asked,
     checked: &Checked,
 ) -> Result<Report, AllocError> {
-    let mut sheet = Sheet::new(alloc, name, bytes)?;
+    let mut sheet = Sheet::new(alloc, name, bytes, document_of(checked))?;
     match checked {
         Checked::NotToml(error) => {
             push_syntax(&mut sheet, error)?;
@@ -43,5 +44,13 @@ pub fn report_of(
             sheet.end_warnings()?;
             Ok(sheet.taken())
         }
+    }
+}
+
+/// The document, if the file is one.
+fn document_of(checked: &Checked) -> Option<&Table> {
+    match checked {
+        Checked::NotToml(_) => None,
+        Checked::Faulty(file, _) | Checked::Taken(file, _) => Some(file),
     }
 }

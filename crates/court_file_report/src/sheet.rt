@@ -13,8 +13,10 @@ const MOST_SHOWN: usize = 60;
 /// The lines so far, of the file with this name and these bytes.
 #[derive(Drop)]
 pub(crate) struct Sheet<'a> {
+    alloc: Global,
     name: &'a str,
     bytes: &'a [u8],
+    file: Option<&'a Table>,
     places: Places,
     /// The lines.
     pub text: String,
@@ -23,11 +25,18 @@ pub(crate) struct Sheet<'a> {
 }
 
 impl<'a> Sheet<'a> {
-    /// No lines.
-    pub fn new(alloc: Global, name: &'a str, bytes: &'a [u8]) -> Result<Sheet<'a>, AllocError> {
+    /// No lines. The document is none where the bytes are no TOML.
+    pub fn new(
+        alloc: Global,
+        name: &'a str,
+        bytes: &'a [u8],
+        file: Option<&'a Table>,
+    ) -> Result<Sheet<'a>, AllocError> {
         Ok(Sheet {
+            alloc,
             name,
             bytes,
+            file,
             places: Places::of(alloc, bytes)?,
             text: String::new(alloc),
             count: 0,
@@ -44,26 +53,33 @@ impl<'a> Sheet<'a> {
         self.places.find(key, part)
     }
 
+    /// Where a value or an item is. Where it is a text, that is what the file reads there.
+    fn read(&self, key: Key, part: Part) -> Result<Option<Mark>, AllocError> {
+        match self.file {
+            Some(file) => self.places.read(self.alloc, self.bytes, file, key, part),
+            None => Ok(None),
+        }
+    }
+
     /// Where the value of a key is, or else its key or a header with its name.
-    pub fn value_mark(&self, key: Key) -> Option<Mark> {
-        match self.find(key, Part::Value) {
-            Some(mark) => Some(mark),
-            None => match self.find(key, Part::Key) {
-                Some(mark) => Some(mark),
-                None => self.find(key, Part::Header),
-            },
+    pub fn value_mark(&self, key: Key) -> Result<Option<Mark>, AllocError> {
+        if let Some(mark) = self.read(key, Part::Value)? {
+            return Ok(Some(mark));
+        }
+        match self.find(key, Part::Key) {
+            Some(mark) => Ok(Some(mark)),
+            None => Ok(self.find(key, Part::Header)),
         }
     }
 
     /// Where the item of a key's list is, if the fault or the warning is at one, or else its value.
-    pub fn mark_of(&self, key: Key, item: Option<usize>) -> Option<Mark> {
-        match item {
-            Some(number) => match self.find(key, Part::Item(number)) {
-                Some(mark) => Some(mark),
-                None => self.value_mark(key),
-            },
-            None => self.value_mark(key),
+    pub fn mark_of(&self, key: Key, item: Option<usize>) -> Result<Option<Mark>, AllocError> {
+        if let Some(number) = item {
+            if let Some(mark) = self.read(key, Part::Item(number))? {
+                return Ok(Some(mark));
+            }
         }
+        self.value_mark(key)
     }
 
     /// What the file has at a mark, cut where it is long or goes on in another line.

@@ -63,7 +63,7 @@ fn push_of_keys(
 }
 
 fn push_zone(sheet: &mut Sheet<'_>, doubt: ZoneDoubt) -> Result<(), AllocError> {
-    let mark = sheet.value_mark(Key::Zone);
+    let mark = sheet.value_mark(Key::Zone)?;
     let shown = sheet.shown(mark);
     sheet.begin_warning(Key::Zone, mark)?;
     write!(sheet.text, "{shown} ")?;
@@ -81,7 +81,7 @@ fn push_zone(sheet: &mut Sheet<'_>, doubt: ZoneDoubt) -> Result<(), AllocError> 
 }
 
 fn push_closes_early(sheet: &mut Sheet<'_>) -> Result<(), AllocError> {
-    let mark = sheet.value_mark(Key::Closes);
+    let mark = sheet.value_mark(Key::Closes)?;
     let shown = sheet.shown(mark);
     sheet.begin_warning(Key::Closes, mark)?;
     write!(sheet.text, "the office closes at {shown}, before noon")?;
@@ -89,9 +89,9 @@ fn push_closes_early(sheet: &mut Sheet<'_>) -> Result<(), AllocError> {
 }
 
 fn push_long_day(sheet: &mut Sheet<'_>) -> Result<(), AllocError> {
-    let mark = sheet.value_mark(Key::Closes);
+    let mark = sheet.value_mark(Key::Closes)?;
     let shown = sheet.shown(mark);
-    let opens = sheet.shown(sheet.value_mark(Key::Opens));
+    let opens = sheet.shown(sheet.value_mark(Key::Opens)?);
     sheet.begin_warning(Key::Closes, mark)?;
     write!(
         sheet.text,
@@ -101,7 +101,7 @@ fn push_long_day(sheet: &mut Sheet<'_>) -> Result<(), AllocError> {
 }
 
 fn push_short_span(sheet: &mut Sheet<'_>) -> Result<(), AllocError> {
-    let mark = sheet.value_mark(Key::To);
+    let mark = sheet.value_mark(Key::To)?;
     let shown = sheet.shown(mark);
     sheet.begin_warning(Key::To, mark)?;
     write!(
@@ -114,7 +114,7 @@ fn push_short_span(sheet: &mut Sheet<'_>) -> Result<(), AllocError> {
 }
 
 fn push_ends_soon(sheet: &mut Sheet<'_>, today: Day) -> Result<(), AllocError> {
-    let mark = sheet.value_mark(Key::To);
+    let mark = sheet.value_mark(Key::To)?;
     let shown = sheet.shown(mark);
     sheet.begin_warning(Key::To, mark)?;
     write!(
@@ -127,7 +127,7 @@ fn push_ends_soon(sheet: &mut Sheet<'_>, today: Day) -> Result<(), AllocError> {
 }
 
 fn push_bare_year(sheet: &mut Sheet<'_>, year: u16) -> Result<(), AllocError> {
-    let mark = sheet.value_mark(Key::Federal);
+    let mark = sheet.value_mark(Key::Federal)?;
     sheet.begin_warning(Key::Federal, mark)?;
     write!(
         sheet.text,
@@ -137,19 +137,21 @@ fn push_bare_year(sheet: &mut Sheet<'_>, year: u16) -> Result<(), AllocError> {
 }
 
 /// Where a date is to be added to the federal list: the first item that is later, or else the list's closing bracket.
-fn where_to_add(sheet: &Sheet<'_>, file: &Table, day: Day) -> Option<Mark> {
+fn where_to_add(sheet: &Sheet<'_>, file: &Table, day: Day) -> Result<Option<Mark>, AllocError> {
     if let Some(item) = item_after(file, Key::Federal, day) {
         return sheet.mark_of(Key::Federal, Some(item));
     }
-    let whole = sheet.value_mark(Key::Federal)?;
-    Some(Mark {
-        start: whole.end.saturating_sub(1),
-        ..whole
-    })
+    match sheet.value_mark(Key::Federal)? {
+        Some(whole) => Ok(Some(Mark {
+            start: whole.end.saturating_sub(1),
+            ..whole
+        })),
+        None => Ok(None),
+    }
 }
 
 fn push_lacking(sheet: &mut Sheet<'_>, file: &Table, day: Day, due: Due) -> Result<(), AllocError> {
-    let mark = where_to_add(sheet, file, day);
+    let mark = where_to_add(sheet, file, day)?;
     sheet.begin_warning(Key::Federal, mark)?;
     match due {
         Due::SetByLaw(holiday) => {
@@ -181,7 +183,7 @@ fn push_lacking(sheet: &mut Sheet<'_>, file: &Table, day: Day, due: Due) -> Resu
 }
 
 fn push_unknown(sheet: &mut Sheet<'_>, file: &Table, day: Day) -> Result<(), AllocError> {
-    let mark = sheet.mark_of(Key::Federal, item_of(file, Key::Federal, day));
+    let mark = sheet.mark_of(Key::Federal, item_of(file, Key::Federal, day))?;
     sheet.begin_warning(Key::Federal, mark)?;
     if due_on(day, true).is_some() {
         write!(sheet.text, "{day} is Inauguration Day")?;
@@ -205,7 +207,7 @@ fn push_at_weekend(
     days: &[Day],
 ) -> Result<(), AllocError> {
     for day in days {
-        let mark = sheet.mark_of(key, item_of(file, key, *day));
+        let mark = sheet.mark_of(key, item_of(file, key, *day))?;
         let weekday = if day.weekday() == 5 {
             "Saturday"
         } else {
@@ -222,7 +224,7 @@ fn push_at_weekend(
 }
 
 fn push_in_both(sheet: &mut Sheet<'_>, file: &Table, day: Day) -> Result<(), AllocError> {
-    let mark = sheet.mark_of(Key::State, item_of(file, Key::State, day));
+    let mark = sheet.mark_of(Key::State, item_of(file, Key::State, day))?;
     sheet.begin_warning(Key::State, mark)?;
     write!(sheet.text, "{day} is in the federal list too")?;
     sheet.end(", which is enough; leave it out here")
@@ -230,7 +232,7 @@ fn push_in_both(sheet: &mut Sheet<'_>, file: &Table, day: Day) -> Result<(), All
 
 fn push_slips(sheet: &mut Sheet<'_>, key: Key, slips: &[(usize, Slip)]) -> Result<(), AllocError> {
     for (item, slip) in slips {
-        let mark = sheet.mark_of(key, Some(*item));
+        let mark = sheet.mark_of(key, Some(*item))?;
         let shown = sheet.shown(mark);
         sheet.begin_warning(key, mark)?;
         write!(sheet.text, "{shown} ")?;
@@ -249,9 +251,9 @@ fn push_slips(sheet: &mut Sheet<'_>, key: Key, slips: &[(usize, Slip)]) -> Resul
 
 fn push_alike(sheet: &mut Sheet<'_>, key: Key, alike: &[Alike]) -> Result<(), AllocError> {
     for pair in alike {
-        let mark = sheet.mark_of(key, Some(pair.item));
+        let mark = sheet.mark_of(key, Some(pair.item))?;
         let shown = sheet.shown(mark);
-        let earlier = sheet.mark_of(key, Some(pair.earlier));
+        let earlier = sheet.mark_of(key, Some(pair.earlier))?;
         let other = sheet.shown(earlier);
         sheet.begin_warning(key, mark)?;
         write!(
