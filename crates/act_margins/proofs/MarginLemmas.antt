@@ -3,7 +3,7 @@ use Rattle.std.proofs.Common.{◌≡◌, ◌-ℤ◌, ℕ, ℤ, int_lt, unsigned_
 use Rattle.std.specs.Ordering.{int_eq}
 use Rattle.act_margins.specs.declared.margin.Margin.{Margin}
 use Rattle.act_margins.specs.declared.margin.Margin.TheVariants.{DaysEarly, OnLastDay, AfterClosing, DaysLate}
-use Rattle.act_margins.specs.Margin.{is_timely_by}
+use Rattle.act_margins.specs.Margin.{is_timely_by, is_undecided_by}
 
 -- of the two orders and the equality of two days, one holds
 one_of_three : (d last : ℤ) (before after within : Bool) → int_lt d last ≡ before → int_lt last d ≡ after → (early late : Margin) (m : ℕ) → is_timely_by early ≡ true → is_timely_by late ≡ false → is_timely_by (if before then early else if after then late else if within then OnLastDay else AfterClosing m) ≡ (before || (int_eq d last && within))
@@ -25,3 +25,8 @@ timely_by_day d last within m = one_of_three d last (int_lt d last) (int_lt last
 pub timely_if : (test : Bool) (early late : Margin) → is_timely_by early ≡ true → is_timely_by late ≡ false → is_timely_by (if test then early else late) ≡ test
 timely_if true early late is_early is_late = is_early
 timely_if false early late is_early is_late = is_late
+
+-- of two margins that decide, each does
+pub decided_if : (test : Bool) (early late : Margin) → is_undecided_by early ≡ false → is_undecided_by late ≡ false → is_undecided_by (if test then early else late) ≡ false
+decided_if true early late early_does late_does = early_does
+decided_if false early late early_does late_does = late_does

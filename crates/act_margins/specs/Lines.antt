@@ -1,4 +1,4 @@
--- The lines of an act: when and how it was done, and by how much it was in time or late.
+-- The lines of an act: when and how it was done, and by how much it was in time or late, or that this isn't decided.
 use Rattle.std.specs.Prelude.{ℕ, ◌/◌, ◌%◌, ◌==◌, ℤ, int_lt, Bool, true, false, List, [], ◌++◌, Option, Some, None, codes, if◌then◌else◌}
 use Rattle.std.specs.Fmt.{decimal}
 use Rattle.court_clock.specs.declared.direction.Direction.{Direction}
@@ -14,7 +14,7 @@ use Rattle.rule6.specs.declared.timeliness.Shown.TheVariants.{Last, Until, Beyon
 use Rattle.rule_periods.specs.Words.{DeadlineRowView, direction_of, runs_from, shown_of}
 use Rattle.reason_texts.specs.Words.{minute_time, note_line, second_time}
 use Rattle.act_margins.specs.declared.margin.Margin.{Margin}
-use Rattle.act_margins.specs.declared.margin.Margin.TheVariants.{DaysEarly, OnLastDay, AfterClosing, DaysLate, SecondsEarly, SecondsLate, NoEnd}
+use Rattle.act_margins.specs.declared.margin.Margin.TheVariants.{DaysEarly, OnLastDay, AfterClosing, DaysLate, SecondsEarly, SecondsLate, Undecided}
 use Rattle.act_margins.specs.Ends.{end_day}
 use Rattle.act_margins.specs.Margin.{margin_of}
 
@@ -55,7 +55,7 @@ first_words (AfterClosing n) = codes "late, "
 first_words (DaysLate n) = codes "late, "
 first_words (SecondsEarly n) = codes "timely, "
 first_words (SecondsLate n) = codes "late, "
-first_words NoEnd = codes "late, beyond the days covered"
+first_words Undecided = codes "undecided: the end is beyond the days covered"
 
 -- how much it is, and on the last day when that ends
 abbrev pub detail_text : ClockView → (closing : Bool) → Margin → List ℕ
@@ -65,7 +65,7 @@ detail_text clock closing (AfterClosing n) = decimal n ++ codes " min after clos
 detail_text clock closing (DaysLate n) = days_text n
 detail_text clock closing (SecondsEarly n) = seconds_text n
 detail_text clock closing (SecondsLate n) = seconds_text n
-detail_text clock closing NoEnd = []
+detail_text clock closing Undecided = []
 
 -- the words that it ends with
 abbrev pub last_words : Margin → List ℕ

@@ -2,7 +2,7 @@
 
 ghost use Rattle.act_margins.specs.Margin.{MarginsDecide};
 
-/// An act was timely exactly where its margin says so.
+/// An act was timely exactly where its margin says so, and its margin decides nothing exactly where no covered day ends the time.
 pub fn margins_decide()
     ensures { MarginsDecide }
 {}

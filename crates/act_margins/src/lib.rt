@@ -1,4 +1,4 @@
-//! By how much an act was in time or late, by the definition that decides whether it was timely.
+//! By how much an act was in time or late, by the definition that decides whether it was timely, or that this isn't decided.
 #![tactic(auto)]
 
 mod ahead;

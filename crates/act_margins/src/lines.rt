@@ -148,7 +148,7 @@ fn first_words(margin: &Margin) -> &'static str
         Margin::DaysEarly(_) | Margin::SecondsEarly(_) => "timely, ",
         Margin::OnLastDay => "timely, on the last day, which ends at ",
         Margin::AfterClosing(_) | Margin::DaysLate(_) | Margin::SecondsLate(_) => "late, ",
-        Margin::NoEnd => "late, beyond the days covered",
+        Margin::Undecided => "undecided: the end is beyond the days covered",
     }
 }
 
@@ -168,7 +168,7 @@ fn push_detail(
         Margin::SecondsEarly(seconds) | Margin::SecondsLate(seconds) => {
             push_seconds(text, seconds)
         }
-        Margin::NoEnd => Ok(()),
+        Margin::Undecided => Ok(()),
     }
 }
 

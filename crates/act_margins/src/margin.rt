@@ -21,8 +21,8 @@ pub enum Margin {
     SecondsEarly(u64),
     /// Late: this number of seconds after that instant.
     SecondsLate(u64),
-    /// The deadline lies beyond the days covered, for which nothing is in time.
-    NoEnd,
+    /// Undecided: no covered day ends the time.
+    Undecided,
 }
 
 /// By how much the act was in time or late for a deadline of which this is shown.
@@ -37,7 +37,7 @@ pub fn margin_of(clock: &Clock, shown: &Shown, filing: Filing) -> Margin
             let done = clock.instant_of(filing.day, 60 * u32::from(filing.minute));
             by_seconds(done, end)
         }
-        Shown::Beyond => Margin::NoEnd,
+        Shown::Beyond => Margin::Undecided,
     }
 }
 

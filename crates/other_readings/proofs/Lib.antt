@@ -1,2 +1,4 @@
+pub mod AgainLemmas
 pub mod GrantLemmas
+pub mod OtherLemmas
 pub mod SameLemmas

@@ -1,3 +1,4 @@
 pub mod Readings
+pub mod Others
 pub mod Lines
 pub mod Words

@@ -9,6 +9,7 @@ use Rattle.rule6.specs.declared.timeliness.Act.{Act}
 use Rattle.rule6.specs.declared.timeliness.Act.TheVariants.{Filing, Service}
 use Rattle.rule6.specs.declared.timeliness.Shown.{Shown}
 use Rattle.rule6.specs.declared.timeliness.Shown.TheVariants.{Last, Until, Beyond}
+use Rattle.rule_periods.specs.declared.expiry.Expiry.TheVariants.{OnDay}
 use Rattle.rule_periods.specs.declared.grant.Grant.{Grant}
 use Rattle.rule_periods.specs.declared.grant.Grant.TheVariants as grant
 use Rattle.rule_periods.specs.declared.mark.Mark.TheVariants.{Plain}
@@ -16,7 +17,7 @@ use Rattle.rule_periods.specs.declared.period.Entered.{Entered}
 use Rattle.rule_periods.specs.declared.period.Length.TheVariants.{Days, Hours}
 use Rattle.rule_periods.specs.declared.period.Period.{Period}
 use Rattle.rule_periods.specs.declared.period.Period.TheVariants as period
-use Rattle.rule_periods.specs.Words.{DeadlineRowView, act_due, is_days, is_in_hours, kind_adds, runs_from, runs_from_service, service_rule_of, shown_of, suits, terms_of}
+use Rattle.rule_periods.specs.Words.{DeadlineRowView, act_due, extended_of, is_days, is_in_hours, kind_adds, runs_from, runs_from_service, service_rule_of, shown_of, suits, terms_of, with_grant}
 use Rattle.other_readings.specs.declared.reading.Reading.{Reading}
 use Rattle.other_readings.specs.declared.reading.Reading.TheVariants.{OutageMovesNothing, OutageMovesService, ExtendedFromMovedDay, OutageBeforeAddedDays, HoursFromEndOfDay}
 
@@ -75,6 +76,17 @@ counted_again day n = record {
   filed = None;
 }
 
+-- Counted again from the day on which the time ended before an extension by days, without the days that an outage gave, the
+-- deadline shows what it shows with that extension. So a reading by which the extension counts from the moved day changes that
+-- day and nothing else.
+abbrev pub ExtendedAgainShowsTheSame : Type 0
+ExtendedAgainShowsTheSame = (c : DaysView) (clock : ClockView) (row : DeadlineRowView) (n : ℕ) (day : ℤ) → act_due row ≡ Filing → is_in_hours row.period ≡ false → extended_of c clock row ≡ Some (OnDay day) → shown_of c clock (counted_again day n) ≡ shown_of c clock (with_grant row (grant.ByDays n))
+
+-- The same of the three days of 6(d): counted again from the day on which the period would otherwise expire, without the days
+-- that an outage gave, the deadline shows what it shows.
+abbrev pub AddedAgainShowsTheSame : Type 0
+AddedAgainShowsTheSame = (c : DaysView) (clock : ClockView) (row : DeadlineRowView) (day : ℤ) → suits row.period row.second row.service ≡ true → act_due row ≡ Filing → row.grants ≡ [] → adds_days row ≡ true → extended_of c clock (without_added row) ≡ Some (OnDay day) → shown_of c clock (counted_again day 3) ≡ shown_of c clock row
+
 -- the deadline before its last extension, and that extension
 abbrev pub before_last : DeadlineRowView → DeadlineRowView
 before_last row = record row { grants = take (length row.grants - 1) row.grants }
@@ -82,11 +94,12 @@ before_last row = record row { grants = take (length row.grants - 1) row.grants 
 abbrev pub last_grant : DeadlineRowView → Option Grant
 last_grant row = slice_get row.grants (length row.grants - 1)
 
--- what is shown where this number of days, if it is a length of a period, is counted from a day that is shown, to file
+-- what is shown where this number of days, if it is a length of a period, is counted from a day that is shown, to file; from an
+-- end beyond the days covered nothing but beyond
 abbrev pub shown_again : DaysView → ClockView → ℕ → Shown → Option Shown
 shown_again c clock n (Last day act) = if is_days n then Some (shown_of c clock (counted_again day n)) else None
 shown_again c clock n (Until t) = None
-shown_again c clock n Beyond = None
+shown_again c clock n Beyond = Some Beyond
 
 -- 6(a)(3) says 'inaccessible on the last day for filing'. Here any outage on that day counts, however short. By another
 -- reading one of some hours counts for nothing: the clause of `shown_of` by which an outage moves the time is left out, as it

@@ -1,14 +1,15 @@
 //! The lines of other readings.
 
-ghost use Rattle.std.specs.Prelude.{◌≡◌, ◌++◌, OnOk, Some, string_bytes};
-ghost use Rattle.other_readings.specs.Lines.{differs, line_if_other, reading_line, reading_lines, reading_text, reading_words};
+ghost use Rattle.std.specs.Prelude.{◌≡◌, ◌++◌, OnOk, string_bytes};
+ghost use Rattle.other_readings.specs.Lines.{given_text, line_of, reading_line, reading_lines, reading_text, reading_words};
 
-use crate::reading::{Reading, shown_by};
+use crate::others::other_by;
+use crate::reading::Reading;
 use act_margins::{end_day, push_end_time};
 use court_clock::Clock;
 use court_days::Days;
 use reason_texts::push_note;
-use rule_periods::{DeadlineRow, shown};
+use rule_periods::DeadlineRow;
 use rule6::Shown;
 use std::alloc::{AllocError, Global};
 
@@ -49,47 +50,31 @@ fn push_reading(
 ) -> Result<(), AllocError>
     ensures { OnOk result (string_bytes text.new ≡ string_bytes text.old ++ reading_line days.now clock.now row.now reading) }
 {
-    let other = shown_by(alloc, days, clock, row, reading)?;
-    push_if_other(alloc, text, clock, &shown(days, clock, row), reading, other)
+    let other = other_by(alloc, days, clock, row, reading)?;
+    push_line(alloc, text, clock, reading, other)
 }
 
-/// Adds the line where the end is another.
-fn push_if_other(
+/// Adds the line of a reading that gives this end.
+fn push_line(
     alloc: Global,
     text: &mut String,
     clock: &Clock,
-    shown: &Shown,
     reading: Reading,
     other: Option<Shown>,
 ) -> Result<(), AllocError>
-    ensures { OnOk result (string_bytes text.new ≡ string_bytes text.old ++ line_if_other clock.now shown.now reading other) }
+    ensures { OnOk result (string_bytes text.new ≡ string_bytes text.old ++ line_of clock.now reading other) }
 {
     match other {
-        Some(other) => push_if_differs(alloc, text, clock, shown, reading, &other),
+        Some(other) => {
+            let mut what = String::new(alloc);
+            push_words(&mut what, clock, reading, &other)?;
+            push_note(text, end_day(clock, &other), what.as_str(), "ours")
+        }
         None => Ok(()),
     }
 }
 
-/// Adds the line where the two ends differ.
-fn push_if_differs(
-    alloc: Global,
-    text: &mut String,
-    clock: &Clock,
-    shown: &Shown,
-    reading: Reading,
-    other: &Shown,
-) -> Result<(), AllocError>
-    ensures { OnOk result (string_bytes text.new ≡ string_bytes text.old ++ line_if_other clock.now shown.now reading (Some other.now)) }
-{
-    if !differs(shown, other) {
-        return Ok(());
-    }
-    let mut what = String::new(alloc);
-    push_words(&mut what, clock, reading, other)?;
-    push_note(text, end_day(clock, other), what.as_str(), "ours")
-}
-
-/// Adds what the reading is, and the time of the end that it gives, where that is an instant.
+/// Adds what the reading is, and the end that it gives.
 #[tactic(auto, unfolding(crate::specs::Lines::reading_text))]
 fn push_words(
     text: &mut String,
@@ -100,7 +85,18 @@ fn push_words(
     ensures { OnOk result (string_bytes text.new ≡ string_bytes text.old ++ reading_text clock.now reading other.now) }
 {
     text.push_str(reading_words(reading))?;
-    push_end_time(text, clock, other)
+    push_given(text, clock, other)
+}
+
+/// Adds an end but for its day.
+fn push_given(text: &mut String, clock: &Clock, other: &Shown) -> Result<(), AllocError>
+    ensures { OnOk result (string_bytes text.new ≡ string_bytes text.old ++ given_text clock.now other.now) }
+{
+    match *other {
+        Shown::Beyond => text.push_str(", beyond"),
+        Shown::Last { .. } => Ok(()),
+        Shown::Until(_) => push_end_time(text, clock, other),
+    }
 }
 
 /// What a reading is.
@@ -113,16 +109,5 @@ fn reading_words(reading: Reading) -> &'static str
         Reading::ExtendedFromMovedDay => "other reading: extended from the moved day",
         Reading::OutageBeforeAddedDays => "other reading: moved before the 3 days too",
         Reading::HoursFromEndOfDay => "other reading: from the end of that day",
-    }
-}
-
-/// Whether two ends of one kind aren't the same.
-fn differs(shown: &Shown, other: &Shown) -> bool
-    ensures { result ≡ differs shown.now other.now }
-{
-    match (shown, other) {
-        (Shown::Last { day, .. }, Shown::Last { day: other, .. }) => day != other,
-        (Shown::Until(end), Shown::Until(other)) => end.seconds() != other.seconds(),
-        _ => false,
     }
 }

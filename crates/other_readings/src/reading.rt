@@ -150,6 +150,7 @@ fn shown_again(alloc: Global, days: &Days, clock: &Clock, number: u32, from: Sho
         Shown::Last { day, .. } if 1 <= number && number <= 3_650 => {
             Some(shown(days, clock, &counted_again(alloc, day, number)))
         }
+        Shown::Beyond => Some(Shown::Beyond),
         _ => None,
     }
 }
