@@ -1,20 +1,22 @@
 -- What is due: the deadlines that end within the chosen days, those with no timely act or all, and the hearings within them.
-use Rattle.std.specs.Prelude.{◌≡◌, ℕ, ◌<◌, ◌≤◌, ◌≤ℤ◌, Bool, ◌&&◌, ◌||◌, not, List, ◌++◌, length, filter, slice_index_or, Option, Some, None, if◌then◌else◌}
+use Rattle.std.specs.Prelude.{◌≡◌, ℕ, ◌<◌, ◌≤◌, ◌≤ℤ◌, Bool, ◌&&◌, ◌||◌, not, List, ◌++◌, length, filter, slice_index_or, option_map, Option, Some, None, if◌then◌else◌}
 use Rattle.std.specs.List.{filter_map, flat_map}
 use Rattle.std.specs.List.Sorted.{IsPermutation}
 use Rattle.std.specs.Option.{option_and_then}
 use Rattle.std.specs.Ordering.{int_eq}
 use Rattle.court_clock.specs.Words.{ClockView}
+use Rattle.court_days.specs.Words.{DaysView}
 use Rattle.docket_rows.specs.declared.sheet.Sheet.{Sheet}
 use Rattle.docket_rows.specs.declared.sheet.SheetDeadline.{SheetDeadline}
 use Rattle.docket_rows.specs.declared.sheet.SheetMotion.{SheetMotion}
 use Rattle.docket_rows.specs.Words.{CourtSetup, Rows}
+use Rattle.other_readings.specs.Words.{other_end}
 use Rattle.docket_selection.specs.declared.choice.Choice.{Choice}
 use Rattle.docket_selection.specs.declared.item.DueItem.{DueItem}
 use Rattle.docket_selection.specs.declared.item.Matter.{Matter}
 use Rattle.docket_selection.specs.declared.item.Matter.TheVariants.{Deadline, Hearing}
 use Rattle.docket_selection.specs.Choice.{is_before, is_case_chosen, is_day_chosen, is_panel_chosen}
-use Rattle.docket_selection.specs.Items.{deadline_item, hearing_item, is_met, time_of}
+use Rattle.docket_selection.specs.Items.{deadline_item, hearing_item, is_met, time_of, with_other}
 use Rattle.docket_selection.specs.Sheets.{open_sheets}
 
 -- a hearing is chosen by its panel, and a deadline by whether its case has a hearing before the chosen judge
@@ -31,22 +33,23 @@ is_due choice before item =
 abbrev pub due_only : Choice → (before : Bool) → Option DueItem → Option DueItem
 due_only choice before item = option_and_then (λ (x : DueItem). if is_due choice before x then Some x else None) item
 
--- the item of a deadline, and of a motion's hearing, where it is due
-abbrev pub due_deadline : ClockView → (case : ℕ) → Choice → (before : Bool) → SheetDeadline → Option DueItem
-due_deadline clock case choice before d = due_only choice before (deadline_item clock case d)
+-- the item of a deadline, with the end by another reading, and that of a motion's hearing, where it is due
+abbrev pub due_deadline : DaysView → ClockView → (case : ℕ) → Choice → (before : Bool) → SheetDeadline → Option DueItem
+due_deadline days clock case choice before d =
+    option_map (with_other (other_end days clock d.row)) (due_only choice before (deadline_item clock case d))
 
 abbrev pub due_hearing : (case : ℕ) → Choice → (before : Bool) → SheetMotion → Option DueItem
 due_hearing case choice before m = due_only choice before (hearing_item case m)
 
 -- what is due of the case of a sheet: its deadlines, and then its hearings, each by number
-unfoldable pub due_in : ClockView → Choice → Sheet → List DueItem
-due_in clock choice sheet =
+unfoldable pub due_in : DaysView → ClockView → Choice → Sheet → List DueItem
+due_in days clock choice sheet =
     let before = is_before choice sheet.motions in
-    filter_map (due_deadline clock sheet.case choice before) sheet.deadlines ++ filter_map (due_hearing sheet.case choice before) sheet.motions
+    filter_map (due_deadline days clock sheet.case choice before) sheet.deadlines ++ filter_map (due_hearing sheet.case choice before) sheet.motions
 
 -- what is due of all open cases, by their numbers
 abbrev pub all_due : CourtSetup → Rows → Choice → List DueItem
-all_due setup docketed choice = flat_map (due_in setup.clock choice) (open_sheets setup docketed)
+all_due setup docketed choice = flat_map (due_in docketed.days setup.clock choice) (open_sheets setup docketed)
 
 -- the two have the same time
 abbrev pub is_at_time_of : DueItem → DueItem → Bool

@@ -19,15 +19,23 @@ end_of clock (shown.Last day act) = Some (record { day = day; second = 0 })
 end_of clock (shown.Until end) = civil_of clock.zone end
 end_of clock shown.Beyond = None
 
--- the item of a deadline of a sheet
+-- the item of a deadline of a sheet, before other readings are asked
 abbrev pub deadline_item : ClockView → (case : ℕ) → SheetDeadline → Option DueItem
 deadline_item clock case d = option_map (λ (at : CivilTime). record {
   day = at.day;
   second = at.second;
   case = case;
   number = d.number;
-  matter = Deadline (record { period = d.row.period; shown = d.shown; state = d.state });
+  matter = Deadline (record { period = d.row.period; shown = d.shown; state = d.state; other = None });
 }) (end_of clock d.shown)
+
+-- the item of a deadline with the end by another reading
+abbrev pub matter_with_other : Option Shown → Matter → Matter
+matter_with_other other (Deadline d) = Deadline (record d { other = other })
+matter_with_other other (Hearing h) = Hearing h
+
+abbrev pub with_other : Option Shown → DueItem → DueItem
+with_other other item = record item { matter = matter_with_other other item.matter }
 
 -- the item of the hearing of a motion of that number; slot s begins at second 900·s of the day
 abbrev pub set_item : (case number : ℕ) → SheetHearing → DueItem

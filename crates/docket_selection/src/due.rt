@@ -8,13 +8,16 @@ ghost use Rattle.docket_selection.specs.Choice.{is_before};
 ghost use Rattle.docket_selection.specs.Due.{AreInOrder, IsDue, due_deadline, due_hearing, due_in, due_only, is_due, is_matter_chosen};
 
 use crate::choice::{Choice, is_before, is_case_chosen, is_day_chosen, is_panel_chosen};
-use crate::item::{DueItem, DueTypes, Matter, deadline_item, hearing_item, is_met, time_of};
+use crate::item::{
+    DueItem, DueTypes, Matter, deadline_item, hearing_item, is_met, time_of, with_other,
+};
 use crate::lists::push_if;
 use crate::sheets::sheets_of;
 use court_clock::Clock;
-use court_days::Court;
+use court_days::{Court, Days};
 use docket_core::Docket;
 use docket_rows::{Sheet, SheetDeadline, SheetMotion};
+use other_readings::other_end;
 use std::alloc::{AllocError, Global};
 
 /// The deadlines that end within the chosen days, those with no timely act or all, and the hearings within them, by time.
@@ -30,7 +33,7 @@ pub fn due_of(
 {
     let _types: DueTypes = None;
     let sheets = sheets_of(alloc, docket)?;
-    let items = due_among(alloc, court.clock(), &sheets, choice)?;
+    let items = due_among(alloc, docket.days(), court.clock(), &sheets, choice)?;
     in_order(items)
 }
 
@@ -46,16 +49,17 @@ fn in_order(items: Vec<DueItem>) -> Result<Vec<DueItem>, AllocError>
 /// What is due of the cases of these sheets.
 fn due_among(
     alloc: Global,
+    days: &Days,
     clock: &Clock,
     sheets: &[Sheet],
     choice: &Choice,
 ) -> Result<Vec<DueItem>, AllocError>
-    ensures { IfOk result (λ list. list.items ≡ flat_map (due_in clock.now choice.now) sheets.now) }
+    ensures { IfOk result (λ list. list.items ≡ flat_map (due_in days.now clock.now choice.now) sheets.now) }
 {
     let _types: DueTypes = None;
     let mut list = Vec::new(alloc);
     for sheet in sheets {
-        push_due_in(&mut list, clock, sheet, choice)?;
+        push_due_in(alloc, &mut list, days, clock, sheet, choice)?;
     }
     Ok(list)
 }
@@ -63,17 +67,21 @@ fn due_among(
 /// Adds what is due of the case of a sheet.
 #[tactic(auto, unfolding(crate::specs::Due::due_in))]
 fn push_due_in(
+    alloc: Global,
     list: &mut Vec<DueItem>,
+    days: &Days,
     clock: &Clock,
     sheet: &Sheet,
     choice: &Choice,
 ) -> Result<(), AllocError>
-    ensures { OnOk result (list.new.items ≡ list.old.items ++ due_in clock.now choice.now sheet.now) }
+    ensures { OnOk result (list.new.items ≡ list.old.items ++ due_in days.now clock.now choice.now sheet.now) }
 {
     let _types: DueTypes = None;
     let before = is_before(choice, sheet.motions.as_slice());
     push_deadlines(
+        alloc,
         list,
+        days,
         clock,
         sheet.case,
         sheet.deadlines.as_slice(),
@@ -85,21 +93,44 @@ fn push_due_in(
 
 /// Adds the deadlines that are due.
 fn push_deadlines(
+    alloc: Global,
     list: &mut Vec<DueItem>,
+    days: &Days,
     clock: &Clock,
     case: u32,
     deadlines: &[SheetDeadline],
     choice: &Choice,
     before: bool,
 ) -> Result<(), AllocError>
-    ensures { OnOk result (list.new.items ≡ list.old.items ++ filter_map (due_deadline clock.now case choice.now before) deadlines.now) }
+    ensures { OnOk result (list.new.items ≡ list.old.items ++ filter_map (due_deadline days.now clock.now case choice.now before) deadlines.now) }
 {
     let _types: DueTypes = None;
     for deadline in deadlines {
-        let due = due_only(choice, before, deadline_item(clock, case, deadline));
+        let due = due_deadline(alloc, days, clock, case, deadline, choice, before)?;
         push_if(list, due)?;
     }
     Ok(())
+}
+
+/// The item of a deadline, where it is due, with the end by another reading.
+fn due_deadline(
+    alloc: Global,
+    days: &Days,
+    clock: &Clock,
+    case: u32,
+    deadline: &SheetDeadline,
+    choice: &Choice,
+    before: bool,
+) -> Result<Option<DueItem>, AllocError>
+    ensures { IfOk result (λ item. item ≡ due_deadline days.now clock.now case choice.now before deadline.now) }
+{
+    match due_only(choice, before, deadline_item(clock, case, deadline)) {
+        Some(item) => {
+            let other = other_end(alloc, days, clock, &deadline.row)?;
+            Ok(Some(with_other(item, other)))
+        }
+        None => Ok(None),
+    }
 }
 
 /// Adds the hearings that are due.

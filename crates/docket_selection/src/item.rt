@@ -2,7 +2,7 @@
 
 ghost use Rattle.std.specs.Prelude.{◌≡◌, option_map};
 ghost use Rattle.court_clock.specs.Words.{CivilTime, second_of};
-ghost use Rattle.docket_selection.specs.Items.{deadline_item, end_of, hearing_item, is_met, set_item, time_of};
+ghost use Rattle.docket_selection.specs.Items.{deadline_item, end_of, hearing_item, is_met, matter_with_other, set_item, time_of, with_other};
 
 use court_clock::{Clock, Day};
 use docket_rows::{SheetDeadline, SheetHearing, SheetMotion, State};
@@ -18,6 +18,8 @@ pub struct DueDeadline {
     pub shown: Shown,
     /// Whether it was met.
     pub state: State,
+    /// When its time ends by the first other reading of the Rules that gives another end, if one does.
+    pub other: Option<Shown>,
 }
 
 /// What there is at a time.
@@ -47,9 +49,19 @@ pub struct DueItem {
 
 /// The types inside an item. The checker finds them only where they have names, so a function that has a `Vec` of items has
 /// a variable of this type.
-pub type DueTypes = Option<(Matter, DueDeadline, Period, Shown, State, SheetHearing)>;
+pub type DueTypes = Option<
+    (
+        Matter,
+        DueDeadline,
+        Period,
+        Option<Shown>,
+        Shown,
+        State,
+        SheetHearing,
+    ),
+>;
 
-/// The item of a deadline. None where its time ends beyond the days covered.
+/// The item of a deadline, before other readings are asked. None where its time ends beyond the days covered.
 pub(crate) fn deadline_item(clock: &Clock, case: u32, deadline: &SheetDeadline) -> Option<DueItem>
     ensures { result ≡ deadline_item clock.now case deadline.now }
 {
@@ -63,6 +75,7 @@ pub(crate) fn deadline_item(clock: &Clock, case: u32, deadline: &SheetDeadline) 
             period: deadline.row.period(),
             shown: deadline.shown,
             state: deadline.state,
+            other: None,
         }),
     })
 }
@@ -75,6 +88,36 @@ fn end_of(clock: &Clock, shown: &Shown) -> Option<(Day, u32)>
         Shown::Last { day, act: _ } => Some((day, 0)),
         Shown::Until(end) => clock.civil_of(end),
         Shown::Beyond => None,
+    }
+}
+
+/// The item with the end of its deadline by another reading.
+pub(crate) fn with_other(item: DueItem, other: Option<Shown>) -> DueItem
+    ensures { result ≡ with_other other item }
+{
+    let DueItem {
+        day,
+        second,
+        case,
+        number,
+        matter,
+    } = item;
+    DueItem {
+        day,
+        second,
+        case,
+        number,
+        matter: matter_with_other(matter, other),
+    }
+}
+
+/// The same of what there is at its time.
+fn matter_with_other(matter: Matter, other: Option<Shown>) -> Matter
+    ensures { result ≡ matter_with_other other matter }
+{
+    match matter {
+        Matter::Deadline(deadline) => Matter::Deadline(DueDeadline { other, ..deadline }),
+        Matter::Hearing(set) => Matter::Hearing(set),
     }
 }
 
