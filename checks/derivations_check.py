@@ -275,6 +275,32 @@ ODD = ["open,1,2025-03-03", "open,4097,2025-03-03", "open,2,1999-01-01", "motion
        "start,1,7d/after/filing/served/plain,2025-09-01,,2025-09-02,A", "start,1,1d/before/filing/event/plain,2025-09-01,,2025-09-02,"]
 
 
+# Ends that an outage moves beyond the days covered, or would by another reading, with an act and with an extension
+AT_THE_END = b'''zone = "EST5EDT,M3.2.0/2,M11.1.0/2"
+opens = "08:30"
+closes = "17:00"
+from = "2026-01-01"
+to = "2026-12-31"
+federal = []
+state = []
+judges = ["Ames"]
+rooms = ["R1"]
+%%
+1,open,1,2026-12-01
+1,start,1,59e,2026-12-03,,,
+1,start,1,28d/after/filing/event/plain,2026-12-03,,,
+1,start,1,28d/after/service/event/plain,2026-12-03,,,
+1,start,1,14d/after/filing/event/plain,2026-12-10,,,
+1,extend,1,4,+7d,2026-12-10,09:00,yes,yes,yes
+1,file,1,1,2026-12-31,16:59,paper
+1,file,1,2,2026-12-30,16:59,electronic
+1,file,1,3,2026-12-31,23:59,paper
+1,inaccessible,2026-12-31,16:00,17:00
+1,file,1,1,2026-12-31,16:59,paper
+1,sheet,1
+'''
+
+
 def a_row(chance):
     word = chance.choices(["compute", "start", "extend", "holiday", "inaccessible", "sheet", "file", "motion", "book", "odd"],
                           [60, 6, 12, 3, 4, 1, 5, 1, 8, 4])[0]
@@ -394,6 +420,7 @@ def line_spoiled(text):
     yield "another row's deed", re.sub(r"^(.{18})(started|extended|filed) by", lambda found: found[1] + {"started": "extended", "extended": "filed", "filed": "started"}[found[2]] + " by", text)
     yield "a year after for before", re.sub(r"(a year or more) before (\S+) ", r"\1 after \2  ", text)
     yield "as of another day", re.sub(r"as of 2(\d{3})-(\d\d)-(\d\d)$", r"as of 2\1-\2-01" if not text.endswith("-01") else r"as of 2\1-\2-02", text)
+    yield "late for undecided", swapped(text, "undecided: the end is beyond", "late, beyond")
     yield "late for timely", swapped(text, "timely, ", "late, ")
     yield "timely for late", swapped(text, "late, ", "timely, ")
     yield "an act on paper", swapped(text, "electronically", "on paper")
@@ -481,7 +508,7 @@ def main(words):
     # looked for by their numbers, so the example in which they have names is left out)
     inputs = [path.read_bytes() for path in sorted((TOP / "examples").glob("*.txt"))
               if not path.with_suffix(".words").exists() and b"[case_names]" not in path.read_bytes()]
-    inputs.append(by_places((TOP / "crates" / "deadline_memo" / "stdin").read_bytes()))
+    inputs += [by_places((TOP / "crates" / "deadline_memo" / "stdin").read_bytes()), AT_THE_END]
     while shown < count or inputs:
         data = inputs.pop() if inputs else an_input(chance)
         for derivation in all_derivations(program, data, chance):

@@ -9,7 +9,7 @@ from lib.period_words import right_from
 from reference.civil import civil, day_of_text, day_text, instant_at, minute_text, weekday
 from reference.docket import DATES, DEADLINES, GRANTS, MOTIONS, OUTAGES, STEPS, deadline_of, hearing_of, motion_of, opening, step
 from reference.periods import granted, is_in_range, shown
-from reference.rule6 import AFTER, BEFORE, ELECTRONIC, FILING, PAPER, Filing, is_timely
+from reference.rule6 import AFTER, BEFORE, BEYOND, ELECTRONIC, FILING, PAPER, Filing, is_timely
 
 
 def notes(court, rows, work, answer):
@@ -59,7 +59,7 @@ def act(court, rows, row):
     means = "on paper" if done.means == PAPER else "electronically"
     lines = [(done.day, "done at {}, {}".format(minute_text(done.minute), means), "docketed")]
     by = margin(court, row, end, done)
-    assert by.startswith("timely") == is_timely(court.clock, end, row.period.act, done)
+    assert by.startswith("undecided" if end == BEYOND else "timely" if is_timely(court.clock, end, row.period.act, done) else "late")
     section = "6(a)(2)" if end.kind == "until" else "6(a)(4)" if end.kind == "last" and files(row) else "ours"
     lines.append((end_of(court, end)[0], by, section))
     if row.period.direction == AFTER and done.day < starts(row):
@@ -87,7 +87,7 @@ def files(row):
 
 def margin(court, row, end, done):
     if end.kind == "beyond":
-        return "late, beyond the days covered"
+        return "undecided: the end is beyond the days covered"
     if end.kind == "until":
         apart = end.end - instant_at(court.clock.zone, done.day, 60 * done.minute)
         by = "{} h {} min {} s".format(abs(apart) // 3600, abs(apart) // 60 % 60, abs(apart) % 60)

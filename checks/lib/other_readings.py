@@ -22,9 +22,9 @@ def with_act(deadline, act, kind):
 
 
 def again(days, clock, so_far, count):
-    """What is shown where that many days are counted from a day that is shown, to file."""
+    """What is shown where that many days are counted from a day that is shown, to file. None for an instant."""
     if so_far.kind != "last":
-        return None
+        return BEYOND if so_far == BEYOND else None
     period = Period("", count, "d", AFTER, FILING, "none", "none", False, "6b")
     return shown(days, clock, Deadline(period, Event(so_far.end, 0), None, None, [], None))
 
@@ -54,10 +54,12 @@ def lines(calendar, deadline):
     days, clock = days_of(calendar), calendar.clock
     end = shown(days, clock, deadline)
     for words, other in readings(days, clock, deadline):
-        if other is None or BEYOND in (end, other) or other == end:
+        if other is None or other == end:
             continue
         what, day = "other reading: " + words, other.end
         if other.kind == "until":
             day, second = civil(clock.zone, other.end)
             what += ", " + time_text(second)
+        elif other == BEYOND:
+            what += ", beyond"
         yield (day, what, "ours")

@@ -1,5 +1,6 @@
 pub mod AskedLemmas
 pub mod DocketLemmas
+pub mod MarginLemmas
 pub mod MemoLemmas
 pub mod ReplyLemmas
 pub mod TextLemmas

@@ -3,6 +3,7 @@ pub mod Texts
 pub mod Reasons
 pub mod Sources
 pub mod Sheets
+pub mod States
 pub mod Notes
 pub mod Replies
 pub mod Memo

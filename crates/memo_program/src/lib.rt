@@ -7,6 +7,7 @@ mod calendars;
 mod case;
 mod command;
 mod detail;
+mod laws;
 mod memo;
 mod names;
 mod notes;
@@ -19,4 +20,5 @@ mod sources;
 mod whole;
 
 pub use asked::Asked;
+pub use laws::margins_say_the_state;
 pub use program::DeadlineMemo;
