@@ -15,6 +15,7 @@ use Rattle.docket_selection.specs.declared.item.Matter.{Matter}
 use Rattle.docket_selection.specs.declared.item.Matter.TheVariants.{Deadline, Hearing}
 use Rattle.office_texts.specs.Words.{name_of}
 use Rattle.calendar_texts.specs.Names.{panel_names}
+use Rattle.calendar_texts.specs.Other.{other_words}
 use Rattle.calendar_texts.specs.Periods.{period_words}
 use Rattle.calendar_texts.specs.Times.{minute_time, second_time}
 
@@ -51,8 +52,9 @@ unfoldable pub hearing_words : CourtView → (number : ℕ) → HearingSet → L
 hearing_words court number h =
     codes " motion " ++ decimal number ++ hearing_front ++ panel_names court h.judges ++ room_words court h.room
 
+-- a deadline, and its end by another reading, or a hearing
 abbrev pub matter_words : CourtView → (number : ℕ) → Matter → List ℕ
-matter_words court number (Deadline d) = deadline_words number d
+matter_words court number (Deadline d) = deadline_words number d ++ other_words court.clock d.other
 matter_words court number (Hearing h) = hearing_words court number h.hearing
 
 -- `  to midnight  case 1 deadline 3: 59e`; a case that has a name is called by it

@@ -3,6 +3,7 @@ pub mod Due
 pub mod Grid
 pub mod Items
 pub mod Names
+pub mod Other
 pub mod Periods
 pub mod Times
 pub mod Week

@@ -5,6 +5,7 @@ unfoldable pub use Rattle.calendar_texts.specs.Due.{chosen_words, closing_line, 
 pub use Rattle.calendar_texts.specs.Items.{time_words, matter_words, room_words}
 unfoldable pub use Rattle.calendar_texts.specs.Items.{item_line, span_words}
 unfoldable pub use Rattle.calendar_texts.specs.Names.{panel_names}
+unfoldable pub use Rattle.calendar_texts.specs.Other.{reading_words}
 unfoldable pub use Rattle.calendar_texts.specs.Periods.{period_words}
 pub use Rattle.calendar_texts.specs.Periods.{unit_words}
 unfoldable pub use Rattle.calendar_texts.specs.Times.{minute_time, second_time}

@@ -6,6 +6,7 @@ ghost use Rattle.calendar_texts.specs.Items.{deadline_words, end_words, hearing_
 
 use crate::judges::push_panel;
 use crate::numbers::{push_minute, push_second};
+use crate::other::push_other;
 use crate::periods::push_period;
 use case_numbers::{Cases, push_case_text};
 use court_days::Court;
@@ -76,7 +77,10 @@ pub fn push_matter(
     ensures { OnOk result (AddsText text.old text.new (matter_words court.now number matter.now)) }
 {
     match matter {
-        Matter::Deadline(due) => push_deadline(text, number, due),
+        Matter::Deadline(due) => {
+            push_deadline(text, number, due)?;
+            push_other(text, court.clock(), due.other)
+        }
         Matter::Hearing(set) => push_hearing(text, court, number, &set.hearing),
     }
 }

@@ -8,6 +8,7 @@ mod grid;
 mod items;
 mod judges;
 mod numbers;
+mod other;
 mod periods;
 mod week;
 
@@ -16,5 +17,6 @@ pub use due::{is_day_of, push_chosen, push_closing, push_due};
 pub use items::{push_matter, push_room, push_span, push_time};
 pub use judges::push_panel;
 pub use numbers::{push_minute, push_second};
+pub use other::push_reading;
 pub use periods::{push_period, unit_words};
 pub use week::push_week;
