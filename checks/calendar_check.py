@@ -86,7 +86,16 @@ def period_words(code):
     return words if mark == "plain" else "{} ({})".format(words, mark)
 
 
-def deadline_item(names, case, words):
+def other_of(reasons):
+    """The first other reading among the reasons of a deadline, as what is due marks it, or none."""
+    found = re.search(r"^  (?:... (\S+)| {14})  other reading: .*?(, beyond|, [0-9:]+)? +ours$", reasons, re.MULTILINE)
+    if not found:
+        return None
+    time = (found[2] or "").replace(",", "")
+    return "other reading" + (time if found[1] is None else " " + found[1] + time)
+
+
+def deadline_item(names, case, words, other):
     """The item of a deadline's line, or none where it was met in time or has no end."""
     number, code, end = int(words[1]), words[2], words[3]
     if end == "beyond":
@@ -96,9 +105,9 @@ def deadline_item(names, case, words):
         return None
     day = day_of(words[4])
     second = sum(int(part) * 60 ** (2 - at) for at, part in enumerate(words[5].split(":"))) if end == "until" else 0
-    line = "  {}  case {} deadline {}: {}{}".format("to " + words[5] if end == "until" else "to midnight",
-                                                    called(names, case), number, period_words(code),
-                                                    ", filed late" if state == "late" else "")
+    line = "  {}  case {} deadline {}: {}{}{}".format("to " + words[5] if end == "until" else "to midnight",
+                                                      called(names, case), number, period_words(code),
+                                                      ", filed late" if state == "late" else "", ", " + other if other else "")
     return Item(day, second, case, 0, number, line, None)
 
 
@@ -109,15 +118,16 @@ def hearing_item(names, case, number, words):
     return Item(day_of(words[1]), 60 * first, case, 1, number, line, words[4].split("+"))
 
 
-def docket_of(names, lines):
-    """What the sheets and calendars at the end of a text say, in lines that call cases by these names."""
+def docket_of(names, lines, reasons):
+    """What the sheets and calendars at the end of a text say, in lines that call cases by these names, and that mark the other
+    readings which are among these reasons."""
     items, before, calendars, case, motion, judge = [], {}, {}, None, None, None
     for line in lines:
         words = line.split(" ")
         if words[0] == "case":
             case = int(words[1])
         elif words[0] == "deadline":
-            items.append(deadline_item(names, case, words))
+            items.append(deadline_item(names, case, words, other_of(reasons[case, int(words[1])])))
         elif words[0] == "motion":
             motion = int(words[1])
         elif words[0] == "hearing":
@@ -263,11 +273,13 @@ def page_fault(names, page, text, docket, sheets, reasons, first, last, judge, c
     for s, found in zip(cases, parts.cases.values()):
         cells = [[lines[0] for lines in (cell.lines() for cell in row)] for _, row in found.deadlines]
         notes = [row[1].all("div")[1].raw() for _, row in found.deadlines]
+        others = [row[2].lines()[1:] for _, row in found.deadlines]
+        marks = [other_of(reasons[s.case, int(words[1])]) for words in s.deadlines]
         if (found.title, found.filed) != ("Case " + called(names, s.case), "Filed " + named(day_of(s.filed))) or \
                 cells != [deadline_cells(words) for words in s.deadlines] or \
                 [title for title, _ in found.reasons] != ["Reasons of deadline " + words[1] for words in s.deadlines] or \
                 [note + why for note, (_, why) in zip(notes, found.reasons)] != \
-                [reasons[s.case, int(words[1])] for words in s.deadlines] or \
+                [reasons[s.case, int(words[1])] for words in s.deadlines] or others != [[mark] if mark else [] for mark in marks] or \
                 [[cell.lines() for cell in row] for _, row in found.motions] != [motion_cells(*m) for m in s.motions]:
             return "another sheet of case {}".format(s.case)
     return None
@@ -372,8 +384,8 @@ def differs(chance, calendar, clerk, memo, data):
     lines = closing_of(text)
     named_data, names = with_names(chance, data)
     given = with_clerks(chance, named_data)[0]
-    docket, sheets = docket_of(names, lines), sheets_of(lines)
     reasons = reasons_of(closing_of(ran(memo, [], data + LAST_ROW)[1]))
+    docket, sheets = docket_of(names, lines, reasons), sheets_of(lines)
     for _ in range(5):
         words, fault_in = made_words(chance, names, court, docket, sheets, reasons)
         found = ran(calendar, words, given)

@@ -35,7 +35,8 @@ window.onload = () => {{ document.title = "wide " + [...document.querySelectorAl
 
 
 def long_names():
-    """An input with the longest names, also of a case, a hearing before them, and a deadline of each kind of words."""
+    """An input with the longest names, also of a case, a hearing before them, a deadline of each kind of words, and two that
+    another reading ends on another day or at another time."""
     listed = ", ".join('"{}"'.format(name) for name in LONG)
     return ('zone = "EST5EDT,M3.2.0/2,M11.1.0/2"\nopens = "09:00"\ncloses = "17:00"\nfrom = "2025-01-01"\nto = "2025-12-31"\n'
             "federal = []\nstate = []\njudges = [{0}]\nrooms = [{0}]\n"
@@ -43,7 +44,8 @@ def long_names():
             "1,open,4096,2025-08-01\n"
             "1,motion,4096,2025-08-01,exparte\n1,book,4096,1,{1},{2},2025-09-15,10:00,2,2025-08-01\n"
             "1,start,4096,8760h/before/service/served/59e,2025-12-01,12:00,,E\n"
-            "1,start,4096,12a1Aii-abroad,2025-08-04,,,\n").format(listed, "+".join(LONG), LONG[1]).encode()
+            "1,start,4096,12a1Aii-abroad,2025-08-04,,,\n1,start,4096,59e,2025-08-04,,,\n"
+            "1,start,4096,72h/after/filing/event/plain,2025-08-04,,,\n1,inaccessible,2025-09-01,09:00,10:00\n").format(listed, "+".join(LONG), LONG[1]).encode()
 
 
 def ran(words, data=b""):

@@ -5,6 +5,7 @@ use Rattle.std.specs.List.{flat_map}
 use Rattle.case_numbers.specs.declared.names.NamedCase.{NamedCase}
 use Rattle.court_clock.specs.Words.{ClockView}
 use Rattle.court_days.specs.Words.{CourtView, DaysView}
+use Rattle.rule6.specs.declared.timeliness.Shown.{Shown}
 use Rattle.hearing_slots.specs.declared.booking.Booking.{Booking}
 use Rattle.rule_periods.specs.Words.{DeadlineRowView}
 use Rattle.docket_rows.specs.declared.sheet.SheetDeadline.{SheetDeadline}
@@ -12,6 +13,7 @@ use Rattle.docket_rows.specs.declared.sheet.SheetHearing.{SheetHearing}
 use Rattle.docket_rows.specs.declared.sheet.SheetMotion.{SheetMotion}
 use Rattle.docket_selection.specs.declared.calendars.JudgeCalendar.{JudgeCalendar}
 use Rattle.docket_selection.specs.declared.item.DueItem.{DueItem}
+use Rattle.other_readings.specs.Words.{other_end}
 use Rattle.page_markup.specs.declared.tag.Tag.{Tag}
 use Rattle.page_markup.specs.declared.tag.Tag.TheVariants as tag
 use Rattle.page_markup.specs.Words.{IsMarkup, element, text_in}
@@ -19,7 +21,7 @@ use Rattle.page_markup.specs.Elements.IsMarkup.{nothing, text, inside, after}
 use Rattle.calendar_texts.specs.Words.{is_day_of, whole_day}
 use Rattle.explained_sheets.specs.declared.explained.ExplainedDeadline.{ExplainedDeadline}
 use Rattle.explained_sheets.specs.declared.explained.ExplainedSheet.{ExplainedSheet}
-use Rattle.calendar_page.specs.Cases.{case_part, case_parts, cases_part, deadline_heads, deadline_row, deadline_rows, deadline_table, hearing_cell, motion_heads, motion_row, motion_table, period_cell, reasons_cell}
+use Rattle.calendar_page.specs.Cases.{case_part, case_parts, cases_part, deadline_heads, deadline_row, deadline_rows, deadline_table, end_cell, hearing_cell, motion_heads, motion_row, motion_table, period_cell, reasons_cell}
 use Rattle.calendar_page.specs.Due.{due_heads, due_part, due_row, due_rows, due_table}
 use Rattle.calendar_page.specs.Judges.{booking_heads, booking_row, booking_rows, is_week_of, judge_part, judge_parts, judges_part, week_name}
 use Rattle.calendar_page.specs.Page.{ContentIsMarkup, content}
@@ -121,9 +123,15 @@ period_cell_is : (row : DeadlineRowView) → IsMarkup (period_cell row)
 unfolding period_cell
 period_cell_is row = within tag.Cell (both (words tag.Line _) (words tag.Note _))
 
-deadline_row_is : (clock : ClockView) (d : SheetDeadline) → IsMarkup (deadline_row clock d)
+end_cell_is : (clock : ClockView) (shown : Shown) (other : Option Shown) → IsMarkup (end_cell clock shown other)
+unfolding end_cell
+end_cell_is clock shown None = words tag.Cell _
+end_cell_is clock shown (Some other) = within tag.Cell (both (words tag.Line _) (words tag.Note _))
+
+deadline_row_is : (days : DaysView) (clock : ClockView) (d : SheetDeadline) → IsMarkup (deadline_row days clock d)
 unfolding deadline_row
-deadline_row_is clock d = within tag.Row (both (both (both (words tag.RowHead _) (period_cell_is d.row)) (words tag.Cell _)) (words _ _))
+deadline_row_is days clock d =
+    within tag.Row (both (both (both (words tag.RowHead _) (period_cell_is d.row)) (end_cell_is clock d.shown (other_end days clock d.row))) (words _ _))
 
 reasons_cell_is : (days : DaysView) (clock : ClockView) (e : ExplainedDeadline) → IsMarkup (reasons_cell days clock e)
 unfolding reasons_cell
@@ -131,7 +139,7 @@ reasons_cell_is days clock e = within tag.WideCell (within tag.Details (both (wo
 
 deadline_rows_are : (days : DaysView) (clock : ClockView) (e : ExplainedDeadline) → IsMarkup (deadline_rows days clock e)
 unfolding deadline_rows
-deadline_rows_are days clock e = both (deadline_row_is clock e.deadline) (within tag.Row (reasons_cell_is days clock e))
+deadline_rows_are days clock e = both (deadline_row_is days clock e.deadline) (within tag.Row (reasons_cell_is days clock e))
 
 deadline_heads_are : IsMarkup deadline_heads
 unfolding deadline_heads

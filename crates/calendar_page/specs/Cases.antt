@@ -6,6 +6,7 @@ use Rattle.case_numbers.specs.Words.{case_text}
 use Rattle.case_numbers.specs.declared.names.NamedCase.{NamedCase}
 use Rattle.court_clock.specs.Words.{ClockView}
 use Rattle.court_days.specs.Words.{CourtView, DaysView}
+use Rattle.rule6.specs.declared.timeliness.Shown.{Shown}
 use Rattle.rule_periods.specs.Words.{DeadlineRowView}
 use Rattle.docket_rows.specs.declared.sheet.SheetDeadline.{SheetDeadline}
 use Rattle.docket_rows.specs.declared.sheet.SheetHearing.{SheetHearing}
@@ -13,10 +14,10 @@ use Rattle.docket_rows.specs.declared.sheet.SheetMotion.{SheetMotion}
 use Rattle.deadline_reasons.specs.declared.reason.Reason.{Reason}
 use Rattle.reason_texts.specs.Words.{course_of, reason_lines}
 use Rattle.period_texts.specs.Words.{heading_lines}
-use Rattle.other_readings.specs.Words.{reading_lines}
+use Rattle.other_readings.specs.Words.{other_end, reading_lines}
 use Rattle.page_markup.specs.declared.tag.Tag.TheVariants as tag
 use Rattle.page_markup.specs.Words.{element, text_in}
-use Rattle.calendar_texts.specs.Words.{period_words, whole_day}
+use Rattle.calendar_texts.specs.Words.{period_words, reading_words, whole_day}
 use Rattle.explained_sheets.specs.declared.explained.ExplainedDeadline.{ExplainedDeadline}
 use Rattle.explained_sheets.specs.declared.explained.ExplainedSheet.{ExplainedSheet}
 use Rattle.calendar_page.specs.Due.{state_cell}
@@ -27,10 +28,15 @@ use Rattle.calendar_page.specs.Tables.{four_heads}
 unfoldable pub period_cell : DeadlineRowView → List ℕ
 period_cell row = element tag.Cell (text_in tag.Line (period_words row.period) ++ text_in tag.Note (heading_lines row))
 
+-- when the time of a deadline ends, and below it the end by another reading, if there is one
+unfoldable pub end_cell : ClockView → Shown → Option Shown → List ℕ
+end_cell clock shown None = text_in tag.Cell (ends_words clock shown)
+end_cell clock shown (Some other) = element tag.Cell (text_in tag.Line (ends_words clock shown) ++ text_in tag.Note (reading_words clock other))
+
 -- the number of a deadline, its period, when its time ends, and whether it was met
-unfoldable pub deadline_row : ClockView → SheetDeadline → List ℕ
-deadline_row clock d =
-    element tag.Row (text_in tag.RowHead (decimal d.number) ++ period_cell d.row ++ text_in tag.Cell (ends_words clock d.shown) ++ text_in (state_cell d.state) (state_words d.state d.row.filed))
+unfoldable pub deadline_row : DaysView → ClockView → SheetDeadline → List ℕ
+deadline_row days clock d =
+    element tag.Row (text_in tag.RowHead (decimal d.number) ++ period_cell d.row ++ end_cell clock d.shown (other_end days clock d.row) ++ text_in (state_cell d.state) (state_words d.state d.row.filed))
 
 -- `Reasons of deadline 3`
 unfoldable pub reasons_title : (number : ℕ) → List ℕ
@@ -48,7 +54,7 @@ reasons_cell days clock e =
 
 -- the row of a deadline, and below it the row of its reasons
 unfoldable pub deadline_rows : DaysView → ClockView → ExplainedDeadline → List ℕ
-deadline_rows days clock e = deadline_row clock e.deadline ++ element tag.Row (reasons_cell days clock e)
+deadline_rows days clock e = deadline_row days clock e.deadline ++ element tag.Row (reasons_cell days clock e)
 
 unfoldable pub deadline_heads : List ℕ
 deadline_heads = four_heads (codes "No.") (codes "Period") (codes "Time ends") (codes "State")

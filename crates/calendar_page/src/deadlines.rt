@@ -2,21 +2,23 @@
 
 ghost use Rattle.std.specs.Prelude.{◌≡◌, ◌++◌, OnOk, string_bytes};
 ghost use Rattle.std.specs.List.{flat_map};
-ghost use Rattle.calendar_page.specs.Cases.{deadline_caption, deadline_heads, deadline_row, deadline_rows, deadline_table, period_cell};
+ghost use Rattle.calendar_page.specs.Cases.{deadline_caption, deadline_heads, deadline_row, deadline_rows, deadline_table, end_cell, period_cell};
 
 use crate::due::state_cell;
 use crate::phrases::{set_end, set_number, set_state};
 use crate::reasons::push_reasons_cell;
 use crate::tables::push_four_heads;
-use calendar_texts::push_period;
+use calendar_texts::{push_period, push_reading};
 use case_numbers::{Cases, push_case_text};
 use court_clock::Clock;
 use court_days::Days;
 use docket_rows::SheetDeadline;
 use explained_sheets::ExplainedDeadline;
+use other_readings::other_end;
 use page_markup::{Page, Tag};
 use period_texts::push_heading;
 use rule_periods::DeadlineRow;
+use rule6::Shown;
 use std::alloc::{AllocError, Global};
 
 /// Adds the table of a case's deadlines, or that there are none.
@@ -92,7 +94,7 @@ fn push_explained(
 ) -> Result<(), AllocError>
     ensures { OnOk result (page.new ≡ page.old ++ deadline_rows days.now clock.now explained.now) }
 {
-    push_row(alloc, page, line, clock, &explained.deadline)?;
+    push_row(alloc, page, line, days, clock, &explained.deadline)?;
     page.open(Tag::Row)?;
     push_reasons_cell(alloc, page, line, days, clock, explained)?;
     page.close(Tag::Row)
@@ -104,20 +106,46 @@ fn push_row(
     alloc: Global,
     page: &mut Page,
     line: &mut String,
+    days: &Days,
     clock: &Clock,
     deadline: &SheetDeadline,
 ) -> Result<(), AllocError>
-    ensures { OnOk result (page.new ≡ page.old ++ deadline_row clock.now deadline.now) }
+    ensures { OnOk result (page.new ≡ page.old ++ deadline_row days.now clock.now deadline.now) }
 {
     page.open(Tag::Row)?;
     set_number(line, deadline.number)?;
     page.text_in(Tag::RowHead, line)?;
     push_period_cell(alloc, page, line, &deadline.row)?;
-    set_end(line, clock, &deadline.shown)?;
-    page.text_in(Tag::Cell, line)?;
+    let other = other_end(alloc, days, clock, &deadline.row)?;
+    push_end_cell(page, line, clock, &deadline.shown, other)?;
     set_state(line, deadline.state, deadline.row.filed())?;
     page.text_in(state_cell(deadline.state), line)?;
     page.close(Tag::Row)
+}
+
+/// Adds the cell of when a deadline's time ends, with the end by another reading, if there is one.
+#[tactic(auto, unfolding(crate::specs::Cases::end_cell))]
+fn push_end_cell(
+    page: &mut Page,
+    line: &mut String,
+    clock: &Clock,
+    shown: &Shown,
+    other: Option<Shown>,
+) -> Result<(), AllocError>
+    ensures { OnOk result (page.new ≡ page.old ++ end_cell clock.now shown.now other) }
+{
+    set_end(line, clock, shown)?;
+    match other {
+        None => page.text_in(Tag::Cell, line),
+        Some(other) => {
+            page.open(Tag::Cell)?;
+            page.text_in(Tag::Line, line)?;
+            line.clear();
+            push_reading(line, clock, &other)?;
+            page.text_in(Tag::Note, line)?;
+            page.close(Tag::Cell)
+        }
+    }
 }
 
 /// Adds the cell of a deadline's period, with what it is for, which section sets it, and from which day it runs.
