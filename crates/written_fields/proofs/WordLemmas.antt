@@ -1,5 +1,5 @@
 -- The words of a date, byte by byte.
-use Rattle.std.proofs.Common.{◌≡◌, ◌∙◌, ◌+◌, ◌<◌, ◌≤◌, ℕ, Bool, true, false, List, [], ◌∷◌, ◌++◌, length, drop, get_or, refl, sym, ap}
+use Rattle.std.proofs.Common.{◌≡◌, ◌∙◌, ◌+◌, ◌<◌, ◌≤◌, ℕ, true, false, List, [], ◌∷◌, ◌++◌, length, drop, get_or, refl, sym}
 use Rattle.std.proofs.lemmas.List.{drop_all, drop_more}
 use Rattle.written_fields.specs.Letters.{small}
 use Rattle.written_fields.specs.Dates.{date_words, ended, is_divider, words_after}

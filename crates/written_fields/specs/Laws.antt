@@ -1,10 +1,12 @@
 -- What the definitions come to.
-use Rattle.std.specs.Prelude.{◌≡◌, ◌⊎◌, ℕ, ◌==◌, ◌≤◌, Bool, false, List, [], ◌∷◌, ℤ, length, take, Some, None}
+use Rattle.std.specs.Prelude.{◌≡◌, ◌⊎◌, ℕ, ◌==◌, ◌≤◌, false, List, [], ◌∷◌, ℤ, length, take, Some, None}
 use Rattle.written_fields.specs.declared.said.Said.TheVariants.{Clear}
 use Rattle.written_fields.specs.declared.dates.DateOrder.TheVariants.{MonthFirst, DayFirst}
 use Rattle.written_fields.specs.Dates.{date_said, date_words, day_alone, day_said}
+use Rattle.written_fields.specs.Letters.{bare, folded}
 use Rattle.written_fields.specs.Line.{count_outside, place_in}
 use Rattle.written_fields.specs.Months.{month_named}
+use Rattle.written_fields.specs.Numbers.{numbers_in}
 
 -- a text is a date in numbers, with the year at the end: `9/2/2025`
 pub record IsInNumbers (text first second year : List ℕ) : Type 0 where
@@ -26,3 +28,7 @@ NoOtherReading = (text first second year : List ℕ) (day : ℤ) → IsInNumbers
 -- As many separating marks come before a field's place as there are fields before it. (A mark is no blank.)
 abbrev pub PlacesFollowTheirMarks : Type 0
 PlacesFollowTheirMarks = (mark number : ℕ) (line : List ℕ) → (mark ≡ 32 → ⊥) → number ≤ count_outside mark false line → count_outside mark false (take (place_in mark number line) line) ≡ number
+
+-- Each number of a text stays whole, and no two become one, where blanks, dots and other signs are left out.
+abbrev pub NumbersStayWhole : Type 0
+NumbersStayWhole = (text : List ℕ) → (numbers_in (bare text) ≡ numbers_in text) × (numbers_in (folded text) ≡ numbers_in text)

@@ -1,5 +1,6 @@
 pub mod Said
 pub mod Letters
+pub mod Numbers
 pub mod Choices
 pub mod Months
 pub mod Dates

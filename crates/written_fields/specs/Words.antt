@@ -1,6 +1,8 @@
 -- The words of clauses and definitions, for the crates above, from one place.
 pub use Rattle.written_fields.specs.Said.{said_map}
 pub use Rattle.written_fields.specs.Letters.{bare, folded}
+pub use Rattle.written_fields.specs.Numbers.{numbers_in}
+pub use Rattle.written_fields.specs.Laws.{NumbersStayWhole}
 pub use Rattle.written_fields.specs.Choices.{is_one_of}
 unfoldable pub use Rattle.written_fields.specs.Choices.{answer_said, list_said, means_said, rule_said, service_said}
 unfoldable pub use Rattle.written_fields.specs.Dates.{date_said}

@@ -1,6 +1,6 @@
 //! What the definitions of fields mean.
 
-ghost use Rattle.written_fields.specs.Laws.{NoOtherReading, OrderIsKept, PlacesFollowTheirMarks};
+ghost use Rattle.written_fields.specs.Laws.{NoOtherReading, NumbersStayWhole, OrderIsKept, PlacesFollowTheirMarks};
 
 /// A date in numbers is read in the order that is named, and in no other.
 pub fn order_is_kept()
@@ -15,4 +15,9 @@ pub fn no_other_reading()
 /// As many separating marks come before a field's place as there are fields before it.
 pub fn places_follow_their_marks()
     ensures { PlacesFollowTheirMarks }
+{}
+
+/// Each number of a text stays whole, and no two become one, where blanks, dots and other signs are left out.
+pub fn numbers_stay_whole()
+    ensures { NumbersStayWhole }
 {}

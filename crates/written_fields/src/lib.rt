@@ -12,7 +12,7 @@ mod times;
 
 pub use choices::{answer_said, list_said, means_said, rule_said, service_said};
 pub use dates::{DateOrder, date_said};
-pub use laws::{no_other_reading, order_is_kept, places_follow_their_marks};
+pub use laws::{no_other_reading, numbers_stay_whole, order_is_kept, places_follow_their_marks};
 pub use letters::{bare, folded};
 pub use line::{cut_line, place_in, separator_of, typed};
 pub use said::Said;

@@ -1,3 +1,4 @@
 mod RowLemmas
+mod NumberLemmas
 mod LawLemmas
 pub mod CallerLemmas

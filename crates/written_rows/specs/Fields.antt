@@ -17,9 +17,9 @@ use Rattle.written_rows.specs.Names.{name_said, panel_said}
 abbrev pub clear_if : Bool → List ℕ → Said (List ℕ)
 clear_if so text = if so then Clear text else Unknown
 
--- a number
+-- a number: the field as it is
 abbrev pub number_said : List ℕ → Said (List ℕ)
-number_said text = clear_if (is_number (bare text)) (bare text)
+number_said text = clear_if (is_number text) text
 
 -- a case number as it is shown
 abbrev pub shown_said : Option NameView → Said (List ℕ)
@@ -28,15 +28,15 @@ shown_said (Some name) = Clear name.shown
 
 -- a case: its number, or its case number as the court writes it
 abbrev pub case_said : List ℕ → Said (List ℕ)
-case_said text = if is_number (bare text) then Clear (bare text) else shown_said (case_read (bare text))
+case_said text = if is_number text then Clear text else shown_said (case_read (bare text))
 
--- the digits of a number of slots: half hours, or quarter hours before a `q`
-abbrev pub slots_number : List ℕ → List ℕ
-slots_number text = if ends_with nat_eq text (codes "q") then take (length text - 1) text else text
+-- a number of quarter hours, before a `q`
+abbrev pub is_quarters : List ℕ → Bool
+is_quarters text = ends_with nat_eq text (codes "q") && is_number (take (length text - 1) text)
 
--- how many slots
+-- how many slots: half hours, or quarter hours
 abbrev pub slots_said : List ℕ → Said (List ℕ)
-slots_said text = clear_if (is_number (slots_number (bare text))) (bare text)
+slots_said text = if is_number text then Clear text else clear_if (is_quarters (bare text)) (bare text)
 
 -- the text of a time of day
 abbrev pub time_if : Option ℕ → Said (List ℕ)

@@ -1,14 +1,20 @@
 -- What the definitions come to.
-use Rattle.std.specs.Prelude.{◌≡◌, ◌⊎◌, ℕ, true, List, Option, Some, None}
+use Rattle.std.specs.Prelude.{◌≡◌, ◌⊎◌, ℕ, nat_eq, true, List, codes, Option, Some, None}
+use Rattle.std.specs.List.{list_any, starts_with}
 use Rattle.csv.specs.Writing.{default_writer, row_text}
 use Rattle.case_numbers.specs.Words.{NameView, case_read}
 use Rattle.office_rows.specs.declared.row.Row.{Row}
-use Rattle.office_rows.specs.Words.{CourtNames}
+use Rattle.office_rows.specs.Words.{CourtNames, is_number}
 use Rattle.row_line.specs.declared.line.Line.TheVariants as line
 use Rattle.row_line.specs.Words.{line_read}
 use Rattle.written_fields.specs.declared.dates.DateOrder.{DateOrder}
+use Rattle.written_fields.specs.declared.said.Said.TheVariants.{Clear}
+use Rattle.written_fields.specs.Words.{bare, numbers_in}
+use Rattle.row_columns.specs.declared.columns.Column.{Column}
+use Rattle.row_columns.specs.declared.columns.Column.TheVariants.{Clerk, Case, Deadline, Motion, Period, Grant, Need, Slots}
 use Rattle.written_rows.specs.declared.rows.Written.TheVariants.{Plain}
 use Rattle.written_rows.specs.Cases.{with_one}
+use Rattle.written_rows.specs.Fields.{field_said}
 use Rattle.written_rows.specs.Headings.{word_at}
 use Rattle.written_rows.specs.Known.{names_known}
 use Rattle.written_rows.specs.Rows.{read_as}
@@ -38,3 +44,33 @@ PlainRowsStay = (clerks : ℕ) (names : CourtNames) (order : Option DateOrder) (
 abbrev pub RowsArePlain : Type 0
 RowsArePlain = (clerks : ℕ) (names : CourtNames) (order : Option DateOrder) (header : Option (List (List ℕ))) (line text : List ℕ) → read_as clerks names order header line ≡ Plain text
     → (row : Row) × IsRow clerks names text row
+
+-- fields of that court, with dates in that order
+module _ (names : CourtNames) (order : Option DateOrder) where
+  -- if the field of a column says a number, then it is that number
+  abbrev pub IsItsField : Column → (text number : List ℕ) → Type 0
+  IsItsField column text number = field_said names order column text ≡ Clear number → number ≡ text
+
+  pub record AreTheirFields (text number : List ℕ) : Type 0 where
+    pub of_clerks : IsItsField Clerk text number
+    pub of_cases : IsItsField Case text number
+    pub of_deadlines : IsItsField Deadline text number
+    pub of_motions : IsItsField Motion text number
+    pub of_notice : IsItsField Need text number
+
+  -- what the field of a column says has the numbers of the field, each with the same digits
+  abbrev pub HasItsNumbers : Column → (text plain : List ℕ) → Type 0
+  HasItsNumbers column text plain = field_said names order column text ≡ Clear plain → numbers_in plain ≡ numbers_in text
+
+  pub record HaveTheirNumbers (text plain : List ℕ) : Type 0 where
+    pub slots : HasItsNumbers Slots text plain
+    pub entered : list_any (λ b. nat_eq b 47) text ≡ true → HasItsNumbers Period text plain
+    pub extended : starts_with nat_eq (bare text) (codes "+") ≡ true → HasItsNumbers Grant text plain
+
+-- A number that is read is its field, digit for digit. (A case may also be read as a case number, which is none.)
+abbrev pub NumbersAreTheirFields : Type 0
+NumbersAreTheirFields = (names : CourtNames) (order : Option DateOrder) (text number : List ℕ) → is_number number ≡ true → AreTheirFields names order text number
+
+-- A number of slots, an entered period and the length of an extension have the numbers of their fields, each with the same digits.
+abbrev pub LengthsKeepTheirNumbers : Type 0
+LengthsKeepTheirNumbers = (names : CourtNames) (order : Option DateOrder) (text plain : List ℕ) → HaveTheirNumbers names order text plain

@@ -7,7 +7,7 @@ ghost use Rattle.jiff_fmt.specs.Text.{pad2};
 ghost use Rattle.court_clock.specs.Words.{day_text};
 ghost use Rattle.office_rows.specs.Words.{is_number, names_of};
 ghost use Rattle.written_fields.specs.Words.{date_said, said_map, time_said};
-ghost use Rattle.written_rows.specs.Fields.{case_said, ending_said, field_said, filled_said, grant_said, may_be_empty, need_said, number_said, period_said, slots_number, slots_said, time_if, word_said};
+ghost use Rattle.written_rows.specs.Fields.{case_said, ending_said, field_said, filled_said, grant_said, is_quarters, may_be_empty, need_said, number_said, period_said, slots_said, time_if, word_said};
 
 use crate::names::{Named, name_said, owned, panel_said};
 use case_numbers::case_read;
@@ -39,13 +39,12 @@ fn has_digits_only(text: &[u8]) -> bool
     text.iter().all(|byte| byte.is_ascii_digit())
 }
 
-// A number.
+// A number: the field as it is.
 fn number_said(alloc: Global, text: &str) -> Result<Said<String>, AllocError>
     ensures { IfOk result (λ said. said_map string_bytes said ≡ number_said text.now) }
 {
-    let text = bare(alloc, text)?;
     if is_number(text.as_bytes()) {
-        Ok(Said::Clear(text))
+        Ok(Said::Clear(String::from_str(alloc, text)?))
     } else {
         Ok(Said::Unknown)
     }
@@ -55,33 +54,32 @@ fn number_said(alloc: Global, text: &str) -> Result<Said<String>, AllocError>
 fn case_said(alloc: Global, text: &str) -> Result<Said<String>, AllocError>
     ensures { IfOk result (λ said. said_map string_bytes said ≡ case_said text.now) }
 {
-    let text = bare(alloc, text)?;
     if is_number(text.as_bytes()) {
-        return Ok(Said::Clear(text));
+        return Ok(Said::Clear(String::from_str(alloc, text)?));
     }
+    let text = bare(alloc, text)?;
     match case_read(alloc, text.as_bytes())? {
         Some(name) => Ok(Said::Clear(String::from_str(alloc, name.shown())?)),
         None => Ok(Said::Unknown),
     }
 }
 
-// The digits of a number of slots.
-fn slots_number(text: &[u8]) -> &[u8]
-    ensures { result.now ≡ slots_number text.now }
+// Whether it is a number of quarter hours, before a `q`.
+fn is_quarters(text: &[u8]) -> bool
+    ensures { result ≡ is_quarters text.now }
 {
-    if text.ends_with(b"q") {
-        text.split_at(text.len() - 1).0
-    } else {
-        text
-    }
+    text.ends_with(b"q") && is_number(text.split_at(text.len() - 1).0)
 }
 
-// How many slots.
+// How many slots: half hours, or quarter hours.
 fn slots_said(alloc: Global, text: &str) -> Result<Said<String>, AllocError>
     ensures { IfOk result (λ said. said_map string_bytes said ≡ slots_said text.now) }
 {
+    if is_number(text.as_bytes()) {
+        return Ok(Said::Clear(String::from_str(alloc, text)?));
+    }
     let text = bare(alloc, text)?;
-    if is_number(slots_number(text.as_bytes())) {
+    if is_quarters(text.as_bytes()) {
         Ok(Said::Clear(text))
     } else {
         Ok(Said::Unknown)

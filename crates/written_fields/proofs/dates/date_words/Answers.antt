@@ -1,7 +1,6 @@
 use Rattle.std.proofs.Common.{◌∙◌, refl, sym}
 use Rattle.std.specs.Prelude.{string_bytes}
 use Rattle.csv.specs.Records.{fields_of}
-use Rattle.written_fields.specs.Dates.{words_after}
 use Rattle.written_fields.proofs.WordLemmas.{words_divided, words_past, words_within}
 use Rattle.written_fields.proofs.dates.date_words.Goals as goal
 use Rattle.written_fields.proofs.dates.date_words.Goals.{then-is_divider+in_ok-end_word, else-is_divider+in_ok-push_small}

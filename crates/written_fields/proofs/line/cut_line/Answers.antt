@@ -1,4 +1,4 @@
-use Rattle.std.proofs.Common.{◌∙◌, refl, sym}
+use Rattle.std.proofs.Common.{◌∙◌, sym}
 use Rattle.std.specs.Prelude.{string_bytes}
 use Rattle.csv.specs.Records.{fields_of}
 use Rattle.written_fields.proofs.LineLemmas.{cut_mark, cut_past, cut_quote, cut_within}

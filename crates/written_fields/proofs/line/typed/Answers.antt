@@ -1,4 +1,3 @@
-use Rattle.std.proofs.Common.{refl}
 use Rattle.std.specs.Prelude.{string_bytes}
 use Rattle.written_fields.proofs.LineLemmas.{is_above, is_none, typed_more, typed_next, typed_past}
 use Rattle.written_fields.proofs.line.typed.Goals as goal
