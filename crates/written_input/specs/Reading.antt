@@ -1,6 +1,7 @@
 -- Inputs as people write them, read as plain rows.
-use Rattle.std.specs.Prelude.{ℕ, nat_eq, List, [], ◌∷◌, ◌++◌, codes, map, Option, Some, if◌then◌else◌}
+use Rattle.std.specs.Prelude.{ℕ, ◌-◌, nat_eq, List, [], ◌∷◌, ◌++◌, codes, length, map, take, Option, Some, if◌then◌else◌}
 use Rattle.std.specs.List.{ends_with}
+use Rattle.durable_session.specs.Lines.{ends_line}
 use Rattle.office_rows.specs.Words.{CourtNames}
 use Rattle.written_fields.specs.declared.dates.DateOrder.{DateOrder}
 use Rattle.written_rows.specs.declared.rows.Written.{Written}
@@ -35,6 +36,17 @@ row_of (Header headings) = []
 row_of (Plain text) = ended text
 row_of (Faulty faults) = []
 
+-- a text without an end of its line
+abbrev pub unended : List ℕ → List ℕ
+unended text = if ends_with nat_eq text (codes "\n") then take (length text - 1) text else text
+
+-- what is in the place of a line that is read as this: its plain row, or nothing
+abbrev pub in_place : Written (List (List ℕ)) (List ℕ) (List FieldFault) → List ℕ
+in_place Nothing = []
+in_place (Header headings) = []
+in_place (Plain text) = unended text
+in_place (Faulty faults) = []
+
 -- the faults of the line of that number
 abbrev pub faulty_as : (number : ℕ) → (line : List ℕ) → Written (List (List ℕ)) (List ℕ) (List FieldFault) → List FaultyText
 faulty_as number line Nothing = []
@@ -55,3 +67,11 @@ module _ (clerks : ℕ) (names : CourtNames) (order : Option DateOrder) where
   faulty_of header [] = []
   faulty_of header (line ∷ lines) =
       faulty_as line.0 line.1 (read_as clerks names order header line.1) ++ faulty_of (header_after header (read_as clerks names order header line.1)) lines
+
+  -- Bytes, of which the first line has begun with these, with plain rows in place of their lines: each line has its end as before,
+  -- so a row is on the line that says it.
+  unfoldable pub placed_from : Option (List (List ℕ)) → (begun : List ℕ) → List ℕ → List ℕ
+  placed_from header begun [] = []
+  placed_from header begun (byte ∷ bytes) =
+      if ends_line byte then in_place (read_as clerks names order header begun) ++ byte ∷ placed_from (header_after header (read_as clerks names order header begun)) [] bytes
+      else placed_from header (begun ++ byte ∷ []) bytes

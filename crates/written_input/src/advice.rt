@@ -1,5 +1,6 @@
 //! What to write in place of what was found.
 
+use crate::periods::entered_as;
 use court_clock::Day;
 use row_columns::Column;
 use std::alloc::{AllocError, Global};
@@ -76,6 +77,30 @@ fn for_time(alloc: Global, found: &str) -> Result<String, AllocError> {
     }
 }
 
+/// Whether the text is one or more digits.
+fn is_digits(text: &str) -> bool {
+    !text.is_empty() && text.bytes().all(|byte| byte.is_ascii_digit())
+}
+
+/// Whether the text is made of digits, blanks and dots.
+fn is_broken_number(text: &str) -> bool {
+    !text.is_empty()
+        && text.bytes().all(|byte| byte.is_ascii_digit() || byte == b' ' || byte == b'.')
+}
+
+/// What to write in place of what is no number.
+fn for_number(alloc: Global, found: &str) -> Result<String, AllocError> {
+    if let Some((whole, rest)) = found.split_once('.') {
+        if is_digits(whole) && is_digits(rest) && rest.bytes().all(|byte| byte == b'0') {
+            return format!(in alloc; "write {whole}");
+        }
+    }
+    if !is_digits(found) && is_broken_number(found) {
+        return String::from_str(alloc, "a number has no blanks and no dots in it");
+    }
+    Ok(String::new(alloc))
+}
+
 /// What to write where a field may be two things.
 fn for_two(column: Column) -> &'static str {
     match column {
@@ -101,6 +126,15 @@ pub(crate) fn advice(
             for_date(alloc, order, found)
         }
         Flaw::Unknown(Column::Time | Column::Start) => for_time(alloc, found),
+        Flaw::Unknown(
+            Column::Clerk
+            | Column::Case
+            | Column::Deadline
+            | Column::Motion
+            | Column::Need
+            | Column::Slots,
+        ) => for_number(alloc, found),
+        Flaw::Unknown(Column::Period) => entered_as(alloc, found),
         Flaw::Unclear(column) => String::from_str(alloc, for_two(column)),
         Flaw::Excess => String::from_str(alloc, "a field with a comma in it is written in quotes"),
         _ => Ok(String::new(alloc)),

@@ -2,12 +2,15 @@
 #![tactic(auto)]
 
 mod advice;
+mod later;
 mod nearest;
 mod objects;
+mod periods;
 mod reading;
 mod report;
 mod wording;
 
+pub use later::json_of_said;
 pub use objects::json_of;
 pub use reading::{FaultyLine, Reading, read_input};
 pub use report::report_of;

@@ -1,9 +1,10 @@
 //! The known word that is nearest to what was found.
 
+use crate::periods::{CODES, entered_as, number_cited};
 use court_days::Court;
 use row_columns::{COMMANDS, Column};
 use std::alloc::{AllocError, Global};
-use strsim::levenshtein;
+use strsim::osa_distance;
 use written_fields::{cut_line, folded};
 use written_rows::Flaw;
 
@@ -14,35 +15,22 @@ const HEADINGS: [&str; 23] = [
     "notice", "note",
 ];
 
-/// The periods of the Rules.
-const RULES: [&str; 10] = [
-    "4m",
-    "12a1Ai",
-    "12a1Aii-us",
-    "12a1Aii-abroad",
-    "12a1B",
-    "12a1C",
-    "12a2",
-    "12a3",
-    "59b",
-    "59e",
-];
-
-/// How many letters of a word may be wrong, too many or missing.
-fn most_edits(word: &str) -> usize {
-    if word.len() < 4 { 1 } else { 2 }
-}
-
-/// The word that is nearest to a text, if one is near.
-fn nearest_of(alloc: Global, text: &str, words: &[&str]) -> Result<Option<String>, AllocError> {
-    let found = folded(alloc, text)?;
+/// The word from which a text that is folded differs by no more than a slip: a letter that is added, lost or another, or two
+/// that are swapped. There is none where two words are so near.
+fn nearest_of(alloc: Global, found: &str, words: &[&str]) -> Result<Option<String>, AllocError> {
+    if found.is_empty() {
+        return Ok(None);
+    }
     let mut nearest = None;
-    let mut least = 3;
     for word in words {
         let known = folded(alloc, word)?;
-        let edits = levenshtein(alloc, found.as_str(), known.as_str())?;
-        if edits < least && edits <= most_edits(known.as_str()) {
-            least = edits;
+        if known.as_str() == found {
+            return Ok(Some(String::from_str(alloc, word)?));
+        }
+        if osa_distance(alloc, found, known.as_str())? == 1 {
+            if nearest.is_some() {
+                return Ok(None);
+            }
             nearest = Some(String::from_str(alloc, word)?);
         }
     }
@@ -78,52 +66,64 @@ fn nearest_judge(alloc: Global, court: &Court, panel: &str) -> Result<Option<Str
     for i in 0..pieces.len() {
         let piece = pieces.get(i).unwrap_or("");
         if court.judge(piece).is_none() {
-            return nearest_of(alloc, piece, &names);
+            return nearest_of(alloc, folded(alloc, piece)?.as_str(), &names);
         }
     }
     Ok(None)
 }
 
-/// The known word that is nearest to what was found in a column, if one is near.
+/// The code of a period that is nearest to what was found, unless that is known by how it is entered.
+fn nearest_code(alloc: Global, found: &str, word: &str) -> Result<Option<String>, AllocError> {
+    if entered_as(alloc, found)?.is_empty() {
+        nearest_of(alloc, number_cited(word), &CODES)
+    } else {
+        Ok(None)
+    }
+}
+
+/// The known word that is nearest to what was found in a column, which is this word when it is folded.
 fn nearest_in(
     alloc: Global,
     court: &Court,
     column: Column,
     found: &str,
+    word: &str,
 ) -> Result<Option<String>, AllocError> {
     match column {
         Column::Judge | Column::Judges => nearest_judge(alloc, court, found),
         Column::Room => {
             let names = rooms_of(alloc, court)?;
-            nearest_of(alloc, found, &names)
+            nearest_of(alloc, word, &names)
         }
-        Column::Period => nearest_of(alloc, found, &RULES),
+        Column::Period => nearest_code(alloc, found, word),
         Column::ServiceOrNone => nearest_of(
             alloc,
-            found,
+            word,
             &["personal", "left", "mail", "clerk", "ECF", "other"],
         ),
-        Column::Means => nearest_of(alloc, found, &["electronic", "paper"]),
+        Column::Means => nearest_of(alloc, word, &["electronic", "paper"]),
         Column::ByMotion | Column::Cause | Column::Neglect => {
-            nearest_of(alloc, found, &["yes", "no"])
+            nearest_of(alloc, word, &["yes", "no"])
         }
-        Column::Holidays => nearest_of(alloc, found, &["federal", "state"]),
-        Column::Need => nearest_of(alloc, found, &["exparte"]),
+        Column::Holidays => nearest_of(alloc, word, &["federal", "state"]),
+        Column::Need => nearest_of(alloc, word, &["exparte"]),
         _ => Ok(None),
     }
 }
 
-/// The known word that is nearest to what was found, if one is near.
+/// The known word that is nearest to what was found, if one alone differs from it by no more than a slip.
 pub(crate) fn nearest(
     alloc: Global,
     court: &Court,
     flaw: Flaw,
     found: &str,
 ) -> Result<Option<String>, AllocError> {
+    let word = folded(alloc, found)?;
+    let word = word.as_str();
     match flaw {
-        Flaw::Unknown(column) => nearest_in(alloc, court, column, found),
-        Flaw::NoCommand => nearest_of(alloc, found, &COMMANDS),
-        Flaw::NoHeading => nearest_of(alloc, found, &HEADINGS),
+        Flaw::Unknown(column) => nearest_in(alloc, court, column, found, word),
+        Flaw::NoCommand => nearest_of(alloc, word, &COMMANDS),
+        Flaw::NoHeading => nearest_of(alloc, word, &HEADINGS),
         _ => Ok(None),
     }
 }

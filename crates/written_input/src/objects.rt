@@ -12,7 +12,7 @@ use written_fields::DateOrder;
 use written_rows::Fault;
 
 /// Writes a text under a key, unless it is empty.
-fn put_text(out: &mut Writer<Global>, key: &str, text: &str) -> Result<(), AllocError> {
+pub(crate) fn put_text(out: &mut Writer<Global>, key: &str, text: &str) -> Result<(), AllocError> {
     if text.is_empty() {
         return Ok(());
     }
@@ -21,7 +21,11 @@ fn put_text(out: &mut Writer<Global>, key: &str, text: &str) -> Result<(), Alloc
 }
 
 /// Writes a number under a key.
-fn put_number(out: &mut Writer<Global>, key: &str, number: usize) -> Result<(), AllocError> {
+pub(crate) fn put_number(
+    out: &mut Writer<Global>,
+    key: &str,
+    number: usize,
+) -> Result<(), AllocError> {
     out.key(key)?;
     out.u64(number as u64)
 }

@@ -1,11 +1,11 @@
 //! Inputs, read as plain rows.
 
-ghost use Rattle.std.specs.Prelude.{◌≡◌, ◌++◌, IfOk, None, OnOk, map, option_map};
+ghost use Rattle.std.specs.Prelude.{◌≡◌, ◌++◌, ◌∷◌, [], IfOk, None, OnOk, map, option_map};
 ghost use Rattle.csv.specs.Records.{fields_of};
 ghost use Rattle.durable_session.specs.Words.{numbered_lines};
 ghost use Rattle.office_rows.specs.Words.{names_of};
 ghost use Rattle.written_rows.specs.Words.{read_as};
-ghost use Rattle.written_input.specs.Reading.{ended, faulty_as, faulty_in, faulty_of, header_after, row_of, rows_of};
+ghost use Rattle.written_input.specs.Reading.{ended, faulty_as, faulty_in, faulty_of, header_after, in_place, placed_from, row_of, rows_of, unended};
 
 use court_days::Court;
 use csv::StringRecord;
@@ -32,6 +32,8 @@ pub struct Reading {
     header: Option<StringRecord>,
     /// The plain rows, a line each.
     pub rows: Vec<u8>,
+    /// The input with plain rows in place of its lines: each row is on the line that says it, and any other line is empty.
+    pub placed: Vec<u8>,
     /// The lines that have faults.
     pub faulty: Vec<FaultyLine>,
 }
@@ -47,8 +49,19 @@ fn push_ended(rows: &mut Vec<u8>, text: &[u8]) -> Result<(), AllocError>
     Ok(())
 }
 
+// A text without an end of its line.
+fn unended(text: &[u8]) -> &[u8]
+    ensures { result.now ≡ unended text.now }
+{
+    if text.ends_with(b"\n") {
+        text.split_at(text.len() - 1).0
+    } else {
+        text
+    }
+}
+
 impl Reading {
-    // Reads the line of that number.
+    // Reads the line of that number, which has this end.
     fn read(
         &mut self,
         alloc: Global,
@@ -57,15 +70,20 @@ impl Reading {
         order: Option<DateOrder>,
         number: usize,
         line: &[u8],
+        end: u8,
     ) -> Result<(), AllocError>
         ensures rows { OnOk result (self.new.rows.items ≡ self.old.rows.items ++ row_of (read_as clerks (names_of court.now) order (option_map fields_of self.old.header) line.now)) }
+        ensures placed { OnOk result (self.new.placed.items ≡ self.old.placed.items ++ (in_place (read_as clerks (names_of court.now) order (option_map fields_of self.old.header) line.now) ++ end ∷ [])) }
         ensures faulty { OnOk result (map faulty_in self.new.faulty.items ≡ map faulty_in self.old.faulty.items ++ faulty_as number line.now (read_as clerks (names_of court.now) order (option_map fields_of self.old.header) line.now)) }
         ensures header { OnOk result (option_map fields_of self.new.header ≡ header_after (option_map fields_of self.old.header) (read_as clerks (names_of court.now) order (option_map fields_of self.old.header) line.now)) }
     {
         match read_written(alloc, clerks, court, order, &self.header, line)? {
             Written::Nothing => {}
             Written::Header(headings) => self.header = Some(headings),
-            Written::Plain(text) => push_ended(&mut self.rows, &text)?,
+            Written::Plain(text) => {
+                push_ended(&mut self.rows, &text)?;
+                self.placed.extend_from_slice(unended(&text))?;
+            }
             Written::Faulty(faults) => {
                 let line = Vec::from_slice(alloc, line)?;
                 self.faulty.push(FaultyLine {
@@ -75,6 +93,7 @@ impl Reading {
                 })?;
             }
         }
+        self.placed.push(end)?;
         Ok(())
     }
 }
@@ -89,17 +108,19 @@ pub fn read_input(
     input: &[u8],
 ) -> Result<Reading, AllocError>
     ensures rows { IfOk result (λ reading. reading.rows.items ≡ rows_of clerks (names_of court.now) order None (numbered_lines input.now)) }
+    ensures placed { IfOk result (λ reading. reading.placed.items ≡ placed_from clerks (names_of court.now) order None [] input.now) }
     ensures faulty { IfOk result (λ reading. map faulty_in reading.faulty.items ≡ faulty_of clerks (names_of court.now) order None (numbered_lines input.now)) }
 {
     let mut reading = Reading {
         header: None,
         rows: Vec::new(alloc),
+        placed: Vec::new(alloc),
         faulty: Vec::new(alloc),
     };
     let mut number = 1usize;
     let mut rest = input;
     while let Some(split) = split_line(rest) {
-        reading.read(alloc, clerks, court, order, number, split.line)?;
+        reading.read(alloc, clerks, court, order, number, split.line, split.end)?;
         number = number_after(number, split.end);
         rest = split.rest;
     }
