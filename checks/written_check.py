@@ -5,9 +5,11 @@
     written_check.py DESK --write
 
 COUNT plain rows at random (20,000 without it) are written in eleven styles, as people and their programs write them; each must
-be read as the row it was made from. Some two hundred lines are spoiled as people spoil them; what is said of each must be
-what runs/written/said.txt has. --write writes that file anew: read it as someone who made the mistake. What --json says must
-be the same faults. It needs Python 3.8 or later.
+be read as the row it was made from. As many fields have blanks and dots in them: each must be read, or be a fault, as
+lib/written_fields.py has it from docs/FORMATS.md, and so must the word that is suggested for a misspelt period. Each section
+of docs/RULES.md whose period is entered must be answered with its text. Some two hundred lines are spoiled as people spoil
+them; what is said of each must be what runs/written/said.txt has. --write writes that file anew: read it as someone who made
+the mistake. What --json says must be the same faults. It needs Python 3.8 or later.
 """
 import csv
 import datetime
@@ -18,6 +20,8 @@ import sys
 import tempfile
 
 from lib.desk import Desk, FAULTS, SHORT_COURT, TOP, programs_of
+from lib.spoiled_lines import spoiled
+from lib.written_trials import check_broken, check_misspelt, check_sections
 
 SAID = TOP / "runs" / "written" / "said.txt"
 COURT = SHORT_COURT.replace(b'["Ames", "Brandt"]', b'["Ames", "Brandt", "OBrien", "Smith-Jones", "J.Kaplan"]').replace(
@@ -210,154 +214,6 @@ def check_style(desk, draw, style, count):
     assert len(found) == len(rows) and ended.status == 0, (style, ended.status, len(found), ended.output[:2000], ended.errors)
 
 
-def spoiled():
-    """Lines spoiled as people spoil them: what was done, the lines, and the words of the command."""
-    ways = []
-
-    def way(name, *lines, words=()):
-        ways.append((name, "\n".join(lines) + "\n", list(words)))
-
-    start, file, extend = "1,start,12,59e,2025-08-04,,,", "1,file,12,3,2025-09-29,18:10,electronic", "1,extend,12,2,+14d,2025-09-10,11:30,no,yes,no"
-    book, motion = "1,book,12,1,Ames,11A,2025-10-06,10:00,2,2025-09-15", "1,motion,12,2025-09-15,14"
-
-    def put(row, old, new):
-        assert old in row, (row, old)
-        return row.replace(old, new, 1)
-
-    # dates
-    for name, date in [("a date that may be two", "9/2/2025"), ("the same with dashes", "9-2-2025"), ("the same with dots", "9.2.2025"),
-                       ("a year of two digits", "9/25/25"), ("a year of two digits after a month's name", "25-Sep-25"),
-                       ("a day that no month has", "2025-09-31"), ("a day that no month has, in numbers", "9/31/2025"),
-                       ("29 February of a common year", "2025-02-29"), ("a thirteenth month", "2025-13-02"),
-                       ("a year that is too early", "1825-09-02"), ("a year that is too late", "2525-09-02"),
-                       ("digits alone", "20250902"), ("no day", "2025-09"), ("no year", "Sep 2"), ("a weekday before it", "Tue Sep 2 2025"),
-                       ("a time after it", "2025-09-02 09:30"), ("a time after it, as spreadsheets write it", "9/25/2025 0:00"),
-                       ("an ordinal", "Sep 2nd 2025"), ("a month that is misspelt", "2-Spet-2025"), ("a number of a spreadsheet", "45902"),
-                       ("a word", "today"), ("nothing", ""), ("a letter in it", "2O25-09-02"), ("a time in its place", "09:30")]:
-        way(name + " as a date", put(start, "2025-08-04", date))
-    way("a date in the other order", put(start, "2025-08-04", "25/9/2025"), words=["--dates", "month-first"])
-    way("a date in the other order, day first", put(start, "2025-08-04", "9/25/2025"), words=["--dates", "day-first"])
-    way("a date with a comma", put(start, "2025-08-04", "Sep 2, 2025"))
-    way("a second date that is none", "1,start,12,12a3,2025-08-04,,soon,")
-    way("a day of notice that is none", put(book, "2025-09-15", "9/31/2025"))
-    way("a day of filing that may be two", "1,open,12,9/2/2025")
-    way("a day of service that may be two", put(motion, "2025-09-15", "9/10/2025"))
-    way("a holiday that may be two", "1,holiday,12/11/2025,federal")
-    way("two dates that may be two each", "1,start,12,12a3,9/2/2025,,9/3/2025,")
-    # times
-    for name, time in [("no colon", "930"), ("a dot for the colon", "9.30"), ("24:00", "24:00"), ("an hour past 23", "25:00"), ("a minute past 59", "9:75"),
-                       ("an hour past 12 with PM", "13:30 PM"), ("an hour 0 with AM", "0:30 AM"), ("seconds", "09:30:00"), ("a word", "noon"),
-                       ("an hour alone", "9"), ("o'clock", "9 o'clock"), ("nothing", ""), ("a date in its place", "2025-09-29"),
-                       ("a letter in it", "1O:30"), ("one digit of minutes", "9:3"), ("h for the colon", "9h30")]:
-        way(name + " as a time", put(file, "18:10", time))
-    way("an end of an outage past midnight", "1,inaccessible,2025-11-12,13:00,24:30")
-    way("a beginning of an outage at 24:00", "1,inaccessible,2025-11-12,24:00,24:00")
-    way("a hearing that begins on no quarter hour", put(book, "10:00", "10:10"))
-    way("a hearing that begins on no quarter hour, with PM", put(book, "10:00", "2:05 PM"))
-    # periods
-    for name, period in [("a Rule that sets two", "12(a)(1)(A)(ii)"), ("the same after FRCP", "FRCP 12(a)(1)(A)(ii)"), ("another letter", "59(f)"),
-                         ("no letter", "59"), ("another Rule", "60(b)"), ("a Rule of appeals", "FRAP 4(a)"), ("a letter twice", "59(ee)"),
-                         ("a 1 for an i", "12(a)(1)(A)(1)"), ("a misspelt Rule", "FRPC 59(e)"), ("days alone", "14 days"), ("14d alone", "14d"),
-                         ("no MARK", "14d/after/filing/event"), ("weeks", "2w/after/filing/event/plain"), ("another word for the act", "14d/after/file/event/plain"),
-                         ("another word for the direction", "14d/past/filing/event/plain"), ("another mark", "14d/after/filing/event/none"),
-                         ("backslashes", "14d\\after\\filing\\event\\plain"), ("nothing", ""), ("a word", "answer")]:
-        way(name + " as a period", put(start, "59e", period))
-    # kinds of service and means
-    for name, kind in [("a letter past F", "G"), ("a misspelt word", "mial"), ("another word", "fax"), ("two letters", "AB"), ("a number", "3"),
-                       ("misspelt personal", "personel"), ("a courier", "FedEx")]:
-        way(name + " as a kind", "1,start,12,12a1B,2025-08-25,,,{}".format(kind))
-    for name, means in [("a misspelt word", "electroncially"), ("fax", "fax"), ("nothing", ""), ("a letter", "x"), ("misspelt paper", "papper")]:
-        way(name + " as means", put(file, "electronic", means))
-    # numbers
-    for name, case in [("a real case number", "1:25-cv-01234-ABC"), ("a leading zero", "012"), ("a hash before it", "#12"), ("a word before it", "case 12"),
-                       ("a comma in it", '"1,200"'), ("nothing", ""), ("a sign", "-12"), ("a letter O", "1O"), ("ten digits", "1234567890"), ("a fraction", "12.5x"),
-                       ("a case number in capitals", "1:25-CV-1234-abc"), ("a case number with blanks and dots", "1:25 - cv - 01234 - A.B.C."),
-                       ("a case number with no office", "25-cv-1234"), ("a word before a case number", "No. 1:25-cv-01234"),
-                       ("a case number with a year of four digits", "1:2025-cv-01234"), ("a case number with no year", "1:cv-01234"),
-                       ("a case number with no kind", "1:25-01234"), ("a case number with a kind of three letters", "1:25-civ-01234"),
-                       ("a case number with no sequence", "1:25-cv"), ("a case number with six digits", "1:25-cv-012345"),
-                       ("a case number with a letter O", "1:25-cv-O1234"), ("a case number with no dashes", "1:25cv01234"),
-                       ("a case number with initials in brackets", "1:25-cv-01234 (ABC)"), ("a case number with no dash before the initials", "1:25-cv-01234 ABC"),
-                       ("a case number with a digit in the initials", "1:25-cv-01234-AB1"), ("a docket number of another form", "25 Civ. 1234")]:
-        way(name + " as a case", put(file, "1,file,12", "1,file," + case))
-    way("a fault after a case number", put(put(book, "12", "1:25-CV-1234-abc"), "Ames", "Aimes"))
-    way("a grant that is none after a case number", put(put(extend, "12", "1:25-cv-01234"), "+14d", "+14"))
-    way("a case number in place of a judge", "1,calendar,1:25-cv-01234,2025-10-07")
-    way("a case number in place of a deadline", put(file, ",3,", ",1:25-cv-01234,"))
-    way("rows by case numbers", "clerk,command,case,date,rule", "1,open,1:25-CV-1234-abc,2025-09-02,", "1,start,1:25-cv-01234,2025-09-02,59(e)", "1,sheet,1:25-cv-1234,,")
-    for name, clerk in [("0", "0"), ("65", "65"), ("a name", "Jo"), ("nothing", ""), ("a leading zero", "01")]:
-        way(name + " as a clerk", put(start, "1,start", clerk + ",start"))
-    way("a deadline that is no number", put(file, ",3,", ",three,"))
-    way("a motion that is no number", "1,cancel,12,first")
-    way("a motion that is missing", "1,cancel,12")
-    # judges and rooms
-    for name, judge in [("a misspelt judge", "Aimes"), ("a judge with a title", "Judge Ames"), ("another judge", "Kaplan"), ("a misspelt judge of a panel", "Ames+Brant"),
-                        ("two misspelt judges", "Aimes+Brant"), ("a panel with and", "Ames and Brandt"), ("a panel with &", "Ames & Brandt"), ("a panel with /", "Ames/Brandt"),
-                        ("four judges", "Ames+Brandt+OBrien+J.Kaplan"), ("a judge twice", "Ames+Ames"), ("a judge and nothing", "Ames+"), ("nothing", ""),
-                        ("a judge with an accent", "\u00c4mes"), ("a judge with an apostrophe", "O'Brien"), ("a judge without the dash", "Smith Jones"), ("initials", "J.A.")]:
-        way(name, put(book, "Ames", judge))
-    for name, room in [("another room", "12A"), ("a room with a word before it", "Room 11A"), ("a letter O in a room", "llA"), ("nothing as a room", ""),
-                       ("a room and a floor", "11A 3rd floor"), ("half of a room's name", "Annex")]:
-        way(name, put(book, "11A", room))
-    way("a misspelt judge in a question", "1,calendar,Aimes,2025-10-07")
-    way("a panel in a question", "1,calendar,Ames+Brandt,2025-10-07")
-    # slots, notice, grants, findings, lists
-    for name, slots in [("an hour", "1 hour"), ("half an hour", "30 min"), ("a fraction", "1.5 h"), ("nothing", ""), ("h", "2h"), ("a word", "two")]:
-        way(name + " as slots", put(book, ",2,2025", "," + slots + ",2025"))
-    for name, need in [("days", "14 days"), ("14d", "14d"), ("misspelt ex parte", "expartee"), ("nothing", ""), ("a word", "none"), ("a sign", "+14")]:
-        way(name + " as notice", put(motion, ",14", "," + need))
-    for name, grant in [("no plus", "14d"), ("days", "14 days"), ("weeks", "+2w"), ("a plus alone", "+"), ("a number alone", "+14"), ("nothing", ""), ("a date that may be two", "9/2/2025")]:
-        way(name + " as an extension", put(extend, "+14d", grant))
-    for name, answer in [("maybe", "maybe"), ("nothing", ""), ("misspelt yes", "yess"), ("x", "x"), ("1", "1"), ("a question mark", "?")]:
-        way(name + " as a finding", put(extend, ",yes,", "," + answer + ","))
-    for name, holidays in [("a misspelt list", "fedral"), ("another list", "county"), ("nothing", ""), ("both lists", "federal and state")]:
-        way(name, "1,holiday,2025-12-24," + holidays)
-    # command words
-    for name, word in [("a misspelt command", "opne"), ("another command", "close"), ("nothing", ""), ("strike", "strike"), ("a command in another tongue", "eröffnen")]:
-        way(name + " as a command", "1,{},12,2025-09-02".format(word))
-    for word in ["strat", "flie", "extened", "moton", "boook", "mvoe", "cancle", "hoilday", "inaccesible", "sheets", "calender", "computes", "opens"]:
-        way("a misspelt command " + word, "1,{},12,2025-09-02".format(word))
-    way("the clerk left out", "open,12,2025-09-02")
-    way("the command and the case changed about", "1,12,open,2025-09-02")
-    way("a command alone", "open")
-    way("a sentence", "Please open case 12 as of today.")
-    # fields too many, too few, in another order
-    way("a field too many", start + "x")
-    way("a note after the row", "1,open,12,2025-09-02,complaint of Acme")
-    way("a column before the row", "5,1,open,12,2025-09-02")
-    way("the date left out", "1,start,12,59e")
-    way("the period and the date changed about", "1,start,12,2025-08-04,59e,,,")
-    way("the judge and the room changed about", put(put(book, "Ames", "X"), "11A", "Ames").replace("X", "11A"))
-    way("the kind in the place of the time", "1,start,12,12a1B,2025-08-25,C,,")
-    way("a quote that isn't closed", '1,open,"12,2025-09-02')
-    way("blanks in place of commas", "1 open 12 2025-09-02")
-    way("pipes in place of commas", "1|open|12|2025-09-02")
-    way("a full stop for a comma", "1,open,12.2025-09-02")
-    way("a row in brackets", "(1,open,12,2025-09-02)")
-    # headings
-    way("a misspelt heading", "clerk,command,case,dtae", "1,open,12,2025-09-02")
-    way("a heading twice", "clerk,command,case,case,date", "1,open,12,12,2025-09-02")
-    way("a heading of their own", "clerk,command,case,date,party", "1,open,12,2025-09-02,Acme")
-    way("no heading over the date", "clerk,command,case", "1,open,12")
-    way("a value under no heading", "clerk,command,case,date", "1,open,12,2025-09-02,Acme")
-    way("a value that the row has no column for", "clerk,command,case,date,judge", "1,open,12,2025-09-02,Ames")
-    way("columns in another order than the headings", "clerk,command,date,case", "1,open,12,2025-09-02")
-    way("headings without that of the commands", "clerk,case,date", "1,12,2025-09-02")
-    way("a total below the rows", "clerk,command,case,date", "1,open,12,2025-09-02", "total,,,1")
-    # several
-    way("three faults in a row", "1,book,12,1,Aimes,12A,9/2/2025,10:00,2,2025-09-15")
-    way("faults in three rows of four", "1,open,12,9/2/2025", "1,start,12,59f,2025-08-04,,,", "1,sheet,12", "1,calendar,Brant,2025-10-07")
-    way("a fault after comments and blank lines", "# Monday", "", "1,sheet,12", "", "# Tuesday", "1,start,12,59e,2025-08-32,,,")
-    way("a fault after quotes", '"1", "start", "12", "59e", "2025-08-32",,,')
-    way("a fault after curly quotes", "\u201c1\u201d, \u201cstart\u201d, \u201c12\u201d, \u201c59g\u201d, \u201c2025-08-04\u201d")
-    way("a fault after an accent", put(put(book, "Ames", "M\u00fcller"), "11A", "12A"))
-    way("a fault after tabs", "1\tstart\t12\t59g\t2025-08-04")
-    way("a fault between semicolons", "1;start;12;59g;2025-08-04")
-    way("a long dash in a date", put(start, "2025-08-04", "2025\u201308\u201432"))
-    way("a blank that doesn't break", put(start, ",12,", ",\u00a0x12,"))
-    return ways
-
-
 def said_of(desk):
     """What is said of each spoiled line."""
     text = []
@@ -423,6 +279,9 @@ def main():
             for _ in range(4):
                 check_style(desk, draw, style, max(1, count // len(STYLES) // 4 + 1))
         print("{} rows in {} styles, each read as the row it was made from".format(count, len(STYLES)))
+        print("{} of {} fields with blanks and dots in them are read, and the others are faults".format(check_broken(desk, draw, count, JUDGES, ROOMS), count))
+        print("{} misspelt periods, each with its suggestion or with none".format(check_misspelt(desk, draw, count // 10)))
+        print("{} sections whose periods are entered, each with its texts".format(check_sections(desk, draw)))
         check_entering(desk)
         print("rows as written are tried, and kept together or not at all")
 
