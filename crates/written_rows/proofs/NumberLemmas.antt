@@ -1,22 +1,20 @@
 -- Numbers that are read have the digits of their fields.
-use Rattle.std.proofs.Common.{◌≡◌, ◌∙◌, ◌-◌, ◌==◌, ◌&&◌, ◌||◌, ◌≤◌, ℕ, Bool, true, false, not, List, [], ◌∷◌, length, take, refl, sym, ap, arith}
-use Rattle.std.specs.Prelude.{Option, Some, None, codes, nat_eq, nat_le, nat_lt, if◌then◌else◌}
+use Rattle.std.proofs.Common.{◌≡◌, ◌∙◌, ◌==◌, ◌&&◌, ℕ, Bool, true, false, List, [], ◌∷◌, length, refl, sym, ap, arith}
+use Rattle.std.specs.Prelude.{Option, Some, None, codes, nat_eq, if◌then◌else◌}
 use Rattle.std.specs.Char.{is_ascii_alphabetic, is_ascii_digit}
-use Rattle.std.specs.List.{ends_with, list_all, list_any, slice_index, starts_with}
+use Rattle.std.specs.List.{list_all, list_any, starts_with}
 use Rattle.std.specs.Str.{bytes_eq}
 use Rattle.std.proofs.lemmas.Bool.Decides.{nat_tests}
 use Rattle.std.proofs.lemmas.Slice.Eq.{bytes_eq-Decides}
 use Rattle.case_numbers.specs.Number.{NameView, case_read, is_year, year_read}
 use Rattle.case_numbers.proofs.NumberLemmas.{shown_is_read_back_lem}
 use Rattle.court_clock.specs.Words.{day_text}
-use Rattle.office_rows.specs.Words.{CourtNames, is_number}
-use Rattle.written_fields.specs.declared.dates.DateOrder.{DateOrder}
+use Rattle.office_rows.specs.Words.{is_number}
 use Rattle.written_fields.specs.declared.said.Said.{Said}
-use Rattle.written_fields.specs.declared.said.Said.TheVariants.{Unknown, Clear}
+use Rattle.written_fields.specs.declared.said.Said.TheVariants.{Clear}
 use Rattle.written_fields.specs.Words.{bare, date_said, folded, numbers_in, said_map}
 use Rattle.written_fields.proofs.CallerLemmas.{numbers_stay_whole_lem}
-use Rattle.row_columns.specs.declared.columns.Column.{Column}
-use Rattle.row_columns.specs.declared.columns.Column.TheVariants.{Clerk, Case, Deadline, Motion, Period, Grant, Need, Slots}
+use Rattle.row_columns.specs.declared.columns.Column.TheVariants.{Case, Period, Need}
 use Rattle.written_rows.specs.Fields.{clear_if, field_said, filled_said, grant_said, is_quarters, number_said, period_said, shown_said, slots_said, word_said}
 use Rattle.written_rows.specs.Laws.{LengthsKeepTheirNumbers, NumbersAreTheirFields}
 
