@@ -16,6 +16,7 @@ import datetime
 import json
 import pathlib
 import random
+import re
 import sys
 import tempfile
 
@@ -261,6 +262,23 @@ def check_entering(desk):
     assert desk.call("plain", given=b"1,open,7,2025-09-02").status not in (0, FAULTS)
 
 
+def check_lines(desk):
+    """A fault that is found once the rows are read names the line of the input, also as JSON."""
+    entered = ["enter", "--all-or-nothing", "--as-written"]
+    lines = ["\ufeffClerk,Command,Case,Date,Rule", "# Monday", "", "1,sheet,7,,", "1,sheet,1:25-cv-09999,,", ",,,,", "1,start,25-cv-9999,9/25/2025,59(e)"]
+    for end in ["\n", "\r\n"]:
+        given, before = end.join(lines + [""]).encode(), desk.journal.read_bytes()
+        ended = desk.call(*entered, given=given)
+        said = [re.fullmatch("line ([0-9]+) (fault .*)", line).groups() for line in ended.output.decode().splitlines()]
+        assert ended.status == FAULTS and [(int(line), words[:19]) for line, words in said] == [(5, "fault 4 BadField 3:"), (7, "fault 4 BadField 3:")], ended
+        other = desk.call(*entered, "--json", given=given)
+        assert other.status == FAULTS and other.errors == ended.errors, other
+        assert json.loads(other.output.decode()) == [{"line": int(line), "said": words} for line, words in said], (other, said)
+        assert desk.journal.read_bytes() == before
+    ended = desk.call(*entered, "--json", given=end.join(lines[:4] + [""]).encode())
+    assert ended.status == 0 and b"case 7 filed" in ended.output, ended
+
+
 def main():
     words = sys.argv[1:]
     programs = programs_of([words[0], words[0]])
@@ -283,7 +301,8 @@ def main():
         print("{} misspelt periods, each with its suggestion or with none".format(check_misspelt(desk, draw, count // 10)))
         print("{} sections whose periods are entered, each with its texts".format(check_sections(desk, draw)))
         check_entering(desk)
-        print("rows as written are tried, and kept together or not at all")
+        check_lines(desk)
+        print("rows as written are tried, and kept together or not at all; their faults name the lines of the input")
 
 
 if __name__ == "__main__":

@@ -13,7 +13,7 @@ use office_streams::{Watched, write_all};
 use sqlite_disk::Memory;
 use std::alloc::Global;
 use std::io::Write;
-use written_input::{Reading, json_of, read_input, report_of};
+use written_input::{Reading, json_of, json_of_said, read_input, report_of};
 
 // How many clerks may enter rows.
 const MOST_CLERKS: u8 = 64;
@@ -43,14 +43,14 @@ fn told(
     Ok(report.into_bytes())
 }
 
-// The plain rows that an input is for that court. If lines have faults, what is said of them is written.
-fn rows_read<W: Write>(
+// What an input is read as for that court. If lines have faults, what is said of them is written.
+fn faultless<W: Write>(
     alloc: Global,
     court: &Court,
     style: Style,
     input: &[u8],
     writer: &mut Watched<W>,
-) -> Result<Vec<u8>, DeskFault>
+) -> Result<Reading, DeskFault>
     requires { has_failed writer.old ≡ false }
     ensures working { OnOk result (has_failed writer.new ≡ false) }
 {
@@ -61,26 +61,25 @@ fn rows_read<W: Write>(
     let reading = read_input(alloc, MOST_CLERKS, court, style.order, input)?;
     let count = reading.faulty.len();
     if count == 0 {
-        let Reading { rows, .. } = reading;
-        return Ok(rows);
+        return Ok(reading);
     }
     let told = told(alloc, court, style, &reading)?;
     put(writer, &told)?;
     Err(DeskFault::Faults(count))
 }
 
-// The plain rows that standard input is for that court.
-fn rows_of<W: Write>(
+// What standard input is read as for that court.
+fn reading_of<W: Write>(
     rt: &HostRuntime,
     writer: &mut Watched<W>,
     court: &Court,
     style: Style,
-) -> Result<Vec<u8>, DeskFault>
+) -> Result<Reading, DeskFault>
     requires { has_failed writer.old ≡ false }
     ensures working { OnOk result (has_failed writer.new ≡ false) }
 {
     let input = whole_input(rt)?;
-    rows_read(rt.alloc(), court, style, &input, writer)
+    faultless(rt.alloc(), court, style, &input, writer)
 }
 
 // What stands after entries.
@@ -104,11 +103,50 @@ pub fn plain<W: Write>(
 {
     let entries = entries_beside(rt, folder)?;
     let standing = standing_of(rt.alloc(), &entries)?;
-    let rows = rows_of(rt, writer, &standing.court, style)?;
-    put(writer, &rows)
+    let reading = reading_of(rt, writer, &standing.court, style)?;
+    put(writer, &reading.rows)
 }
 
-/// Keeps the rows of standard input together, and then answers them.
+// Writes what is said of lines, as JSON.
+fn put_said<W: Write>(alloc: Global, writer: &mut Watched<W>, said: &[u8]) -> Result<(), DeskFault>
+    requires { has_failed writer.old ≡ false }
+{
+    match str::from_utf8(said) {
+        Ok("") => Ok(()),
+        Ok(text) => put(writer, &json_of_said(alloc, text)?),
+        Err(_) => put(writer, said),
+    }
+}
+
+// Keeps rows together, and then answers them. What is said of their lines is written as JSON.
+fn enter_saying<W: Write>(
+    alloc: Global,
+    writer: &mut Watched<W>,
+    desk: &mut FolderDesk,
+    rows: &[u8],
+) -> Result<(), DeskFault>
+    requires { has_failed writer.old ≡ false }
+{
+    let mut told = Watched::new(Vec::new(alloc));
+    match desk.enter_together(alloc, rows, &mut told) {
+        Ok(()) => {
+            if write_all(writer, told.inner()).is_err() {
+                return Err(DeskFault::Session(SessionFault::Write));
+            }
+            Ok(())
+        }
+        Err(DeskFault::Write | DeskFault::Unkept(SessionFault::Write)) => {
+            Err(DeskFault::OutOfMemory)
+        }
+        Err(fault) => {
+            put_said(alloc, writer, told.inner())?;
+            Err(fault)
+        }
+    }
+}
+
+/// Keeps the rows of standard input together, and then answers them. Each is entered on the line that says it, so that what is
+/// said of it names that line.
 pub fn enter_written<W: Write>(
     rt: &HostRuntime,
     writer: &mut Watched<W>,
@@ -117,8 +155,12 @@ pub fn enter_written<W: Write>(
 ) -> Result<(), DeskFault>
     requires { has_failed writer.old ≡ false }
 {
-    let rows = rows_of(rt, writer, desk.court(), style)?;
-    desk.enter_together(rt.alloc(), &rows, writer)
+    let reading = reading_of(rt, writer, desk.court(), style)?;
+    if style.json {
+        enter_saying(rt.alloc(), writer, desk, &reading.placed)
+    } else {
+        desk.enter_together(rt.alloc(), &reading.placed, writer)
+    }
 }
 
 // Answers plain rows as they would be answered if they were entered.
@@ -147,8 +189,8 @@ pub fn try_written<W: Write>(
     requires { has_failed writer.old ≡ false }
 {
     let desk = copied_beside(rt, folder)?;
-    match rows_of(rt, writer, desk.court(), style) {
-        Ok(rows) => answer_rows(rt.alloc(), writer, desk, &rows),
+    match reading_of(rt, writer, desk.court(), style) {
+        Ok(reading) => answer_rows(rt.alloc(), writer, desk, &reading.rows),
         Err(fault) => Err(fault),
     }
 }
