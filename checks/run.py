@@ -44,6 +44,8 @@ class Check(NamedTuple):
 
 
 ALL = [
+    Check("build_check", [], [["build_check.py"]],
+          "a small program is proved and built, once", "1 min", quick=True),
     Check("docs_check", [CLERK, MEMO, DESK, FILE, CALENDAR], [["docs_check.py"]],
           "the examples, and commands that documents show", "5 s", quick=True),
     Check("runs_check", [CLERK], [["runs_join.py", "--check"], ["runs_check.py", built(CLERK)]],

@@ -6,9 +6,10 @@
 `rt run` proves a program and the libraries below it one after the other, and says nothing of how far it is. Here each
 crate is proved by itself, those first that most other work waits for, with as many jobs as there are processors, but no
 more than memory allows. Crates that have no crate below them in common are proved side by side; `rt` works on no two
-others at the same time. What is proved is kept in the crates' out/ folders, and isn't proved again while nothing changes.
-out/proved.json notes which libraries were proved and from which sources, so that `rt` isn't asked about each; at the
-end it is asked about each program, and looks at all below it once more. Where a crate isn't proved, the end of what
+others at the same time. What is proved is kept in the crates' out/ folders. out/proved.json notes from which sources and
+with which toolchain, and of a program which file was built; while that is the same, `rt` isn't asked.
+Once a program is linked, `rt run` runs it: here with no words and no input, and what the run answers is passed over. What
+counts is that `rt` said that the program is proved, and that it linked it. Where a crate isn't proved, the end of what
 `rt` printed is shown, and no other is begun. On Ctrl-C all stops, and what was proved is kept. A run of more than a
 minute ends with a table of the seconds of each crate. The status is 0 where all is proved and built. It needs Python
 3.8 or later.
@@ -66,6 +67,26 @@ def prints_of(crates, uses):
     return {crate: print_of(crate) for crate in crates}
 
 
+def program_of(crate):
+    """Where a program is once it is linked."""
+    return TOP / "crates" / crate / "out" / crate
+
+
+def mark_of(crate, prints):
+    """What is noted of a crate that is proved: the number of its sources, and of a program that of the linked file as well.
+    None where what was built isn't there."""
+    if not is_program(crate):
+        library = TOP / "crates" / crate / "out" / "rlib" / (crate + ".rlib")
+        return prints[crate] if library.exists() else None
+    program = program_of(crate)
+    return prints[crate] + " " + hashlib.sha256(program.read_bytes()).hexdigest() if program.exists() else None
+
+
+def noted():
+    """What earlier runs noted of crates."""
+    return json.loads(NOTES.read_text()) if NOTES.exists() else {}
+
+
 def weights_of(crates, uses):
     """How much waits for each crate: its own lines, and those of the longest chain of crates above it."""
     lines = {crate: sum(path.read_bytes().count(b"\n") for path in sources_of(crate)) for crate in crates}
@@ -85,13 +106,25 @@ class Run:
 
     def __init__(self, crate, jobs):
         self.crate, self.jobs, self.began = crate, jobs, time.monotonic()
-        folder = TOP / "crates" / crate
-        given = folder / "stdin"
         self.log = LOGS / (crate + ".log")
-        with open(self.log, "wb") as log, open(given if given.exists() else os.devnull, "rb") as rows:
+        # A program that is there afterwards was linked by this run.
+        if is_program(crate) and program_of(crate).exists():
+            program_of(crate).unlink()
+        with open(self.log, "wb") as log:
             words = ["rt", "run" if is_program(crate) else "lib", "--jobs", str(jobs)]
-            self.process = subprocess.Popen(words, cwd=str(folder), stdin=rows, stdout=log, stderr=subprocess.STDOUT,
-                                            start_new_session=True)
+            self.process = subprocess.Popen(words, cwd=str(TOP / "crates" / crate), stdin=subprocess.DEVNULL, stdout=log,
+                                            stderr=subprocess.STDOUT, start_new_session=True)
+
+    def is_well(self):
+        """Whether rt has proved the crate, and linked it if it is a program. Then the status is the program's own."""
+        if not is_program(self.crate):
+            return self.process.returncode == 0
+        verdicts = [line for line in self.lines() if line.startswith("logic=")]
+        return bool(verdicts) and verdicts[-1].startswith("logic=proved ") and program_of(self.crate).exists()
+
+    def lines(self):
+        """All that rt printed."""
+        return self.log.read_text(errors="replace").splitlines()
 
     def seconds(self):
         return time.monotonic() - self.began
@@ -111,19 +144,15 @@ class Prover:
 
     def __init__(self, wanted, jobs):
         self.uses = uses_of_all()
-        needed = needed_by(wanted, self.uses)
-        self.prints = prints_of(needed, self.uses)
+        self.prints = prints_of(needed_by(wanted, self.uses), self.uses)
+        notes = noted()
+        self.done = {crate for crate in self.prints if notes.get(crate, "") == mark_of(crate, self.prints)}
+        needed = needed_by(set(wanted) - self.done, self.uses)
         self.weights = weights_of(needed, self.uses)
         self.below = {crate: needed_by([crate], self.uses) for crate in needed}
-        notes = json.loads(NOTES.read_text()) if NOTES.exists() else {}
-        self.done = {crate for crate in needed if notes.get(crate) == self.prints[crate] and self.is_kept(crate)}
         self.waiting = needed - self.done
         self.all = len(self.waiting)
         self.jobs, self.running, self.times, self.failed = jobs, [], {}, []
-
-    @staticmethod
-    def is_kept(crate):
-        return not is_program(crate) and (TOP / "crates" / crate / "out" / "rlib" / (crate + ".rlib")).exists()
 
     def begin(self):
         """Begins crates whose libraries are proved, as long as there are jobs: no two that use the same crate, since `rt`
@@ -145,20 +174,19 @@ class Prover:
 
     def note(self):
         """Notes what is proved, for the next time. What an earlier run proved of other crates stays noted."""
-        notes = json.loads(NOTES.read_text()) if NOTES.exists() else {}
-        notes.update((crate, self.prints[crate]) for crate in self.done)
+        notes = noted()
+        notes.update((crate, mark_of(crate, self.prints)) for crate in self.done)
         NOTES.write_text(json.dumps(notes, indent=1, sort_keys=True) + "\n")
 
     def end(self, run):
         self.running.remove(run)
         seconds = run.seconds()
-        if run.process.returncode != 0:
+        if not run.is_well():
             self.failed.append(run.crate)
             self.waiting.clear()
-            lines = run.log.read_text(errors="replace").splitlines()
             print("{} is not proved. All that was printed is in {}; its last lines:".format(
                 run.crate, run.log.relative_to(TOP)))
-            print("\n".join("    " + line for line in lines[-LAST_LINES:]), flush=True)
+            print("\n".join("    " + line for line in run.lines()[-LAST_LINES:]), flush=True)
             return
         self.done.add(run.crate)
         self.times[run.crate] = seconds
@@ -212,7 +240,7 @@ def main():
     began = time.monotonic()
     prover = Prover(given.programs, given.jobs or jobs_that_fit())
     signal.signal(signal.SIGTERM, interrupted)
-    if not all(is_program(crate) for crate in prover.waiting):
+    if prover.waiting:
         print("proving {} crates, {} jobs at a time".format(prover.all, prover.jobs), flush=True)
     try:
         prover.prove()
