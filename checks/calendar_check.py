@@ -415,4 +415,5 @@ def main():
     print("{} texts of {} inputs are what clerk_office and deadline_memo say".format(compared, count))
 
 
-main()
+if __name__ == "__main__":
+    main()

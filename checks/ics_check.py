@@ -190,4 +190,5 @@ def main():
           "khal shows {} in {} zones".format(seen["events"], count, seen["changed"], seen["shown"], len(ZONES)))
 
 
-main()
+if __name__ == "__main__":
+    main()

@@ -68,8 +68,21 @@ def ended(data, words=(), told=None):
 
 
 def lines_of(court, rows, limit, told):
+    answers, docket = answered(court, rows, limit, told)
+    return [line for answer in answers for line in answer] + closing_lines(court, docket)
+
+
+def answers_of(data):
+    """The lines with which each row of an input of one clerk is answered, which has no fault."""
+    of_court, of_rows = split(data)
+    court = court_of(of_court)
+    return answered(court, rows_of(of_rows, 1, court), None, None)[0]
+
+
+def answered(court, rows, limit, told):
+    """The lines with which each row is answered, and the docket after all rows."""
     docket, entries = opening(court), 0
-    lines = []
+    answers = []
     for number, row in enumerate(rows, 1):
         if row.work[0] not in STEPS:
             answer = view(court, docket, row.work)
@@ -81,9 +94,8 @@ def lines_of(court, rows, limit, told):
         if told is not None:
             told(row.work[0], answer)
         first, *more = answer_lines(court, docket, answer)
-        lines.append("{} {} {}".format(number, row.clerk, first))
-        lines += more
-    return lines + closing_lines(court, docket)
+        answers.append(["{} {} {}".format(number, row.clerk, first), *more])
+    return answers, docket
 
 
 def main():

@@ -24,6 +24,8 @@ from reference.civil import CannotTell
 
 FOUR_CLERKS = ["--clerks", "4"]
 RUNS = pathlib.Path(__file__).resolve().parent.parent / "runs"
+# The folder whose runs are those of court_calendar.
+CALENDAR = "calendar"
 
 
 def ended_program(program, data, words=()):
@@ -34,7 +36,7 @@ def ended_program(program, data, words=()):
 
 def runs_of(inputs, outputs):
     """Each run by its name, the words of its command line, its file of that kind, and how it must end."""
-    for path in sorted(RUNS.glob("*/*" + inputs)):
+    for path in sorted(path for path in RUNS.glob("*/*" + inputs) if path.parent.name != CALENDAR):
         name = str(path.relative_to(RUNS).with_suffix(""))
         of_words = path.with_suffix(".words")
         faults = path.with_suffix(".fault")
@@ -70,7 +72,7 @@ def all_runs():
 def write_sums():
     """Writes what is kept of each text that is made, as the reference ends it."""
     for path in sorted(RUNS.glob("*/*.made")):
-        if path.with_suffix(".fault").exists():
+        if path.with_suffix(".fault").exists() or path.parent.name == CALENDAR:
             continue
         of_words = path.with_suffix(".words")
         words = of_words.read_text().split() if of_words.exists() else []

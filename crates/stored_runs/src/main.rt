@@ -1,6 +1,8 @@
-//! Runs of the office, many in one input, for a check that runs each program once.
+//! Runs of the office, of the court's calendar and of the desk, many in one input, for a check that runs each program once.
 #![tactic(auto)]
 
+mod calendar;
+mod desk;
 mod lines;
 mod made;
 mod named;
@@ -14,7 +16,8 @@ use std::io::Write;
 /// Does each run that standard input holds: after a line `%%%% NAME`, and the words of its command line after the name,
 /// a whole input, whose last line end is that before the next such line. For each it writes that line, and then what
 /// the run writes or the line of its fault. After a line `%%%% made NAME` come lines from which the input is made, and
-/// it writes how much the run writes. What comes before the first such line is passed over.
+/// it writes how much the run writes. A NAME that begins with `calendar/` is a run of the court's calendar, and one that
+/// begins with `desk/` a run of the desk. What comes before the first such line is passed over.
 fn main(rt: HostRuntime) -> io::Result<()> {
     let input = io::read_to_string(rt.alloc(), rt.stdin())?;
     let mut output = Vec::new(rt.alloc());

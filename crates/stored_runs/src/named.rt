@@ -1,5 +1,7 @@
 //! A stored run by the line that names it.
 
+use crate::calendar::push_calendar;
+use crate::desk::push_desk;
 use crate::made::push_made;
 use crate::stored::{push_name, push_run};
 use office_options::{OptionsFault, options_of};
@@ -12,7 +14,8 @@ use std::thread::Threads;
 /// Adds the run of that input whose line is `NAME WORD WORD ..`: the words after the name are those of the command
 /// line, each after a space. Where these give no options, the text that says so is written in place of what a run
 /// writes. Where `made ` comes before the name, the input is made from that text, and the sum of what the run writes is
-/// written. `Err` says that memory ran out.
+/// written. A name that begins with `calendar/` is a run of the court's calendar, and one that begins with `desk/` a run
+/// of the desk. `Err` says that memory ran out.
 pub fn push_named<H: Threads + Wait + Sync>(
     rt: &H,
     alloc: Global,
@@ -22,6 +25,12 @@ pub fn push_named<H: Threads + Wait + Sync>(
 ) -> Result<(), AllocError> {
     let of_made = line.strip_prefix("made ");
     let line = of_made.unwrap_or(line);
+    if line.starts_with("desk/") {
+        return push_desk(alloc, output, line, text);
+    }
+    if line.starts_with("calendar/") {
+        return push_calendar(rt, alloc, output, line, text, of_made.is_some());
+    }
     let words: Vec<&str> = line.split(' ').skip(1).collect(alloc)?;
     match options_of(alloc, words.as_slice()) {
         Ok(options) if of_made.is_some() => push_made(rt, alloc, output, line, options, text),
