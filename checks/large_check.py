@@ -1,0 +1,121 @@
+#!/usr/bin/env python3
+"""Sends one large docket through the desk and through every format of the calendar.
+
+    large_check.py DESK CALENDAR MEMO [SEED [COUNT]]
+
+lib/large_docket.py makes it, of a seed, and COUNT of them (1 without it). Its rows are entered at the desk, with the names of
+their cases; the answers must be those of the reference in plain Python. Then 200 rows are struck, one of them for a reason of
+5,000 bytes. The journal must have all its entries, and the rows that the desk writes must be the others, with a table of names
+and one of each number that isn't the place. These rows go through what is due, a week, a page, iCalendar, JSON and SQL, and each
+must say what the reference and deadline_memo say (lib/calendar_faults.py). It needs Python 3.8 or later, sqlite3 and
+python3-icalendar; the status is 0 where all is alike.
+"""
+import pathlib
+import re
+import sys
+import tempfile
+
+from kept_reference import kept_numbers
+from lib.calendar_faults import fault_of
+from lib.desk import Desk, Programs
+from lib.large_docket import large_docket
+from lib.stored_calendars import named
+from office_reference import answers_of
+
+REFERENCE = pathlib.Path(__file__).resolve().parent / "kept_reference.py"
+STRIKE = ["--by", "R. Ames", "--today", "2025-09-02", "--accept"]
+REASONS = ["entered twice", "x" * 5000]
+# What a row names by its number, and what one gives a number to.
+NAMES = {"file": "deadline", "extend": "deadline", "book": "motion", "move": "motion", "cancel": "motion"}
+GIVES = {"start": "deadline", "motion": "motion"}
+
+
+def with_names(names, rows):
+    """The rows in which cases have names."""
+    found = []
+    for row in rows:
+        fields = row.split(",")
+        if fields[1] in ("open", "sheet") or fields[1] in NAMES or fields[1] in GIVES:
+            fields[2] = names[int(fields[2])]
+        found.append(",".join(fields))
+    return found
+
+
+def named_text(names, answers):
+    """The text of answers in which cases have names."""
+    lines = (line for answer in answers for line in answer)
+    return "".join(re.sub(r"(^| )case (\d+) ", lambda found: "{}case {} ".format(found[1], names[int(found[2])]), line) + "\n"
+                   for line in lines)
+
+
+def numbers_given(rows, answers):
+    """Of each row that gives a deadline or a motion: its case and the number."""
+    given = {}
+    for at, (row, answer) in enumerate(zip(rows, answers), 1):
+        fields, words = row.split(","), answer[0].split(" ")
+        if GIVES.get(fields[1]) == words[2]:
+            given[at] = GIVES[fields[1]], int(fields[2]), int(words[3])
+    return given
+
+
+def standing(rows, answers, strikes):
+    """The rows that aren't struck, with places in place of numbers, and the table of numbers that aren't places. A row that names
+    what there isn't, or what is struck, is left out."""
+    given, places, table = numbers_given(rows, answers), {}, {"deadline": {}, "motion": {}}
+    for at, (kind, case, number) in sorted(given.items()):
+        if at not in strikes:
+            place = 1 + sum(key[:2] == (kind, case) for key in places)
+            places[kind, case, number] = place
+            if place != number:
+                table[kind][case, place] = number
+    found = []
+    for at, row in enumerate(rows, 1):
+        fields = row.split(",")
+        if at in strikes:
+            continue
+        if fields[1] in NAMES:
+            key = NAMES[fields[1]], int(fields[2]), int(fields[3])
+            if key not in places:
+                continue
+            fields[3] = str(places[key])
+        found.append(",".join(fields))
+    return found, table
+
+
+
+def check(seed, programs, calendar, memo):
+    docket = large_docket(seed)
+    answers = answers_of(docket.court + b"%%\n" + "".join(row + "\n" for row in docket.rows).encode())
+    with tempfile.TemporaryDirectory() as parent:
+        desk = Desk(programs, parent, docket.court)
+        told = desk.enter([row.encode() + b"\n" for row in with_names(docket.names, docket.rows)]).decode()
+        assert told == named_text(docket.names, answers), "other answers"
+        for at, row in enumerate(docket.strikes):
+            struck = desk.call("strike", str(row), "--reason", REASONS[at == 0], *STRIKE)
+            assert struck.status == 0, (row, struck)
+        kept = desk.call("check")
+        assert kept.output == "rows kept: {}, and each is answered as it was\n".format(len(docket.rows)).encode(), kept
+        assert len(desk.call("struck").output.splitlines()) == len(docket.strikes)
+        written = desk.rows()
+    found = named(written)
+    rows, table = standing(docket.rows, answers, set(docket.strikes))
+    assert found.names == docket.names, "other names of cases"
+    assert kept_numbers(written.decode()) == table, "other numbers"
+    assert written.decode().split("%%\n")[1].splitlines() == rows, "other rows"
+    fault = fault_of(found, calendar, str(REFERENCE), memo, range(3 * seed, 3 * seed + 3))
+    assert fault is None, fault
+    return len(docket.rows) + len(docket.strikes) + 1, sum(map(len, table.values()))
+
+
+def main(words):
+    desk, calendar, memo, *numbers = words
+    seed, count = [int(number) for number in numbers] + [1, 1][len(numbers):]
+    for number in range(seed, seed + count):
+        entries, moved = check(number, Programs(pathlib.Path(desk).resolve(), None), str(pathlib.Path(calendar).resolve()),
+                               str(pathlib.Path(memo).resolve()))
+        print("seed {}: {} entries, {} numbers that aren't places, and each format says what the reference says".format(
+            number, entries, moved), flush=True)
+
+
+if __name__ == "__main__":
+    main(sys.argv[1:])
