@@ -4,8 +4,8 @@
     large_check.py DESK CALENDAR MEMO [SEED [COUNT]]
 
 lib/large_docket.py makes it, of a seed, and COUNT of them (1 without it). Its rows are entered at the desk, with the names of
-their cases; the answers must be those of the reference in plain Python. Then 200 rows are struck, one of them for a reason of
-5,000 bytes. The journal must have all its entries, and the rows that the desk writes must be the others, with a table of names
+their cases, and 200 of the first are struck before the others come, one of them for a reason of 5,000 bytes. The answers must be
+those of the reference in plain Python, since a number that was given isn't given again. The journal must have all its entries, and the rows that the desk writes must be the others, with a table of names
 and one of each number that isn't the place. These rows go through what is due, a week, a page, iCalendar, JSON and SQL, and each
 must say what the reference and deadline_memo say (lib/calendar_faults.py). It needs Python 3.8 or later, sqlite3 and
 python3-icalendar; the status is 0 where all is alike.
@@ -58,29 +58,37 @@ def numbers_given(rows, answers):
     return given
 
 
-def standing(rows, answers, strikes):
-    """The rows that aren't struck, with places in place of numbers, and the table of numbers that aren't places. A row that names
-    what there isn't, or what is struck, is left out."""
-    given, places, table = numbers_given(rows, answers), {}, {"deadline": {}, "motion": {}}
-    for at, (kind, case, number) in sorted(given.items()):
+def numbers_that_moved(rows, answers, strikes):
+    """The table of numbers that aren't places: of deadlines and of motions, the number by the case and the place."""
+    places, table = {}, {"deadline": {}, "motion": {}}
+    for at, (kind, case, number) in sorted(numbers_given(rows, answers).items()):
         if at not in strikes:
-            place = 1 + sum(key[:2] == (kind, case) for key in places)
-            places[kind, case, number] = place
+            places[kind, case] = place = places.get((kind, case), 0) + 1
             if place != number:
                 table[kind][case, place] = number
+    return table
+
+
+def place_of(moved, case, number):
+    """The place of what has the number; none where another thing that moved is there."""
+    found = [place for (of, place), kept in moved.items() if (of, kept) == (case, number)]
+    return found[0] if found else None if (case, number) in moved else number
+
+
+def standing(rows, strikes, table):
+    """The rows that aren't struck, with places in place of numbers. A row that names a number that nothing has is left out."""
     found = []
     for at, row in enumerate(rows, 1):
         fields = row.split(",")
         if at in strikes:
             continue
         if fields[1] in NAMES:
-            key = NAMES[fields[1]], int(fields[2]), int(fields[3])
-            if key not in places:
+            place = place_of(table[NAMES[fields[1]]], int(fields[2]), int(fields[3]))
+            if place is None:
                 continue
-            fields[3] = str(places[key])
+            fields[3] = str(place)
         found.append(",".join(fields))
-    return found, table
-
+    return found
 
 
 def check(seed, programs, calendar, memo):
@@ -88,20 +96,24 @@ def check(seed, programs, calendar, memo):
     answers = answers_of(docket.court + b"%%\n" + "".join(row + "\n" for row in docket.rows).encode())
     with tempfile.TemporaryDirectory() as parent:
         desk = Desk(programs, parent, docket.court)
-        told = desk.enter([row.encode() + b"\n" for row in with_names(docket.names, docket.rows)]).decode()
-        assert told == named_text(docket.names, answers), "other answers"
+        rows = [row.encode() + b"\n" for row in with_names(docket.names, docket.rows)]
+        told = desk.enter(rows[:docket.before])
         for at, row in enumerate(docket.strikes):
             struck = desk.call("strike", str(row), "--reason", REASONS[at == 0], *STRIKE)
             assert struck.status == 0, (row, struck)
+        told += desk.enter(rows[docket.before:])
+        assert told.decode() == named_text(docket.names, answers), "other answers"
         kept = desk.call("check")
         assert kept.output == "rows kept: {}, and each is answered as it was\n".format(len(docket.rows)).encode(), kept
         assert len(desk.call("struck").output.splitlines()) == len(docket.strikes)
         written = desk.rows()
     found = named(written)
-    rows, table = standing(docket.rows, answers, set(docket.strikes))
+    table = numbers_that_moved(docket.rows, answers, docket.strikes)
+    rows = standing(docket.rows, docket.strikes, table)
     assert found.names == docket.names, "other names of cases"
     assert kept_numbers(written.decode()) == table, "other numbers"
-    assert written.decode().split("%%\n")[1].splitlines() == rows, "other rows"
+    for got, wanted in zip(written.decode().split("%%\n")[1].splitlines() + [None], rows + [None]):
+        assert got == wanted, ("another row", got, wanted)
     fault = fault_of(found, calendar, str(REFERENCE), memo, range(3 * seed, 3 * seed + 3))
     assert fault is None, fault
     return len(docket.rows) + len(docket.strikes) + 1, sum(map(len, table.values()))
