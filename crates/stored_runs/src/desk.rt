@@ -71,7 +71,7 @@ fn entered(
     let ended = desk.enter(alloc, &mut reader, answers);
     let disk = desk.into_disk();
     match ended {
-        Ok(()) => Ok(disk),
+        Ok(_) => Ok(disk),
         Err(fault) => Err(DeskFault::Session(fault)),
     }
 }
