@@ -4,10 +4,11 @@
     calendar_runs.py CALENDAR
     calendar_runs.py --write CALENDAR MEMO
 
-With --write what is stored is made anew. What is due, a judge's week and the answers of a desk are the text of the reference in
-plain Python, and the rows that a desk writes are those of the input. A page, a calendar, JSON and SQL are what CALENDAR writes,
-and they are stored only where the checks of these formats find that each says of the input what the reference and
-deadline_memo say (lib/calendar_faults.py). Then runs_join.py puts the runs into the merge gate. It needs Python 3.8 or later and, with --write, what those checks need; the status is 0 where all is as it must be.
+With --write what is stored is made anew. What is due, a judge's week and the answers of a desk are the text of the reference
+in plain Python, and the rows that a desk writes are those of the input. A page, a calendar, JSON and SQL are what CALENDAR
+writes, and they are stored only where the checks of these formats find that each says of the input what the reference and
+deadline_memo say (lib/calendar_faults.py). Then runs_join.py puts the runs into the merge gate. It needs Python 3.8 or later
+and, with --write, what those checks need; the status is 0 where all is as it must be.
 """
 import datetime
 import pathlib

@@ -4,11 +4,12 @@
     large_check.py DESK CALENDAR MEMO [SEED [COUNT]]
 
 lib/large_docket.py makes it, of a seed, and COUNT of them (1 without it). Its rows are entered at the desk, with the names of
-their cases, and 200 of the first are struck before the others come, one of them for a reason of 5,000 bytes. The answers must be
-those of the reference in plain Python, since a number that was given isn't given again. The journal must have all its entries, and the rows that the desk writes must be the others, with a table of names
-and one of each number that isn't the place. These rows go through what is due, a week, a page, iCalendar, JSON and SQL, and each
-must say what the reference and deadline_memo say (lib/calendar_faults.py). It needs Python 3.8 or later, sqlite3 and
-python3-icalendar; the status is 0 where all is alike.
+their cases, and 200 of the first are struck before the others come, one of them for a reason of 5,000 bytes. The answers must
+be those of the reference in plain Python, since a number that was given isn't given again. The journal must have all its
+entries, and the rows that the desk writes must be the others, with a table of names and one of each number that isn't the
+place. These rows go through what is due, a week, a page, iCalendar, JSON and SQL, and each must say what the reference and
+deadline_memo say (lib/calendar_faults.py). It needs Python 3.8 or later, sqlite3 and python3-icalendar; the status is 0 where
+all is alike.
 """
 import pathlib
 import re

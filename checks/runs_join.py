@@ -3,13 +3,13 @@
 
     runs_join.py [--check]
 
-Each runs/FOLDER/NAME.in stands in crates/stored_runs/stdin after a line `%%%% FOLDER/NAME`, in which the words of
-NAME.words stand after the name where there is one (where it has several lines, the input stands there once for each), and
-in crates/stored_runs/stdout stands the same line and then NAME.out or the fault's line of NAME.fault. The lines of a
-NAME.made stand after a line `%%%% made FOLDER/NAME`, and its NAME.sum stands in the place of NAME.out. So does an input
-that isn't text, with `{ff}` for each byte 255. A line end stands after each input, so that one that ends within a line can
-be told from one that doesn't. The runs of runs/calendar are among them. With --check nothing is written, and the status is 1 where the two files aren't
-these. It needs Python 3.8 or later.
+Each runs/FOLDER/NAME.in stands in crates/stored_runs/stdin after a line `%%%% FOLDER/NAME`, in which the words of NAME.words
+stand after the name where there is one (where it has several lines, the input stands there once for each), and in
+crates/stored_runs/stdout stands the same line and then NAME.out or the fault's line of NAME.fault. The lines of a NAME.made
+stand after a line `%%%% made FOLDER/NAME`, and its NAME.sum stands in the place of NAME.out. So does an input that isn't
+text, with `{ff}` for each byte 255. A line end stands after each input, so that one that ends within a line can be told from
+one that doesn't. The runs of runs/calendar are among them. With --check nothing is written, and the status is 1 where the two
+files aren't these. It needs Python 3.8 or later.
 """
 import pathlib
 import sys
