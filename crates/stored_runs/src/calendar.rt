@@ -7,6 +7,7 @@ use crate::lines::input_of;
 use crate::stored::push_name;
 use crate::sums::push_sum;
 use calendar_program::CourtCalendar;
+use court_clock::Instant;
 use office_program::run_program;
 use office_streams::Watched;
 use std::alloc::{AllocError, Global};
@@ -56,15 +57,18 @@ fn calendar_run<H: Threads + Wait + Sync>(
 {
     let words = words_of(alloc, line)?;
     let mut reader = Watched::new(input);
-    Ok(run_program(
-        rt,
-        alloc,
-        &CourtCalendar,
-        Ok(words),
-        &mut reader,
-        writer,
-        errors,
-    ))
+    let program = CourtCalendar {
+        clock_time: first_instant(),
+    };
+    Ok(run_program(rt, alloc, &program, Ok(words), &mut reader, writer, errors))
+}
+
+// The first instant of 1970, which the clock shows in these runs.
+fn first_instant() -> Instant {
+    match Instant::new(0) {
+        Some(instant) => instant,
+        None => unreachable!(),
+    }
 }
 
 // The words of the line, of which the first stands for the program's name.
