@@ -38,14 +38,15 @@ def option(words, name):
     return words[words.index(name) + 1] if name in words else None
 
 
-def reference_text(run):
-    """What is due, or a week, by the reference; none of another format."""
-    from calendar_check import LAST_ROW, closing_of, docket_of, due_text, week_text
+def reference_text(run, memo):
+    """What is due, or a week, by the reference, with the other readings of deadline_memo."""
+    from calendar_check import LAST_ROW, closing_of, docket_of, due_text, ran, reasons_of, week_text
     from lib.case_names import read
     of = named(input_of(run))
-    text = subprocess.run([sys.executable, str(REFERENCE)], input=of.plain + LAST_ROW, stdout=subprocess.PIPE, check=True).stdout
+    text = ran(str(REFERENCE), [], of.plain + LAST_ROW)[1]
+    reasons = reasons_of(closing_of(ran(memo, [], of.plain + LAST_ROW)[1]))
     court = dict(re.findall(r'^(opens|closes|from|to) = "([^"]*)"', of.plain.decode(), re.MULTILINE))
-    docket = docket_of(of.names, closing_of(text.decode()))
+    docket = docket_of(of.names, closing_of(text), reasons)
     judge, called = option(run.words, "--judge"), option(run.words, "--case")
     keys = {read(name)[0]: number for number, name in of.names.items()}
     case = None if called is None else keys[read(called)[0]]
@@ -78,7 +79,7 @@ def write(calendar, memo):
         if is_of_desk(run):
             wanted_of(run).write_bytes(desk_kept(run))
             continue
-        text = reference_text(run) if run.words[0] in ("due", "week") else written(calendar, run)
+        text = reference_text(run, memo) if run.words[0] in ("due", "week") else written(calendar, run)
         wanted_of(run).write_bytes(kept(run, text))
 
 

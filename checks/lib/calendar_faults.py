@@ -2,6 +2,7 @@
 import pathlib
 import random
 import tempfile
+from collections import Counter
 
 import calendar_check
 import ics_check
@@ -21,7 +22,7 @@ def fault_of(input_named, calendar, clerk, memo, seeds):
 
 
 def fault_with(chance, data, calendar, clerk, memo):
-    fault = calendar_check.differs(chance, calendar, clerk, memo, data)[0] or ics_check.differs(chance, calendar, clerk, data)[0] \
+    fault = calendar_check.differs(chance, calendar, clerk, memo, data)[0] or ics_check.differs(Counter(), chance, calendar, clerk, data) \
         or json_check.differs(chance, calendar, clerk, memo, data, lambda whole: True)
     if fault:
         return fault
