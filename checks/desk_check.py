@@ -5,8 +5,8 @@
 
 The examples of examples/ of one clerk are entered in two sessions, and answered as by clerk_office. What is said of an
 empty folder, of one that has a journal, and of a second program is looked at. A question is asked and rows are tried beside
-a program that enters rows, rows that draw warnings are held back, rows are kept together or not at all, cases have their numbers
-as courts write them, and a court is given another file. Then COUNT times (300 without it) a session is ended at a random moment, most of them killed, and COUNT / 3
+a program that enters rows, rows that draw warnings are held back, rows are kept together or not at all, rows with faults are
+counted, a folder is filled with cases, cases have their numbers as courts write them, and a court is given another file. Then COUNT times (300 without it) a session is ended at a random moment, most of them killed, and COUNT / 3
 times one that keeps its rows together, as desk_kill.py does it; COUNT / 10 inputs at random are compared, as desk_compare.py
 does it; and a short journal is damaged in its last COUNT / 2 bytes, as desk_damage.py does it. It needs Python 3.8 or later.
 """
@@ -17,7 +17,7 @@ import tempfile
 from desk_compare import check_rows, compared
 from desk_damage import damaged
 from desk_kill import killed, killed_together
-from lib.desk import Desk, FAULTS, REFUSED, SHORT_COURT, TOGETHER, TOP, divided, drawn_rows, programs_of, run
+from lib.desk import Desk, FAULTS, FAULTY, KEEP_REFUSED, REFUSED, SHORT_COURT, TOGETHER, TOP, divided, drawn_rows, programs_of, run
 from lib.journal import courts_of, names_of, read_journal, rows_of
 
 EXAMPLES = ["smallest", "days", "deadlines", "a_day"]
@@ -87,7 +87,7 @@ def check_trial(programs, draw):
             assert session.stdout.readline() == b"1 1 opened\n"
             whole = desk.journal.read_bytes()
             tried = desk.call("try", given=b"".join(rows))
-            assert tried.status == 0 and not tried.errors, tried
+            assert tried.status == FAULTY and tried.errors.startswith(b"1 of 202 rows "), tried
             again = desk.call("try", given=b"".join(rows) + b"1,sheet,2")
             assert again.status == REFUSED and again.output == tried.output and b"nothing is kept" in again.errors, again
             assert desk.journal.read_bytes() == whole
@@ -169,17 +169,17 @@ def check_warnings(programs):
     with tempfile.TemporaryDirectory() as parent:
         desk = Desk(programs, parent, SHORT_COURT)
         tried = desk.call("try", "--warn", given=b"".join(given for given, answer in CAREFUL))
-        assert tried.status == 0 and tried.output == b"".join(answer for given, answer in CAREFUL), tried
+        assert tried.status == FAULTY and tried.output == b"".join(answer for given, answer in CAREFUL), tried
         for given, answer in CAREFUL:
             whole = desk.journal.read_bytes()
             ended = desk.call("enter", "--warn", given=given)
-            assert ended.status == 0 and not ended.errors and ended.output == answer, (given, ended)
+            assert ended.status == (FAULTY if b" fault " in answer else 0) and ended.output == answer, (given, ended)
             assert (desk.journal.read_bytes() == whole) == answer.startswith(b"row "), given
         ended = desk.call("try", "--warn", "--today", "2026-04-01", given=b"1,start,7,59e,2025-03-04,,,\n")
         assert ended.output == (b"row 11 not kept:\n"
             b"  Tue 2025-03-04  the event lies a year or more before 2026-04-01     note\n" + HELD_LAST), ended
         ended = desk.call("enter", given=b"!1,sheet,7\n")
-        assert ended.status == 0 and ended.output == b"row 11 fault 1 BadClerk\n", ended
+        assert ended.status == FAULTY and ended.output == b"row 11 fault 1 BadClerk\n", ended
         for words in (("enter", "--today", "2025-03-03"), ("ask", "--warn"), ("enter", "--warn", TOGETHER),
                       ("try", "--warn", "--today", "3/3/2025")):
             ended = desk.call(*words)
@@ -212,16 +212,99 @@ def check_together(programs, draw):
             assert (ended.status, ended.output) == (status, output) and error in ended.errors, (given[:100], ended)
             assert b"nothing is kept" in ended.errors and ended.errors.count(b"\n") == 1, ended
             assert desk.journal.read_bytes() == whole
-        # The second row is refused, which is an answer and no fault.
+        # The second row is refused, which is an answer and no fault, and is kept where that is asked for.
         rows = [b"1,open,1,2025-03-03\n", b"1,open,1,2025-03-03\n"] + drawn_rows(draw, 200)
         tried = desk.call("try", given=b"".join(rows))
-        ended = desk.call("enter", TOGETHER, given=b"".join(rows))
+        ended = desk.call("enter", TOGETHER, KEEP_REFUSED, given=b"".join(rows))
         assert ended == tried and ended.status == 0 and b"\n3 1 refused " in ended.output, (ended, tried)
         journal = desk.read()
         assert [row for row, _ in rows_of(journal)][1:] == rows and journal.batches[-1] == len(rows), journal.batches
         ended = desk.call("enter", TOGETHER)
         assert ended.status == 0 and not ended.output and desk.read() == journal, ended
     return "rows that are kept together, or not at all where a line has a fault"
+
+
+# A list whose second command is refused, so that its first deadline is that of 4(m); the act is meant for the one before it.
+REFUSED_LIST = (b"1,sheet,2\r\n\r\n1,open,1,2025-03-03\r\n1,start,1,12a1B,2025-03-03,,,\r\n1,start,1,4m,2025-03-03,,,\r\n"
+                b"1,start,1,59e,2025-03-03,,,\r\n1,file,1,1,2025-03-24,10:00,electronic\r\n")
+
+
+def check_refused(programs):
+    """A command that is refused stops a list that is kept together, unless it is to be kept; a question that is refused doesn't."""
+    with tempfile.TemporaryDirectory() as parent:
+        desk = Desk(programs, parent, SHORT_COURT)
+        desk.enter([b"1,open,3,2025-03-03\n"])
+        whole = desk.journal.read_bytes()
+        ended = desk.call("enter", TOGETHER, given=REFUSED_LIST)
+        assert (ended.status, ended.output) == (FAULTS, b"line 4 would be answered: 4 1 refused 7 WrongService\n"), ended
+        assert b"line 4" in ended.errors and b"nothing is kept" in ended.errors and ended.errors.count(b"\n") == 1, ended
+        assert desk.journal.read_bytes() == whole
+        written = desk.call("enter", TOGETHER, "--as-written", given=REFUSED_LIST)
+        assert written.status == FAULTS and b" would be answered: 4 1 refused 7 WrongService\n" in written.output, written
+        assert desk.journal.read_bytes() == whole
+        kept = desk.call("enter", TOGETHER, KEEP_REFUSED, given=REFUSED_LIST)
+        assert kept.status == 0 and not kept.errors and kept.output == (
+            b"2 1 refused 1 NoSuchCase\n3 1 opened\n4 1 refused 7 WrongService\n5 1 deadline 1 last 2025-06-02\n"
+            b"6 1 deadline 2 last 2025-03-31\n7 1 filed timely\n"), kept
+        assert len(rows_of(desk.read())) == 7
+        # What has a fault is said before what would be refused, and nothing else stops a list.
+        ended = desk.call("enter", TOGETHER, given=b"1,open,1,2025-03-03\n1,no,row\n")
+        assert ended.status == FAULTS and ended.output.startswith(b"line 2 fault 2 ") and b"would be" not in ended.output, ended
+        ended = desk.call("enter", TOGETHER, given=b"1,sheet,9\n1,start,1,59b,2025-03-03,,,\n1,file,1,3,2025-03-24,10:00,electronic\n")
+        assert ended.status == 0 and ended.output.endswith(b"10 1 filed timely\n"), ended
+        for words in (("enter", KEEP_REFUSED), ("try", KEEP_REFUSED), ("ask", KEEP_REFUSED), ("enter", "--warn", KEEP_REFUSED)):
+            ended = desk.call(*words)
+            assert ended.status == 1 and not ended.output and ended.errors.startswith(b"error: --keep-refused"), (words, ended)
+    return "a list that is kept together stops at a command that is refused"
+
+
+def check_faulty(programs):
+    """At the end of its input a session says how many rows had faults; all others are taken."""
+    rows = b"1,open,1,2025-03-03\n\n1,open,2,2025-02-30\n1,no,row\n1,sheet,1\n"
+    told = b"row 2 fault 4 BadField 4\nrow 2 fault 2 UnknownCommand\n"
+    with tempfile.TemporaryDirectory() as parent:
+        desk = Desk(programs, parent, SHORT_COURT)
+        for words, output in ((("try",), b"1 1 opened\n" + told + b"2 1 sheet\ncase 1 filed 2025-03-03\n"),
+                              (("try", "--warn"), b"1 1 opened\n" + told + b"2 1 sheet\ncase 1 filed 2025-03-03\n"),
+                              (("enter",), b"1 1 opened\n" + told + b"2 1 sheet\ncase 1 filed 2025-03-03\n")):
+            ended = desk.call(*words, given=rows)
+            assert (ended.status, ended.output) == (FAULTY, output), (words, ended)
+            assert ended.errors.startswith(b"2 of 4 rows had faults") and ended.errors.count(b"\n") == 1, (words, ended)
+        ended = desk.call("ask", given=b"1,compute,59e,2025-08-04,,,\n1,sheet\n")
+        assert (ended.status, ended.output) == (FAULTY, b"3 1 last 2025-09-02\nrow 3 fault 3 WrongCount\n"), ended
+        assert ended.errors.startswith(b"1 of 2 rows had a fault"), ended
+        assert len(rows_of(desk.read())) == 2
+        # A last line with no end, and a reader that is gone, are said before it.
+        ended = desk.call("enter", given=b"1,no,row\n1,open,2,2025-03-03")
+        assert ended.status == REFUSED and b"no end" in ended.errors, ended
+    return "a session says at its end how many rows had faults"
+
+
+# How many cases a folder holds, and what is said of one more.
+MOST_CASES = 4096
+TOO_MANY = b"fault 7 TooManyCases: the folder holds 4096 cases, and takes no more: open another folder for this case\n"
+
+
+def check_cases(programs):
+    """A folder is filled with cases, and one more by a number of the court has words of its own."""
+    with tempfile.TemporaryDirectory() as parent:
+        desk = Desk(programs, parent, SHORT_COURT)
+        desk.enter([b"1,open,25-cv-%05d,2025-03-03\n" % number for number in range(1, MOST_CASES + 1)])
+        more = b"1,open,25-cv-%05d,2025-03-03\n" % (MOST_CASES + 1)
+        whole = desk.journal.read_bytes()
+        for words in (("enter",), ("try",), ("ask",), ("enter", "--warn")):
+            ended = desk.call(*words, given=more)
+            assert (ended.status, ended.output) == (FAULTY, b"row 4097 " + TOO_MANY), (words, ended)
+        ended = desk.call("enter", TOGETHER, given=b"1,sheet,1\n" + more)
+        assert (ended.status, ended.output) == (FAULTS, b"line 2 " + TOO_MANY), ended
+        # No other row gets these words.
+        others = [(b"1,sheet,25-cv-05000\n", b"row 4097 fault 4 BadField 3\n"), (b"1,open,25-cv-1x,2025-03-03\n", b"row 4097 fault 4 BadField 3\n"),
+                  (b"1,open,25-cv-09999\n", b"row 4097 fault 3 WrongCount\n")]
+        ended = desk.call("enter", given=b"".join(row for row, _ in others))
+        assert ended.output == b"".join(answer for _, answer in others), ended
+        assert desk.journal.read_bytes() == whole
+        assert desk.enter([b"1,open,25-cv-00001,2025-03-03\n"]) == b"4097 1 refused 2 CaseIsOpen\n"
+    return "a folder takes {} cases, and says so of one more".format(MOST_CASES)
 
 
 def check_numbers(programs):
@@ -285,6 +368,7 @@ def main(words):
     count = int(words[3]) if len(words) > 3 else 300
     for check in (lambda: check_examples(programs, draw), lambda: check_folder(programs), lambda: check_second(programs),
                   lambda: check_trial(programs, draw), lambda: check_warnings(programs), lambda: check_together(programs, draw),
+                  lambda: check_refused(programs), lambda: check_faulty(programs), lambda: check_cases(programs),
                   lambda: check_numbers(programs), lambda: check_court(programs),
                   lambda: compared(programs, draw, count // 10), lambda: damaged(programs, draw, 12, count // 2),
                   lambda: killed(programs, draw, count), lambda: killed_together(programs, draw, count // 3)):

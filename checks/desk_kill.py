@@ -21,7 +21,7 @@ import threading
 import time
 from collections import Counter
 
-from lib.desk import Desk, SHORT_COURT, TOGETHER, drawn_rows, programs_of
+from lib.desk import Desk, KEEP_REFUSED, SHORT_COURT, TOGETHER, drawn_rows, programs_of
 from lib.journal import rows_of
 
 # How many sessions go on with the same folder, and of how many cases their rows are.
@@ -140,7 +140,7 @@ def killed(programs, draw, count):
 def kill_together(desk, rows, pace, draw):
     """Kills a session that keeps these rows together: whether it has kept them, and whether it has answered one."""
     before = rows_of(desk.read())
-    session = desk.session(TOGETHER)
+    session = desk.session(TOGETHER, KEEP_REFUSED)
     giver = threading.Thread(target=give, args=(session.stdin, [b"".join(rows)], [0]))
     giver.start()
     written = end(session, KILLED, draw, draw.random() * pace)

@@ -22,7 +22,7 @@ import tempfile
 import threading
 import time
 
-from lib.desk import Desk, REFUSED, SHORT_COURT, drawn_rows, programs_of
+from lib.desk import Desk, FAULTY, REFUSED, SHORT_COURT, drawn_rows, programs_of
 from lib.journal import rows_of
 
 NOBODY = 65534
@@ -199,7 +199,7 @@ def check_full_journal(programs, count):
         desk = Desk(programs, parent, SHORT_COURT)
         ended = desk.call("enter", given=row * count)
         *_, last, beyond = ended.output.splitlines()
-        assert ended.status == 0 and last.startswith(b"%d 1 " % (count - 1)) and b"TooManyRows" in beyond, (last, beyond)
+        assert ended.status == FAULTY and last.startswith(b"%d 1 " % (count - 1)) and b"TooManyRows" in beyond, (last, beyond)
         began = time.monotonic()
         ended = desk.call("check")
         seconds = time.monotonic() - began

@@ -18,7 +18,7 @@ import subprocess
 import sys
 import tempfile
 
-from lib.desk import Desk, Programs, SHORT_COURT, TOGETHER
+from lib.desk import Desk, KEEP_REFUSED, Programs, SHORT_COURT, TOGETHER
 from lib.journal import read_journal
 from lib.refusals import PROGRAM_ENDED, lacking, library_that_refuses, run, swept
 
@@ -84,7 +84,8 @@ def refuse_tasks(programs, library):
         ended = [Task(desk, ["enter"], ROWS).sweep(library)]
         desk.enter(ROWS.splitlines(True))
         sound = ROWS.replace(b"1,nothing\n", b"")
-        for words, given in ((["enter"], ROWS), (["enter", TOGETHER], ROWS), (["enter", TOGETHER], sound), (["try"], ROWS),
+        for words, given in ((["enter"], ROWS), (["enter", TOGETHER], ROWS), (["enter", TOGETHER], sound),
+                             (["enter", TOGETHER, KEEP_REFUSED], sound), (["try"], ROWS),
                              (["ask"], ROWS), (["rows"], b""), (["check"], b""),
                              (["court", other], b""), (["court", other, "--accept"], b"")):
             ended.append(Task(desk, words, given).sweep(library))

@@ -1,5 +1,6 @@
 """A desk's folder, and the two programs that its checks call."""
 import pathlib
+import re
 import subprocess
 from typing import NamedTuple
 
@@ -8,8 +9,11 @@ from lib.journal import read_journal
 TOP = pathlib.Path(__file__).resolve().parent.parent.parent
 # The status with which the desk ends where its journal can't be opened, read or written.
 REFUSED = 6
-# The option with which all rows are kept or none, and the status with which a call ends whose rows have faults.
-TOGETHER, FAULTS = "--all-or-nothing", 3
+# The option with which all rows are kept or none, the one with which commands that are refused are kept too, and the status with
+# which a call ends whose rows have faults.
+TOGETHER, KEEP_REFUSED, FAULTS = "--all-or-nothing", "--keep-refused", 3
+# The status with which a session ends in which some rows had faults, and the line with which such a row is answered.
+FAULTY, FAULT_LINE = 8, re.compile(rb"row \d+ fault ")
 # A court's file that is short, so that a journal's bytes are mostly those of its rows.
 SHORT_COURT = b"""zone = "EST5EDT,M3.2.0/2,M11.1.0/2"
 opens = "08:30"
@@ -121,9 +125,10 @@ class Desk:
         return self.court + end + b"%%\n" + b"".join(rows)
 
     def enter(self, rows):
-        """The answers to rows, which all can be taken."""
+        """The answers to rows. Where some have faults, the session says how many at its end."""
         ended = self.call("enter", given=b"".join(rows))
-        assert ended.status == 0, ended
+        faulty = sum(FAULT_LINE.match(line) is not None for line in ended.output.splitlines())
+        assert ended.status == (FAULTY if faulty else 0) and ended.errors.startswith(b"%d of " % faulty if faulty else b""), ended
         return ended.output
 
     def rows(self):

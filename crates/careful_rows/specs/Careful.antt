@@ -7,8 +7,10 @@ use Rattle.row_line.specs.declared.line.Line.{Line}
 use Rattle.row_line.specs.declared.line.Line.TheVariants as says
 use Rattle.row_line.specs.Words.{line_read}
 use Rattle.office_rows.specs.Words.{names_of}
+use Rattle.durable_session.specs.declared.outcome.Outcome.{Outcome}
+use Rattle.durable_session.specs.declared.outcome.Outcome.TheVariants.{Taken}
 use Rattle.docket_entries.specs.declared.standing.Standing.{Standing}
-use Rattle.docket_entries.specs.Words.{answers, cases_of, docketed_by, leaves, most_clerks, next_number, reading_at, run_by, within}
+use Rattle.docket_entries.specs.Words.{answers, cases_of, docketed_by, leaves, most_clerks, next_number, outcome, reading_at, run_by, within}
 use Rattle.careful_rows.specs.Warnings.{warnings_on}
 
 -- what comes after the '!' with which a line begins, if it does: that is taken without warnings
@@ -58,3 +60,11 @@ told_of_taken under kept warnings (Some line) = answers under kept line
 
 abbrev pub careful_answers : Standing → (today : Option ℤ) → (kept : List (List ℕ)) → (line : List ℕ) → List ℕ
 careful_answers under today kept line = told_of_taken under kept (warnings_at under today kept line) (taken_at under today kept line)
+
+-- what comes of it: what comes of that line, and one that is held back has no fault
+abbrev pub came_of_taken : Standing → (kept : List (List ℕ)) → Option (List ℕ) → Outcome
+came_of_taken under kept None = Taken
+came_of_taken under kept (Some line) = outcome under kept line
+
+abbrev pub careful_outcome : Standing → (today : Option ℤ) → (kept : List (List ℕ)) → (line : List ℕ) → Outcome
+careful_outcome under today kept line = came_of_taken under kept (taken_at under today kept line)

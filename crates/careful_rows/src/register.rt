@@ -8,7 +8,7 @@ use court_clock::Day;
 use csv::StringRecord;
 use docket_entries::{DocketRegister, Standing, read_named};
 use docket_rows::{Command, Query};
-use durable_session::Register;
+use durable_session::{Outcome, Register};
 use office_rows::{Row, RowCause, Work};
 use row_line::Line;
 use rule_periods::{Grant, Request};
@@ -124,13 +124,15 @@ impl Register for CarefulRegister {
     type Setup = CarefulStanding;
 
     ghost use Rattle.docket_entries.specs.Words.{IsReadyAt};
-    ghost use Rattle.careful_rows.specs.Careful.{careful_answers, careful_leaves};
+    ghost use Rattle.careful_rows.specs.Careful.{careful_answers, careful_leaves, careful_outcome};
 
     ghost stands = { λ setup careful kept. IsReadyAt setup.standing careful.register kept };
 
     ghost leaves = { λ setup kept line. careful_leaves setup.standing setup.today kept line };
 
     ghost answers = { λ setup kept line. careful_answers setup.standing setup.today kept line };
+
+    ghost outcome = { λ setup kept line. careful_outcome setup.standing setup.today kept line };
 
     fn take(
         &mut self,
@@ -139,7 +141,7 @@ impl Register for CarefulRegister {
         line: &[u8],
         batch: &mut Vec<Vec<u8>>,
         text: &mut Vec<u8>,
-    ) -> Result<(), AllocError> {
+    ) -> Result<Outcome, AllocError> {
         if let Some(rest) = after_mark(line) {
             return self
                 .register
@@ -151,6 +153,7 @@ impl Register for CarefulRegister {
                 .register
                 .take(&setup.standing, alloc, line, batch, text);
         }
-        push_held(alloc, text, self.register.next_number(), warnings.as_str())
+        push_held(alloc, text, self.register.next_number(), warnings.as_str())?;
+        Ok(Outcome::Taken)
     }
 }

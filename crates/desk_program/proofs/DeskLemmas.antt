@@ -4,6 +4,7 @@ use Rattle.std.specs.Prelude.{Vec}
 use Rattle.std.specs.declared.alloc.Global.{Global}
 use Rattle.durable_journal.specs.Words.{IsKept, StandsFor, batch_of}
 use Rattle.durable_journal.proofs.CallerLemmas.{one_list, rest_kept}
+use Rattle.durable_session.proofs.CallerLemmas.{unanswered}
 use Rattle.durable_session.specs.Words.{IsAllOrNone, IsPromised, IsServed, left_by, lines_of, numbered_lines, unfinished_of}
 use Rattle.row_strikes.specs.declared.strike.Strike.{Strike}
 use Rattle.row_strikes.specs.Words.{strike_entry}
@@ -12,7 +13,7 @@ use Rattle.docket_entries.specs.Words.{IsHistory, IsReadyAt, StandsAfter, answer
 use Rattle.docket_entries.proofs.CallerLemmas.{left_docketed, left_history}
 use Rattle.desk_program.specs.declared.desk.Desk.{Desk}
 use Rattle.desk_program.specs.Desk.{IsPromisedDocket, KeepsDocket, disk_under, docketed_at, standing_at}
-use Rattle.desk_program.specs.Together.{IsDocketAllOrNone, KeepsTogether}
+use Rattle.desk_program.specs.Together.{IsDocketAllOrNone, KeepsTogether, stop_of}
 
 module _ {D : Type 0} (seen : D → List ℕ) (may_leave : D → List ℕ → Type 0) (is_usable : D → Bool) (before after : Desk D) (kept : List (List ℕ)) where
   -- lines that are served, of a docket
@@ -26,13 +27,13 @@ module _ {D : Type 0} (seen : D → List ℕ) (may_leave : D → List ℕ → Ty
   }
 
   -- the same of an input that is kept together
-  pub kept_together : KeepsDocket seen may_leave is_usable kept before → standing_at after ≡ standing_at before → (input : List ℕ) (old new : Option (List ℕ))
-      → faults_of (standing_at before) kept (numbered_lines input) ≡ [] → unfinished_of input ≡ []
+  pub kept_together : KeepsDocket seen may_leave is_usable kept before → standing_at after ≡ standing_at before → (keep_refused : Bool) (input : List ℕ) (old new : Option (List ℕ))
+      → faults_of (standing_at before) kept (numbered_lines input) ≡ [] → unfinished_of input ≡ [] → stop_of (standing_at before) keep_refused kept input ≡ None
       → IsServed (leaves (standing_at before)) (answers (standing_at before)) (λ entries. IsKept seen may_leave is_usable entries after.journal) (IsReadyAt (standing_at before) after.register) kept (lines_of input) old new
-      → KeepsTogether (standing_at before) kept input old new (λ entries. KeepsDocket seen may_leave is_usable entries after)
-  kept_together keeps same input old new faultless finished served =
+      → KeepsTogether (standing_at before) keep_refused kept input old new (λ entries. KeepsDocket seen may_leave is_usable entries after)
+  kept_together keeps same keep_refused input old new faultless finished unrefused served =
       let all = served_docket keeps same (lines_of input) old new served in
-      record { faultless = faultless; finished = finished; keeps = all.keeps; told = all.told }
+      record { faultless = faultless; finished = finished; unrefused = unrefused; keeps = all.keeps; told = all.told }
 
   -- lines that are promised, of a docket
   pub promised_docket : KeepsDocket seen may_leave is_usable kept before → (lines : List (List ℕ)) (old new : Option (List ℕ)) (HasWritten : Type 0) (MayLeave : List ℕ → Type 0)
@@ -45,6 +46,13 @@ module _ {D : Type 0} (seen : D → List ℕ) (may_leave : D → List ℕ → Ty
         let both = left_history (standing_at before) kept (take n lines) keeps.docketed.history keeps.docketed.standing in
         (kept ++ left_by (leaves (standing_at before)) kept (take n lines), stands, both.0, both.1);
   }
+
+  -- and where nothing was done
+  pub none_promised : KeepsDocket seen may_leave is_usable kept before → (lines : List (List ℕ)) (old : Option (List ℕ)) (HasWritten : Type 0)
+      → IsPromisedDocket (standing_at before) kept lines old old HasWritten (may_leave (disk_under before))
+  none_promised keeps lines old HasWritten =
+      promised_docket keeps lines old old HasWritten (may_leave (disk_under before))
+      (unanswered (leaves (standing_at before)) (answers (standing_at before)) kept lines old HasWritten (may_leave (disk_under before)) (λ file may. inl (rest_kept seen may_leave is_usable before.journal kept keeps.kept file may)))
 
   -- lines that are kept together, of a docket
   pub all_or_none_docket : KeepsDocket seen may_leave is_usable kept before → (lines : List (List ℕ)) (MayLeave : List ℕ → Type 0)
@@ -70,6 +78,10 @@ same_entries file c found entries is stood stands = subst (StandsFor c) (one_lis
 pub some_weaker : {A : Type 0} (x : Option A) (P Q : A → Type 0) → ((a : A) → P a → Q a) → IfSome x P → IfSome x Q
 some_weaker None P Q more h = tt
 some_weaker (Some a) P Q more h = more a h
+
+pub some_both : {A : Type 0} (x : Option A) (P Q S : A → Type 0) → ((a : A) → P a → Q a → S a) → IfSome x P → IfSome x Q → IfSome x S
+some_both None P Q S more h i = tt
+some_both (Some a) P Q S more h i = more a h i
 
 -- there are no entries
 pub no_entries : (entries : List (Vec ℕ Global)) → 0 ≡ length entries → batch_of entries ≡ []

@@ -1,14 +1,16 @@
 -- Questions on the docket to which entries come.
-use Rattle.std.specs.Prelude.{ℕ, List, [], Option}
+use Rattle.std.specs.Prelude.{◌≡◌, ℕ, List, [], Option}
 use Rattle.std.specs.Io.KnownBytes.{Appends}
-use Rattle.durable_session.specs.Words.{told_to}
+use Rattle.durable_session.specs.declared.outcome.Tally.{Tally}
+use Rattle.durable_session.specs.Words.{tally_of, told_to}
 use Rattle.docket_entries.specs.declared.standing.Standing.{Standing}
-use Rattle.docket_entries.specs.Words.{IsHistory, StandsAfter, shown}
+use Rattle.docket_entries.specs.Words.{IsHistory, StandsAfter, came_shown, shown}
 
 -- The entries are a history, and each line is answered as a question on the docket after them, under what stands
--- there. No line changes what the next is answered.
-pub record AnswersQuestions (entries lines : List (List ℕ)) (before after : Option (List ℕ)) : Type 0 where
+-- there. No line changes what the next is answered. The tally says how many lines there were, and how many had faults.
+pub record AnswersQuestions (entries lines : List (List ℕ)) (tally : Tally) (before after : Option (List ℕ)) : Type 0 where
   pub history : IsHistory entries
   pub under : Standing
   pub stands : StandsAfter entries under
   pub told : Appends before after (told_to (λ kept line. []) (shown under) entries lines)
+  pub counted : tally ≡ tally_of (λ kept line. []) (came_shown under) entries lines

@@ -9,7 +9,7 @@ use Rattle.docket_entries.specs.Words.{IsDocketed, IsHistory, StandsAfter, answe
 use Rattle.office_streams.specs.Words.{court_part}
 use Rattle.desk_program.specs.declared.desk.Desk.{Desk}
 use Rattle.desk_program.specs.declared.fault.DeskFault.{DeskFault}
-use Rattle.desk_program.specs.declared.fault.DeskFault.TheVariants.{BadStrike, Busy, Court, Differs, Divided, Faults, File, Foreign, Journal, KeptCourt, LongInput, NoJournal, Other, OutOfMemory, Session, Taken, Unkept, Unstruck, Write}
+use Rattle.desk_program.specs.declared.fault.DeskFault.TheVariants.{BadStrike, Busy, Court, Differs, Divided, Faults, Faulty, File, Foreign, Journal, KeptCourt, LongInput, NoJournal, Other, OutOfMemory, Refused, Session, Taken, Unkept, Unstruck, Write}
 
 -- the disk under a desk
 abbrev pub disk_under : {D : Type 0} → Desk D → D
@@ -50,6 +50,8 @@ HasCourtFault file (Journal fault) = ⊥
 HasCourtFault file (Session fault) = ⊥
 HasCourtFault file (Unkept fault) = ⊥
 HasCourtFault file (Faults count) = ⊥
+HasCourtFault file (Refused line) = ⊥
+HasCourtFault file (Faulty tally) = ⊥
 HasCourtFault file LongInput = ⊥
 HasCourtFault file Busy = ⊥
 HasCourtFault file Foreign = ⊥

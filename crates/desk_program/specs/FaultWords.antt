@@ -5,6 +5,9 @@ use Rattle.std.specs.Option.{option_map_or}
 use Rattle.std.specs.Str.{is_utf8}
 use Rattle.office_rows.specs.declared.fault.RowCause.{RowCause}
 use Rattle.office_rows.specs.declared.fault.RowCause.TheVariants.{BadClerk, BadField, NotText, TooManyRows, UnknownCommand, WrongCount}
+use Rattle.docket_entries.specs.declared.cause.LineCause.{LineCause}
+use Rattle.docket_entries.specs.declared.cause.LineCause.TheVariants as lines
+use Rattle.docket_entries.specs.Words.{too_many_words}
 use Rattle.row_columns.specs.declared.columns.Column.{Column}
 use Rattle.row_columns.specs.declared.columns.Column.TheVariants.{Case, Deadline, Motion, Date, Notice, SecondOrNone, Time, From, TimeOrNone, Start, To, Period, ServiceOrNone, Means, Grant, ByMotion, Cause, Neglect, Need, Judge, Judges, Slots, Holidays, Clerk, Command, Room}
 use Rattle.row_columns.specs.Words.{column_at, columns_of, commands_listed, mark_of}
@@ -94,3 +97,7 @@ line_words TooManyRows line = codes "the folder holds as many rows as it takes"
 -- what is said of a line
 abbrev pub fault_words : RowCause → List ℕ → List ℕ
 fault_words cause line = if is_utf8 line then line_words cause line else not_text
+
+abbrev pub cause_words : LineCause → List ℕ → List ℕ
+cause_words (lines.Row cause) line = fault_words cause line
+cause_words lines.TooManyCases line = too_many_words

@@ -9,7 +9,7 @@ use Rattle.durable_session.specs.declared.fault.SessionFault.TheVariants as sess
 use Rattle.docket_entries.specs.declared.fault.HistoryFault.{HistoryFault}
 use Rattle.docket_entries.specs.declared.fault.HistoryFault.TheVariants as history
 use Rattle.desk_program.specs.declared.fault.DeskFault.{DeskFault}
-use Rattle.desk_program.specs.declared.fault.DeskFault.TheVariants.{BadStrike, Busy, Court, Differs, Divided, Faults, File, Foreign, Journal, KeptCourt, LongInput, NoJournal, Other, OutOfMemory, Session, Taken, Unkept, Unstruck, Write}
+use Rattle.desk_program.specs.declared.fault.DeskFault.TheVariants.{BadStrike, Busy, Court, Differs, Divided, Faults, Faulty, File, Foreign, Journal, KeptCourt, LongInput, NoJournal, Other, OutOfMemory, Refused, Session, Taken, Unkept, Unstruck, Write}
 
 abbrev pub journal_fault : JournalFault → DeskFault
 journal_fault (journal.Damaged number) = Journal (journal.Damaged number)
@@ -31,7 +31,7 @@ abbrev pub IsNamed : (name : List ℕ) → Error → DeskFault → Type 0
 IsNamed name error fault = (held : String Global) × (string_bytes held ≡ name) × (fault ≡ File held error)
 
 -- the status of a fault: 2 for the court's file, 3 for rows, and for one that can't be struck, 4 for files and streams, 5 for want of memory, 6 for the journal,
--- 7 for a court's file or a strike that isn't taken since answers would differ
+-- 7 for a court's file or a strike that isn't taken since answers would differ, 8 for rows that had faults among others that were taken
 abbrev pub desk_status : DeskFault → ℕ
 desk_status (Court court.OutOfMemory) = 5
 desk_status (Court _) = 2
@@ -54,6 +54,8 @@ desk_status (Unkept session.Write) = 4
 desk_status (Unkept session.OutOfMemory) = 5
 desk_status (Unkept _) = 6
 desk_status (Faults count) = 3
+desk_status (Refused line) = 3
+desk_status (Faulty tally) = 8
 desk_status LongInput = 4
 desk_status Busy = 6
 desk_status Foreign = 6

@@ -8,5 +8,5 @@ pub use Rattle.desk_program.specs.Faults.{desk_status}
 pub use Rattle.desk_program.specs.Rows.{changes_text, written_rows}
 pub use Rattle.desk_program.specs.Strike.{IsStruck, RefusesStrike, StrikesRow}
 pub use Rattle.desk_program.specs.Struck.{struck_text}
-pub use Rattle.desk_program.specs.Together.{IsAtFault, IsDocketAllOrNone, KeepsTogether, RefusesLines, line_faults_text}
+pub use Rattle.desk_program.specs.Together.{IsAtFault, IsDocketAllOrNone, KeepsTogether, RefusesCommand, RefusesLines, SaysWhatIsKept, line_faults_text, refused_text, stop_of}
 pub use Rattle.desk_program.specs.Trial.{IsTried, IsTriedInPart}

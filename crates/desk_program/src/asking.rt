@@ -1,5 +1,5 @@
 //! Questions on a docket that is only read.
-ghost use Rattle.std.specs.Prelude.{◌≡◌, ◌≤◌, length, false, IfSome, OnOk};
+ghost use Rattle.std.specs.Prelude.{◌≡◌, ◌≤◌, length, false, IfOk, IfSome};
 ghost use Rattle.durable_journal.specs.Words.{batch_of};
 ghost use Rattle.durable_session.specs.Words.{lines_of};
 ghost use Rattle.docket_entries.specs.Words.{most_entries};
@@ -8,28 +8,28 @@ ghost use Rattle.desk_program.specs.Ask.{AnswersQuestions};
 
 use crate::fault::DeskFault;
 use docket_entries::{Docketed, Questions};
-use durable_session::answer;
+use durable_session::{Tally, answer};
 use office_streams::Watched;
 use std::alloc::Global;
 use std::io::{Read, Write};
 
 /// Answers questions on the docket to which entries come, one in a line, until the input ends. Nothing is kept: a command is
-/// answered with a line that says where to enter it.
+/// answered with a line that says where to enter it. At the end it says how many lines there were, and how many had faults.
 pub fn ask<R: Read, W: Write>(
     alloc: Global,
     entries: &[Vec<u8>],
     reader: &mut Watched<R>,
     writer: &mut Watched<W>,
-) -> Result<(), DeskFault>
+) -> Result<Tally, DeskFault>
     requires few { length entries.now ≤ most_entries }
     requires writer_works { has_failed writer.old ≡ false }
-    ensures { OnOk result (IfSome (R.remaining (watched reader.old)) (λ input.
-        AnswersQuestions (batch_of entries.now) (lines_of input) (W.contents (watched writer.old)) (W.contents (watched writer.new)))) }
+    ensures { IfOk result (λ tally. IfSome (R.remaining (watched reader.old)) (λ input.
+        AnswersQuestions (batch_of entries.now) (lines_of input) tally (W.contents (watched writer.old)) (W.contents (watched writer.new)))) }
 {
     let Docketed { standing, register } = Docketed::of(alloc, entries)?;
     let mut questions = Questions { register };
     match answer(&standing, alloc, &mut questions, reader, writer) {
-        Ok(()) => Ok(()),
-        Err(fault) => Err(DeskFault::Session(fault)),
+        Ok(tally) => Ok(tally),
+        Err(fault) => Err(DeskFault::Unkept(fault)),
     }
 }

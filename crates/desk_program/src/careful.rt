@@ -1,14 +1,14 @@
 //! Rows that are kept only if nothing speaks against them, or if the clerk says so.
-ghost use Rattle.std.specs.Prelude.{◌≡◌, [], ℕ, List, false, IfSome, OnOk};
-ghost use Rattle.durable_session.specs.Words.{AfterBytes, IsServed, lines_of, unfinished_of};
+ghost use Rattle.std.specs.Prelude.{◌≡◌, [], ℕ, List, false, IfErr, IfOk, IfSome, OnOk};
+ghost use Rattle.durable_session.specs.Words.{AfterBytes, EndsSession, IsServed, lines_of, tally_of, unfinished_of};
 ghost use Rattle.office_streams.specs.Words.{has_failed, watched};
-ghost use Rattle.careful_rows.specs.Words.{careful_answers, careful_leaves};
+ghost use Rattle.careful_rows.specs.Words.{careful_answers, careful_leaves, careful_outcome};
 ghost use Rattle.desk_program.specs.Careful.{IsPromisedCarefully, IsTriedCarefully, IsTriedCarefullyInPart};
 
 use crate::desk::Desk;
 use careful_rows::{CarefulRegister, CarefulStanding};
 use court_clock::Day;
-use durable_session::{SessionFault, answer, serve};
+use durable_session::{SessionFault, Tally, answer, serve};
 use office_streams::Watched;
 use sqlite_disk::Disk;
 use std::alloc::Global;
@@ -25,7 +25,7 @@ impl<D: Disk> Desk<D> {
         today: Option<Day>,
         reader: &mut Watched<R>,
         writer: &mut Watched<W>,
-    ) -> (Result<(), SessionFault>, Desk<D>)
+    ) -> (Result<Tally, SessionFault>, Desk<D>)
         requires writer_works { has_failed writer.old ≡ false }
         ensures promised { (kept : List (List ℕ)) → KeepsDocket D.Disk.seen D.Disk.may_leave D.Disk.is_usable kept self →
             AfterBytes (R.remaining (watched reader.old)) (R.remaining (watched reader.new)) (λ bytes.
@@ -34,6 +34,9 @@ impl<D: Disk> Desk<D> {
             (IfSome (R.remaining (watched reader.old)) (λ input.
             IsServed (careful_leaves (standing_at self) today) (careful_answers (standing_at self) today) (λ entries. KeepsDocket D.Disk.seen D.Disk.may_leave D.Disk.is_usable entries result.1) (λ entries. standing_at result.1 ≡ standing_at self) kept (lines_of input) (W.contents (watched writer.old)) (W.contents (watched writer.new)))) }
         ensures finished { OnOk result.0 (IfSome (R.remaining (watched reader.old)) (λ input. unfinished_of input ≡ [])) }
+        ensures tally { (kept : List (List ℕ)) → KeepsDocket D.Disk.seen D.Disk.may_leave D.Disk.is_usable kept self → IfOk result.0 (λ tally.
+            IfSome (R.remaining (watched reader.old)) (λ input. tally ≡ tally_of (careful_leaves (standing_at self) today) (careful_outcome (standing_at self) today) kept (lines_of input))) }
+        ensures fault { IfErr result.0 (λ fault. AfterBytes (R.remaining (watched reader.old)) (R.remaining (watched reader.new)) (λ bytes. EndsSession reader.new writer.new bytes fault)) }
     {
         let Desk {
             mut journal,
@@ -63,7 +66,7 @@ impl<D: Disk> Desk<D> {
         today: Option<Day>,
         reader: &mut Watched<R>,
         writer: &mut Watched<W>,
-    ) -> (Result<(), SessionFault>, D)
+    ) -> (Result<Tally, SessionFault>, D)
         requires writer_works { has_failed writer.old ≡ false }
         ensures tried { (kept : List (List ℕ)) → KeepsDocket D.Disk.seen D.Disk.may_leave D.Disk.is_usable kept self → OnOk result.0
             (IfSome (R.remaining (watched reader.old)) (λ input. IsTriedCarefully (standing_at self) today kept (lines_of input) (W.contents (watched writer.old)) (W.contents (watched writer.new)))) }
@@ -71,6 +74,9 @@ impl<D: Disk> Desk<D> {
             AfterBytes (R.remaining (watched reader.old)) (R.remaining (watched reader.new)) (λ bytes.
             IsTriedCarefullyInPart (standing_at self) today kept (lines_of bytes) (W.contents (watched writer.old)) (W.contents (watched writer.new))) }
         ensures finished { OnOk result.0 (IfSome (R.remaining (watched reader.old)) (λ input. unfinished_of input ≡ [])) }
+        ensures tally { (kept : List (List ℕ)) → KeepsDocket D.Disk.seen D.Disk.may_leave D.Disk.is_usable kept self → IfOk result.0 (λ tally.
+            IfSome (R.remaining (watched reader.old)) (λ input. tally ≡ tally_of (careful_leaves (standing_at self) today) (careful_outcome (standing_at self) today) kept (lines_of input))) }
+        ensures fault { IfErr result.0 (λ fault. AfterBytes (R.remaining (watched reader.old)) (R.remaining (watched reader.new)) (λ bytes. EndsSession reader.new writer.new bytes fault)) }
         ensures untouched { result.1 ≡ disk_under self }
     {
         let Desk {

@@ -1,8 +1,8 @@
 //! A docket over a disk.
 ghost use Rattle.std.specs.Prelude.{◌≡◌, ◌⊎◌, ◌<◌, ◌≤◌, ◌∷◌, [], ℕ, List, length, false, IsTrue, IfErr, IfOk, IfSome, OnOk};
 ghost use Rattle.durable_journal.specs.Words.{IsDurable, IsKept, StandsFor, batch_of, disk_of};
-ghost use Rattle.durable_session.specs.Words.{AfterBytes, IsServed, lines_of, unfinished_of};
-ghost use Rattle.docket_entries.specs.Words.{IsHistory, answers, cases_of, leaves, row_entries, run_by};
+ghost use Rattle.durable_session.specs.Words.{AfterBytes, EndsSession, IsServed, lines_of, tally_of, unfinished_of};
+ghost use Rattle.docket_entries.specs.Words.{IsHistory, answers, cases_of, leaves, outcome, row_entries, run_by};
 ghost use Rattle.office_streams.specs.Words.{has_failed, watched};
 
 use crate::court::check_court;
@@ -11,7 +11,7 @@ use case_numbers::Cases;
 use court_days::Court;
 use docket_entries::{DocketRegister, Docketed, Standing};
 use durable_journal::Journal;
-use durable_session::{SessionFault, serve};
+use durable_session::{SessionFault, Tally, serve};
 use kept_numbers::MovedNumbers;
 use office_streams::Watched;
 use sqlite_disk::Disk;
@@ -156,13 +156,14 @@ impl<D: Disk> Desk<D> {
 
     /// Serves rows, one in a line, until the input ends: each is kept, and then it is answered. However it ends, and
     /// wherever a crash comes, no answered row is lost. So it is where the program is killed, by a signal or otherwise:
-    /// then a crash leaves what the disk holds at that moment.
+    /// then a crash leaves what the disk holds at that moment. At the end it says how many rows there were, and how many of
+    /// them had faults.
     pub fn enter<R: Read, W: Write>(
         &mut self,
         alloc: Global,
         reader: &mut Watched<R>,
         writer: &mut Watched<W>,
-    ) -> Result<(), SessionFault>
+    ) -> Result<Tally, SessionFault>
         requires writer_works { has_failed writer.old ≡ false }
         ensures promised { (kept : List (List ℕ)) → KeepsDocket D.Disk.seen D.Disk.may_leave D.Disk.is_usable kept self.old →
             AfterBytes (R.remaining (watched reader.old)) (R.remaining (watched reader.new)) (λ bytes.
@@ -171,6 +172,9 @@ impl<D: Disk> Desk<D> {
             (IfSome (R.remaining (watched reader.old)) (λ input.
             IsServed (leaves (standing_at self.old)) (answers (standing_at self.old)) (λ entries. KeepsDocket D.Disk.seen D.Disk.may_leave D.Disk.is_usable entries self.new) (λ entries. standing_at self.new ≡ standing_at self.old) kept (lines_of input) (W.contents (watched writer.old)) (W.contents (watched writer.new)))) }
         ensures finished { OnOk result (IfSome (R.remaining (watched reader.old)) (λ input. unfinished_of input ≡ [])) }
+        ensures tally { (kept : List (List ℕ)) → KeepsDocket D.Disk.seen D.Disk.may_leave D.Disk.is_usable kept self.old → IfOk result (λ tally.
+            IfSome (R.remaining (watched reader.old)) (λ input. tally ≡ tally_of (leaves (standing_at self.old)) (outcome (standing_at self.old)) kept (lines_of input))) }
+        ensures fault { IfErr result (λ fault. AfterBytes (R.remaining (watched reader.old)) (R.remaining (watched reader.new)) (λ bytes. EndsSession reader.new writer.new bytes fault)) }
     {
         serve(
             &self.standing,

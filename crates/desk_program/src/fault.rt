@@ -5,7 +5,7 @@ ghost use Rattle.desk_program.specs.declared.fault.DeskFault.TheVariants.{OutOfM
 use court_file_text::CourtFault;
 use docket_entries::{HistoryFault, StrikeFault};
 use durable_journal::JournalFault;
-use durable_session::SessionFault;
+use durable_session::{SessionFault, Tally};
 use std::alloc::{AllocError, AllocFailed};
 use std::io;
 
@@ -38,6 +38,10 @@ pub enum DeskFault {
     Unkept(SessionFault),
     /// This many lines have a fault, and none of the rows that were to be kept together is kept.
     Faults(usize),
+    /// The command in this line would be refused, and none of the rows that were to be kept together is kept.
+    Refused(usize),
+    /// Some of so many rows had faults, and weren't taken. The others were.
+    Faulty(Tally),
     /// There is more than can be kept together.
     LongInput,
     /// Another program has the folder's journal open.

@@ -5,7 +5,7 @@ ghost use Rattle.desk_program.specs.Faults.{desk_status};
 use crate::fault::DeskFault;
 use court_file_text::{CourtFault, NumberedFault};
 use durable_journal::JournalFault;
-use durable_session::SessionFault;
+use durable_session::{SessionFault, Tally};
 use office_streams::{Watched, refused};
 use std::alloc::Global;
 use std::fmt;
@@ -23,9 +23,10 @@ pub fn status_of(fault: &DeskFault) -> u8
         DeskFault::Unkept(SessionFault::Read | SessionFault::Write) | DeskFault::LongInput => 4,
         DeskFault::Session(SessionFault::OutOfMemory) => 5,
         DeskFault::Unkept(SessionFault::OutOfMemory) => 5,
-        DeskFault::Faults(_) | DeskFault::Unstruck(_) => 3,
+        DeskFault::Faults(_) | DeskFault::Refused(_) | DeskFault::Unstruck(_) => 3,
         DeskFault::Journal(JournalFault::OutOfMemory) | DeskFault::OutOfMemory => 5,
         DeskFault::Differs(_) => 7,
+        DeskFault::Faulty(_) => 8,
         _ => 6,
     }
 }
@@ -64,7 +65,7 @@ fn write_unkept<W: fmt::Write>(fault: &SessionFault, f: &mut fmt::Formatter<W>) 
     match fault {
         SessionFault::Journal(fault) => write!(f, "{fault}"),
         SessionFault::Read => f.write_str("the input can't be read, and nothing of it is kept"),
-        SessionFault::Write => f.write_str("the answers can't be written, and nothing is kept"),
+        SessionFault::Write => f.write_str("the output can't be written, and nothing is kept"),
         SessionFault::LongLine => f.write_str(
             "a line has more than 65536 bytes, and nothing is kept",
         ),
@@ -84,6 +85,18 @@ fn write_row_fault<W: fmt::Write>(fault: &DeskFault, f: &mut fmt::Formatter<W>) 
         DeskFault::Faults(count) => write!(
             f,
             "{count} lines have faults, so nothing is kept: mend them and enter all lines again"
+        ),
+        DeskFault::Refused(line) => write!(
+            f,
+            "the command in line {line} would be refused, so nothing is kept: mend the list and enter all of it again, or give --keep-refused"
+        ),
+        DeskFault::Faulty(Tally { rows, faults: 1 }) => write!(
+            f,
+            "1 of {rows} rows had a fault and wasn't taken: mend it and enter it again"
+        ),
+        DeskFault::Faulty(Tally { rows, faults }) => write!(
+            f,
+            "{faults} of {rows} rows had faults and weren't taken: mend them and enter them again"
         ),
         DeskFault::LongInput => f.write_str(
             "the input has more than 16777216 bytes, and nothing is kept: enter it in parts",
@@ -121,7 +134,10 @@ impl<'a> fmt::Display for DeskFaultLine<'a> {
             DeskFault::Journal(fault) => write!(f, "{fault}"),
             DeskFault::Session(fault) => write!(f, "{fault}"),
             DeskFault::Unkept(fault) => write_unkept(fault, f),
-            DeskFault::Faults(_) | DeskFault::LongInput => write_row_fault(self.fault, f),
+            DeskFault::Faults(_)
+            | DeskFault::Refused(_)
+            | DeskFault::Faulty(_)
+            | DeskFault::LongInput => write_row_fault(self.fault, f),
             DeskFault::Busy => f.write_str(
                 "another program has the journal open: enter rows there, or ask beside it with 'ask'",
             ),

@@ -1,8 +1,9 @@
 //! What is said of a line that has a fault: what was found, and what is expected there.
 ghost use Rattle.std.specs.Prelude.{◌≡◌, ◌==◌, ◌++◌, List, OnOk, option_map};
 ghost use Rattle.std.specs.List.{after_first, before_first};
-ghost use Rattle.desk_program.specs.FaultWords.{expected, expected_at, fault_words, field_words, form_said, form_words, found_text, line_words, marks, not_text, part};
+ghost use Rattle.desk_program.specs.FaultWords.{cause_words, expected, expected_at, fault_words, field_words, form_said, form_words, found_text, line_words, marks, not_text, part};
 
+use docket_entries::{LineCause, too_many_words};
 use office_rows::RowCause;
 use row_columns::{Column, column_at, columns_of, commands_listed, mark_of};
 use std::alloc::{AllocError, Global};
@@ -178,8 +179,8 @@ fn push_line_words(
     }
 }
 
-/// Adds what is said of a line that has this fault.
-pub(crate) fn push_fault_words(
+// Adds what is said of a line that says no row for this cause.
+fn push_fault_words(
     alloc: Global,
     text: &mut Vec<u8>,
     cause: RowCause,
@@ -190,5 +191,20 @@ pub(crate) fn push_fault_words(
     match str::from_utf8(line) {
         Ok(line) => push_line_words(alloc, text, cause, line),
         Err(_) => push_not_text(text),
+    }
+}
+
+/// Adds what is said of a line that has this fault.
+pub(crate) fn push_cause_words(
+    alloc: Global,
+    text: &mut Vec<u8>,
+    cause: LineCause,
+    line: &[u8],
+) -> Result<(), AllocError>
+    ensures { OnOk result (text.new.items ≡ text.old.items ++ cause_words cause line.now) }
+{
+    match cause {
+        LineCause::Row(cause) => push_fault_words(alloc, text, cause, line),
+        LineCause::TooManyCases => text.extend_from_slice(too_many_words().as_bytes()),
     }
 }

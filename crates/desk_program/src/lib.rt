@@ -18,6 +18,7 @@ mod note;
 mod rows;
 mod strike;
 mod struck;
+mod tally;
 mod together;
 mod trial;
 
@@ -30,3 +31,4 @@ pub use fault_lines::{DeskFaultLine, ended_by, status_of};
 pub use file::{file_fault, open_file};
 pub use rows::{write_count, write_rows};
 pub use struck::write_struck;
+pub use tally::all_taken;

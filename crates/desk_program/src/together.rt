@@ -1,16 +1,17 @@
 //! Rows that are kept together, or not at all.
-ghost use Rattle.std.specs.Prelude.{◌≡◌, ◌≢◌, ◌++◌, [], ℕ, List, length, map, false, Err, IfOk, OnOk};
+ghost use Rattle.std.specs.Prelude.{◌≡◌, ◌≢◌, ◌⊎◌, ◌++◌, [], ℕ, List, None, Ok, length, map, false, Err, IfErr, IfOk, OnOk};
 ghost use Rattle.std.specs.Io.KnownBytes.{Appends};
-ghost use Rattle.durable_session.specs.Words.{lines_of};
-ghost use Rattle.docket_entries.specs.Words.{fault_in};
+ghost use Rattle.durable_journal.specs.Words.{StandsFor};
+ghost use Rattle.durable_session.specs.Words.{left_by, lines_of, numbered_lines, refused_in};
+ghost use Rattle.docket_entries.specs.Words.{fault_in, faults_of, leaves};
 ghost use Rattle.office_streams.specs.Words.{has_failed, watched};
-ghost use Rattle.desk_program.specs.Together.{line_fault_text, line_faults_text};
+ghost use Rattle.desk_program.specs.Together.{line_fault_text, line_faults_text, refused_text, together_fault};
 
 use crate::desk::Desk;
 use crate::fault::DeskFault;
-use crate::fault_words::push_fault_words;
+use crate::fault_words::push_cause_words;
 use docket_entries::LineFault;
-use durable_session::{SessionFault, is_finished, serve_together};
+use durable_session::{RefusedLine, SessionFault, is_finished, serve_together};
 use office_streams::{Watched, write_all};
 use sqlite_disk::Disk;
 use std::alloc::{AllocError, Global};
@@ -24,7 +25,7 @@ fn push_line_fault(alloc: Global, text: &mut Vec<u8>, fault: &LineFault) -> Resu
     let cause = fault.cause;
     let told = format!(in alloc; "line {number} fault {cause}: ")?;
     text.extend_from_slice(told.as_bytes())?;
-    push_fault_words(alloc, text, cause, &fault.line)?;
+    push_cause_words(alloc, text, cause, &fault.line)?;
     text.push(b'\n')?;
     Ok(())
 }
@@ -50,36 +51,89 @@ fn list_faults<W: Write>(
     ensures none { OnOk result ((faults.now ≡ []) × (writer.new ≡ writer.old)) }
     ensures some { (count : ℕ) → result ≡ Err (DeskFault.Faults count) → (count ≡ length faults.now) × (faults.now ≢ [])
         × Appends (W.contents (watched writer.old)) (W.contents (watched writer.new)) (line_faults_text (map fault_in faults.now)) }
+    ensures fault { IfErr result (λ fault. (faults.now ≢ []) × ((fault ≡ DeskFault.OutOfMemory) ⊎ ((fault ≡ DeskFault.Unkept SessionFault.Write) ⊎ (fault ≡ DeskFault.Faults (length faults.now))))) }
 {
     if faults.is_empty() {
         return Ok(());
     }
-    let text = faults_listed(alloc, faults)?;
+    let text = match faults_listed(alloc, faults) {
+        Ok(text) => text,
+        Err(_) => return Err(DeskFault::OutOfMemory),
+    };
     if write_all(writer, &text).is_err() {
-        return Err(DeskFault::Write);
+        return Err(DeskFault::Unkept(SessionFault::Write));
     }
     Err(DeskFault::Faults(faults.len()))
 }
 
+// What is written of a command that would be refused.
+fn refused_said(alloc: Global, line: &RefusedLine) -> Result<Vec<u8>, AllocError>
+    ensures { IfOk result (λ text. text.items ≡ refused_text (refused_in line.now)) }
+{
+    let number = line.number;
+    let said = format!(in alloc; "line {number} would be answered: ")?;
+    let mut text = said.into_bytes();
+    text.extend_from_slice(&line.answer)?;
+    Ok(text)
+}
+
+// Writes the answer that a command would have that would be refused, and gives the fault that says so.
+fn tell_refused<W: Write>(alloc: Global, line: &RefusedLine, writer: &mut Watched<W>) -> DeskFault
+    requires { has_failed writer.old ≡ false }
+    ensures told { (number : ℕ) → result ≡ DeskFault.Refused number → (number ≡ (refused_in line.now).number)
+        × Appends (W.contents (watched writer.old)) (W.contents (watched writer.new)) (refused_text (refused_in line.now)) }
+    ensures fault { (result ≡ DeskFault.OutOfMemory) ⊎ ((result ≡ DeskFault.Unkept SessionFault.Write) ⊎ (result ≡ DeskFault.Refused (refused_in line.now).number)) }
+{
+    match refused_said(alloc, line) {
+        Ok(text) => {
+            if write_all(writer, &text).is_err() {
+                DeskFault::Unkept(SessionFault::Write)
+            } else {
+                DeskFault::Refused(line.number)
+            }
+        }
+        Err(_) => DeskFault::OutOfMemory,
+    }
+}
+
+// Why rows that came together aren't served, as the desk says it.
+fn together_fault(fault: SessionFault) -> DeskFault
+    ensures { result ≡ together_fault fault }
+{
+    match fault {
+        SessionFault::LongLine => DeskFault::Unkept(SessionFault::LongLine),
+        _ => DeskFault::Session(fault),
+    }
+}
+
 impl<D: Disk> Desk<D> {
-    ghost use Rattle.desk_program.specs.Desk.{KeepsDocket, disk_under, standing_at};
-    ghost use Rattle.desk_program.specs.Together.{IsAtFault, IsDocketAllOrNone, KeepsTogether, RefusesLines};
+    ghost use Rattle.desk_program.specs.Desk.{IsPromisedDocket, KeepsDocket, disk_under, standing_at};
+    ghost use Rattle.desk_program.specs.Together.{IsAtFault, IsDocketAllOrNone, KeepsTogether, RefusesCommand, RefusesLines, SaysWhatIsKept, stop_of};
 
     /// Keeps the rows of an input together, one in a line, and then answers them. If a line has a fault, each fault is written;
-    /// then, and where the last line has no end, nothing is kept and the docket is as it was. A command that is refused has no
-    /// fault: it is kept and answered, as `enter` does it.
+    /// then, and where the last line has no end, nothing is kept and the docket is as it was. Unless commands that are refused
+    /// are to be kept too, the list stops at the first: its answer is written, and nothing is kept. The desk is then to be
+    /// opened anew, since it has decided the rows before it.
     pub fn enter_together<W: Write>(
         &mut self,
         alloc: Global,
         input: &[u8],
+        keep_refused: bool,
         writer: &mut Watched<W>,
     ) -> Result<(), DeskFault>
         requires writer_works { has_failed writer.old ≡ false }
         ensures kept { (kept : List (List ℕ)) → KeepsDocket D.Disk.seen D.Disk.may_leave D.Disk.is_usable kept self.old → OnOk result
-            (KeepsTogether (standing_at self.old) kept input.now (W.contents (watched writer.old)) (W.contents (watched writer.new)) (λ entries. KeepsDocket D.Disk.seen D.Disk.may_leave D.Disk.is_usable entries self.new)) }
+            (KeepsTogether (standing_at self.old) keep_refused kept input.now (W.contents (watched writer.old)) (W.contents (watched writer.new)) (λ entries. KeepsDocket D.Disk.seen D.Disk.may_leave D.Disk.is_usable entries self.new)) }
         ensures refused { (kept : List (List ℕ)) (count : ℕ) → KeepsDocket D.Disk.seen D.Disk.may_leave D.Disk.is_usable kept self.old → result ≡ Err (DeskFault.Faults count)
             → RefusesLines (standing_at self.old) kept input.now count (W.contents (watched writer.old)) (W.contents (watched writer.new)) }
+        ensures stopped { (kept : List (List ℕ)) (number : ℕ) → KeepsDocket D.Disk.seen D.Disk.may_leave D.Disk.is_usable kept self.old → result ≡ Err (DeskFault.Refused number)
+            → RefusesCommand (standing_at self.old) keep_refused kept input.now number (W.contents (watched writer.old)) (W.contents (watched writer.new)) }
         ensures untouched { (kept : List (List ℕ)) → KeepsDocket D.Disk.seen D.Disk.may_leave D.Disk.is_usable kept self.old → IsAtFault (standing_at self.old) kept input.now → self.new ≡ self.old }
+        ensures unwritten { (kept : List (List ℕ)) → KeepsDocket D.Disk.seen D.Disk.may_leave D.Disk.is_usable kept self.old → stop_of (standing_at self.old) keep_refused kept input.now ≢ None → disk_under self.new ≡ disk_under self.old }
+        ensures says { (kept : List (List ℕ)) → KeepsDocket D.Disk.seen D.Disk.may_leave D.Disk.is_usable kept self.old → IfErr result (SaysWhatIsKept (disk_under self.new ≡ disk_under self.old)
+            ((file : List ℕ) → D.Disk.may_leave (disk_under self.new) file → StandsFor file (kept ++ left_by (leaves (standing_at self.old)) kept (lines_of input.now)))) }
+        ensures promised { (kept : List (List ℕ)) → KeepsDocket D.Disk.seen D.Disk.may_leave D.Disk.is_usable kept self.old → faults_of (standing_at self.old) kept (numbered_lines input.now) ≡ [] → stop_of (standing_at self.old) keep_refused kept input.now ≡ None
+            → IsPromisedDocket (standing_at self.old) kept (lines_of input.now) (W.contents (watched writer.old)) (W.contents (watched writer.new)) (has_failed writer.new ≡ false) (D.Disk.may_leave (disk_under self.new)) }
         ensures crash { (kept : List (List ℕ)) → KeepsDocket D.Disk.seen D.Disk.may_leave D.Disk.is_usable kept self.old
             → IsDocketAllOrNone (standing_at self.old) kept (lines_of input.now) (D.Disk.may_leave (disk_under self.new)) }
     {
@@ -101,10 +155,11 @@ impl<D: Disk> Desk<D> {
             &mut self.register,
             writer,
             input,
+            keep_refused,
         ) {
-            Ok(()) => Ok(()),
-            Err(SessionFault::LongLine) => Err(DeskFault::Unkept(SessionFault::LongLine)),
-            Err(fault) => Err(DeskFault::Session(fault)),
+            Ok(None) => Ok(()),
+            Ok(Some(line)) => Err(tell_refused(alloc, &line, writer)),
+            Err(fault) => Err(together_fault(fault)),
         }
     }
 }

@@ -1,11 +1,12 @@
 //! A trial of rows, which keeps none.
-ghost use Rattle.std.specs.Prelude.{◌≡◌, [], ℕ, List, false, IfSome, OnOk};
-ghost use Rattle.durable_session.specs.Words.{AfterBytes, lines_of, unfinished_of};
+ghost use Rattle.std.specs.Prelude.{◌≡◌, [], ℕ, List, false, IfErr, IfOk, IfSome, OnOk};
+ghost use Rattle.durable_session.specs.Words.{AfterBytes, EndsSession, lines_of, tally_of, unfinished_of};
+ghost use Rattle.docket_entries.specs.Words.{leaves, outcome};
 ghost use Rattle.office_streams.specs.Words.{has_failed, watched};
 ghost use Rattle.desk_program.specs.Trial.{IsTried, IsTriedInPart};
 
 use crate::desk::Desk;
-use durable_session::{SessionFault, answer};
+use durable_session::{SessionFault, Tally, answer};
 use office_streams::Watched;
 use sqlite_disk::Disk;
 use std::alloc::Global;
@@ -21,7 +22,7 @@ impl<D: Disk> Desk<D> {
         alloc: Global,
         reader: &mut Watched<R>,
         writer: &mut Watched<W>,
-    ) -> (Result<(), SessionFault>, D)
+    ) -> (Result<Tally, SessionFault>, D)
         requires writer_works { has_failed writer.old ≡ false }
         ensures tried { (kept : List (List ℕ)) → KeepsDocket D.Disk.seen D.Disk.may_leave D.Disk.is_usable kept self → OnOk result.0
             (IfSome (R.remaining (watched reader.old)) (λ input. IsTried (standing_at self) kept (lines_of input) (W.contents (watched writer.old)) (W.contents (watched writer.new)))) }
@@ -29,6 +30,9 @@ impl<D: Disk> Desk<D> {
             AfterBytes (R.remaining (watched reader.old)) (R.remaining (watched reader.new)) (λ bytes.
             IsTriedInPart (standing_at self) kept (lines_of bytes) (W.contents (watched writer.old)) (W.contents (watched writer.new))) }
         ensures finished { OnOk result.0 (IfSome (R.remaining (watched reader.old)) (λ input. unfinished_of input ≡ [])) }
+        ensures tally { (kept : List (List ℕ)) → KeepsDocket D.Disk.seen D.Disk.may_leave D.Disk.is_usable kept self → IfOk result.0 (λ tally.
+            IfSome (R.remaining (watched reader.old)) (λ input. tally ≡ tally_of (leaves (standing_at self)) (outcome (standing_at self)) kept (lines_of input))) }
+        ensures fault { IfErr result.0 (λ fault. AfterBytes (R.remaining (watched reader.old)) (R.remaining (watched reader.new)) (λ bytes. EndsSession reader.new writer.new bytes fault)) }
         ensures untouched { result.1 ≡ disk_under self }
     {
         let Desk {

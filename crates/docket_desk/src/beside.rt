@@ -6,7 +6,7 @@ use crate::folder::{copied_beside, entries_beside};
 use crate::task::Beside;
 use crate::written::{plain, try_written};
 use court_clock::Day;
-use desk_program::{DeskFault, ask, write_cases, write_struck};
+use desk_program::{DeskFault, all_taken, ask, write_cases, write_struck};
 use office_streams::Watched;
 use std::io::Write;
 
@@ -21,7 +21,7 @@ fn try_rows<W: Write>(
     let desk = copied_beside(rt, folder)?;
     let mut reader = Watched::new(rt.stdin());
     match desk.try_rows(rt.alloc(), &mut reader, writer) {
-        (Ok(()), _) => Ok(()),
+        (Ok(tally), _) => all_taken(tally),
         (Err(fault), _) => Err(DeskFault::Unkept(fault)),
     }
 }
@@ -38,7 +38,7 @@ fn try_carefully<W: Write>(
     let desk = copied_beside(rt, folder)?;
     let mut reader = Watched::new(rt.stdin());
     match desk.try_carefully(rt.alloc(), today, &mut reader, writer) {
-        (Ok(()), _) => Ok(()),
+        (Ok(tally), _) => all_taken(tally),
         (Err(fault), _) => Err(DeskFault::Unkept(fault)),
     }
 }
@@ -53,7 +53,7 @@ fn ask_folder<W: Write>(
 {
     let entries = entries_beside(rt, folder)?;
     let mut reader = Watched::new(rt.stdin());
-    ask(rt.alloc(), &entries, &mut reader, writer)
+    all_taken(ask(rt.alloc(), &entries, &mut reader, writer)?)
 }
 
 // Writes the cases that have names.

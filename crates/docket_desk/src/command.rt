@@ -13,7 +13,9 @@ const TASKS: &str = "Tasks:
   enter FOLDER                    keep the rows of standard input, and answer
                                   each
   enter FOLDER --all-or-nothing   read all of standard input first, and keep its
-                                  rows only if no line has a fault
+                                  rows only if no line has a fault and no
+                                  command would be refused; with --keep-refused
+                                  also if commands would be
   enter FOLDER --warn             keep no row that draws a warning, such as an
                                   event before its case was filed: answer it
                                   with its warnings. A row with '!' before it is
@@ -86,8 +88,10 @@ fn with_flag<'a>(
 
 // The options that say how rows are taken.
 fn with_rows<'a>(alloc: Global, command: Command<'a>) -> Result<Command<'a>, AllocError> {
-    let together = "Keep all rows of 'enter', or none if a line has a fault";
+    let together = "Keep all rows of 'enter', or none if one is wrong";
     let command = with_flag(alloc, command, "together", "all-or-nothing", together)?;
+    let keep = "Keep them also if commands would be refused";
+    let command = with_flag(alloc, command, "keep_refused", "keep-refused", keep)?;
     let warn = "Keep no row that draws a warning";
     let command = with_flag(alloc, command, "warn", "warn", warn)?;
     let today = "The day that counts as today, for --warn and 'strike'";

@@ -23,9 +23,10 @@ pub enum Task {
 pub enum Alone {
     /// Rows, which are kept and answered.
     Enter,
-    /// Rows, which are kept together if no line has a fault, and then answered.
-    EnterTogether,
-    /// Rows as people write them, which are kept together if no line has a fault, and then answered.
+    /// Rows, which are kept together if no line has a fault and no command is refused, and then answered; or, if so, though
+    /// commands are refused.
+    EnterTogether(bool),
+    /// Rows as people write them, which are kept together as above.
     EnterWritten(Style),
     /// The court's file and all rows, as clerk_office reads them.
     Rows,
@@ -74,4 +75,6 @@ pub struct Style {
     pub order: Option<DateOrder>,
     /// Whether faults are written as JSON.
     pub json: bool,
+    /// Whether rows that are kept together are kept though commands are refused.
+    pub keep_refused: bool,
 }

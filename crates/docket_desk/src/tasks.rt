@@ -7,7 +7,7 @@ use crate::folder::{FolderDesk, journal_name, make_folder, opened, read_file};
 use crate::task::{Alone, Struck, Task};
 use crate::written::enter_written;
 use court_clock::Day;
-use desk_program::{Desk, DeskFault, check_court, open_file, write_count, write_rows};
+use desk_program::{Desk, DeskFault, all_taken, check_court, open_file, write_count, write_rows};
 use docket_entries::standing_file;
 use durable_session::SessionFault;
 use numbers_table::has_numbers;
@@ -59,7 +59,7 @@ fn enter_carefully<W: Write>(
     let (ended, desk) = desk.enter_carefully(rt.alloc(), today, &mut reader, writer);
     drop(desk.into_disk());
     match ended {
-        Ok(()) => Ok(()),
+        Ok(tally) => all_taken(tally),
         Err(fault) => Err(DeskFault::Session(fault)),
     }
 }
@@ -74,7 +74,7 @@ fn enter<W: Write>(
 {
     let mut reader = Watched::new(rt.stdin());
     match desk.enter(rt.alloc(), &mut reader, writer) {
-        Ok(()) => Ok(()),
+        Ok(tally) => all_taken(tally),
         Err(fault) => Err(DeskFault::Session(fault)),
     }
 }
@@ -84,11 +84,12 @@ fn enter_together<W: Write>(
     rt: &HostRuntime,
     writer: &mut Watched<W>,
     desk: &mut FolderDesk,
+    keep_refused: bool,
 ) -> Result<(), DeskFault>
     requires { has_failed writer.old ≡ false }
 {
     let input = whole_input(rt)?;
-    desk.enter_together(rt.alloc(), &input, writer)
+    desk.enter_together(rt.alloc(), &input, keep_refused, writer)
 }
 
 // What is said where the court's file has numbers of its own, by which programs that read these rows count.
@@ -168,9 +169,9 @@ fn done_on<W: Write>(
             drop(entries);
             enter(rt, writer, desk)
         }
-        Alone::EnterTogether => {
+        Alone::EnterTogether(keep_refused) => {
             drop(entries);
-            enter_together(rt, writer, desk)
+            enter_together(rt, writer, desk, *keep_refused)
         }
         Alone::EnterWritten(style) => {
             drop(entries);

@@ -14,6 +14,8 @@ const OPEN_WORDS: &str = "'open' needs the court's file: open FOLDER --court FIL
 const ENTER_WORDS: &str =
     "'enter' takes a folder, and --all-or-nothing: rows come from standard input";
 
+const KEEP_WORDS: &str = "--keep-refused is for 'enter FOLDER --all-or-nothing'";
+
 const WRITTEN_WORDS: &str =
     "--as-written is for 'try' and for 'enter FOLDER --all-or-nothing'; --dates and --json are for it and for 'plain'";
 
@@ -39,6 +41,7 @@ struct Said<'a> {
     dates: Option<&'a str>,
     accept: bool,
     together: bool,
+    keep_refused: bool,
     written: bool,
     json: bool,
     warn: bool,
@@ -159,6 +162,7 @@ fn style_of(alloc: Global, said: &Said<'_>) -> Result<Style, OptionsFault> {
     Ok(Style {
         order,
         json: said.json,
+        keep_refused: said.keep_refused,
     })
 }
 
@@ -180,7 +184,9 @@ fn enter_task(alloc: Global, said: &Said<'_>) -> Result<Task, OptionsFault> {
     }
     match (said.together, said.written) {
         (true, true) => Ok(Task::Alone(Alone::EnterWritten(style_of(alloc, said)?))),
-        (true, false) if !said.has_style() => Ok(Task::Alone(Alone::EnterTogether)),
+        (true, false) if !said.has_style() => {
+            Ok(Task::Alone(Alone::EnterTogether(said.keep_refused)))
+        }
         (false, false) if !said.has_style() => Ok(Task::Alone(Alone::Enter)),
         _ => Err(wrong(alloc, WRITTEN_WORDS)),
     }
@@ -237,6 +243,9 @@ fn task_of(alloc: Global, name: &str, said: &Said<'_>) -> Result<Task, OptionsFa
     if said.has_strike() && name != "strike" {
         return Err(wrong(alloc, STRIKE_ALONE));
     }
+    if said.keep_refused && (name != "enter" || !said.together) {
+        return Err(wrong(alloc, KEEP_WORDS));
+    }
     match name {
         "open" => open_task(alloc, said),
         "strike" => strike_task(alloc, said),
@@ -256,6 +265,7 @@ fn asked(alloc: Global, matches: &ArgMatches<'_>) -> Result<(Task, String), Opti
         dates: matches.get_str("dates"),
         accept: matches.get_flag("accept"),
         together: matches.get_flag("together"),
+        keep_refused: matches.get_flag("keep_refused"),
         written: matches.get_flag("written"),
         json: matches.get_flag("json"),
         warn: matches.get_flag("warn"),

@@ -6,7 +6,7 @@ use crate::folder::{FolderDesk, copied_beside, entries_beside};
 use crate::task::Style;
 use crate::tasks::whole_input;
 use court_days::Court;
-use desk_program::{Desk, DeskFault};
+use desk_program::{Desk, DeskFault, all_taken};
 use docket_entries::{Docketed, Standing};
 use durable_session::{SessionFault, is_finished};
 use office_streams::{Watched, write_all};
@@ -124,11 +124,12 @@ fn enter_saying<W: Write>(
     writer: &mut Watched<W>,
     desk: &mut FolderDesk,
     rows: &[u8],
+    keep_refused: bool,
 ) -> Result<(), DeskFault>
     requires { has_failed writer.old ≡ false }
 {
     let mut told = Watched::new(Vec::new(alloc));
-    match desk.enter_together(alloc, rows, &mut told) {
+    match desk.enter_together(alloc, rows, keep_refused, &mut told) {
         Ok(()) => {
             if write_all(writer, told.inner()).is_err() {
                 return Err(DeskFault::Session(SessionFault::Write));
@@ -156,10 +157,11 @@ pub fn enter_written<W: Write>(
     requires { has_failed writer.old ≡ false }
 {
     let reading = reading_of(rt, writer, desk.court(), style)?;
+    let keep_refused = style.keep_refused;
     if style.json {
-        enter_saying(rt.alloc(), writer, desk, &reading.placed)
+        enter_saying(rt.alloc(), writer, desk, &reading.placed, keep_refused)
     } else {
-        desk.enter_together(rt.alloc(), &reading.placed, writer)
+        desk.enter_together(rt.alloc(), &reading.placed, keep_refused, writer)
     }
 }
 
@@ -174,7 +176,7 @@ fn answer_rows<W: Write>(
 {
     let mut reader = Watched::new(rows);
     match desk.try_rows(alloc, &mut reader, writer) {
-        (Ok(()), _) => Ok(()),
+        (Ok(tally), _) => all_taken(tally),
         (Err(fault), _) => Err(DeskFault::Unkept(fault)),
     }
 }

@@ -1,15 +1,16 @@
 -- The cases that entries opened, after one more; and how lines are read.
 use Rattle.std.proofs.Common.{◌≡◌, ◌∙◌, ◌+◌, ◌<◌, ℕ, Bool, true, false, cond, List, [], ◌∷◌, ◌++◌, Option, Some, None, length, refl, sym, ap, add-zero, arith}
-use Rattle.std.specs.Prelude.{IsSome}
-use Rattle.case_numbers.specs.Words.{AreApart, CasesView, NameView, after_name, name_before, no_cases}
+use Rattle.std.specs.Prelude.{◌&&◌, IsSome, codes, is_none}
+use Rattle.std.specs.Str.{bytes_eq}
+use Rattle.case_numbers.specs.Words.{AreApart, CasesView, NameView, after_name, fresh, name_before, no_cases, number_of}
 use Rattle.case_numbers.proofs.CallerLemmas.{names_stay_apart_lem}
 use Rattle.row_strikes.specs.Words.{is_struck}
 use Rattle.docket_entries.specs.declared.standing.Standing.{Standing}
-use Rattle.office_rows.specs.Words.{CourtNames, names_of}
+use Rattle.office_rows.specs.Words.{CourtNames, column, names_of}
 use Rattle.row_line.specs.declared.line.Line.{Line}
 use Rattle.row_line.specs.declared.line.Line.TheVariants as line
-use Rattle.row_line.specs.Words.{line_read}
-use Rattle.docket_entries.specs.CaseLines.{as_it_is, lacks_third, reading_of}
+use Rattle.row_line.specs.Words.{fields_read, line_read}
+use Rattle.docket_entries.specs.CaseLines.{Reading, as_it_is, case_in, finds_no_number, fresh_for, lacks_number, lacks_third, named, named_if, newly, opens_too_many, reading_of}
 use Rattle.docket_entries.specs.Cases.{cases_after, cases_of, cases_with, opened_in, with_opened}
 use Rattle.docket_entries.specs.Entries.{most_clerks, next_number, note_in, row_entries}
 use Rattle.docket_entries.specs.Laws.{ACaseNumberIsOneCase, OtherLinesAreReadAsTheyAre}
@@ -93,3 +94,31 @@ reads_itself names cases bytes is = rw is refl
 
 pub other_lines : OtherLinesAreReadAsTheyAre
 other_lines under kept bytes is = reads_itself (names_of under.court) (cases_of under kept) bytes is
+
+-- one that lacks no third field opens no case too many
+pub few_enough : (names : CourtNames) (cases : CasesView) (bytes : List ℕ) → lacks_third (line_read most_clerks names bytes) ≡ false → opens_too_many names cases bytes ≡ false
+unfolding opens_too_many
+few_enough names cases bytes is = rw is refl
+
+-- a line that opens a case too many is read as it is, and lacks its third field
+finds_none : (line : List ℕ) (fields : List (List ℕ)) (name : NameView) (opens : Bool) (free : Option ℕ) → (opens && is_none free) ≡ true → newly line fields name (cond opens free None) ≡ as_it_is line
+finds_none line fields name false free none = cc none
+finds_none line fields name true (Some number) none = cc none
+finds_none line fields name true None none = refl
+
+takes_none : (cases : CasesView) (line : List ℕ) (fields : List (List ℕ)) (name : NameView) (number : Option ℕ) → (is_none number && finds_no_number cases fields) ≡ true → named cases line fields name number ≡ as_it_is line
+takes_none cases line fields name (Some number) none = cc none
+takes_none cases line fields name None none = finds_none line fields name (bytes_eq (column fields 2) (codes "open")) (fresh cases) none
+
+named_none : (cases : CasesView) (line : List ℕ) (fields : List (List ℕ)) (name : Option NameView) → lacks_number cases fields name ≡ true → named_if cases line fields name ≡ as_it_is line
+named_none cases line fields None none = cc none
+named_none cases line fields (Some name) none = takes_none cases line fields name (number_of cases.named name.key) none
+
+pub too_many_lacks : (names : CourtNames) (cases : CasesView) (line : List ℕ) → opens_too_many names cases line ≡ true → lacks_third (line_read most_clerks names (reading_of names cases line).text) ≡ true
+unfolding opens_too_many reading_of
+too_many_lacks names cases line too_many = by (lacks_third (line_read most_clerks names line)) refl too_many
+  where
+    by : (lacks : Bool) → lacks_third (line_read most_clerks names line) ≡ lacks → (lacks && lacks_number cases (fields_read line) (case_in (fields_read line))) ≡ true
+        → lacks_third (line_read most_clerks names (cond lacks (named_if cases line (fields_read line) (case_in (fields_read line))) (as_it_is line)).text) ≡ true
+    by false is none = cc none
+    by true is none = ap (λ (r : Reading). lacks_third (line_read most_clerks names r.text)) (named_none cases line (fields_read line) (case_in (fields_read line)) none) ∙ is

@@ -14,7 +14,7 @@ use Rattle.case_numbers.specs.Words.{CasesView, NameView, after_name, name_befor
 use Rattle.docket_entries.specs.CaseLines.{reading_of}
 use Rattle.docket_entries.specs.Cases.{cases_of, opened_as, opened_in, with_opened}
 use Rattle.docket_entries.specs.Entries.{most_clerks, next_number}
-use Rattle.docket_entries.specs.Rows.{answer_to, entry_of, leaves, left_of, plain_leaves, reading_at, row_in, with_name, within}
+use Rattle.docket_entries.specs.Rows.{answer_to, entry_of, leaves, left_of, plain_leaves, reading_at, row_in, too_many_at, with_name, within}
 use Rattle.docket_entries.proofs.CaseLemmas.{cases_of-live}
 use Rattle.docket_entries.proofs.EntryLemmas.{WasRead, is_no_note_named, its_name, past_its_name, reading_read, says_its_row, within_row}
 use Rattle.docket_entries.proofs.ListLemmas.{before-row, not_struck}
@@ -69,12 +69,12 @@ counts_more under kept bytes row before after cases then is counts one name name
 -- the faults of an input are those that were found and those of what is left of it
 pub faults_more : (under : Standing) (kept : List (List ℕ)) (number : ℕ) (rest line : List ℕ) (end : ℕ) (after : List ℕ) (found found_then all : List FaultyLine) → IsFirstLine rest line end after
     → found ++ faults_of under kept (numbered_from number [] rest) ≡ all
-    → found_then ≡ found ++ fault_as number line (within kept (line_read most_clerks (names_of under.court) (reading_at under kept line).text))
+    → found_then ≡ found ++ fault_as number line (too_many_at under kept line) (within kept (line_read most_clerks (names_of under.court) (reading_at under kept line).text))
     → found_then ++ faults_of under (kept ++ leaves under kept line) (numbered_from (number_after number end) [] after) ≡ all
 unfolding faults_of
 faults_more under kept number rest line end after found found_then all first so_far more =
     ap (λ (f : List FaultyLine). f ++ faults_of under (kept ++ leaves under kept line) (numbered_from (number_after number end) [] after)) more
-    ∙ append_assoc found (fault_as number line (within kept (line_read most_clerks (names_of under.court) (reading_at under kept line).text))) _
+    ∙ append_assoc found (fault_as number line (too_many_at under kept line) (within kept (line_read most_clerks (names_of under.court) (reading_at under kept line).text))) _
     ∙ ap (λ (lines : List (ℕ × List ℕ)). found ++ faults_of under kept lines) (sym (numbered_from-first number rest line end after first))
     ∙ so_far
 
@@ -102,9 +102,9 @@ no_parts [] more none = (refl, none)
 no_parts (fault ∷ some) more none = cc none
 
 -- a line in which no fault is found
-no_fault_in : (kept : List (List ℕ)) (number : ℕ) (bytes : List ℕ) (said : Line) (cause : RowCause) → fault_as number bytes (within kept said) ≡ [] → said ≡ line.Fault cause → ⊥
-no_fault_in kept number bytes said cause none is =
-    let one : fault_as number bytes (line.Fault cause) ≡ [] = ap (λ (l : Line). fault_as number bytes (within kept l)) (sym is) ∙ none in
+no_fault_in : (kept : List (List ℕ)) (number : ℕ) (bytes : List ℕ) (too_many : Bool) (said : Line) (cause : RowCause) → fault_as number bytes too_many (within kept said) ≡ [] → said ≡ line.Fault cause → ⊥
+no_fault_in kept number bytes too_many said cause none is =
+    let one : fault_as number bytes too_many (line.Fault cause) ≡ [] = ap (λ (l : Line). fault_as number bytes too_many (within kept l)) (sym is) ∙ none in
     cc one
 
 -- the law
@@ -113,5 +113,6 @@ unfolding faults_of AllSayRows
 faultless_lines_say_rows_lem under kept [] none = tt
 faultless_lines_say_rows_lem under kept (numbered ∷ lines) none =
     let said = line_read most_clerks (names_of under.court) (reading_at under kept numbered.1).text in
-    let (here, later) = no_parts (fault_as numbered.0 numbered.1 (within kept said)) (faults_of under (kept ++ leaves under kept numbered.1) lines) none in
-    (λ cause is. no_fault_in kept numbered.0 numbered.1 said cause here is, faultless_lines_say_rows_lem under (kept ++ leaves under kept numbered.1) lines later)
+    let too_many = too_many_at under kept numbered.1 in
+    let (here, later) = no_parts (fault_as numbered.0 numbered.1 too_many (within kept said)) (faults_of under (kept ++ leaves under kept numbered.1) lines) none in
+    (λ cause is. no_fault_in kept numbered.0 numbered.1 too_many said cause here is, faultless_lines_say_rows_lem under (kept ++ leaves under kept numbered.1) lines later)

@@ -1,7 +1,6 @@
 -- A register after one entry more.
-use Rattle.std.proofs.Common.{◌≡◌, ◌∙◌, ◌+◌, ◌<◌, ℕ, Bool, false, String, Vec, string_bytes, List, [], ◌∷◌, ◌++◌, Option, Ok, true, ltb, length, length-append, refl, sym, ap, subst, append-nil, arith}
+use Rattle.std.proofs.Common.{◌≡◌, ◌∙◌, ◌+◌, ◌<◌, ℕ, Bool, cond, false, string_bytes, List, [], ◌∷◌, ◌++◌, Ok, Option, true, ltb, length, length-append, refl, sym, ap, subst, append-nil, arith}
 use Rattle.std.proofs.lemmas.Bool.Decides.{nat_tests}
-use Rattle.std.specs.declared.alloc.Global.{Global}
 use Rattle.row_strikes.specs.Words.{all_before, is_struck}
 use Rattle.docket_rows.specs.Words.{setup_of}
 use Rattle.docket_core.specs.Words.{DocketView}
@@ -16,16 +15,21 @@ use Rattle.office_run.specs.Words.{Holds}
 use Rattle.kept_numbers.specs.declared.given.Given.{Given}
 use Rattle.kept_numbers.specs.Words.{NumbersView, given_by, numbers_after, passed}
 use Rattle.durable_session.specs.Words.{TakesLine}
-use Rattle.std.specs.Prelude.{Err, IsSome, None, OnOk, Result}
+use Rattle.std.specs.Prelude.{IsSome, None}
 use Rattle.case_numbers.specs.Words.{NameView, after_name, name_before, name_line}
+use Rattle.office_rows.specs.declared.fault.RowCause.{RowCause}
+use Rattle.docket_entries.specs.declared.cause.LineCause.TheVariants.{TooManyCases}
 use Rattle.docket_entries.specs.declared.standing.Standing.{Standing}
+use Rattle.docket_entries.specs.CaseLines.{lacks_third}
+use Rattle.docket_entries.specs.LineCauses.{cause_as, fault_told}
 use Rattle.docket_entries.specs.Cases.{cases_of, opened_as, opened_in, with_opened}
 use Rattle.docket_entries.specs.Entries.{most_clerks, most_entries, next_number, note_in}
-use Rattle.docket_entries.specs.Rows.{answer_to, answers, entry_of, follows, leaves, left_again, left_of, plain_answers, plain_leaves, reading_at, row_in, told_of, with_name, within}
+use Rattle.docket_entries.specs.Rows.{answer_to, answers, entry_of, follows, leaves, left_again, left_of, plain_answers, plain_leaves, reading_at, row_in, told_of, too_many_at, with_name, within}
 use Rattle.docket_entries.specs.Run.{Run, docketed_by, docketed_with, numbers_with, reply_by_places, run_by, run_past}
 use Rattle.docket_entries.specs.Register.{IsDone, IsReadyAt, StandsAt}
+use Rattle.docket_entries.specs.declared.register.Done.{Done}
 use Rattle.docket_entries.specs.declared.register.DocketRegister.{DocketRegister}
-use Rattle.docket_entries.proofs.CaseLemmas.{cases_of-live, cases_of-note, cases_of-struck, none_opened}
+use Rattle.docket_entries.proofs.CaseLemmas.{cases_of-live, cases_of-note, cases_of-struck, none_opened, too_many_lacks}
 use Rattle.docket_entries.proofs.EntryLemmas.{WasRead, is_no_note_named, its_name, past_its_name, reading_read, says_its_row, within_row}
 use Rattle.docket_entries.proofs.DecidedLemmas.{run_by-more, run_by-none, run_by-note, run_by-struck}
 use Rattle.docket_entries.proofs.ListLemmas.{before-row, next_number-note, next_number-row, not_struck}
@@ -39,11 +43,6 @@ numbers_taken under kept asked own before made number given is own_is before_is 
     ∙ ap (λ (n : NumbersView). numbers_after under.corrections.kept n number given) before_is
     ∙ ap (λ (n : ℕ). numbers_after under.corrections.kept (run_by under kept).numbers n given) number_is
     ∙ ap (numbers_after under.corrections.kept (run_by under kept).numbers (next_number kept)) given_is
-
--- what holds in any case holds where a call ends well
-pub on_ok_of : {T E P : Type 0} (r : Result T E) → P → OnOk r P
-on_ok_of (Ok x) p = p
-on_ok_of (Err e) p = tt
 
 -- the register after the row of an entry
 pub stands_row : (under : Standing) (register : DocketRegister) (kept : List (List ℕ)) (entry : List ℕ) (row : Row) → 0 < length kept → ltb (length kept) most_entries ≡ true → note_in entry ≡ None → is_struck under.corrections (next_number kept) ≡ false
@@ -158,11 +157,33 @@ none_left under kept fields line.Blank none = refl
 none_left under kept fields (line.Fault cause) none = refl
 none_left under kept fields (line.Row row) none = cc none
 
+-- what a line is answered that says this, and opens a case too many or not
+abbrev pub told_with : Standing → (kept : List (List ℕ)) → (too_many : Bool) → Line → List ℕ
+told_with under kept too_many said = cond too_many (fault_told (next_number kept) TooManyCases) (told_of under kept said)
+
+-- a line that lacks no third field opens no case too many
+lacks_it : (kept : List (List ℕ)) (said then : Line) → within kept said ≡ then → lacks_third then ≡ false → lacks_third said ≡ false
+lacks_it kept line.Blank then is none = refl
+lacks_it kept (line.Fault cause) then is none = ap lacks_third is ∙ none
+lacks_it kept (line.Row row) then is none = refl
+
+pub not_too_many : (under : Standing) (kept : List (List ℕ)) (bytes : List ℕ) (said : Line) → within kept (line_read most_clerks (names_of under.court) (reading_at under kept bytes).text) ≡ said → lacks_third said ≡ false → too_many_at under kept bytes ≡ false
+not_too_many under kept bytes said is none = by (too_many_at under kept bytes) refl
+  where
+    by : (too_many : Bool) → too_many_at under kept bytes ≡ too_many → too_many ≡ false
+    by false so = refl
+    by true so = sym (too_many_lacks (names_of under.court) (cases_of under kept) bytes so) ∙ lacks_it kept (line_read most_clerks (names_of under.court) (reading_at under kept bytes).text) said is none
+
+-- what is told of a fault, by its cause
+pub cause_told : (under : Standing) (kept : List (List ℕ)) (too_many : Bool) (cause : RowCause) → fault_told (next_number kept) (cause_as too_many cause) ≡ told_with under kept too_many (line.Fault cause)
+cause_told under kept true cause = refl
+cause_told under kept false cause = refl
+
 -- what lines leave and are answered, by what they say
 module _ (under : Standing) (register : DocketRegister) (kept : List (List ℕ)) (bytes : List ℕ) (batch : List (List ℕ)) (text : List ℕ) where
   -- a line that leaves nothing
   pub nothing_left : (said : Line) → within kept (line_read most_clerks (names_of under.court) (reading_at under kept bytes).text) ≡ said → row_in said ≡ [] → IsReadyAt under register kept → (text_after : List ℕ)
-      → text_after ≡ text ++ told_of under kept said → TakesLine (leaves under) (answers under) (IsReadyAt under register) kept bytes batch batch text text_after
+      → text_after ≡ text ++ told_with under kept (too_many_at under kept bytes) said → TakesLine (leaves under) (answers under) (IsReadyAt under register) kept bytes batch batch text text_after
   unfolding leaves answers plain_leaves plain_answers
   nothing_left said is none stands text_after told =
       let plain = (reading_at under kept bytes).text in
@@ -171,13 +192,13 @@ module _ (under : Standing) (register : DocketRegister) (kept : List (List ℕ))
       record {
         stands = subst (IsReadyAt under register) (sym (ap (λ (l : List (List ℕ)). kept ++ l) left ∙ append-nil kept)) stands;
         left = sym (append-nil batch) ∙ ap (λ (l : List (List ℕ)). batch ++ l) (sym left);
-        told = told ∙ ap (λ l. text ++ told_of under kept l) (sym is);
+        told = told ∙ ap (λ l. text ++ told_with under kept (too_many_at under kept bytes) l) (sym is);
       }
 
   -- a line that says a row, which is done
   pub row_left : (row : Row) → within kept (line_read most_clerks (names_of under.court) (reading_at under kept bytes).text) ≡ line.Row row → 0 < length kept → all_before under.corrections (next_number kept) ≡ true → (fields : List (List ℕ)) → fields ≡ fields_read (reading_at under kept bytes).text
-      → (name : Option NameView) → name ≡ (reading_at under kept bytes).name → (made : String Global × Vec ℕ Global)
-      → IsDone under kept fields row name register made → (batch_after : List (List ℕ)) (text_after : List ℕ) → batch_after ≡ batch ++ made.1.items ∷ [] → text_after ≡ text ++ string_bytes made.0
+      → (name : Option NameView) → name ≡ (reading_at under kept bytes).name → (made : Done)
+      → IsDone under kept fields row name register made → (batch_after : List (List ℕ)) (text_after : List ℕ) → batch_after ≡ batch ++ made.entry.items ∷ [] → text_after ≡ text ++ string_bytes made.answer
       → TakesLine (leaves under) (answers under) (IsReadyAt under register) kept bytes batch batch_after text text_after
   unfolding leaves answers plain_leaves plain_answers
   row_left row is begun before fields fields_are name name_is made done batch_after text_after batch_is text_is =
@@ -187,7 +208,7 @@ module _ (under : Standing) (register : DocketRegister) (kept : List (List ℕ))
       let entry = name_line name ++ entry_of under kept (fields_read plain) row in
       let left : leaves under kept bytes ≡ entry ∷ [] =
       ap (λ (l : Line). with_name (reading_at under kept bytes).name (left_of under kept (fields_read plain) l)) is ∙ ap (λ (n : Option NameView). with_name n (entry_of under kept (fields_read plain) row ∷ [])) (sym name_is) in
-      let made_is : made.1.items ≡ entry = done.entry ∙ ap (λ (f : List (List ℕ)). name_line name ++ entry_of under kept f row) fields_are in
+      let made_is : made.entry.items ≡ entry = done.entry ∙ ap (λ (f : List (List ℕ)). name_line name ++ entry_of under kept f row) fields_are in
       let was : WasRead name = subst WasRead (sym name_is) (reading_read (names_of under.court) (cases_of under kept) bytes) in
       record {
         stands = subst (IsReadyAt under register) (sym (ap (λ (l : List (List ℕ)). kept ++ l) left)) (record {
@@ -195,14 +216,15 @@ module _ (under : Standing) (register : DocketRegister) (kept : List (List ℕ))
           before = before-row under.corrections kept entry begun (is_no_note_named (names_of under.court) (fields_read plain) row (answer_to under kept row) spelled name) before;
         });
         left = batch_is ∙ ap (λ (e : List ℕ). batch ++ e ∷ []) made_is ∙ ap (λ (l : List (List ℕ)). batch ++ l) (sym left);
-        told = text_is ∙ ap (λ (l : List ℕ). text ++ l) done.answer ∙ ap (λ l. text ++ told_of under kept l) (sym is);
+        told = text_is ∙ ap (λ (l : List ℕ). text ++ l) done.answer ∙ ap (λ l. text ++ told_of under kept l) (sym is)
+            ∙ ap (λ (b : Bool). text ++ cond b (fault_told (next_number kept) TooManyCases) (plain_answers under kept plain)) (sym (not_too_many under kept bytes (line.Row row) is refl));
       }
 
 -- an entry that says a row is the next one where the row leaves it
 module _ (under : Standing) (register : DocketRegister) (kept : List (List ℕ)) (entry : List ℕ) where
   -- what an entry leaves that says a row
   pub leaves_made : (row : Row) → within kept (line_read most_clerks (names_of under.court) (after_name entry)) ≡ line.Row row → (fields : List (List ℕ)) → fields ≡ fields_read (after_name entry) → (name : Option NameView) → name ≡ name_before entry
-      → (made : String Global × Vec ℕ Global) → IsDone under kept fields row name register made → left_again under kept entry ≡ made.1.items ∷ []
+      → (made : Done) → IsDone under kept fields row name register made → left_again under kept entry ≡ made.entry.items ∷ []
   unfolding plain_leaves
   leaves_made row is fields fields_are name name_is made done =
       ap (λ (l : Line). with_name (name_before entry) (left_of under kept (fields_read (after_name entry)) l)) is

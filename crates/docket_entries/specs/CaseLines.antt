@@ -1,5 +1,5 @@
 -- Lines in which a case has its number as the court writes it, and the plain lines that stand for them.
-use Rattle.std.specs.Prelude.{◌≡◌, ℕ, Bool, false, List, ◌∷◌, ◌++◌, Option, Some, None, codes, drop, nat_eq, take, if◌then◌else◌}
+use Rattle.std.specs.Prelude.{◌≡◌, ◌&&◌, ℕ, Bool, false, is_none, List, ◌∷◌, ◌++◌, Option, Some, None, codes, drop, nat_eq, take, if◌then◌else◌}
 use Rattle.std.specs.Fmt.{decimal}
 use Rattle.std.specs.Str.{bytes_eq}
 use Rattle.csv.specs.Writing.{default_writer, row_text}
@@ -65,6 +65,18 @@ lacks_third (line.Row row) = false
 -- how a line is read after rows that opened these cases
 unfoldable pub reading_of : CourtNames → CasesView → (line : List ℕ) → Reading
 reading_of names cases line = if lacks_third (line_read most_clerks names line) then named_if cases line (fields_read line) (case_in (fields_read line)) else as_it_is line
+
+-- a row opens a case, and each number has one
+abbrev pub finds_no_number : CasesView → (fields : List (List ℕ)) → Bool
+finds_no_number cases fields = bytes_eq (column fields 2) (codes "open") && is_none (fresh cases)
+
+abbrev pub lacks_number : CasesView → (fields : List (List ℕ)) → Option NameView → Bool
+lacks_number cases fields None = false
+lacks_number cases fields (Some name) = is_none (number_of cases.named name.key) && finds_no_number cases fields
+
+-- a line opens a case by a name that no case has, after rows that opened as many cases as a docket holds
+unfoldable pub opens_too_many : CourtNames → CasesView → (line : List ℕ) → Bool
+opens_too_many names cases line = lacks_third (line_read most_clerks names line) && lacks_number cases (fields_read line) (case_in (fields_read line))
 
 -- how a line is read, where this plain line stands for it
 abbrev pub read_as : (line : List ℕ) → Option CaseLine → Reading

@@ -1,6 +1,7 @@
 pub mod Entries
 pub mod Cases
 pub mod CaseLines
+pub mod LineCauses
 pub mod Run
 pub mod Rows
 pub mod Export

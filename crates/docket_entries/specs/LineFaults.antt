@@ -1,32 +1,33 @@
 -- What is wrong with the lines of an input.
-use Rattle.std.specs.Prelude.{◌≡◌, ◌<◌, ℕ, true, List, [], ◌∷◌, ◌++◌, length}
+use Rattle.std.specs.Prelude.{◌≡◌, ◌<◌, ℕ, Bool, true, List, [], ◌∷◌, ◌++◌, length}
 use Rattle.case_numbers.specs.Words.{CasesView}
-use Rattle.office_rows.specs.declared.fault.RowCause.{RowCause}
 use Rattle.office_rows.specs.Words.{names_of}
 use Rattle.row_line.specs.declared.line.Line.{Line}
 use Rattle.row_line.specs.declared.line.Line.TheVariants as says
 use Rattle.row_line.specs.Words.{line_read}
+use Rattle.docket_entries.specs.declared.cause.LineCause.{LineCause}
 use Rattle.docket_entries.specs.declared.line_faults.LineFault.{LineFault}
 use Rattle.row_strikes.specs.Words.{all_before}
 use Rattle.docket_entries.specs.declared.standing.Standing.{Standing}
 use Rattle.docket_entries.specs.Cases.{cases_of}
 use Rattle.docket_entries.specs.Entries.{most_clerks, next_number}
-use Rattle.docket_entries.specs.Rows.{leaves, reading_at, within}
+use Rattle.docket_entries.specs.LineCauses.{cause_as}
+use Rattle.docket_entries.specs.Rows.{leaves, reading_at, too_many_at, within}
 
 -- a line that has a fault: its number, what is wrong with it, and the line
 pub record FaultyLine : Type 0 where
   pub number : ℕ
-  pub cause : RowCause
+  pub cause : LineCause
   pub line : List ℕ
 
 abbrev pub fault_in : LineFault → FaultyLine
 fault_in fault = record { number = fault.number; cause = fault.cause; line = fault.line.items }
 
--- the fault of the line of that number, which says this
-abbrev pub fault_as : (number : ℕ) → (line : List ℕ) → Line → List FaultyLine
-fault_as number line says.Blank = []
-fault_as number line (says.Fault cause) = record { number = number; cause = cause; line = line } ∷ []
-fault_as number line (says.Row row) = []
+-- the fault of the line of that number, which says this, and opens a case too many or not
+abbrev pub fault_as : (number : ℕ) → (line : List ℕ) → (too_many : Bool) → Line → List FaultyLine
+fault_as number line too_many says.Blank = []
+fault_as number line too_many (says.Fault cause) = record { number = number; cause = cause_as too_many cause; line = line } ∷ []
+fault_as number line too_many (says.Row row) = []
 
 -- there are as many entries, they opened these cases, and each row that is struck is among them
 pub record CountsAs (under : Standing) (kept : List (List ℕ)) (count : ℕ) (cases : CasesView) : Type 0 where
@@ -39,4 +40,4 @@ pub record CountsAs (under : Standing) (kept : List (List ℕ)) (count : ℕ) (c
 unfoldable pub faults_of : Standing → (kept : List (List ℕ)) → List (ℕ × List ℕ) → List FaultyLine
 faults_of under kept [] = []
 faults_of under kept (line ∷ lines) =
-    fault_as line.0 line.1 (within kept (line_read most_clerks (names_of under.court) (reading_at under kept line.1).text)) ++ faults_of under (kept ++ leaves under kept line.1) lines
+    fault_as line.0 line.1 (too_many_at under kept line.1) (within kept (line_read most_clerks (names_of under.court) (reading_at under kept line.1).text)) ++ faults_of under (kept ++ leaves under kept line.1) lines

@@ -1,5 +1,5 @@
 -- What lines are answered by a docket of which only questions are asked.
-use Rattle.std.specs.Prelude.{ℕ, List, [], ◌++◌, codes}
+use Rattle.std.specs.Prelude.{ℕ, List, [], ◌++◌, codes, if◌then◌else◌}
 use Rattle.std.specs.Fmt.{decimal}
 use Rattle.row_line.specs.declared.line.Line.{Line}
 use Rattle.row_line.specs.declared.line.Line.TheVariants as line
@@ -8,11 +8,15 @@ use Rattle.office_rows.specs.declared.row.Work.{Work}
 use Rattle.office_rows.specs.declared.row.Work.TheVariants.{Command, Query}
 use Rattle.office_rows.specs.Words.{names_of}
 use Rattle.row_line.specs.Words.{line_read}
+use Rattle.durable_session.specs.declared.outcome.Outcome.{Outcome}
+use Rattle.durable_session.specs.declared.outcome.Outcome.TheVariants.{Blank, Fault, Taken}
+use Rattle.docket_entries.specs.declared.cause.LineCause.TheVariants.{TooManyCases}
 use Rattle.docket_entries.specs.declared.questions.Questions.{Questions}
 use Rattle.docket_entries.specs.declared.standing.Standing.{Standing}
 use Rattle.docket_entries.specs.Entries.{most_clerks, next_number}
 use Rattle.docket_entries.specs.Register.{StandsAt}
-use Rattle.docket_entries.specs.Rows.{answer_to, reading_at, told_of, within}
+use Rattle.docket_entries.specs.LineCauses.{fault_told}
+use Rattle.docket_entries.specs.Rows.{answer_to, reading_at, told_of, too_many_at, within}
 
 -- the line that tells that a row asks for a change, where the next row has this number
 abbrev pub command_text : (number : ℕ) → List ℕ
@@ -29,7 +33,16 @@ shown_to under kept (line.Fault cause) = told_of under kept (line.Fault cause)
 shown_to under kept (line.Row row) = shown_for under kept row row.work
 
 unfoldable pub shown : Standing → (kept : List (List ℕ)) → (line : List ℕ) → List ℕ
-shown under kept line = shown_to under kept (within kept (line_read most_clerks (names_of under.court) (reading_at under kept line).text))
+shown under kept line = if too_many_at under kept line then fault_told (next_number kept) TooManyCases else shown_to under kept (within kept (line_read most_clerks (names_of under.court) (reading_at under kept line).text))
+
+-- what comes of a line: whatever is answered is taken
+abbrev pub came_to : Line → Outcome
+came_to line.Blank = Blank
+came_to (line.Fault cause) = Fault
+came_to (line.Row row) = Taken
+
+unfoldable pub came_shown : Standing → (kept : List (List ℕ)) → (line : List ℕ) → Outcome
+came_shown under kept line = came_to (within kept (line_read most_clerks (names_of under.court) (reading_at under kept line).text))
 
 -- its docket is that of the entries
 abbrev pub AsksOf : Standing → Questions → (kept : List (List ℕ)) → Type 0

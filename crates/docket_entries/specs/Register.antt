@@ -1,6 +1,5 @@
 -- What a register of rows is after entries.
-use Rattle.std.specs.Prelude.{◌≡◌, ◌<◌, ◌≤◌, ◌+◌, ◌++◌, ℕ, true, List, Option, length, String, Vec, string_bytes}
-use Rattle.std.specs.declared.alloc.Global.{Global}
+use Rattle.std.specs.Prelude.{◌≡◌, ◌<◌, ◌≤◌, ◌+◌, ◌++◌, ℕ, true, List, Option, length, string_bytes}
 use Rattle.case_numbers.specs.Words.{NameView, name_line}
 use Rattle.docket_rows.specs.Words.{setup_of}
 use Rattle.office_rows.specs.declared.row.Row.{Row}
@@ -11,11 +10,12 @@ use Rattle.row_line.specs.Words.{fields_read, line_read}
 use Rattle.office_run.specs.Words.{Holds}
 use Rattle.row_strikes.specs.Words.{all_before}
 use Rattle.docket_entries.specs.declared.register.DocketRegister.{DocketRegister}
+use Rattle.docket_entries.specs.declared.register.Done.{Done}
 use Rattle.docket_entries.specs.declared.standing.Standing.{Standing}
 use Rattle.docket_entries.specs.Cases.{cases_of, opened_as, with_opened}
 use Rattle.docket_entries.specs.Entries.{most_clerks, most_entries, next_number}
-use Rattle.docket_entries.specs.Rows.{answer_to, entry_of, reading_at, within}
-use Rattle.docket_entries.specs.Run.{docketed_by, docketed_with, numbers_with, run_by}
+use Rattle.docket_entries.specs.Rows.{answer_to, entry_of, outcome_by, reading_at, within}
+use Rattle.docket_entries.specs.Run.{docketed_by, docketed_with, numbers_with, reply_by_places, run_by}
 
 -- its docket, its numbers and its cases are those of the entries under what stands, and it counts them and their rows
 pub record StandsAt (under : Standing) (register : DocketRegister) (kept : List (List ℕ)) : Type 0 where
@@ -32,10 +32,11 @@ pub record IsReadyAt (under : Standing) (register : DocketRegister) (kept : List
   pub at : StandsAt under register kept
   pub before : all_before under.corrections (next_number kept) ≡ true
 
--- a row is done: this is its answer and its entry, and the docket, the numbers and the cases are those after it
-pub record IsDone (under : Standing) (kept : List (List ℕ)) (fields : List (List ℕ)) (row : Row) (name : Option NameView) (register : DocketRegister) (made : String Global × Vec ℕ Global) : Type 0 where
-  pub answer : string_bytes made.0 ≡ answer_to under kept row
-  pub entry : made.1.items ≡ name_line name ++ entry_of under kept fields row
+-- a row is done: this is its answer, its entry and what came of it, and the docket, the numbers and the cases are those after it
+pub record IsDone (under : Standing) (kept : List (List ℕ)) (fields : List (List ℕ)) (row : Row) (name : Option NameView) (register : DocketRegister) (made : Done) : Type 0 where
+  pub answer : string_bytes made.answer ≡ answer_to under kept row
+  pub entry : made.entry.items ≡ name_line name ++ entry_of under kept fields row
+  pub came : made.outcome ≡ outcome_by (reply_by_places under (docketed_by under kept) (run_by under kept).numbers row.work)
   pub docket : Holds (setup_of under.court) register.docket (docketed_with under (run_by under kept) row.work)
   pub numbers : register.numbers ≡ numbers_with under (run_by under kept) (next_number kept) row.work
   pub cases : register.cases ≡ with_opened (cases_of under kept) (opened_as row.work) name

@@ -1,8 +1,14 @@
 -- What rows leave in a journal and what they are answered, under what stands.
-use Rattle.std.specs.Prelude.{◌≡◌, ℕ, List, [], ◌∷◌, ◌++◌, Option, length, map, nat_lt, if◌then◌else◌}
+use Rattle.std.specs.Prelude.{◌≡◌, ℕ, Bool, List, [], ◌∷◌, ◌++◌, Option, length, map, nat_lt, if◌then◌else◌}
 use Rattle.csv.specs.Writing.{default_writer, row_text}
 use Rattle.case_numbers.specs.Words.{NameView, after_name, name_before, name_line}
+use Rattle.docket_rows.specs.declared.answer.Answer.{Answer}
+use Rattle.docket_rows.specs.declared.answer.Answer.TheVariants as answer
+use Rattle.durable_session.specs.declared.outcome.Outcome.{Outcome}
+use Rattle.durable_session.specs.declared.outcome.Outcome.TheVariants.{Blank, Fault, Refused, Taken}
 use Rattle.office_rows.specs.declared.fault.RowCause.TheVariants.{TooManyRows}
+use Rattle.office_run.specs.declared.reply.Reply.{Reply}
+use Rattle.office_run.specs.declared.reply.Reply.TheVariants.{Made, Viewed}
 use Rattle.row_line.specs.declared.line.Line.{Line}
 use Rattle.row_line.specs.declared.line.Line.TheVariants as line
 use Rattle.office_rows.specs.declared.row.Row.{Row}
@@ -13,9 +19,11 @@ use Rattle.office_streams.specs.declared.fault.OfficeFault.TheVariants.{Row as R
 use Rattle.office_streams.specs.Words.{told_line}
 use Rattle.docket_entries.specs.declared.standing.Standing.{Standing}
 use Rattle.docket_entries.specs.Cases.{cases_of}
-use Rattle.docket_entries.specs.CaseLines.{Reading, reading_of}
+use Rattle.docket_entries.specs.declared.cause.LineCause.TheVariants.{TooManyCases}
+use Rattle.docket_entries.specs.CaseLines.{Reading, opens_too_many, reading_of}
 use Rattle.docket_entries.specs.Entries.{most_clerks, most_entries, next_number}
-use Rattle.docket_entries.specs.Run.{reply_under, run_by}
+use Rattle.docket_entries.specs.LineCauses.{fault_told}
+use Rattle.docket_entries.specs.Run.{docketed_by, reply_by_places, reply_under, run_by}
 
 -- the row of a line that says one
 abbrev pub row_in : Line → List Row
@@ -69,13 +77,45 @@ with_name name entries = map (λ entry. name_line name ++ entry) entries
 abbrev pub reading_at : Standing → (kept : List (List ℕ)) → (line : List ℕ) → Reading
 reading_at under kept line = reading_of (names_of under.court) (cases_of under kept) line
 
+-- after entries, a line opens a case too many
+abbrev pub too_many_at : Standing → (kept : List (List ℕ)) → (line : List ℕ) → Bool
+too_many_at under kept line = opens_too_many (names_of under.court) (cases_of under kept) line
+
 -- A line leaves what the plain line leaves that stands for it, after the line of its name where that is new; and it is
--- answered as that one is.
+-- answered as that one is, except where it opens a case too many.
 unfoldable pub leaves : Standing → (kept : List (List ℕ)) → (line : List ℕ) → List (List ℕ)
 leaves under kept line = let reading = reading_at under kept line in with_name reading.name (plain_leaves under kept reading.text)
 
 unfoldable pub answers : Standing → (kept : List (List ℕ)) → (line : List ℕ) → List ℕ
-answers under kept line = plain_answers under kept (reading_at under kept line).text
+answers under kept line = if too_many_at under kept line then fault_told (next_number kept) TooManyCases else plain_answers under kept (reading_at under kept line).text
+
+-- what comes of a row of which this is the docket's answer: it is refused, or it is done
+abbrev pub came_of : Answer → Outcome
+came_of answer.Opened = Taken
+came_of (answer.Started number shown) = Taken
+came_of (answer.Filed timely) = Taken
+came_of (answer.Extended shown) = Taken
+came_of (answer.MotionEntered number) = Taken
+came_of answer.Booked = Taken
+came_of answer.Moved = Taken
+came_of answer.Cancelled = Taken
+came_of answer.HolidayEntered = Taken
+came_of answer.OutageEntered = Taken
+came_of (answer.Refused refusal) = Refused
+
+-- a question changes nothing, whatever it is answered
+abbrev pub outcome_by : Reply → Outcome
+outcome_by (Made answered) = came_of answered
+outcome_by (Viewed view) = Taken
+
+-- what comes of a line that says this
+abbrev pub outcome_of : Standing → (kept : List (List ℕ)) → Line → Outcome
+outcome_of under kept line.Blank = Blank
+outcome_of under kept (line.Fault cause) = Fault
+outcome_of under kept (line.Row row) = outcome_by (reply_by_places under (docketed_by under kept) (run_by under kept).numbers row.work)
+
+unfoldable pub outcome : Standing → (kept : List (List ℕ)) → (line : List ℕ) → Outcome
+outcome under kept line = outcome_of under kept (within kept (line_read most_clerks (names_of under.court) (reading_at under kept line).text))
 
 -- what an entry leaves whose row is entered again, with its name
 abbrev pub left_again : Standing → (kept : List (List ℕ)) → (entry : List ℕ) → List (List ℕ)

@@ -1,9 +1,9 @@
 //! Lines in which a case has its number as the court writes it.
-ghost use Rattle.std.specs.Prelude.{◌≡◌, ◌≤◌, ◌+◌, ◌++◌, ◌∷◌, [], ℕ, List, drop, length, take, unwrap_or, IfOk, OnOk};
+ghost use Rattle.std.specs.Prelude.{◌≡◌, ◌≤◌, ◌+◌, ◌++◌, ◌∷◌, [], ℕ, List, drop, length, take, unwrap_or, Some, IfOk, OnOk};
 ghost use Rattle.std.specs.Fmt.{decimal};
 ghost use Rattle.csv.specs.Records.{field_at, fields_of, partial_of};
 ghost use Rattle.csv.specs.Writing.{default_writer, row_text};
-ghost use Rattle.docket_entries.specs.CaseLines.{IsRead, case_in, fresh_for, lacks_third, named, named_if, newly, read_as, with_number};
+ghost use Rattle.docket_entries.specs.CaseLines.{IsRead, case_in, finds_no_number, fresh_for, lacks_number, lacks_third, named, named_if, newly, opens_too_many, read_as, with_number};
 ghost use Rattle.case_numbers.specs.Words.{number_of};
 ghost use Rattle.office_rows.specs.Words.{names_of};
 ghost use Rattle.docket_entries.specs.Cases.{opened_as, with_opened};
@@ -50,6 +50,51 @@ pub fn read_named(
             Ok((said, name))
         }
         None => Ok((said, None)),
+    }
+}
+
+/// Whether a line opens a case by a name that no case has, after rows that opened as many cases as a docket holds. `Err` says
+/// that memory ran out.
+#[tactic(auto, unfolding(crate::specs::CaseLines::opens_too_many))]
+pub(crate) fn opens_too_many(
+    alloc: Global,
+    court: &Court,
+    cases: &Cases,
+    line: &[u8],
+) -> Result<bool, AllocError>
+    ensures { IfOk result (λ too_many. too_many ≡ opens_too_many (names_of court.now) cases.now line.now) }
+{
+    let _types: RowTypes = None;
+    let mut fields = StringRecord::new(alloc);
+    let said = read_line(alloc, line, MOST_CLERKS, court, &mut fields)?;
+    if !lacks_third(&said) {
+        return Ok(false);
+    }
+    match case_in(alloc, &fields)? {
+        Some(name) => Ok(lacks_number(cases, &fields, &name)),
+        None => Ok(false),
+    }
+}
+
+// Whether a row with this name opens a case, no case has the name, and each number has a case.
+fn lacks_number(cases: &Cases, fields: &StringRecord, name: &CaseName) -> bool
+    ensures { result ≡ lacks_number cases.now (fields_of fields.now) (Some name.now) }
+{
+    match cases.number_of(name.key()) {
+        Some(_) => false,
+        None => finds_no_number(cases, fields),
+    }
+}
+
+// Whether a row opens a case, and each number has one.
+fn finds_no_number(cases: &Cases, fields: &StringRecord) -> bool
+    ensures { result ≡ finds_no_number cases.now (fields_of fields.now) }
+{
+    let opens = field_at(fields, 1) == "open";
+    if opens {
+        cases.fresh().is_none()
+    } else {
+        false
     }
 }
 

@@ -3,12 +3,14 @@
 #![tactic(auto)]
 
 mod case_line;
+mod cause;
 mod docketed;
 mod entry;
 mod export;
 mod fault;
 mod laws;
 mod line_faults;
+mod outcome;
 mod questions;
 mod register;
 mod review;
@@ -16,6 +18,7 @@ mod standing;
 mod striking;
 
 pub use case_line::read_named;
+pub use cause::{LineCause, too_many_words};
 pub use docketed::Docketed;
 pub use entry::{court_entry, is_row, later_file, standing_file};
 pub use export::push_row;

@@ -5,15 +5,16 @@ ghost use Rattle.row_line.specs.Words.{line_read};
 ghost use Rattle.durable_session.specs.Words.{numbered_lines};
 ghost use Rattle.docket_entries.specs.Entries.{most_clerks};
 ghost use Rattle.docket_entries.specs.LineFaults.{CountsAs, fault_as, fault_in, faults_of};
-ghost use Rattle.docket_entries.specs.Rows.{leaves, reading_at, within};
+ghost use Rattle.docket_entries.specs.Rows.{leaves, reading_at, too_many_at, within};
 
-use crate::case_line::{note_case, read_named};
-use crate::register::{DocketRegister, RowTypes, within};
+use crate::case_line::{note_case, opens_too_many, read_named};
+use crate::cause::{LineCause, cause_as};
+use crate::outcome::within;
+use crate::register::{DocketRegister, RowTypes};
 use crate::standing::Standing;
 use case_numbers::Cases;
 use csv::StringRecord;
 use durable_session::{number_after, split_line};
-use office_rows::RowCause;
 use row_line::Line;
 use std::alloc::{AllocError, Global};
 
@@ -23,7 +24,7 @@ pub struct LineFault {
     /// The line's number in its file, counted from 1.
     pub number: usize,
     /// What is wrong with it.
-    pub cause: RowCause,
+    pub cause: LineCause,
     /// The line, without its end.
     pub line: Vec<u8>,
 }
@@ -46,7 +47,7 @@ impl Reading {
         &mut self,
         alloc: Global,
         number: usize,
-        cause: RowCause,
+        cause: LineCause,
         line: &[u8],
     ) -> Result<(), AllocError>
         ensures faults { OnOk result (map fault_in self.new.faults.items ≡ map fault_in self.old.faults.items ++ record { number = number; cause = cause; line = line.now } ∷ []) }
@@ -72,14 +73,17 @@ impl Reading {
         line: &[u8],
     ) -> Result<(), AllocError>
         ensures faults { (kept : List (List ℕ)) → CountsAs under.now kept self.old.count self.old.cases → OnOk result
-            (map fault_in self.new.faults.items ≡ map fault_in self.old.faults.items ++ fault_as number line.now (within kept (line_read most_clerks (names_of under.now.court) (reading_at under.now kept line.now).text))) }
+            (map fault_in self.new.faults.items ≡ map fault_in self.old.faults.items ++ fault_as number line.now (too_many_at under.now kept line.now) (within kept (line_read most_clerks (names_of under.now.court) (reading_at under.now kept line.now).text))) }
         ensures counts { (kept : List (List ℕ)) → CountsAs under.now kept self.old.count self.old.cases → OnOk result (CountsAs under.now (kept ++ leaves under.now kept line.now) self.new.count self.new.cases) }
     {
         let _types: RowTypes = None;
         let (said, name) = read_named(alloc, &under.court, &self.cases, line, &mut self.fields)?;
         match within(said, self.count) {
             Line::Blank => Ok(()),
-            Line::Fault(cause) => self.note(alloc, number, cause, line),
+            Line::Fault(cause) => {
+                let too_many = opens_too_many(alloc, &under.court, &self.cases, line)?;
+                self.note(alloc, number, cause_as(too_many, cause), line)
+            }
             Line::Row(row) => {
                 self.count += 1;
                 note_case(alloc, &mut self.cases, &row.work, name)

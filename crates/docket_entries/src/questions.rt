@@ -2,9 +2,11 @@
 ghost use Rattle.std.specs.Prelude.{◌≡◌, ◌++◌, ℕ, List, OnOk};
 ghost use Rattle.docket_entries.specs.Questions.{command_text};
 
-use crate::register::{DocketRegister, RowTypes, push_fault};
+use crate::case_line::opens_too_many;
+use crate::cause::{cause_as, push_cause};
+use crate::register::{DocketRegister, RowTypes};
 use crate::standing::Standing;
-use durable_session::Register;
+use durable_session::{Outcome, Register};
 use office_rows::Work;
 use row_line::Line;
 use std::alloc::{AllocError, Global};
@@ -29,13 +31,15 @@ impl Register for Questions {
     type Setup = Standing;
 
     ghost use Rattle.std.specs.Prelude.{[]};
-    ghost use Rattle.docket_entries.specs.Questions.{AsksOf, shown};
+    ghost use Rattle.docket_entries.specs.Questions.{AsksOf, came_shown, shown};
 
     ghost stands = { λ under questions kept. AsksOf under questions kept };
 
     ghost leaves = { λ under kept line. [] };
 
     ghost answers = { λ under kept line. shown under kept line };
+
+    ghost outcome = { λ under kept line. came_shown under kept line };
 
     fn take(
         &mut self,
@@ -44,18 +48,27 @@ impl Register for Questions {
         line: &[u8],
         _batch: &mut Vec<Vec<u8>>,
         text: &mut Vec<u8>,
-    ) -> Result<(), AllocError> {
+    ) -> Result<Outcome, AllocError> {
         let _types: RowTypes = None;
         let (said, _) = self.register.heard(alloc, under, line)?;
         match said {
-            Line::Blank => Ok(()),
-            Line::Fault(cause) => push_fault(alloc, text, self.register.next_number(), cause),
+            Line::Blank => Ok(Outcome::Blank),
+            Line::Fault(cause) => {
+                let cases = self.register.cases();
+                let too_many = opens_too_many(alloc, &under.court, cases, line)?;
+                let cause = cause_as(too_many, cause);
+                push_cause(alloc, text, self.register.next_number(), cause)?;
+                Ok(Outcome::Fault)
+            }
             Line::Row(row) => match &row.work {
-                Work::Command(_) => push_command(alloc, text, self.register.next_number()),
+                Work::Command(_) => {
+                    push_command(alloc, text, self.register.next_number())?;
+                    Ok(Outcome::Taken)
+                }
                 Work::Query(_) => {
                     let answer = self.register.shown(alloc, under, &row)?;
                     text.extend_from_slice(answer.as_bytes())?;
-                    Ok(())
+                    Ok(Outcome::Taken)
                 }
             },
         }

@@ -5,7 +5,6 @@ ghost use Rattle.office_rows.specs.Words.{names_of};
 ghost use Rattle.office_rows.specs.declared.row.Row.{Row as RowOf};
 ghost use Rattle.row_line.specs.Words.{fields_read, line_read};
 ghost use Rattle.row_line.specs.declared.line.Line.TheVariants as says;
-ghost use Rattle.office_streams.specs.Words.{told_line};
 ghost use Rattle.docket_entries.specs.Differences.{IsOtherwise};
 ghost use Rattle.docket_entries.specs.Entries.{most_clerks, most_entries, next_number, note_in};
 ghost use Rattle.row_strikes.specs.Words.{is_struck};
@@ -13,26 +12,27 @@ ghost use Rattle.docket_entries.specs.Cases.{cases_of};
 ghost use Rattle.docket_entries.specs.declared.standing.Standing.{Standing as StandingOf};
 ghost use Rattle.docket_rows.specs.Words.{setup_of};
 ghost use Rattle.office_run.specs.Words.{Holds};
-ghost use Rattle.docket_entries.specs.Rows.{answer_to, follows, within};
+ghost use Rattle.docket_entries.specs.Rows.{answer_to, follows, outcome_by, within};
 ghost use Rattle.docket_entries.specs.Run.{corrections_then, docketed_by, docketed_with, numbers_with, reply_by_places, run_by};
 ghost use Rattle.docket_rows.specs.declared.command.Command.{Command as CommandOf};
 ghost use Rattle.office_rows.specs.declared.row.Work.TheVariants as work;
 ghost use Rattle.kept_numbers.specs.Words.{numbered, passed};
 ghost use Rattle.named_answers.specs.Words.{named_line_of};
 
-use crate::case_line::{note_case, read_named};
+use crate::case_line::{note_case, opens_too_many, read_named};
+use crate::cause::{cause_as, push_cause, push_fault};
 use crate::entry::{answer_of, entry_of};
+use crate::outcome::{outcome_of, within};
 use crate::standing::Standing;
 use case_numbers::{CaseName, Cases, after_name, name_before};
 use court_clock::Day;
 use csv::StringRecord;
 use docket_core::Docket;
 use docket_rows::{Command, Query};
-use durable_session::Register;
+use durable_session::{Outcome, Register};
 use kept_numbers::{RowNumbers, given_by};
 use office_rows::{Row, RowCause, Work};
 use office_run::{Reply, reply_to};
-use office_streams::{OfficeFault, fault_line};
 use row_line::{Line, read_line};
 use row_strikes::Corrections;
 use rule_periods::{Grant, Request};
@@ -43,6 +43,17 @@ pub const MOST_CLERKS: u8 = 64;
 
 /// How many entries a journal has at most, and the court's file is the first of them.
 pub const MOST_ENTRIES: u32 = 1_000_000;
+
+// A row that is done.
+#[derive(Drop)]
+pub(crate) struct Done {
+    // Its answer.
+    pub answer: String,
+    // Its entry.
+    pub entry: Vec<u8>,
+    // What came of it.
+    pub outcome: Outcome,
+}
 
 // The types inside a row. The checker finds them only where they have names, so a function that takes a row out of a line
 // has a variable of this type.
@@ -182,10 +193,16 @@ impl DocketRegister {
         self.answer(alloc, under, row, reply)
     }
 
-    // Decides a row, and gives its answer.
+    // Decides a row, and gives its answer and what came of it.
     #[tactic(auto, unfolding(crate::specs::Rows::answer_to))]
-    fn answered(&mut self, alloc: Global, under: &Standing, row: &Row) -> Result<String, AllocError>
-        ensures answer { (kept : List (List ℕ)) → StandsAt under.now self.old kept → IfOk result (λ answer. string_bytes answer ≡ answer_to under.now kept row.now) }
+    fn answered(
+        &mut self,
+        alloc: Global,
+        under: &Standing,
+        row: &Row,
+    ) -> Result<(String, Outcome), AllocError>
+        ensures answer { (kept : List (List ℕ)) → StandsAt under.now self.old kept → IfOk result (λ made. string_bytes made.0 ≡ answer_to under.now kept row.now) }
+        ensures came { (kept : List (List ℕ)) → StandsAt under.now self.old kept → IfOk result (λ made. made.1 ≡ outcome_by (reply_by_places under.now (docketed_by under.now kept) (run_by under.now kept).numbers row.now.work)) }
         ensures docket { (kept : List (List ℕ)) → StandsAt under.now self.old kept → OnOk result (Holds (setup_of under.now.court) self.new.docket (docketed_with under.now (run_by under.now kept) row.now.work)) }
         ensures numbers { (kept : List (List ℕ)) → StandsAt under.now self.old kept → OnOk result (self.new.numbers ≡ numbers_with under.now (run_by under.now kept) (next_number kept) row.now.work) }
         ensures count { self.new.count ≡ self.old.count }
@@ -194,30 +211,36 @@ impl DocketRegister {
         ensures fields { self.new.fields ≡ self.old.fields }
     {
         let reply = self.replied(alloc, under, &row.work)?;
+        let outcome = outcome_of(&reply);
         let given = given_by(&row.work, &reply);
         self.numbers
             .take(under.corrections.kept(), self.number, given)?;
-        self.answer(alloc, under, row, reply)
+        let answer = self.answer(alloc, under, row, reply)?;
+        Ok((answer, outcome))
     }
 
-    // Does a row, perhaps with a new name, and gives its answer and its entry.
+    // Does a row, perhaps with a new name.
     fn done(
         &mut self,
         alloc: Global,
         under: &Standing,
         row: &Row,
         name: Option<CaseName>,
-    ) -> Result<(String, Vec<u8>), AllocError>
+    ) -> Result<Done, AllocError>
         requires { self.old.count < most_entries }
         ensures done { (kept : List (List ℕ)) → StandsAt under.now self.old kept → IfOk result (IsDone under.now kept (fields_of self.old.fields) row.now name self.new) }
         ensures count { OnOk result (self.new.count ≡ self.old.count + 1) }
     {
-        let answer = self.answered(alloc, under, row)?;
+        let (answer, outcome) = self.answered(alloc, under, row)?;
         let entry = entry_of(alloc, &name, &self.fields, &answer)?;
         note_case(alloc, &mut self.cases, &row.work, name)?;
         self.count += 1;
         self.number += 1;
-        Ok((answer, entry))
+        Ok(Done {
+            answer,
+            entry,
+            outcome,
+        })
     }
 
     /// The number of the next row, counted from 1.
@@ -303,7 +326,11 @@ impl DocketRegister {
         let name = name_before(alloc, entry)?;
         match self.said(alloc, under, after_name(entry))? {
             Line::Row(row) => {
-                let (answer, again) = self.done(alloc, under, &row, name)?;
+                let Done {
+                    answer,
+                    entry: again,
+                    ..
+                } = self.done(alloc, under, &row, name)?;
                 if again.as_slice() == entry {
                     Ok(None)
                 } else {
@@ -324,50 +351,19 @@ impl DocketRegister {
     }
 }
 
-// What a line says after this many entries: where there is no room for another, a row is one too many.
-pub(crate) fn within(said: Line, count: u32) -> Line
-    ensures said { (kept : List (List ℕ)) → count ≡ length kept → result ≡ within kept said }
-    ensures row { (row : RowOf) → result ≡ says.Row row → said ≡ says.Row row }
-    ensures room { (row : RowOf) → result ≡ says.Row row → count < most_entries }
-{
-    match said {
-        Line::Row(_) => {
-            if count < MOST_ENTRIES {
-                said
-            } else {
-                Line::Fault(RowCause::TooManyRows)
-            }
-        }
-        _ => said,
-    }
-}
-
-// Adds the line that tells of a row's fault.
-pub(crate) fn push_fault(
-    alloc: Global,
-    text: &mut Vec<u8>,
-    number: u32,
-    cause: RowCause,
-) -> Result<(), AllocError>
-    ensures { OnOk result (text.new.items ≡ text.old.items ++ told_line (OfficeFault.Row number cause)) }
-{
-    let line = fault_line(alloc, &OfficeFault::Row(number, cause))?;
-    text.extend_from_slice(line.as_bytes())?;
-    text.push(b'\n')?;
-    Ok(())
-}
-
 impl Register for DocketRegister {
     type Setup = Standing;
 
     ghost use Rattle.docket_entries.specs.Register.{IsReadyAt};
-    ghost use Rattle.docket_entries.specs.Rows.{answers, leaves};
+    ghost use Rattle.docket_entries.specs.Rows.{answers, leaves, outcome};
 
     ghost stands = { λ under register kept. IsReadyAt under register kept };
 
     ghost leaves = { λ under kept line. leaves under kept line };
 
     ghost answers = { λ under kept line. answers under kept line };
+
+    ghost outcome = { λ under kept line. outcome under kept line };
 
     fn take(
         &mut self,
@@ -376,17 +372,25 @@ impl Register for DocketRegister {
         line: &[u8],
         batch: &mut Vec<Vec<u8>>,
         text: &mut Vec<u8>,
-    ) -> Result<(), AllocError> {
+    ) -> Result<Outcome, AllocError> {
         let _types: RowTypes = None;
         let (said, name) = self.heard(alloc, under, line)?;
         match said {
-            Line::Blank => Ok(()),
-            Line::Fault(cause) => push_fault(alloc, text, self.number, cause),
+            Line::Blank => Ok(Outcome::Blank),
+            Line::Fault(cause) => {
+                let too_many = opens_too_many(alloc, &under.court, &self.cases, line)?;
+                push_cause(alloc, text, self.number, cause_as(too_many, cause))?;
+                Ok(Outcome::Fault)
+            }
             Line::Row(row) => {
-                let (answer, entry) = self.done(alloc, under, &row, name)?;
+                let Done {
+                    answer,
+                    entry,
+                    outcome,
+                } = self.done(alloc, under, &row, name)?;
                 text.extend_from_slice(answer.as_bytes())?;
                 batch.push(entry)?;
-                Ok(())
+                Ok(outcome)
             }
         }
     }

@@ -73,6 +73,14 @@ pub numbered_from-none : (number : ℕ) (bytes : List ℕ) → HasNoEnd bytes �
 unfolding numbered_from
 numbered_from-none number bytes none = ap (numbered_from number []) (sym (append-nil bytes)) ∙ numbered_from-within number [] bytes [] none
 
+-- a line whose end comes later goes on with its bytes
+pub unfinished_within : (begun some : List ℕ) → HasNoEnd some → unfinished_from begun some ≡ begun ++ some
+unfolding unfinished_from
+unfinished_within begun [] none = sym (append-nil begun)
+unfinished_within begun (byte ∷ some) none =
+    rw (All-head (λ (b : ℕ). ends_line b ≡ false) byte some none)
+    (unfinished_within (begun ++ byte ∷ []) some (All-tail (λ (b : ℕ). ends_line b ≡ false) byte some none) ∙ append_assoc begun (byte ∷ []) some)
+
 -- whether the last line has an end
 pub finished_by : (begun some : List ℕ) (byte : ℕ) → ends_line byte ≡ true → unfinished_from begun (some ++ byte ∷ []) ≡ []
 finished_by begun some byte ends = unfinished_from-append begun some (byte ∷ []) ∙ next_begins (unfinished_from begun some) byte ends
@@ -117,6 +125,16 @@ numbered_lines_from number begun (byte ∷ bytes) = by (ends_line byte) (numbere
         ≡ cond ends (begun ∷ lines_from [] bytes) (lines_from (begun ++ byte ∷ []) bytes)
     by true ended other = ap (λ (lines : List (List ℕ)). begun ∷ lines) ended
     by false ended other = other
+
+-- the first line of bytes, with its end, is their one line
+pub lines_of_first : (line : List ℕ) (end : ℕ) → HasNoEnd line → ends_line end ≡ true → lines_from [] (line ++ end ∷ []) ≡ line ∷ []
+unfolding numbered_from
+lines_of_first line end none ends =
+    sym (numbered_lines_from 1 [] (line ++ end ∷ []))
+    ∙ ap (map (λ line. line.1)) (numbered_from-first 1 (line ++ end ∷ []) line end [] (record { parts = refl; within = none; ends = ends }))
+
+pub lines_of_none : (bytes : List ℕ) → HasNoEnd bytes → lines_from [] bytes ≡ []
+lines_of_none bytes none = sym (numbered_lines_from 1 [] bytes) ∙ ap (map (λ line. line.1)) (numbered_from-none 1 bytes none)
 
 pub numbered_lines_are_lines_lem : NumberedLinesAreLines
 numbered_lines_are_lines_lem bytes = numbered_lines_from 1 [] bytes

@@ -38,7 +38,7 @@ module _ (leaves : List (List ℕ) → List ℕ → List (List ℕ)) (answers : 
       ap (λ (l : List (List ℕ)). kept ++ l) (left_by-append kept some more)
       ∙ sym (append_assoc kept (left_by leaves kept some) _)
 
-  one_left : (kept : List (List ℕ)) (line : List ℕ) → left_by leaves kept (line ∷ []) ≡ leaves kept line
+  pub one_left : (kept : List (List ℕ)) (line : List ℕ) → left_by leaves kept (line ∷ []) ≡ leaves kept line
   unfolding left_by
   one_left kept line = append-nil (leaves kept line)
 

@@ -15,8 +15,8 @@ pub enum SessionFault {
     /// The input can't be read.
     #[error("the input can't be read; what was answered is kept")]
     Read,
-    /// The answers can't be written. The lines that were read last are kept.
-    #[error("the answers can't be written; 'rows' shows what is kept")]
+    /// The answers can't be written. All lines that were read are kept, also those that were read last.
+    #[error("the answers can't be written; the rows that were read are kept, and 'rows' shows them")]
     Write,
     /// A line has more than 65,536 bytes. It and the lines that were read with it aren't kept.
     #[error("a line has more than 65536 bytes; enter again what wasn't answered")]

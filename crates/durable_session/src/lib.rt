@@ -6,13 +6,17 @@ mod batch;
 mod fault;
 mod gather;
 mod lines;
+mod outcome;
+mod publish;
 mod register;
 mod session;
+mod together;
 
 pub use asking::answer;
-pub use batch::serve_together;
 pub use fault::SessionFault;
 pub use gather::MAX_LINE;
 pub use lines::{SplitLine, is_finished, number_after, numbered_lines_are_lines, split_line};
+pub use outcome::{Outcome, Tally};
 pub use register::Register;
 pub use session::serve;
+pub use together::{RefusedLine, serve_together};

@@ -1,8 +1,10 @@
 //! What takes lines and answers them.
-ghost use Rattle.std.specs.Prelude.{ℕ, List, OnOk};
+ghost use Rattle.std.specs.Prelude.{◌≡◌, ℕ, List, IfOk, OnOk};
 ghost use Rattle.durable_journal.specs.Words.{batch_of};
 ghost use Rattle.durable_session.specs.Taken.{TakesLine};
+ghost use Rattle.durable_session.specs.declared.outcome.Outcome.{Outcome as OutcomeOf};
 
+use crate::outcome::Outcome;
 use std::alloc::{AllocError, Global};
 
 /// What takes lines and answers them, each by the entries that the lines before it have left in a journal.
@@ -19,8 +21,11 @@ pub trait Register {
     // What a line is answered after these entries.
     ghost answers: { Self.Setup → (kept : List (List ℕ)) → (line : List ℕ) → List ℕ };
 
-    /// Takes a line, without its end: adds the entry that it leaves, if any, to the batch, and its answer to the text. `Err`
-    /// says that memory ran out.
+    // What comes of a line after these entries.
+    ghost outcome: { Self.Setup → (kept : List (List ℕ)) → (line : List ℕ) → OutcomeOf };
+
+    /// Takes a line, without its end: adds the entry that it leaves, if any, to the batch, and its answer to the text, and says
+    /// what comes of it. `Err` says that memory ran out.
     fn take(
         &mut self,
         setup: &Self::Setup,
@@ -28,7 +33,8 @@ pub trait Register {
         line: &[u8],
         batch: &mut Vec<Vec<u8>>,
         text: &mut Vec<u8>,
-    ) -> Result<(), AllocError>
-        ensures { (kept : List (List ℕ)) → stands setup.now self.old kept → OnOk result
-            (TakesLine (leaves setup.now) (answers setup.now) (stands setup.now self.new) kept line.now (batch_of batch.old.items) (batch_of batch.new.items) text.old.items text.new.items) };
+    ) -> Result<Outcome, AllocError>
+        ensures taken { (kept : List (List ℕ)) → stands setup.now self.old kept → OnOk result
+            (TakesLine (leaves setup.now) (answers setup.now) (stands setup.now self.new) kept line.now (batch_of batch.old.items) (batch_of batch.new.items) text.old.items text.new.items) }
+        ensures came { (kept : List (List ℕ)) → stands setup.now self.old kept → IfOk result (λ came. came ≡ outcome setup.now kept line.now) };
 }

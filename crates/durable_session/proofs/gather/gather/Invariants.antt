@@ -1,6 +1,7 @@
 use Rattle.std.proofs.Common.{◌≡◌, ℕ, List, take}
 use Rattle.durable_journal.specs.Words.{batch_of}
 use Rattle.durable_session.specs.Lines.{lines_from, unfinished_from}
+use Rattle.durable_session.specs.Outcomes.{tally_after}
 use Rattle.durable_session.specs.Taken.{TakesLines}
 use Rattle.durable_session.proofs.gather.gather.Given as goal
 
@@ -10,4 +11,6 @@ invariant-bytes g l = record {
   begun : l.begun.items ≡ unfinished_from l.fn.begun.items (take l.byte-index l.bytes);
   taken : (kept : List (List ℕ)) → g.O.Register.stands l.setup l.fn.register kept →
       TakesLines (g.O.Register.leaves l.setup) (g.O.Register.answers l.setup) (g.O.Register.stands l.setup l.register) kept (lines_from l.fn.begun.items (take l.byte-index l.bytes)) (batch_of l.fn.batch.items) (batch_of l.batch.items) l.fn.text.items l.text.items;
+  tally : (kept : List (List ℕ)) → g.O.Register.stands l.setup l.fn.register kept →
+      l.tally ≡ tally_after (g.O.Register.leaves l.setup) (g.O.Register.outcome l.setup) l.fn.tally kept (lines_from l.fn.begun.items (take l.byte-index l.bytes));
 }

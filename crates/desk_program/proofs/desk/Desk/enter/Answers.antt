@@ -23,3 +23,6 @@ returns-clause-served g c = λ kept keeps.
     (λ input. IsServed (leaves under) (answers under) (λ entries. IsKept g.D.Disk.seen g.D.Disk.may_leave g.D.Disk.is_usable entries c.serve.new.journal) (IsReadyAt under c.serve.new.register) kept (lines_of input) before after) _
     (λ input all. served_docket g.D.Disk.seen g.D.Disk.may_leave g.D.Disk.is_usable c.args.self.now _ kept keeps refl (lines_of input) before after all) served)
     (c.serve.ensures.served kept keeps.kept keeps.docketed.stands)
+
+pub returns-clause-tally : goal.returns-clause-tally
+returns-clause-tally g c = λ kept keeps. c.serve.ensures.tally kept keeps.kept keeps.docketed.stands

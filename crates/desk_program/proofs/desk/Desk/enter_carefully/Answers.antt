@@ -26,3 +26,6 @@ returns-clause-served g c = λ kept keeps.
     (λ input. IsServed (careful_leaves under today) (careful_answers under today) (λ entries. IsKept g.D.Disk.seen g.D.Disk.may_leave g.D.Disk.is_usable entries c.serve-ended.new.journal) (IsReadyAt under c.serve-ended.new.register.register) kept (lines_of input) before after) _
     (λ input all. served_carefully g.D.Disk.seen g.D.Disk.may_leave g.D.Disk.is_usable c.args.self _ today kept keeps refl (lines_of input) before after all) served)
     (c.serve-ended.ensures.served kept keeps.kept keeps.docketed.stands)
+
+pub returns-clause-tally : goal.returns-clause-tally
+returns-clause-tally g c = λ kept keeps. c.serve-ended.ensures.tally kept keeps.kept keeps.docketed.stands

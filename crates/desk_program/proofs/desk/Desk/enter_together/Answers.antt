@@ -1,42 +1,26 @@
-use Rattle.std.proofs.Common.{◌≡◌, ◌∙◌, List, ap, length, map, refl, subst, sym}
+use Rattle.std.proofs.Common.{◌≡◌, ◌≢◌, ◌∙◌, ℕ, List, [], ◌++◌, None, Ok, Some, ap, length, map, refl, subst, sym}
+use Rattle.std.specs.Prelude.{option_map, false}
 use Rattle.std.proofs.lemmas.List.{length-map}
 use Rattle.std.specs.Io.KnownBytes.{Appends}
-use Rattle.durable_journal.specs.Words.{IsKept}
-use Rattle.durable_session.specs.Words.{IsServed, lines_of, numbered_lines}
+use Rattle.durable_journal.specs.Words.{IsKept, StandsFor, disk_of}
+use Rattle.durable_journal.proofs.CallerLemmas.{rest_kept}
+use Rattle.durable_session.specs.Words.{IsPromised, IsServed, left_by, lines_of, numbered_lines, refused_in}
 use Rattle.docket_entries.specs.Words.{FaultyLine, IsReadyAt, answers, fault_in, faults_of, leaves}
 use Rattle.office_streams.specs.declared.watched.Watched.{Watched}
-use Rattle.office_streams.specs.Words.{watched}
-use Rattle.desk_program.specs.Desk.{standing_at}
-use Rattle.desk_program.specs.Together.{line_faults_text}
-use Rattle.desk_program.proofs.DeskLemmas.{all_or_none_docket, kept_together, none_docket}
-use Rattle.desk_program.proofs.TogetherLemmas.{none_at_fault, some_at_fault}
+use Rattle.office_streams.specs.Words.{has_failed, watched}
+use Rattle.desk_program.specs.Desk.{disk_under, standing_at}
+use Rattle.desk_program.specs.Together.{line_faults_text, refused_text}
+use Rattle.desk_program.proofs.DeskLemmas.{all_or_none_docket, kept_together, none_docket, none_promised, promised_docket}
+use Rattle.desk_program.proofs.TogetherLemmas.{listed_no_refusal, never_none, none_at_fault, refused_no_faults, says_listed, says_refused, says_unserved, some_at_fault, unserved_other}
 use Rattle.desk_program.proofs.desk.Desk.enter_together.Goals as goal
 
+-- want of memory while faults are looked for
+pub returns-in-Err-clause-promised : goal.returns-in-Err-clause-promised
+returns-in-Err-clause-promised g c = λ kept keeps faultless unrefused. none_promised g.D.Disk.seen g.D.Disk.may_leave g.D.Disk.is_usable c.args.self.now c.args.self.now kept keeps (lines_of c.args.input.now) _ _
+
+-- lines that have faults
 pub returns-in-Err-list_faults-clause-crash : goal.returns-in-Err-list_faults-clause-crash
 returns-in-Err-list_faults-clause-crash g c = λ kept keeps. none_docket g.D.Disk.seen g.D.Disk.may_leave g.D.Disk.is_usable c.args.self.now c.args.self.now kept keeps (lines_of c.args.input.now)
-
-pub returns-then-not-is_finished-clause-crash : goal.returns-then-not-is_finished-clause-crash
-returns-then-not-is_finished-clause-crash g c = λ kept keeps. none_docket g.D.Disk.seen g.D.Disk.may_leave g.D.Disk.is_usable c.args.self.now c.args.self.now kept keeps (lines_of c.args.input.now)
-
-pub returns-in-Ok-serve_together-clause-kept : goal.returns-in-Ok-serve_together-clause-kept
-returns-in-Ok-serve_together-clause-kept g c = λ kept keeps.
-    let under = standing_at c.args.self.now in
-    let none = none_at_fault c.deref.result.now _ (ap (map fault_in) c.deref.ensures.value ∙ c.in-Ok.ensures kept keeps.docketed.stands) c.in-Ok-list_faults.ensures.none.0 in
-    kept_together g.D.Disk.seen g.D.Disk.may_leave g.D.Disk.is_usable c.args.self.now _ kept keeps refl c.args.input.now _ _ none (c.is_finished.ensures.0 c.if-not-is_finished.false)
-    (subst (λ (w : Watched g.row.W.Denot). IsServed (leaves under) (answers under) (λ entries. IsKept g.D.Disk.seen g.D.Disk.may_leave g.D.Disk.is_usable entries c.serve_together.new.journal) (IsReadyAt under c.serve_together.new.register) kept (lines_of c.args.input.now) (g.W.Write.contents (watched w)) (g.W.Write.contents (watched c.serve_together.new.writer)))
-    c.in-Ok-list_faults.ensures.none.1 (c.in-Ok-serve_together.ensures.served kept keeps.kept keeps.docketed.stands))
-
-pub returns-in-Ok-serve_together-clause-crash : goal.returns-in-Ok-serve_together-clause-crash
-returns-in-Ok-serve_together-clause-crash g c = λ kept keeps.
-    all_or_none_docket g.D.Disk.seen g.D.Disk.may_leave g.D.Disk.is_usable c.args.self.now c.args.self.now kept keeps (lines_of c.args.input.now) _ (c.serve_together.ensures.all_or_none kept keeps.kept keeps.docketed.stands)
-
-pub returns-in-Err-LongLine-clause-crash : goal.returns-in-Err-LongLine-clause-crash
-returns-in-Err-LongLine-clause-crash g c = λ kept keeps.
-    all_or_none_docket g.D.Disk.seen g.D.Disk.may_leave g.D.Disk.is_usable c.args.self.now c.args.self.now kept keeps (lines_of c.args.input.now) _ (c.serve_together.ensures.all_or_none kept keeps.kept keeps.docketed.stands)
-
-pub returns-clause-crash : goal.returns-clause-crash
-returns-clause-crash g c = λ kept keeps.
-    all_or_none_docket g.D.Disk.seen g.D.Disk.may_leave g.D.Disk.is_usable c.args.self.now c.args.self.now kept keeps (lines_of c.args.input.now) _ (c.serve_together.ensures.all_or_none kept keeps.kept keeps.docketed.stands)
 
 pub returns-in-Err-list_faults-clause-refused : goal.returns-in-Err-list_faults-clause-refused
 returns-in-Err-list_faults-clause-refused g c = λ kept count keeps is.
@@ -48,3 +32,101 @@ returns-in-Err-list_faults-clause-refused g c = λ kept count keeps is.
       count_is = many ∙ sym (length-map c.deref.result.now fault_in) ∙ ap length same;
       some = some_at_fault c.deref.result.now all same some;
     }
+
+pub returns-in-Err-list_faults-clause-stopped : goal.returns-in-Err-list_faults-clause-stopped
+returns-in-Err-list_faults-clause-stopped g c = λ kept number keeps is. absurd (listed_no_refusal _ _ number c.in-Err-list_faults.ensures.fault.1 (cc is))
+
+pub returns-in-Err-list_faults-clause-says : goal.returns-in-Err-list_faults-clause-says
+returns-in-Err-list_faults-clause-says g c = λ kept keeps. says_listed _ _ _ _ refl c.in-Err-list_faults.ensures.fault.1
+
+pub returns-in-Err-list_faults-clause-promised : goal.returns-in-Err-list_faults-clause-promised
+returns-in-Err-list_faults-clause-promised g c = λ kept keeps faultless unrefused.
+    let same = ap (map fault_in) c.deref.ensures.value ∙ c.in-Ok.ensures kept keeps.docketed.stands in
+    absurd (some_at_fault c.deref.result.now _ same c.in-Err-list_faults.ensures.fault.0 faultless)
+
+-- a last line with no end
+pub returns-then-not-is_finished-clause-crash : goal.returns-then-not-is_finished-clause-crash
+returns-then-not-is_finished-clause-crash g c = λ kept keeps. none_docket g.D.Disk.seen g.D.Disk.may_leave g.D.Disk.is_usable c.args.self.now c.args.self.now kept keeps (lines_of c.args.input.now)
+
+pub returns-then-not-is_finished-clause-promised : goal.returns-then-not-is_finished-clause-promised
+returns-then-not-is_finished-clause-promised g c = λ kept keeps faultless unrefused.
+    rw c.in-Ok-list_faults.ensures.none.1 (none_promised g.D.Disk.seen g.D.Disk.may_leave g.D.Disk.is_usable c.args.self.now c.args.self.now kept keeps (lines_of c.args.input.now) _ _)
+
+-- lines that are kept
+pub returns-in-Ok-None-clause-kept : goal.returns-in-Ok-None-clause-kept
+returns-in-Ok-None-clause-kept g c = λ kept keeps.
+    let under = standing_at c.args.self.now in
+    let none = none_at_fault c.deref.result.now _ (ap (map fault_in) c.deref.ensures.value ∙ c.in-Ok.ensures kept keeps.docketed.stands) c.in-Ok-list_faults.ensures.none.0 in
+    kept_together g.D.Disk.seen g.D.Disk.may_leave g.D.Disk.is_usable c.args.self.now _ kept keeps refl c.args.keep_refused c.args.input.now _ _ none (c.is_finished.ensures.0 c.if-not-is_finished.false) (sym (c.in-Ok-None.ensures.stopped kept keeps.docketed.stands) ∙ ap (option_map refused_in) c.in-Ok-None.field-0-is)
+    (subst (λ (w : Watched g.row.W.Denot). IsServed (leaves under) (answers under) (λ entries. IsKept g.D.Disk.seen g.D.Disk.may_leave g.D.Disk.is_usable entries c.serve_together.new.journal) (IsReadyAt under c.serve_together.new.register) kept (lines_of c.args.input.now) (g.W.Write.contents (watched w)) (g.W.Write.contents (watched c.serve_together.new.writer)))
+    c.in-Ok-list_faults.ensures.none.1 (c.serve_together.ensures.served kept keeps.kept keeps.docketed.stands (c.in-Ok-None.is ∙ ap Ok c.in-Ok-None.field-0-is)))
+
+pub returns-in-Ok-None-clause-crash : goal.returns-in-Ok-None-clause-crash
+returns-in-Ok-None-clause-crash g c = λ kept keeps.
+    all_or_none_docket g.D.Disk.seen g.D.Disk.may_leave g.D.Disk.is_usable c.args.self.now c.args.self.now kept keeps (lines_of c.args.input.now) _ (c.serve_together.ensures.all_or_none kept keeps.kept keeps.docketed.stands)
+
+pub returns-in-Ok-None-clause-unwritten : goal.returns-in-Ok-None-clause-unwritten
+returns-in-Ok-None-clause-unwritten g c = λ kept keeps some. ap disk_of (c.serve_together.ensures.unwritten kept keeps.docketed.stands some)
+
+pub returns-in-Ok-Some-clause-crash : goal.returns-in-Ok-Some-clause-crash
+returns-in-Ok-Some-clause-crash g c = λ kept keeps.
+    all_or_none_docket g.D.Disk.seen g.D.Disk.may_leave g.D.Disk.is_usable c.args.self.now c.args.self.now kept keeps (lines_of c.args.input.now) _ (c.serve_together.ensures.all_or_none kept keeps.kept keeps.docketed.stands)
+
+pub returns-in-Ok-Some-clause-unwritten : goal.returns-in-Ok-Some-clause-unwritten
+returns-in-Ok-Some-clause-unwritten g c = λ kept keeps some. ap disk_of (c.serve_together.ensures.unwritten kept keeps.docketed.stands some)
+
+pub returns-clause-crash : goal.returns-clause-crash
+returns-clause-crash g c = λ kept keeps.
+    all_or_none_docket g.D.Disk.seen g.D.Disk.may_leave g.D.Disk.is_usable c.args.self.now c.args.self.now kept keeps (lines_of c.args.input.now) _ (c.serve_together.ensures.all_or_none kept keeps.kept keeps.docketed.stands)
+
+pub returns-clause-unwritten : goal.returns-clause-unwritten
+returns-clause-unwritten g c = λ kept keeps some. ap disk_of (c.serve_together.ensures.unwritten kept keeps.docketed.stands some)
+
+pub returns-in-Ok-None-clause-promised : goal.returns-in-Ok-None-clause-promised
+returns-in-Ok-None-clause-promised g c = λ kept keeps faultless unrefused.
+    let under = standing_at c.args.self.now in
+    promised_docket g.D.Disk.seen g.D.Disk.may_leave g.D.Disk.is_usable c.args.self.now c.args.self.now kept keeps (lines_of c.args.input.now) _ _ _ _
+    (subst (λ (w : Watched g.row.W.Denot). IsPromised (leaves under) (answers under) kept (lines_of c.args.input.now) (g.W.Write.contents (watched w)) (g.W.Write.contents (watched c.serve_together.new.writer)) (has_failed c.serve_together.new.writer ≡ false) (g.D.Disk.may_leave (disk_of c.serve_together.new.journal)))
+    c.in-Ok-list_faults.ensures.none.1 (c.serve_together.ensures.promised kept keeps.kept keeps.docketed.stands))
+
+pub returns-clause-promised : goal.returns-clause-promised
+returns-clause-promised g c = λ kept keeps faultless unrefused.
+    let under = standing_at c.args.self.now in
+    promised_docket g.D.Disk.seen g.D.Disk.may_leave g.D.Disk.is_usable c.args.self.now c.args.self.now kept keeps (lines_of c.args.input.now) _ _ _ _
+    (subst (λ (w : Watched g.row.W.Denot). IsPromised (leaves under) (answers under) kept (lines_of c.args.input.now) (g.W.Write.contents (watched w)) (g.W.Write.contents (watched c.serve_together.new.writer)) (has_failed c.serve_together.new.writer ≡ false) (g.D.Disk.may_leave (disk_of c.serve_together.new.journal)))
+    c.in-Ok-list_faults.ensures.none.1 (c.serve_together.ensures.promised kept keeps.kept keeps.docketed.stands))
+
+-- a command that stops the list
+pub returns-in-Ok-Some-clause-promised : goal.returns-in-Ok-Some-clause-promised
+returns-in-Ok-Some-clause-promised g c = λ kept keeps faultless unrefused. absurd (never_none _ (refused_in c.in-Ok-Some.line) (sym (c.in-Ok-Some.ensures.stopped kept keeps.docketed.stands) ∙ ap (option_map refused_in) c.in-Ok-Some.field-0-is) unrefused)
+
+pub returns-in-Ok-Some-clause-refused : goal.returns-in-Ok-Some-clause-refused
+returns-in-Ok-Some-clause-refused g c = λ kept count keeps is. absurd (refused_no_faults _ _ count c.tell_refused.ensures.fault (cc is))
+
+pub returns-in-Ok-Some-clause-stopped : goal.returns-in-Ok-Some-clause-stopped
+returns-in-Ok-Some-clause-stopped g c = λ kept number keeps is.
+    let (number_is, written) = c.tell_refused.ensures.told number (cc is) in
+    record {
+      line = refused_in c.in-Ok-Some.line;
+      first = sym (c.in-Ok-Some.ensures.stopped kept keeps.docketed.stands) ∙ ap (option_map refused_in) c.in-Ok-Some.field-0-is;
+      number_is = number_is;
+      written = subst (λ (w : Watched g.row.W.Denot). Appends (g.W.Write.contents (watched w)) (g.W.Write.contents (watched c.tell_refused.new.writer)) (refused_text (refused_in c.in-Ok-Some.line))) (c.in-Ok-Some.ensures.untold (λ e. cc e) ∙ c.in-Ok-list_faults.ensures.none.1) written;
+    }
+
+pub returns-in-Ok-Some-clause-says : goal.returns-in-Ok-Some-clause-says
+returns-in-Ok-Some-clause-says g c = λ kept keeps.
+    says_refused _ _ _ _ (ap disk_of (c.serve_together.ensures.unwritten kept keeps.docketed.stands (never_none _ (refused_in c.in-Ok-Some.line) (sym (c.in-Ok-Some.ensures.stopped kept keeps.docketed.stands) ∙ ap (option_map refused_in) c.in-Ok-Some.field-0-is)))) c.tell_refused.ensures.fault
+
+-- lines that can't be served
+pub returns-clause-refused : goal.returns-clause-refused
+returns-clause-refused g c = λ kept count keeps is. absurd ((unserved_other c.in-Err-serve_together.fault _ c.together_fault.ensures).0 count (cc is))
+
+pub returns-clause-stopped : goal.returns-clause-stopped
+returns-clause-stopped g c = λ kept number keeps is. absurd ((unserved_other c.in-Err-serve_together.fault _ c.together_fault.ensures).1 number (cc is))
+
+pub returns-clause-says : goal.returns-clause-says
+returns-clause-says g c = λ kept keeps.
+    rw c.together_fault.ensures
+    (says_unserved _ _ _ c.args.input.now c.in-Err-serve_together.fault c.in-Err-serve_together.ensures.fault
+    (λ long. ap disk_of (c.serve_together.ensures.long (cc (c.in-Err-serve_together.is, long))))
+    (λ write file may. rest_kept g.D.Disk.seen g.D.Disk.may_leave g.D.Disk.is_usable c.serve_together.new.journal (kept ++ left_by (leaves (standing_at c.args.self.now)) kept (lines_of c.args.input.now)) (c.serve_together.ensures.unanswered kept keeps.kept keeps.docketed.stands (cc (c.in-Err-serve_together.is, write))) file may))

@@ -5,3 +5,6 @@ returns-clause-tried g c = λ kept keeps. c.answer-ended.ensures.answered kept k
 
 pub returns-clause-front : goal.returns-clause-front
 returns-clause-front g c = λ kept keeps. c.answer-ended.ensures.front kept keeps.docketed.stands
+
+pub returns-clause-tally : goal.returns-clause-tally
+returns-clause-tally g c = λ kept keeps. c.answer-ended.ensures.tally kept keeps.docketed.stands

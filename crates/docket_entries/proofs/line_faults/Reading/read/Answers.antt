@@ -12,8 +12,8 @@ returns-in-Blank-clause-counts c = λ kept counts.
     let is = sym (said_at c.args.under.now kept c.args.line.now c.args.self.now.cases c.in_ok-said.said counts.cases_are c.in_ok-said.ensures.said) ∙ sym (c.within.ensures.said kept counts.count_is) ∙ c.in-Blank.is in
     counts_same c.args.under.now kept c.args.line.now says.Blank c.args.self.now.count c.args.self.now.cases is refl counts
 
-pub returns-in-Fault-clause-counts : goal.returns-in-Fault-clause-counts
-returns-in-Fault-clause-counts c = λ kept counts.
+pub returns-in_ok-too_many-in-Fault-clause-counts : goal.returns-in_ok-too_many-in-Fault-clause-counts
+returns-in_ok-too_many-in-Fault-clause-counts c = λ kept counts.
     let is = sym (said_at c.args.under.now kept c.args.line.now c.args.self.now.cases c.in_ok-said.said counts.cases_are c.in_ok-said.ensures.said) ∙ sym (c.within.ensures.said kept counts.count_is) ∙ c.in-Fault.is in
     on_ok_weaker c.note.result
     (λ noted. rw (c.note.ensures.count, c.note.ensures.cases) (counts_same c.args.under.now kept c.args.line.now (says.Fault c.in-Fault.cause) c.args.self.now.count c.args.self.now.cases is refl counts))

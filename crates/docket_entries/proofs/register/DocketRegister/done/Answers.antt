@@ -12,6 +12,7 @@ returns-clause-done c = λ kept stands. record {
   entry = c.in_ok-entry.ensures
       ∙ ap (λ (f : StringRecord). name_line c.args.name ++ (row_text default_writer (fields_of f) ++ c.deref.result.now)) c.answered.ensures.fields
       ∙ ap (λ (l : List ℕ). name_line c.args.name ++ (row_text default_writer (fields_of c.args.self.now.fields) ++ l)) (c.deref.ensures ∙ c.in_ok-answer.ensures.answer kept stands);
+  came = c.in_ok-answer.ensures.came kept stands;
   docket = c.in_ok-answer.ensures.docket kept stands;
   numbers = c.in_ok-answer.ensures.numbers kept stands;
   cases = c.in_ok-note_case.ensures ∙ ap (λ (k : CasesView). with_opened k (opened_as c.args.row.now.work) c.args.name) (c.answered.ensures.cases ∙ stands.cases);

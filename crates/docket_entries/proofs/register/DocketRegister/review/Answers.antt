@@ -22,7 +22,7 @@ pub returns-then-eq-clause-other : goal.returns-then-eq-clause-other
 returns-then-eq-clause-other c = λ kept stands.
     let before = as_it_was c.args.under.now c.args.self.now c.said.new.self kept stands c.said.ensures.docket c.said.ensures.numbers c.said.ensures.cases c.said.ensures.number c.said.ensures.count in
     let left = leaves_made c.args.under.now c.done.new.self kept c.args.entry.now c.in-Row.row (sym (c.in_ok-row.ensures.said kept stands.count ∙ ap (λ (t : List ℕ). within kept (line_read most_clerks (names_of c.args.under.now.court) t)) c.after_name.ensures) ∙ c.in-Row.is) (fields_of c.said.new.self.fields) (c.in_ok-row.ensures.fields c.in-Row.row c.in-Row.is ∙ ap fields_read c.after_name.ensures) c.in_ok-name.name c.in_ok-name.ensures
-    (c.in_ok-answer-in-Row.answer, c.in_ok-answer-in-Row.again) (c.in_ok-answer-in-Row.ensures.done kept before) in
+    _ (c.in_ok-answer-in-Row.ensures.done kept before) in
     left ∙ ap (λ (e : List ℕ). e ∷ []) (sym c.as_slice.ensures.value ∙ (bytes_eq-Decides c.as_slice.result.now c.args.entry.now).0 (sym c.eq.ensures ∙ c.if-eq.true))
 
 pub returns-then-eq-clause-stands : goal.returns-then-eq-clause-stands
@@ -38,10 +38,10 @@ returns-else-eq-clause-other c = λ kept stands.
     let is = sym (c.in_ok-row.ensures.said kept stands.count ∙ ap (λ (t : List ℕ). within kept (line_read most_clerks (names_of c.args.under.now.court) t)) c.after_name.ensures) ∙ c.in-Row.is in
     let done = c.in_ok-answer-in-Row.ensures.done kept before in
     let left = leaves_made c.args.under.now c.done.new.self kept c.args.entry.now c.in-Row.row is (fields_of c.said.new.self.fields) (c.in_ok-row.ensures.fields c.in-Row.row c.in-Row.is ∙ ap fields_read c.after_name.ensures) c.in_ok-name.name c.in_ok-name.ensures
-    (c.in_ok-answer-in-Row.answer, c.in_ok-answer-in-Row.again) done in
+    _ done in
     record {
       other = λ may.
-          let again : c.in_ok-answer-in-Row.again.items ≡ c.args.entry.now = cc (sym left ∙ may) in
+          let again : c.in_ok-answer-in-Row.field-0.entry.items ≡ c.args.entry.now = cc (sym left ∙ may) in
           false≢true (sym c.if-eq.false ∙ (c.eq.ensures ∙ (bytes_eq-Decides c.as_slice.result.now c.args.entry.now).1 (c.as_slice.ensures.value ∙ again)));
       answer_is = ap (λ (v : Vec ℕ Global). v.items) c.into_bytes.ensures.value ∙ done.answer ∙ sym (answers_as c.args.under.now c.done.new.self kept c.args.entry.now (says.Row c.in-Row.row) is);
     }
