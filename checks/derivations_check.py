@@ -301,6 +301,37 @@ rooms = ["R1"]
 '''
 
 
+# Counts that lead to the Friday before a Saturday's holiday, or over it: after an event, before one, with the three days of 6(d),
+# with an extension, to serve, and to a date certain; then that Friday is also a holiday of the state, and has an outage
+AT_A_FRIDAY = b'''zone = "EST5EDT,M3.2.0/2,M11.1.0/2"
+opens = "08:30"
+closes = "17:00"
+from = "2026-01-01"
+to = "2026-12-31"
+federal = ["2026-06-19", "2026-07-03"]
+state = []
+judges = ["Ames"]
+rooms = ["R1"]
+%%
+1,open,1,2026-05-01
+1,start,1,59e,2026-06-05,,,
+1,start,1,7d/before/filing/event/plain,2026-07-11,,,
+1,start,1,7d/before/service/event/plain,2026-07-10,,,
+1,start,1,30d/after/filing/served/plain,2026-05-31,,,C
+1,start,1,14d/after/filing/event/plain,2026-06-05,,,
+1,extend,1,5,+11d,2026-06-10,09:00,yes,yes,yes
+1,start,1,12a1Ai,2026-06-12,,,
+1,start,1,27d/after/filing/event/plain,2026-06-05,,,
+1,start,1,21d/after/filing/event/plain,2026-06-05,,,
+1,extend,1,8,2026-07-03,2026-06-10,09:00,yes,yes,yes
+1,sheet,1
+1,holiday,2026-07-03,state
+1,sheet,1
+1,inaccessible,2026-07-03,09:00,12:00
+1,sheet,1
+'''
+
+
 def a_row(chance):
     word = chance.choices(["compute", "start", "extend", "holiday", "inaccessible", "sheet", "file", "motion", "book", "odd"],
                           [60, 6, 12, 3, 4, 1, 5, 1, 8, 4])[0]
@@ -508,7 +539,7 @@ def main(words):
     # looked for by their numbers, so the example in which they have names is left out)
     inputs = [path.read_bytes() for path in sorted((TOP / "examples").glob("*.txt"))
               if not path.with_suffix(".words").exists() and b"[case_names]" not in path.read_bytes()]
-    inputs += [by_places((TOP / "crates" / "deadline_memo" / "stdin").read_bytes()), AT_THE_END]
+    inputs += [by_places((TOP / "crates" / "deadline_memo" / "stdin").read_bytes()), AT_THE_END, AT_A_FRIDAY]
     while shown < count or inputs:
         data = inputs.pop() if inputs else an_input(chance)
         for derivation in all_derivations(program, data, chance):

@@ -3,9 +3,10 @@
 Each is the deadline of reference/periods.py with one thing changed: its act, its event, or its days counted in two steps.
 """
 from lib.derivation_steps import time_text
-from reference.civil import civil
+from lib.legal_names import legal_name
+from reference.civil import civil, weekday
 from reference.periods import Deadline, Event, Period, shown
-from reference.rule6 import AFTER, BEYOND, FILING, SERVICE, Days, Outage, adds_three
+from reference.rule6 import AFTER, BEYOND, FILING, SERVICE, Days, Outage, Shown, adds_three, covered
 
 
 def days_of(calendar):
@@ -47,6 +48,35 @@ def readings(days, clock, deadline):
     at_midnight = deadline.period.unit == "h" and event.minute == 0
     later = deadline._replace(event=Event(event.day + 1, 0))
     yield "from the end of that day", shown(days, clock, later) if at_midnight else None
+    yield "that Friday isn't a legal holiday", on_friday(days, clock, deadline)
+
+
+def last_counted(days, clock, deadline):
+    """The day to which the last count leads, before it is rolled, or None: without outages, and from ends as they are here."""
+    period, last = deadline.period, deadline.grants[-1] if deadline.grants else None
+    if last is not None and last.unit != "d" or last is None and period.unit != "d":
+        return None
+    if last is not None:
+        so_far, count = with_act(deadline._replace(grants=deadline.grants[:-1]), SERVICE, deadline.kind), last.value
+    elif period.added and adds_three(deadline.kind, deadline.event.day):
+        so_far, count = with_act(deadline, SERVICE, None), 3
+    else:
+        event = deadline.event.day if deadline.second is None else max(deadline.event.day, deadline.second)
+        return event + period.count if period.direction == AFTER else event - period.count
+    end = shown(days, clock, so_far)
+    return end.end + count if end.kind == "last" else None
+
+
+def on_friday(days, clock, deadline):
+    """The Friday before a Saturday's holiday, where the last count leads to it and no outage moves the time from it, or None."""
+    day, direction = last_counted(days, clock, deadline), AFTER if deadline.grants else deadline.period.direction
+    if day is not None and direction != AFTER and weekday(day) > 4:
+        day -= weekday(day) - 4
+    if day is None or weekday(day) != 4 or not covered(days, day) or not legal_name(day).endswith(", observed"):
+        return None
+    moved = deadline.period.act == FILING and any(outage.day == day for outage in days.outages)
+    kept = day in days.federal and not (direction == AFTER and day in days.state)
+    return Shown("last", day) if kept and not moved else None
 
 
 def lines(calendar, deadline):

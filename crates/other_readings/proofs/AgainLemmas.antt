@@ -22,7 +22,7 @@ use Rattle.rule_periods.specs.declared.period.Period.TheVariants as period
 use Rattle.rule_periods.specs.declared.rule.RulePeriod.TheVariants.{Rule4m, Rule12a1Ai, Rule12a1AiiUs, Rule12a1AiiAbroad, Rule12a1B, Rule12a1C, Rule12a2, Rule12a3, Rule59b, Rule59e}
 use Rattle.rule_periods.specs.Words.{DeadlineRowView, EventView, act_due, base_of_period, end_of_length, extended_of, is_given, is_in_hours, is_second_for, kind_adds, shown_after, shown_of, suits, with_grant}
 use Rattle.rule_periods.proofs.DeadlineLemmas.{shown_of-push}
-use Rattle.other_readings.specs.Readings.{adds_days, counted_again, without_added}
+use Rattle.other_readings.specs.Changed.{adds_days, counted_again, without_added}
 
 -- what is shown of days that are counted again
 again_shown : (c : DaysView) (clock : ClockView) (day : ℤ) (n : ℕ) → shown_of c clock (counted_again day n) ≡ shown_after c clock Filing false After (option_map OnDay (rolled c (day +ℤ pos n) After))

@@ -11,7 +11,7 @@ use Rattle.rule_periods.specs.declared.period.Period.{Period}
 use Rattle.rule_periods.specs.declared.period.Period.TheVariants as period
 use Rattle.rule_periods.specs.declared.rule.RulePeriod.TheVariants.{Rule4m, Rule12a1Ai, Rule12a1AiiUs, Rule12a1AiiAbroad, Rule12a1B, Rule12a1C, Rule12a2, Rule12a3, Rule59b, Rule59e}
 use Rattle.rule_periods.specs.Words.{DeadlineRowView, EventView, access_direction, act_due, base_of, base_of_period, end_of_length, end_of_rule, ends_certain, extended_of, granted_if_it_fits, is_hour_length, kind_adds, shown_after, shown_of, suits}
-use Rattle.other_readings.specs.Readings.{kind_kept, with_act}
+use Rattle.other_readings.specs.Changed.{kind_kept, with_act}
 
 abbrev row_of : Period → EventView → Option ℤ → Option ServiceKind → List Grant → Option Filing → DeadlineRowView
 row_of p event second service grants filed =

@@ -1,3 +1,5 @@
+pub mod Changed
+pub mod Friday
 pub mod Readings
 pub mod Others
 pub mod Lines

@@ -9,7 +9,7 @@ use Rattle.rule_periods.specs.Words.{DeadlineRowView}
 use Rattle.reason_texts.specs.Words.{note_line}
 use Rattle.act_margins.specs.Words.{end_day, end_time}
 use Rattle.other_readings.specs.declared.reading.Reading.{Reading}
-use Rattle.other_readings.specs.declared.reading.Reading.TheVariants.{OutageMovesNothing, OutageMovesService, ExtendedFromMovedDay, OutageBeforeAddedDays, HoursFromEndOfDay}
+use Rattle.other_readings.specs.declared.reading.Reading.TheVariants.{OutageMovesNothing, OutageMovesService, ExtendedFromMovedDay, OutageBeforeAddedDays, HoursFromEndOfDay, FridayIsOpen}
 use Rattle.other_readings.specs.Others.{all_readings, other_by, other_end}
 
 abbrev pub reading_words : Reading → List ℕ
@@ -18,6 +18,7 @@ reading_words OutageMovesService = codes "other reading: outages move service to
 reading_words ExtendedFromMovedDay = codes "other reading: extended from the moved day"
 reading_words OutageBeforeAddedDays = codes "other reading: moved before the 3 days too"
 reading_words HoursFromEndOfDay = codes "other reading: from the end of that day"
+reading_words FridayIsOpen = codes "other reading: that Friday isn't a legal holiday"
 
 -- what the other reading is, and the end that it gives, but for its day: the time of an instant, or that no covered day ends it
 abbrev pub given_text : ClockView → Shown → List ℕ

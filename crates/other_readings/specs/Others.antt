@@ -7,12 +7,12 @@ use Rattle.rule6.specs.declared.timeliness.Shown.{Shown}
 use Rattle.rule6.specs.declared.timeliness.Shown.TheVariants.{Last, Until, Beyond}
 use Rattle.rule_periods.specs.Words.{DeadlineRowView, first_of, shown_of}
 use Rattle.other_readings.specs.declared.reading.Reading.{Reading}
-use Rattle.other_readings.specs.declared.reading.Reading.TheVariants.{OutageMovesNothing, OutageMovesService, ExtendedFromMovedDay, OutageBeforeAddedDays, HoursFromEndOfDay}
+use Rattle.other_readings.specs.declared.reading.Reading.TheVariants.{OutageMovesNothing, OutageMovesService, ExtendedFromMovedDay, OutageBeforeAddedDays, HoursFromEndOfDay, FridayIsOpen}
 use Rattle.other_readings.specs.Readings.{shown_by}
 
 -- all of them, in the order of their lines
 abbrev pub all_readings : List Reading
-all_readings = OutageMovesNothing ∷ OutageMovesService ∷ ExtendedFromMovedDay ∷ OutageBeforeAddedDays ∷ HoursFromEndOfDay ∷ []
+all_readings = OutageMovesNothing ∷ OutageMovesService ∷ ExtendedFromMovedDay ∷ OutageBeforeAddedDays ∷ HoursFromEndOfDay ∷ FridayIsOpen ∷ []
 
 -- Two ends aren't the same: they are two days or two instants, or of two kinds, as where no covered day ends the time by one
 -- reading alone.

@@ -1,5 +1,6 @@
 -- The words of clauses and definitions, for the crates above, from one place.
-pub use Rattle.other_readings.specs.Readings.{with_act, counted_again, last_grant, shown_by, SameActShowsTheSame, ExtendedAgainShowsTheSame, AddedAgainShowsTheSame}
+pub use Rattle.other_readings.specs.Changed.{with_act, counted_again, last_grant, SameActShowsTheSame, ExtendedAgainShowsTheSame, AddedAgainShowsTheSame}
+pub use Rattle.other_readings.specs.Readings.{shown_by}
 pub use Rattle.other_readings.specs.Others.{differs, other_by}
 unfoldable pub use Rattle.other_readings.specs.Others.{other_end}
 pub use Rattle.other_readings.specs.Lines.{reading_line, NoOtherEndHasNoLine}

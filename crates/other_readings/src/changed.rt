@@ -3,7 +3,7 @@
 ghost use Rattle.std.specs.Prelude.{◌≡◌, None, true, false, IfOk};
 ghost use Rattle.rule_periods.specs.Words.{is_days, is_length, runs_from, suits};
 ghost use Rattle.rule_periods.specs.declared.period.Period.TheVariants.{Entered as EnteredPeriod};
-ghost use Rattle.other_readings.specs.Readings.{adds_days, as_entered, before_last, counted_again, day_after, kind_kept, last_grant, started_on, with_terms};
+ghost use Rattle.other_readings.specs.Changed.{adds_days, as_entered, before_last, counted_again, day_after, kind_kept, last_grant, started_on, with_terms};
 
 use court_clock::{Day, Direction};
 use rule_periods::{
@@ -51,12 +51,16 @@ pub(crate) fn with_act(
     remade(alloc, row, Entered { act, ..entered }, kind)
 }
 
-/// The same deadline, to file, without the days of Rule 6(d).
-pub(crate) fn without_added(alloc: Global, row: &DeadlineRow) -> Result<DeadlineRow, AllocError>
-    ensures { IfOk result (λ other. other ≡ with_terms Act.Filing false row.now) }
+/// The same deadline with this act, without the days of Rule 6(d).
+pub(crate) fn without_added(
+    alloc: Global,
+    row: &DeadlineRow,
+    act: Act,
+) -> Result<DeadlineRow, AllocError>
+    ensures { IfOk result (λ other. other ≡ with_terms act false row.now) }
 {
     let entered = Entered {
-        act: Act::Filing,
+        act,
         served: false,
         ..as_entered(row)
     };

@@ -1,7 +1,7 @@
 //! What the definitions of other readings come to.
 
+ghost use Rattle.other_readings.specs.Changed.{AddedAgainShowsTheSame, ExtendedAgainShowsTheSame, SameActShowsTheSame};
 ghost use Rattle.other_readings.specs.Lines.{NoOtherEndHasNoLine};
-ghost use Rattle.other_readings.specs.Readings.{AddedAgainShowsTheSame, ExtendedAgainShowsTheSame, SameActShowsTheSame};
 
 /// A deadline that is made again with the act that it has shows the same, so that a reading by which the act is another
 /// changes nothing else.

@@ -2,6 +2,7 @@
 #![tactic(auto)]
 
 mod changed;
+mod friday;
 mod laws;
 mod lines;
 mod others;

@@ -36,7 +36,8 @@ pub fn push_readings(
         row,
         Reading::OutageBeforeAddedDays,
     )?;
-    push_reading(alloc, text, days, clock, row, Reading::HoursFromEndOfDay)
+    push_reading(alloc, text, days, clock, row, Reading::HoursFromEndOfDay)?;
+    push_reading(alloc, text, days, clock, row, Reading::FridayIsOpen)
 }
 
 /// Adds the line of a reading, where it gives another end.
@@ -109,5 +110,6 @@ fn reading_words(reading: Reading) -> &'static str
         Reading::ExtendedFromMovedDay => "other reading: extended from the moved day",
         Reading::OutageBeforeAddedDays => "other reading: moved before the 3 days too",
         Reading::HoursFromEndOfDay => "other reading: from the end of that day",
+        Reading::FridayIsOpen => "other reading: that Friday isn't a legal holiday",
     }
 }

@@ -40,7 +40,8 @@ pub fn other_end(
         found,
         Reading::OutageBeforeAddedDays,
     )?;
-    or_by(alloc, days, clock, row, found, Reading::HoursFromEndOfDay)
+    found = or_by(alloc, days, clock, row, found, Reading::HoursFromEndOfDay)?;
+    or_by(alloc, days, clock, row, found, Reading::FridayIsOpen)
 }
 
 /// What was found already, or else what a reading gives.

@@ -2,12 +2,14 @@
 
 ghost use Rattle.std.specs.Prelude.{◌≡◌, ◌==◌, ◌&&◌, true, IfOk};
 ghost use Rattle.rule_periods.specs.Words.{act_due, is_in_hours};
-ghost use Rattle.other_readings.specs.Readings.{adds_days, extended_from_moved, hours_from_end, last_grant, outage_before_added, outage_moves_nothing, outage_moves_service, shown_again, shown_by};
+ghost use Rattle.other_readings.specs.Changed.{adds_days, last_grant};
+ghost use Rattle.other_readings.specs.Readings.{extended_from_moved, hours_from_end, outage_before_added, outage_moves_nothing, outage_moves_service, shown_again, shown_by};
 
 use crate::changed::{
     adds_days, before_last, counted_again, day_after, last_grant, started_on, with_act,
     without_added,
 };
+use crate::friday::friday_is_open;
 use court_clock::Clock;
 use court_days::Days;
 use rule_periods::{DeadlineRow, Grant, act_due, shown};
@@ -27,6 +29,8 @@ pub enum Reading {
     OutageBeforeAddedDays,
     /// Hours whose event has no time of day count from the end of its day.
     HoursFromEndOfDay,
+    /// A Friday on which a Saturday's holiday is observed (5 U.S.C. 6103(b)(1)) isn't a legal holiday (Fed. R. Civ. P. 6(a)(6)).
+    FridayIsOpen,
 }
 
 /// What is shown of the deadline by another reading. None where the reading doesn't bear on the deadline. `Err` says that
@@ -46,6 +50,7 @@ pub fn shown_by(
         Reading::ExtendedFromMovedDay => extended_from_moved(alloc, days, clock, row),
         Reading::OutageBeforeAddedDays => outage_before_added(alloc, days, clock, row),
         Reading::HoursFromEndOfDay => hours_from_end(alloc, days, clock, row),
+        Reading::FridayIsOpen => friday_is_open(alloc, days, clock, row),
     }
 }
 
@@ -114,7 +119,7 @@ fn outage_before_added(
 {
     match act_due(row) {
         Act::Filing if row.grants().is_empty() && adds_days(row) => {
-            let before = without_added(alloc, row)?;
+            let before = without_added(alloc, row, Act::Filing)?;
             Ok(shown_again(alloc, days, clock, 3, shown(days, clock, &before)))
         }
         _ => Ok(None),
