@@ -335,7 +335,8 @@ def differs(chance, calendar, clerk, databases, data):
         first, last = sorted([chance.choice(days), chance.choice(days)])
     judge = chance.choice(whole["court"]["judges"]) if whole["court"]["judges"] else None
     of = chance.choice([b["day"] for c in whole["calendars"] for b in c["bookings"]] or [first])
-    due = ran([calendar, "due", "--from", first, "--to", last], data)[1]
+    # The tables have no other readings, which what is due marks at the end of a line.
+    due = re.sub(r", other reading.*", "", ran([calendar, "due", "--from", first, "--to", last], data)[1])
     for database in databases:
         fault = database.load(found[1].encode()) or table_fault(database, wanted) or zone_fault(database, data) or \
             names_fault(database, names, whole)
