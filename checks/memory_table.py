@@ -37,18 +37,18 @@ RUNS = [
 # The checks beside the gate that refuse it of functions to which no run of the gate comes; none where no program calls them.
 DESK_CHECKS, WRITTEN_CHECKS = ("desk_check", "strike_check"), ("written_check",)
 BESIDE = {
-    "federal_holidays": (),
+    "court_holidays": (),
     "court_writing": ("holidays_check",),
     "docket_core": DESK_CHECKS,
     "case_numbers": DESK_CHECKS,
-    "row_strikes": DESK_CHECKS,
-    "durable_session": DESK_CHECKS,
-    "docket_entries": DESK_CHECKS,
-    "careful_rows": DESK_CHECKS,
+    "desk_numbers": DESK_CHECKS,
+    "desk_session": DESK_CHECKS,
+    "desk_entries": DESK_CHECKS,
+    "desk_warnings": DESK_CHECKS,
     "desk_program": DESK_CHECKS,
-    "written_fields": WRITTEN_CHECKS,
-    "written_rows": WRITTEN_CHECKS,
-    "written_input": WRITTEN_CHECKS,
+    "row_fields": WRITTEN_CHECKS,
+    "row_written": WRITTEN_CHECKS,
+    "row_input": WRITTEN_CHECKS,
 }
 
 

@@ -3,7 +3,7 @@
 #![tactic(auto)]
 
 use clerk_program::run_clerk_office;
-use office_program::Ended;
+use program_main::Ended;
 
 /// Runs the program on the process's own words and streams, and ends with its status.
 fn main(rt: HostRuntime) -> Ended {

@@ -2,9 +2,9 @@
 use Rattle.std.proofs.Common.{◌∙◌, refl, sym}
 use Rattle.court_clock.specs.Words.{TextsNameClocks}
 use Rattle.court_days.proofs.CallerLemmas.{same_court}
-use Rattle.office_run.proofs.CallerLemmas.{run_text_alike}
-use Rattle.office_streams.specs.Words.{court_part}
-use Rattle.office_streams.proofs.CallerLemmas.{read_file}
+use Rattle.office_texts.proofs.RunLemmas.CallerLemmas.{run_text_alike}
+use Rattle.program_streams.specs.Words.{court_part}
+use Rattle.program_streams.proofs.CallerLemmas.{read_file}
 use Rattle.clerk_program.specs.UniqueText.{TextsAreUnique}
 
 pub texts_are_unique_lem : TextsNameClocks → TextsAreUnique

@@ -1,7 +1,7 @@
 -- Which numbers the words of the command line give.
 use Rattle.std.specs.Prelude.{◌≡◌, ℕ, List, Some, codes}
 use Rattle.clap.specs.Words.{Text}
-use Rattle.office_options.specs.Words.{DefaultsHold, number_held}
+use Rattle.program_main.specs.Options.Words.{DefaultsHold, number_held}
 
 -- the words give these numbers of clerks and of the journal's entries
 pub record Give (words : List Text) (clerks journal : ℕ) : Type 0 where

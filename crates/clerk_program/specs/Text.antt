@@ -1,11 +1,11 @@
 -- What the clerk's program writes of a run: the text of answers, sheets and calendars.
 use Rattle.std.specs.Prelude.{◌≡◌, ◌≢◌, ℕ, List, Option, Result}
 use Rattle.court_days.specs.Words.{CourtView, file_of}
-use Rattle.office_rows.specs.declared.row.Row.{Row}
-use Rattle.office_run.specs.Words.{run_text}
-use Rattle.office_streams.specs.declared.fault.OfficeFault.{OfficeFault}
-use Rattle.office_streams.specs.Words.{Input, IsRunBy}
-use Rattle.shared_run.specs.Words.{IsSharedText}
+use Rattle.row_forms.specs.declared.row.Row.{Row}
+use Rattle.office_texts.specs.Run.Words.{run_text}
+use Rattle.program_streams.specs.declared.fault.OfficeFault.{OfficeFault}
+use Rattle.program_streams.specs.Words.{Input, IsRunBy}
+use Rattle.clerk_workers.specs.Shared.Words.{IsSharedText}
 
 -- the text of a run of rows: one clerk does them one after another, and several share an office whose journal takes so
 -- many entries

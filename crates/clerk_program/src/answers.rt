@@ -2,9 +2,9 @@
 
 use crate::clerk_text::ClerkText;
 use crate::text::text_of;
-use clerk_gates::OpenGate;
-use office_options::Options;
-use office_streams::{CheckedInput, Finding, Report};
+use clerk_workers::OpenGate;
+use program_main::Options;
+use program_streams::{CheckedInput, Finding, Report};
 use std::alloc::{AllocError, Global};
 use std::sync::Wait;
 use std::thread::Threads;

@@ -1,7 +1,7 @@
 //! The text of a run, of one clerk or of several, as it is made.
 
-use office_streams::{Gathered, MadeText, Watched};
-use shared_run::SharedText;
+use clerk_workers::SharedText;
+use program_streams::{Gathered, MadeText, Watched};
 use std::io::Write;
 
 /// The text of a run.

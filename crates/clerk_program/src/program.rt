@@ -1,11 +1,10 @@
 //! The clerk's program.
 
 ghost use Rattle.std.specs.Prelude.{◌≤◌};
-ghost use Rattle.office_program.specs.Process.{ended_status};
+ghost use Rattle.program_main.specs.Process.{ended_status};
 
 use crate::answers::Answers;
-use office_options::{OptionsFault, options_of};
-use office_program::{Ended, Program, run_on_process};
+use program_main::{Ended, OptionsFault, Program, options_of, run_on_process};
 use std::alloc::Global;
 use std::sync::Wait;
 use std::thread::Threads;
@@ -16,7 +15,7 @@ pub struct ClerkOffice;
 
 impl Program for ClerkOffice {
     ghost use Rattle.clap.specs.Words.{fault_of, takes};
-    ghost use Rattle.office_options.specs.Words.{command_line};
+    ghost use Rattle.program_main.specs.Options.Words.{command_line};
     ghost use Rattle.clerk_program.specs.Choice.{Give};
 
     type Report = Answers;

@@ -3,8 +3,8 @@
 mod clerks;
 
 use crate::run_office;
-use office_options::Options;
-use office_streams::{OfficeFault, Watched, fault_line, status_of};
+use program_main::Options;
+use program_streams::{OfficeFault, Watched, fault_line, status_of};
 use sample_court::file;
 use std::alloc::{AllocError, Global};
 use std::io;

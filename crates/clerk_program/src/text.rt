@@ -1,16 +1,15 @@
 //! The text of a run, of one clerk or of several.
 
 ghost use Rattle.std.specs.Prelude.{All, IfOk};
-ghost use Rattle.office_rows.specs.Words.{IsOfClerk};
+ghost use Rattle.row_forms.specs.Words.{IsOfClerk};
 ghost use Rattle.clerk_program.specs.ClerkText.{bytes_of};
 ghost use Rattle.clerk_program.specs.Text.{IsTextBy};
 
 use crate::clerk_text::ClerkText;
-use clerk_gates::Gate;
-use office_options::Options;
-use office_run::run_text;
-use office_streams::CheckedInput;
-use shared_run::run_shared;
+use clerk_workers::{Gate, run_shared};
+use office_texts::run_text;
+use program_main::Options;
+use program_streams::CheckedInput;
 use std::alloc::{AllocError, Global};
 use std::sync::Wait;
 use std::thread::Threads;

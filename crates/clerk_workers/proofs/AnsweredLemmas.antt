@@ -3,8 +3,8 @@ use Rattle.std.proofs.Common.{◌≡◌, ℕ, List, [], ◌∷◌, ◌++◌, len
 use mathlib.Core.List.{IsPrefix}
 use Rattle.docket_rows.specs.Words.{CourtSetup}
 use Rattle.published_docket.proofs.CallerLemmas.{prefix_self, prefix_trans}
-use Rattle.office_rows.specs.declared.row.Work.{Work}
-use Rattle.office_rows.specs.declared.row.Work.TheVariants as work
+use Rattle.row_forms.specs.declared.row.Work.{Work}
+use Rattle.row_forms.specs.declared.row.Work.TheVariants as work
 use Rattle.clerk_workers.specs.declared.answer.SharedReply.{SharedReply}
 use Rattle.clerk_workers.specs.declared.answer.SharedReply.TheVariants.{Made, JournalFull, Viewed}
 use Rattle.clerk_workers.specs.Answered.{History, Says, IsAnsweredAt, AreAnswered, place_told, places_told}

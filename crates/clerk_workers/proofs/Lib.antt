@@ -7,3 +7,4 @@ pub mod RowLemmas
 pub mod RunLemmas
 pub mod WorkLemmas
 pub mod WorkerLemmas
+pub mod SharedLemmas

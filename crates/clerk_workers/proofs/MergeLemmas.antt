@@ -2,8 +2,8 @@
 use Rattle.std.proofs.Common.{◌≡◌, ℕ, ◌+◌, ◌<◌, ◌==◌, true, false, List, [], ◌∷◌, ◌++◌, length, map, reverse, All, refl, ap, sym, ◌∙◌, append_assoc, subst, arith, length-append, true≢false, get_or, set}
 use Rattle.std.proofs.lemmas.Bool.Decides.{Decides-eqb}
 use Rattle.std.proofs.lemmas.List.{get_or-map, get_or-set_other, get_or-set_same, length-map, length-set, map-set, reverse-append}
-use Rattle.office_rows.specs.declared.row.Row.{Row}
-use Rattle.office_rows.specs.Words.{IsClerk, IsOfClerk}
+use Rattle.row_forms.specs.declared.row.Row.{Row}
+use Rattle.row_forms.specs.Words.{IsClerk, IsOfClerk}
 use Rattle.clerk_workers.specs.declared.answer.SharedReply.{SharedReply}
 use Rattle.clerk_workers.specs.Merged.{AreFromTheLast, IsTaken, list_at}
 use Rattle.clerk_workers.specs.Rows.{AreOfClerks, answers_of, works_of}

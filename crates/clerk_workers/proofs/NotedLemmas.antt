@@ -1,8 +1,8 @@
 -- What the notes of all clerks hold, list by list.
 use Rattle.std.proofs.Common.{◌≡◌, ℕ, zero, suc, ◌+◌, ◌<◌, List, [], ◌∷◌, length, map, refl, ap, ◌∙◌, subst, arith}
 use Rattle.docket_rows.specs.Words.{CourtSetup}
-use Rattle.office_seats.specs.Words.{SeatView, TallyView}
-use Rattle.office_rows.specs.declared.row.Row.{Row}
+use Rattle.clerk_seats.specs.Words.{SeatView, TallyView}
+use Rattle.row_forms.specs.declared.row.Row.{Row}
 use Rattle.clerk_workers.specs.declared.answer.SharedReply.{SharedReply}
 use Rattle.clerk_workers.specs.Merged.{list_at}
 use Rattle.clerk_workers.specs.Noted.{AllHold, AllNoted, AreNoted}

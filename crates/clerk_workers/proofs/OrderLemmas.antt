@@ -1,6 +1,6 @@
 -- Seats in order.
 use Rattle.std.proofs.Common.{◌≡◌, ℕ, zero, suc, ◌+◌, List, [], ◌∷◌, ◌++◌, length, refl, ◌∙◌, arith, length-append}
-use Rattle.office_seats.specs.Words.{SeatView, open_seat, open_seats}
+use Rattle.clerk_seats.specs.Words.{SeatView, open_seat, open_seats}
 use Rattle.clerk_workers.specs.Runs.{AreInOrder, AreNumbered}
 
 -- one more seat, with the next number

@@ -2,8 +2,8 @@
 use Rattle.std.proofs.Common.{◌≡◌, ℕ, ◌==◌, if◌then◌else◌, true, false, List, [], ◌∷◌, ◌++◌, refl, ap, sym, ◌∙◌}
 use Rattle.std.proofs.lemmas.Bool.Decides.{Decides-eqb}
 use mathlib.Core.List.{IsPrefix}
-use Rattle.office_rows.specs.declared.row.Row.{Row}
-use Rattle.office_rows.specs.declared.row.Work.{Work}
+use Rattle.row_forms.specs.declared.row.Row.{Row}
+use Rattle.row_forms.specs.declared.row.Work.{Work}
 use Rattle.clerk_workers.specs.declared.answer.SharedReply.{SharedReply}
 use Rattle.clerk_workers.specs.Rows.{answers_of, works_of}
 

@@ -5,8 +5,8 @@ use Rattle.std.proofs.lemmas.List.Elements.{All-nil, All-head, All-tail}
 use mathlib.Core.List.{reverse-cons}
 use Rattle.docket_rows.specs.Words.{CourtSetup}
 use Rattle.published_docket.proofs.CallerLemmas.{prefix_self}
-use Rattle.office_seats.specs.Words.{SeatView, TallyView}
-use Rattle.office_rows.specs.declared.row.Row.{Row}
+use Rattle.clerk_seats.specs.Words.{SeatView, TallyView}
+use Rattle.row_forms.specs.declared.row.Row.{Row}
 use Rattle.clerk_workers.specs.declared.answer.SharedReply.{SharedReply}
 use Rattle.clerk_workers.specs.declared.progress.Progress.{Progress}
 use Rattle.clerk_workers.specs.declared.progress.Progress.TheVariants.{Waiting, Done, Stopped}

@@ -3,7 +3,7 @@ use Rattle.std.proofs.Common.{◌≡◌, List, [], ◌∷◌, ◌++◌, length, 
 use Rattle.std.proofs.lemmas.List.{map-append, reverse-append}
 use Rattle.std.proofs.lemmas.List.Elements.{All-nil, All-cons, All-head, All-tail}
 use Rattle.docket_rows.specs.Words.{CourtSetup}
-use Rattle.office_rows.specs.declared.row.Row.{Row}
+use Rattle.row_forms.specs.declared.row.Row.{Row}
 use Rattle.clerk_workers.specs.declared.answer.SharedReply.{SharedReply}
 use Rattle.clerk_workers.specs.declared.progress.Progress.{Progress}
 use Rattle.clerk_workers.specs.Workers.{AreUnderWay, AreWorked, WorkerView, HiredView, IsIn, IsReady, IsWorked, begun_at}

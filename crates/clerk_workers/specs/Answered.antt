@@ -6,9 +6,9 @@ use Rattle.docket_rows.specs.declared.command.Command.{Command}
 use Rattle.docket_rows.specs.Words.{CourtSetup, view_of}
 use Rattle.versioned_steps.specs.declared.entry.Entry.{Entry}
 use Rattle.shared_docket.specs.Words.{rows_of}
-use Rattle.office_seats.specs.declared.done.Done.{Done}
-use Rattle.office_rows.specs.declared.row.Work.{Work}
-use Rattle.office_rows.specs.declared.row.Work.TheVariants as work
+use Rattle.clerk_seats.specs.declared.done.Done.{Done}
+use Rattle.row_forms.specs.declared.row.Work.{Work}
+use Rattle.row_forms.specs.declared.row.Work.TheVariants as work
 use Rattle.clerk_workers.specs.declared.answer.SharedReply.{SharedReply}
 use Rattle.clerk_workers.specs.declared.answer.SharedReply.TheVariants.{Made, JournalFull, Viewed}
 

@@ -7,3 +7,4 @@ pub mod Steps
 pub mod Words
 pub mod Worked
 pub mod Workers
+pub mod Shared

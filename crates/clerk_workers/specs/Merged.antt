@@ -1,6 +1,6 @@
 -- The answers of each clerk, put into the order of the rows.
 use Rattle.std.specs.Prelude.{◌≡◌, ℕ, ◌+◌, ◌<◌, List, [], ◌∷◌, ◌++◌, length, get_or, reverse}
-use Rattle.office_rows.specs.declared.row.Row.{Row}
+use Rattle.row_forms.specs.declared.row.Row.{Row}
 use Rattle.clerk_workers.specs.declared.answer.SharedReply.{SharedReply}
 use Rattle.clerk_workers.specs.Rows.{works_of, answers_of}
 

@@ -1,8 +1,8 @@
 -- The rows of one clerk among those of all.
 use Rattle.std.specs.Prelude.{ℕ, ◌==◌, if◌then◌else◌, List, [], ◌∷◌, All}
-use Rattle.office_rows.specs.declared.row.Row.{Row}
-use Rattle.office_rows.specs.declared.row.Work.{Work}
-use Rattle.office_rows.specs.Words.{IsOfClerk}
+use Rattle.row_forms.specs.declared.row.Row.{Row}
+use Rattle.row_forms.specs.declared.row.Work.{Work}
+use Rattle.row_forms.specs.Words.{IsOfClerk}
 use Rattle.clerk_workers.specs.declared.answer.SharedReply.{SharedReply}
 
 -- what the clerk asks for, row after row

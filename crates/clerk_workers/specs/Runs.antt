@@ -3,8 +3,8 @@ use Rattle.std.specs.Prelude.{◌≡◌, ℕ, ◌+◌, List, [], ◌∷◌, leng
 use Rattle.std.specs.declared.result.Result.{Result}
 use Rattle.std.specs.declared.result.Result.TheVariants.{Ok, Err}
 use Rattle.docket_rows.specs.Words.{CourtSetup}
-use Rattle.office_seats.specs.Words.{SeatView, TallyView}
-use Rattle.office_rows.specs.declared.row.Row.{Row}
+use Rattle.clerk_seats.specs.Words.{SeatView, TallyView}
+use Rattle.row_forms.specs.declared.row.Row.{Row}
 use Rattle.clerk_workers.specs.declared.answer.SharedReply.{SharedReply}
 use Rattle.clerk_workers.specs.declared.outcome.Ran.{Ran}
 use Rattle.clerk_workers.specs.declared.outcome.RunFault.{RunFault}

@@ -4,9 +4,9 @@ use mathlib.Core.List.{IsPrefix}
 use Rattle.std.specs.declared.result.Result.{Result}
 use Rattle.std.specs.declared.result.Result.TheVariants.{Ok, Err}
 use Rattle.docket_rows.specs.Words.{CourtSetup}
-use Rattle.office_seats.specs.Words.{SeatView, Goes}
-use Rattle.office_rows.specs.declared.row.Row.{Row}
-use Rattle.office_rows.specs.declared.row.Work.{Work}
+use Rattle.clerk_seats.specs.Words.{SeatView, Goes}
+use Rattle.row_forms.specs.declared.row.Row.{Row}
+use Rattle.row_forms.specs.declared.row.Work.{Work}
 use Rattle.clerk_workers.specs.declared.answer.SharedReply.{SharedReply}
 use Rattle.clerk_workers.specs.Answered.{Says, place_told}
 use Rattle.clerk_workers.specs.Rows.{works_of}

@@ -2,8 +2,8 @@
 use Rattle.std.specs.Prelude.{◌≡◌, List, ◌++◌}
 use mathlib.Core.List.{IsPrefix}
 use Rattle.docket_rows.specs.Words.{CourtSetup}
-use Rattle.office_seats.specs.Words.{SeatView, TallyView}
-use Rattle.office_rows.specs.declared.row.Work.{Work}
+use Rattle.clerk_seats.specs.Words.{SeatView, TallyView}
+use Rattle.row_forms.specs.declared.row.Work.{Work}
 use Rattle.clerk_workers.specs.declared.answer.SharedReply.{SharedReply}
 use Rattle.clerk_workers.specs.Answered.{AreAnswered, places_told}
 

@@ -1,8 +1,8 @@
 -- Workers: clerks at work on their rows.
 use Rattle.std.specs.Prelude.{◌≡◌, List, [], ◌∷◌, ◌++◌, map, reverse, All, ⊤}
 use Rattle.docket_rows.specs.Words.{CourtSetup}
-use Rattle.office_seats.specs.Words.{SeatView, TallyView}
-use Rattle.office_rows.specs.declared.row.Row.{Row}
+use Rattle.clerk_seats.specs.Words.{SeatView, TallyView}
+use Rattle.row_forms.specs.declared.row.Row.{Row}
 use Rattle.clerk_workers.specs.declared.answer.SharedReply.{SharedReply}
 use Rattle.clerk_workers.specs.declared.progress.Progress.{Progress}
 use Rattle.clerk_workers.specs.declared.progress.Progress.TheVariants.{Waiting, Done, Stopped}

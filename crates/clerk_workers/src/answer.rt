@@ -1,7 +1,7 @@
 //! What a row is answered.
 
+use clerk_seats::Done;
 use docket_rows::View;
-use office_seats::Done;
 
 /// What a row of a clerk is answered.
 #[derive(Debug, Drop)]

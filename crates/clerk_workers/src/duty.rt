@@ -2,8 +2,8 @@
 
 use crate::notes::Notes;
 use crate::worker::Worker;
-use office_rows::Row;
-use office_seats::NamesOffice;
+use clerk_seats::NamesOffice;
+use row_forms::Row;
 use std::snapshot::Snapshot;
 use std::thread::Promise;
 

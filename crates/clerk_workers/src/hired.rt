@@ -4,11 +4,11 @@ ghost use Rattle.std.specs.Prelude.{◌≡◌, IfErr, IfOk};
 ghost use Rattle.clerk_workers.specs.Workers.{IsReady, IsWorked};
 
 use crate::duty::Duty;
+use crate::gates::Gate;
 use crate::notes::Notes;
 use crate::worker::Worker;
-use clerk_gates::Gate;
-use office_rows::Row;
-use office_seats::NamesOffice;
+use clerk_seats::NamesOffice;
+use row_forms::Row;
 use std::alloc::Global;
 use std::marker::Model;
 use std::snapshot::Snapshot;

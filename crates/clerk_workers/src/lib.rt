@@ -4,6 +4,7 @@
 
 mod answer;
 mod duty;
+mod gates;
 mod hired;
 mod merge;
 mod notes;
@@ -12,12 +13,15 @@ mod outcome;
 mod progress;
 mod run;
 mod serving;
+mod shared;
 mod threads;
 mod worker;
 mod workers;
 
 pub use answer::SharedReply;
+pub use gates::{Gate, OpenGate};
 pub use notes::Notes;
 pub use noting::run_noting;
 pub use outcome::{Noted, Ran, RunFault};
 pub use run::run_clerks;
+pub use shared::{SharedText, run_shared};

@@ -5,7 +5,7 @@ ghost use Rattle.clerk_workers.specs.Merged.{AreAsMany, AreMerged, IsTaken, list
 ghost use Rattle.clerk_workers.specs.Rows.{AreOfClerks};
 
 use crate::answer::SharedReply;
-use office_rows::Row;
+use row_forms::Row;
 
 // Takes the last answer of the clerk, who has one.
 fn take_last(lists: &mut Vec<Vec<SharedReply>>, clerk: u8) -> SharedReply

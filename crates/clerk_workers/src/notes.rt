@@ -4,7 +4,7 @@ ghost use Rattle.std.specs.Prelude.{◌≡◌, ◌++◌, ◌∷◌, [], List, On
 ghost use Rattle.clerk_workers.specs.declared.answer.SharedReply.{SharedReply};
 
 use crate::answer::SharedReply;
-use office_seats::NamesOffice;
+use clerk_seats::NamesOffice;
 use std::alloc::AllocError;
 
 /// What a clerk of the office that `L` names keeps of the answers to its rows, in its own thread.

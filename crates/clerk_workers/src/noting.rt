@@ -4,15 +4,15 @@ ghost use Rattle.std.specs.Prelude.{◌≡◌, ◌≤◌, [], All, length, vec_c
 ghost use Rattle.clerk_workers.specs.Workers.{AreWorked, seats_at};
 ghost use Rattle.clerk_workers.specs.Noted.{RunsNoting};
 
+use crate::gates::Gate;
 use crate::notes::Notes;
 use crate::outcome::{Noted, RunFault};
 use crate::progress::Progress;
 use crate::threads::at_work;
 use crate::worker::Worker;
 use crate::workers::{all_are, leave_all, seat_all, unseat_all};
-use clerk_gates::Gate;
-use office_rows::Row;
-use office_seats::{NamesOffice, Seat, Tally};
+use clerk_seats::{NamesOffice, Seat, Tally};
+use row_forms::Row;
 use std::alloc::Global;
 use std::snapshot::Snapshot;
 use std::sync::Wait;

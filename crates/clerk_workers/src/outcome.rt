@@ -2,7 +2,7 @@
 
 use crate::answer::SharedReply;
 use crate::notes::Notes;
-use office_seats::{NamesOffice, Seat, Tally};
+use clerk_seats::{NamesOffice, Seat, Tally};
 
 /// A run in which all rows were answered.
 #[derive(Drop)]

@@ -5,12 +5,12 @@ ghost use Rattle.clerk_workers.specs.Rows.{AreOfClerks};
 ghost use Rattle.clerk_workers.specs.Runs.{AreInOrder, Runs};
 
 use crate::answer::SharedReply;
+use crate::gates::Gate;
 use crate::merge::merge;
 use crate::noting::run_noting;
 use crate::outcome::{Noted, Ran, RunFault};
-use clerk_gates::Gate;
-use office_rows::Row;
-use office_seats::{NamesOffice, Seat};
+use clerk_seats::{NamesOffice, Seat};
+use row_forms::Row;
 use std::alloc::{AllocError, Global};
 use std::sync::Wait;
 use std::thread::Threads;

@@ -1,20 +1,20 @@
 //! One clerk, who does its rows in order, on its seat.
 
 ghost use Rattle.std.specs.Prelude.{◌≡◌, ◌++◌, ◌∷◌, [], IfNone, IfSome, List, OnErr, OnOk};
-ghost use Rattle.office_rows.specs.declared.row.Row.{Row};
-ghost use Rattle.office_rows.specs.declared.row.Work.TheVariants as work;
-ghost use Rattle.office_seats.specs.Words.{SeatView};
+ghost use Rattle.row_forms.specs.declared.row.Row.{Row};
+ghost use Rattle.row_forms.specs.declared.row.Work.TheVariants as work;
+ghost use Rattle.clerk_seats.specs.Words.{SeatView};
 ghost use Rattle.clerk_workers.specs.Rows.{works_of};
 ghost use Rattle.clerk_workers.specs.Noted.{HasNoted, IsNoted};
 ghost use Rattle.clerk_workers.specs.Steps.{Answers, FinishesNothing, HasLeft};
 ghost use Rattle.clerk_workers.specs.Worked.{HasStopped, tally_of};
 
 use crate::answer::SharedReply;
+use crate::gates::Gate;
 use crate::notes::Notes;
-use clerk_gates::Gate;
+use clerk_seats::{CommitError, NamesOffice, PerformError, Seat};
 use docket_rows::{Command, Query};
-use office_rows::{Row, Work};
-use office_seats::{CommitError, NamesOffice, PerformError, Seat};
+use row_forms::{Row, Work};
 use std::alloc::{AllocError, Global};
 use std::sync::Wait;
 

@@ -1,15 +1,15 @@
 //! All clerks at work, each in a thread of its own.
 
 ghost use Rattle.std.specs.Prelude.{◌≡◌, ◌+◌, ◌≤◌, [], All, List, length, vec_capacity};
-ghost use Rattle.office_rows.specs.declared.row.Row.{Row};
+ghost use Rattle.row_forms.specs.declared.row.Row.{Row};
 ghost use Rattle.clerk_workers.specs.Workers.{AreUnderWay, AreWorked, WorkerView, IsReady};
 
+use crate::gates::Gate;
 use crate::hired::{Hired, hire};
 use crate::notes::Notes;
 use crate::worker::Worker;
-use clerk_gates::Gate;
-use office_rows::Row;
-use office_seats::NamesOffice;
+use clerk_seats::NamesOffice;
+use row_forms::Row;
 use std::alloc::Global;
 use std::sync::{OnceLock, Wait};
 use std::thread;

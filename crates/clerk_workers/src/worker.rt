@@ -3,12 +3,12 @@
 ghost use Rattle.std.specs.Prelude.{[]};
 ghost use Rattle.clerk_workers.specs.Workers.{IsIn, IsReady, IsWorked};
 
+use crate::gates::Gate;
 use crate::notes::Notes;
 use crate::progress::Progress;
 use crate::serving::serve;
-use clerk_gates::Gate;
-use office_rows::Row;
-use office_seats::{NamesOffice, Seat};
+use clerk_seats::{NamesOffice, Seat};
+use row_forms::Row;
 use std::alloc::Global;
 use std::marker::Model;
 use std::sync::{OnceLock, Wait};

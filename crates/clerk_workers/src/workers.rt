@@ -6,7 +6,7 @@ ghost use Rattle.clerk_workers.specs.Workers.{WorkerView, IsReady, notes_at, sea
 use crate::notes::Notes;
 use crate::progress::Progress;
 use crate::worker::Worker;
-use office_seats::{NamesOffice, Seat, Tally};
+use clerk_seats::{NamesOffice, Seat, Tally};
 
 /// Makes a worker of each seat, with notes of its own, the last seat first.
 pub(crate) fn seat_all<L: NamesOffice, K: Notes<L>>(

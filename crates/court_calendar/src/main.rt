@@ -2,8 +2,8 @@
 //! judge's week, a page, iCalendar, JSON or SQL to standard output.
 #![tactic(auto)]
 
-use calendar_program::{CourtCalendar, clock_time};
-use office_program::{Ended, run_on_process};
+use program_main::{Ended, run_on_process};
+use report_program::{CourtCalendar, clock_time};
 
 /// Runs the program on the process's own words and streams, and ends with its status.
 fn main(rt: HostRuntime) -> Ended {

@@ -6,7 +6,7 @@ use clap::{Arg, ArgAction, ArgMatches, Command};
 use court_clock::Day;
 use court_file_check::Asked;
 use court_writing::CourtName;
-use office_options::{OptionsFault, argument_texts, fault_from};
+use program_main::{OptionsFault, argument_texts, fault_from};
 use std::alloc::{AllocError, Global};
 
 const ABOUT: &str =

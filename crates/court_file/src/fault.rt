@@ -1,8 +1,8 @@
 //! What can go wrong beside the court's file, its line and its status.
 
 use court_writing::WriteFault;
-use office_options::OptionsFault;
-use office_streams::{Watched, helped, refused};
+use program_main::OptionsFault;
+use program_streams::{Watched, helped, refused};
 use std::alloc::{AllocError, AllocFailed};
 use std::io::Write;
 use std::{fmt, io};

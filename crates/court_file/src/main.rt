@@ -8,8 +8,8 @@ mod tasks;
 
 use asked::asked_of;
 use fault::told;
-use office_options::arguments_of;
-use office_streams::{Watched, unread};
+use program_main::arguments_of;
+use program_streams::{Watched, unread};
 use std::io;
 use std::process::ExitCode;
 use tasks::done;

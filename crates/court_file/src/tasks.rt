@@ -2,10 +2,9 @@
 
 use crate::asked::Task;
 use crate::fault::FileFault;
-use court_file_check::{Asked, check_file};
-use court_file_report::{Report, report_of};
+use court_file_check::{Asked, Report, check_file, report_of};
 use court_writing::{CourtName, court_text};
-use office_streams::{Watched, write_all};
+use program_streams::{Watched, write_all};
 use std::fs;
 use std::io::Write;
 

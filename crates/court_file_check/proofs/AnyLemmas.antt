@@ -5,8 +5,8 @@ use Rattle.std.specs.List.{list_any}
 use Rattle.std.specs.declared.alloc.Global.{Global}
 use Rattle.std.proofs.lemmas.List.{take_more}
 use Rattle.std.proofs.lemmas.List.Folds.{list_any-append}
-use Rattle.holiday_review.specs.Words.{days_from}
-use Rattle.holiday_review.proofs.ReviewLemmas.{days_from-more}
+use Rattle.court_file_check.specs.Review.Words.{days_from}
+use Rattle.court_file_check.proofs.ReviewLemmas.ReviewLemmas.{days_from-more}
 use Rattle.court_file_check.specs.Names.{texts_of}
 
 or_false : (b : Bool) → (b || false) ≡ b

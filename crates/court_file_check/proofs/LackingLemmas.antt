@@ -3,9 +3,9 @@ use Rattle.std.proofs.Common.{◌≡◌, ◌⊎◌, inl, inr, ℕ, zero, suc, �
 use Rattle.std.specs.List.{Contains}
 use Rattle.std.proofs.lemmas.List.Kept.{AllPairs-filter}
 use Rattle.court_clock.specs.Words.{is_weekend}
-use Rattle.holiday_review.specs.declared.review.Due.{Due}
-use Rattle.holiday_review.specs.Words.{lacking}
-use Rattle.holiday_review.proofs.ExactLemmas.{lacking_is_exact, review_is_in_order}
+use Rattle.court_file_check.specs.declared.review.review.Due.{Due}
+use Rattle.court_file_check.specs.Review.Words.{lacking}
+use Rattle.court_file_check.proofs.ReviewLemmas.ExactLemmas.{lacking_is_exact, review_is_in_order}
 use Rattle.court_file_check.specs.Warnings.{LackingIsTold, LackingIsToldOnce}
 
 has_first : {X : Type 0} (x y : X) (ys : List X) → Contains (y ∷ ys) x → (y ≡ x) ⊎ Contains ys x

@@ -4,3 +4,4 @@ pub mod BeginLemmas
 pub mod AnyLemmas
 pub mod LackingLemmas
 pub mod CheckLemmas
+pub mod ReviewLemmas

@@ -5,7 +5,7 @@ use Rattle.court_file_text.specs.declared.key.Key.TheVariants.{Federal, State}
 use Rattle.court_file_text.specs.declared.fault.CourtFault.{CourtFault}
 use Rattle.court_file_text.specs.Words.{list_at}
 use Rattle.court_days.specs.Words.{CourtFile, DaysView}
-use Rattle.holiday_review.specs.Words.{unknowns}
+use Rattle.court_file_check.specs.Review.Words.{unknowns}
 use Rattle.court_file_check.specs.declared.warnings.Asked.{Asked}
 use Rattle.court_file_check.specs.declared.warnings.Warnings.{Warnings}
 use Rattle.court_file_check.specs.declared.warnings.days.DayTest.TheVariants.{FederalAtWeekend, StateAtWeekend, InBoth}

@@ -4,3 +4,4 @@ pub mod Names
 pub mod Warnings
 pub mod AreWarnings
 pub mod Check
+pub mod Review

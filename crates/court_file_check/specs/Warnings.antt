@@ -6,10 +6,10 @@ use Rattle.std.specs.Option.{option_and_then, option_to_list}
 use Rattle.toml.specs.Data.{Data, Items, no_items, item, as_str}
 use Rattle.court_clock.specs.Words.{day_of_text, days_through, is_weekend}
 use Rattle.court_days.specs.Words.{DaysView, is_among, is_covered}
-use Rattle.federal_holidays.specs.Words.{set_in}
-use Rattle.federal_holidays.specs.declared.statute.FederalHoliday.TheVariants.{NewYearsDay}
-use Rattle.holiday_review.specs.declared.review.Due.{Due}
-use Rattle.holiday_review.specs.Words.{days_from, due_on, lacking}
+use Rattle.court_holidays.specs.Federal.Words.{set_in}
+use Rattle.court_holidays.specs.declared.federal.statute.FederalHoliday.TheVariants.{NewYearsDay}
+use Rattle.court_file_check.specs.declared.review.review.Due.{Due}
+use Rattle.court_file_check.specs.Review.Words.{days_from, due_on, lacking}
 use Rattle.court_file_check.specs.declared.warnings.days.DayTest.{DayTest}
 use Rattle.court_file_check.specs.declared.warnings.days.DayTest.TheVariants.{FederalAtWeekend, StateAtWeekend, InBoth}
 use Rattle.court_file_check.specs.declared.warnings.slips.Slip.{Slip}

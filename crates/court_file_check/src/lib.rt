@@ -4,11 +4,18 @@
 mod check;
 mod faults;
 mod laws;
+mod report;
+mod review;
 mod warnings;
 
 pub use check::{Checked, check_file};
 pub use faults::{Fault, What};
 pub use laws::{faults_begin_with_the_courts, lacking_is_told, lacking_is_told_once};
+pub use report::{Report, report_of};
+pub use review::{
+    Due, due_on, lacking_days, lacking_is_exact, review_is_in_order, unknown_days,
+    unknowns_are_exact,
+};
 pub use warnings::names::Alike;
 pub use warnings::slips::Slip;
 pub use warnings::zone::ZoneDoubt;

@@ -5,10 +5,10 @@ ghost use Rattle.toml.specs.View.{table_view};
 ghost use Rattle.court_days.specs.Words.{file_of};
 ghost use Rattle.court_file_check.specs.AreWarnings.{AreWarnings};
 
+use crate::review::{Due, unknown_days};
 use court_clock::Day;
 use court_days::{Court, Days};
 use court_file_text::Key;
-use holiday_review::{Due, unknown_days};
 use std::alloc::{AllocError, Global};
 use toml::Table;
 

@@ -3,8 +3,8 @@
 use Rattle.std.specs.Prelude.{ℕ, List, [], ◌∷◌, codes, Option}
 use Rattle.std.specs.List.{find}
 use Rattle.std.specs.Str.{bytes_eq}
-use Rattle.state_holidays.specs.declared.state.State.{State}
-use Rattle.state_holidays.specs.declared.state.State.TheVariants.{Alaska, Arizona, California, Colorado, DistrictOfColumbia, Florida, Georgia, Guam, Hawaii, Illinois, Massachusetts, NewJersey, NewYork, Pennsylvania, PuertoRico, Texas, Virginia, Washington}
+use Rattle.court_holidays.specs.declared.states.state.State.{State}
+use Rattle.court_holidays.specs.declared.states.state.State.TheVariants.{Alaska, Arizona, California, Colorado, DistrictOfColumbia, Florida, Georgia, Guam, Hawaii, Illinois, Massachusetts, NewJersey, NewYork, Pennsylvania, PuertoRico, Texas, Virginia, Washington}
 use Rattle.court_writing.specs.declared.zones.ZoneName.{ZoneName}
 use Rattle.court_writing.specs.declared.zones.ZoneName.TheVariants as zone
 

@@ -2,12 +2,12 @@
 -- period, and what stands in its place beside the weekend is listed instead.
 use Rattle.std.specs.Prelude.{ℤ, ◌||◌, Bool, true, false, is_some, Option, Some, None, if◌then◌else◌}
 use Rattle.court_clock.specs.Words.{is_weekend}
-use Rattle.federal_holidays.specs.Words.{holiday_on, observed_on}
-use Rattle.federal_holidays.specs.declared.statute.FederalHoliday.{FederalHoliday}
-use Rattle.state_holidays.specs.Words.{state_holiday_on}
-use Rattle.state_holidays.specs.declared.state.State.{State}
-use Rattle.state_holidays.specs.declared.state.State.TheVariants.{DistrictOfColumbia}
-use Rattle.state_holidays.specs.declared.statute.StateHoliday.{StateHoliday}
+use Rattle.court_holidays.specs.Federal.Words.{holiday_on, observed_on}
+use Rattle.court_holidays.specs.declared.federal.statute.FederalHoliday.{FederalHoliday}
+use Rattle.court_holidays.specs.States.Words.{state_holiday_on}
+use Rattle.court_holidays.specs.declared.states.state.State.{State}
+use Rattle.court_holidays.specs.declared.states.state.State.TheVariants.{DistrictOfColumbia}
+use Rattle.court_holidays.specs.declared.states.statute.StateHoliday.{StateHoliday}
 
 -- the first of two, or the second
 abbrev pub or_else : {A : Type 0} → Option A → Option A → Option A

@@ -4,8 +4,8 @@ use Rattle.std.specs.Prelude.{◌≡◌, ℕ, ◌+◌, ℤ, pos, nat_le, ◌≤�
 use Rattle.court_clock.specs.Words.{zone_of_text}
 use Rattle.toml.specs.Data.{Members}
 use Rattle.court_days.specs.Words.{CourtFile, DaysView, court_in, court_of, is_among}
-use Rattle.state_holidays.specs.Words.{on}
-use Rattle.state_holidays.specs.declared.state.State.{State}
+use Rattle.court_holidays.specs.States.Words.{on}
+use Rattle.court_holidays.specs.declared.states.state.State.{State}
 use Rattle.court_writing.specs.Listed.{federal_on, state_on}
 
 -- the years for which a file can be written: from 2016 to 2199, and at most a hundred of them

@@ -6,7 +6,7 @@ ghost use Rattle.std.specs.Str.{bytes_eq};
 ghost use Rattle.court_writing.specs.Courts.{district_named, districts, of_district, zone_text};
 
 use crate::zones::ZoneName;
-use state_holidays::State;
+use court_holidays::State;
 
 /// A district court.
 #[derive(Clone, Copy, Debug)]

@@ -8,7 +8,7 @@ ghost use Rattle.court_writing.specs.Written.{AreDaysOf, IsListed};
 use crate::listed::{federal_on, state_on};
 use court_clock::Day;
 use court_days::{Days, HolidayList};
-use state_holidays::State;
+use court_holidays::State;
 
 /// Whether each covered day is in a list exactly where the list has to have it.
 pub(crate) fn are_listed(state: State, days: &Days) -> bool

@@ -1,13 +1,12 @@
 //! A holiday of either list, and what is written of it.
 
 ghost use Rattle.std.specs.Prelude.{pos};
-ghost use Rattle.state_holidays.specs.Words.{IsStated};
+ghost use Rattle.court_holidays.specs.States.Words.{IsStated};
 
 use crate::listed::{federal_on, state_on};
 use court_clock::Day;
 use court_days::HolidayList;
-use federal_holidays::FederalHoliday;
-use state_holidays::{State, StateHoliday};
+use court_holidays::{FederalHoliday, State, StateHoliday};
 
 /// A holiday that a list has.
 #[derive(Clone, Copy)]

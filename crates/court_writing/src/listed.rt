@@ -5,8 +5,9 @@ ghost use Rattle.court_clock.specs.Words.{is_weekend};
 ghost use Rattle.court_writing.specs.Listed.{federal_on, is_in_capital, or_else, state_on};
 
 use court_clock::Day;
-use federal_holidays::{FederalHoliday, holiday_on, observed_on};
-use state_holidays::{State, StateHoliday, state_holiday_on};
+use court_holidays::{
+    FederalHoliday, State, StateHoliday, holiday_on, observed_on, state_holiday_on,
+};
 
 /// The federal holiday listed on the day: the one that the law sets for it, or else the one that is observed on it.
 pub(crate) fn federal_on(state: State, day: Day) -> Option<FederalHoliday>

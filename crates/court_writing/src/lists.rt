@@ -1,13 +1,13 @@
 //! The lists of holidays, and the table of their names.
 
 ghost use Rattle.std.specs.Prelude.{◌≤◌, pos};
-ghost use Rattle.state_holidays.specs.Words.{IsStated};
+ghost use Rattle.court_holidays.specs.States.Words.{IsStated};
 
 use crate::holiday::{Listed, SetOn, first_listed, listed_on};
 use crate::notes::{FEDERAL_NOTE, STATE_RULE, state_note};
 use court_clock::Day;
 use court_days::HolidayList;
-use state_holidays::{State, on};
+use court_holidays::{State, on};
 use std::alloc::AllocError;
 use std::fmt::Write;
 

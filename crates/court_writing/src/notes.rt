@@ -1,6 +1,6 @@
 //! What is said of the lists of holidays, as lines of comments.
 
-use state_holidays::State;
+use court_holidays::State;
 
 /// What is said of the federal list.
 pub(crate) const FEDERAL_NOTE: &str =

@@ -6,7 +6,7 @@ ghost use Rattle.toml.specs.View.{table_view};
 ghost use Rattle.jiff_core.specs.Calendar.{days_from_civil};
 ghost use Rattle.court_file_text.specs.Words.{text_at, toml_of};
 ghost use Rattle.court_file_text.specs.declared.key.Key.TheVariants as Key;
-ghost use Rattle.state_holidays.specs.Words.{IsStated};
+ghost use Rattle.court_holidays.specs.States.Words.{IsStated};
 ghost use Rattle.court_writing.specs.Courts.{zone_text};
 ghost use Rattle.court_writing.specs.Written.{are_years, AreDaysOf, IsDocumentOf, IsFileOf};
 ghost use Rattle.court_writing.specs.declared.fault.WriteFault.TheVariants.{BadYears};
@@ -20,7 +20,7 @@ use crate::zones::ZoneName;
 use court_clock::Day;
 use court_days::{Court, Days, HolidayList};
 use court_file_text::{CourtFault, Key, text_at};
-use state_holidays::{State, on};
+use court_holidays::{State, on};
 use std::alloc::{AllocError, Global};
 use toml::Table;
 

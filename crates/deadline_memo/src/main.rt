@@ -3,8 +3,8 @@
 //! output.
 #![tactic(auto)]
 
-use memo_program::DeadlineMemo;
-use office_program::{Ended, run_on_process};
+use program_main::{Ended, run_on_process};
+use report_memo::DeadlineMemo;
 
 /// Runs the program on the process's own words and streams, and ends with its status.
 fn main(rt: HostRuntime) -> Ended {

@@ -1,11 +1,11 @@
 -- What a docket's desk keeps and promises of rows that may be held back.
 use Rattle.std.proofs.Common.{◌≡◌, ℕ, ℤ, List, ◌++◌, Bool, Option, take, sym, subst}
-use Rattle.durable_journal.specs.Words.{IsKept}
-use Rattle.durable_session.specs.Words.{IsPromised, IsServed, left_by}
-use Rattle.docket_entries.specs.Words.{IsDocketed, IsReadyAt}
-use Rattle.docket_entries.proofs.CallerLemmas.{left_docketed}
-use Rattle.careful_rows.specs.Words.{careful_answers, careful_leaves, lines_taken}
-use Rattle.careful_rows.proofs.CallerLemmas.{careful_history, keep_nothing}
+use Rattle.desk_journal.specs.Words.{IsKept}
+use Rattle.desk_session.specs.Words.{IsPromised, IsServed, left_by}
+use Rattle.desk_entries.specs.Words.{IsDocketed, IsReadyAt}
+use Rattle.desk_entries.proofs.CallerLemmas.{left_docketed}
+use Rattle.desk_warnings.specs.Words.{careful_answers, careful_leaves, lines_taken}
+use Rattle.desk_warnings.proofs.CallerLemmas.{careful_history, keep_nothing}
 use Rattle.desk_program.specs.declared.desk.Desk.{Desk}
 use Rattle.desk_program.specs.Careful.{IsPromisedCarefully}
 use Rattle.desk_program.specs.Desk.{KeepsDocket, docketed_at, standing_at}

@@ -2,15 +2,15 @@
 use Rattle.std.proofs.Common.{◌≡◌, ◌⊎◌, inl, inr, ℕ, List, [], ◌∷◌, ◌++◌, Bool, IfSome, None, Ok, Option, Some, length, take, refl, sym, arith, subst}
 use Rattle.std.specs.Prelude.{Vec}
 use Rattle.std.specs.declared.alloc.Global.{Global}
-use Rattle.durable_journal.specs.Words.{IsKept, StandsFor, batch_of}
-use Rattle.durable_journal.proofs.CallerLemmas.{one_list, rest_kept}
-use Rattle.durable_session.proofs.CallerLemmas.{unanswered}
-use Rattle.durable_session.specs.Words.{IsAllOrNone, IsPromised, IsServed, left_by, lines_of, numbered_lines, unfinished_of}
-use Rattle.row_strikes.specs.declared.strike.Strike.{Strike}
-use Rattle.row_strikes.specs.Words.{strike_entry}
-use Rattle.docket_entries.specs.declared.standing.Standing.{Standing}
-use Rattle.docket_entries.specs.Words.{IsHistory, IsReadyAt, StandsAfter, answers, faults_of, later_file, leaves, strike_for}
-use Rattle.docket_entries.proofs.CallerLemmas.{left_docketed, left_history}
+use Rattle.desk_journal.specs.Words.{IsKept, StandsFor, batch_of}
+use Rattle.desk_journal.proofs.CallerLemmas.{one_list, rest_kept}
+use Rattle.desk_session.proofs.CallerLemmas.{unanswered}
+use Rattle.desk_session.specs.Words.{IsAllOrNone, IsPromised, IsServed, left_by, lines_of, numbered_lines, unfinished_of}
+use Rattle.desk_numbers.specs.declared.strikes.strike.Strike.{Strike}
+use Rattle.desk_numbers.specs.Strikes.Words.{strike_entry}
+use Rattle.desk_entries.specs.declared.standing.Standing.{Standing}
+use Rattle.desk_entries.specs.Words.{IsHistory, IsReadyAt, StandsAfter, answers, faults_of, later_file, leaves, strike_for}
+use Rattle.desk_entries.proofs.CallerLemmas.{left_docketed, left_history}
 use Rattle.desk_program.specs.declared.desk.Desk.{Desk}
 use Rattle.desk_program.specs.Desk.{IsPromisedDocket, KeepsDocket, disk_under, docketed_at, standing_at}
 use Rattle.desk_program.specs.Together.{IsDocketAllOrNone, KeepsTogether, stop_of}

@@ -1,8 +1,8 @@
 -- Faults of the journal.
 use Rattle.std.proofs.Common.{◌≡◌, ℕ, Result, Ok, Err, ap}
-use Rattle.durable_journal.specs.declared.fault.JournalFault.{JournalFault}
-use Rattle.durable_journal.specs.declared.fault.JournalFault.TheVariants as journal
-use Rattle.docket_entries.specs.declared.fault.StrikeFault.{StrikeFault}
+use Rattle.desk_journal.specs.declared.fault.JournalFault.{JournalFault}
+use Rattle.desk_journal.specs.declared.fault.JournalFault.TheVariants as journal
+use Rattle.desk_entries.specs.declared.fault.StrikeFault.{StrikeFault}
 use Rattle.desk_program.specs.declared.fault.DeskFault.{DeskFault}
 use Rattle.desk_program.specs.declared.fault.DeskFault.TheVariants.{Differs, Unstruck}
 use Rattle.desk_program.specs.Faults.{journal_fault}

@@ -5,7 +5,7 @@ use Rattle.std.proofs.lemmas.List.{drop_all}
 use Rattle.std.specs.Prelude.{if◌then◌else◌}
 use Rattle.std.specs.Str.{IsUtf8, is_utf8}
 use Rattle.std.proofs.lemmas.Str.{IsUtf8-from_is_utf8, is_utf8-from_IsUtf8}
-use Rattle.office_rows.specs.declared.fault.RowCause.{RowCause}
+use Rattle.row_forms.specs.declared.fault.RowCause.{RowCause}
 use Rattle.desk_program.specs.FaultWords.{fault_words, line_words, not_text, part}
 
 pub none_before : (text : List ℕ) → position_or_len (λ b. b == 44) text ≡ length text → text ≡ before_first (λ b. b == 44) text

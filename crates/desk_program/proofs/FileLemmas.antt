@@ -8,7 +8,7 @@ use Rattle.sqlite_disk.specs.Events.{Event, Model, replay, settled}
 use Rattle.sqlite_disk.specs.History.{MayLeave}
 use Rattle.sqlite_std_file.specs.File.{IsFresh}
 use Rattle.sqlite_std_file.specs.declared.host.Host.{Host}
-use Rattle.durable_journal.specs.Words.{IsDurable}
+use Rattle.desk_journal.specs.Words.{IsDurable}
 use Rattle.desk_program.specs.File.{file_is_usable, file_may_leave, file_seen}
 
 same_replay : (log db : List ℕ) (is_log : Bool) (events : List Event) (key : ℕ) → is_log ≡ false → events ≡ settled key ∷ [] → replay (if is_log then log else db) events ≡ replay db (settled key ∷ [])

@@ -1,11 +1,11 @@
 -- What a docket comes to after an entry that is no row.
 use Rattle.std.proofs.Common.{◌≡◌, ◌∙◌, ◌++◌, ◌∷◌, [], ℕ, List, Option, Some, true, ap, sym, subst}
-use Rattle.row_strikes.specs.declared.strike.Strike.{Strike}
-use Rattle.row_strikes.specs.Words.{strike_in, struck_with}
-use Rattle.docket_entries.specs.declared.docketed.Docketed.{Docketed}
-use Rattle.docket_entries.specs.declared.standing.Standing.{Standing}
-use Rattle.docket_entries.specs.Words.{IsDocketed, SaysCourt, StandsAt, can_strike, corrections_then, court_file, later_file, note_in, note_of, row_struck, standing_file}
-use Rattle.docket_entries.proofs.CallerLemmas.{docketed_file, docketed_strike}
+use Rattle.desk_numbers.specs.declared.strikes.strike.Strike.{Strike}
+use Rattle.desk_numbers.specs.Strikes.Words.{strike_in, struck_with}
+use Rattle.desk_entries.specs.declared.docketed.Docketed.{Docketed}
+use Rattle.desk_entries.specs.declared.standing.Standing.{Standing}
+use Rattle.desk_entries.specs.Words.{IsDocketed, SaysCourt, StandsAt, can_strike, corrections_then, court_file, later_file, note_in, note_of, row_struck, standing_file}
+use Rattle.desk_entries.proofs.CallerLemmas.{docketed_file, docketed_strike}
 use Rattle.desk_program.specs.Note.{ComesTo}
 
 pub file_noted : (entry file : List ℕ) → later_file entry ≡ Some file → note_in entry ≡ Some (court_file file)

@@ -4,12 +4,12 @@ use Rattle.std.specs.Prelude.{Option, None, Some, Vec, false, get_or, is_none, t
 use Rattle.std.specs.declared.alloc.Global.{Global}
 use Rattle.std.proofs.lemmas.Grind.{flat_map-append}
 use Rattle.std.proofs.lemmas.List.{map-append, take_more}
-use Rattle.durable_journal.specs.Words.{batch_of}
-use Rattle.docket_entries.specs.declared.review.Difference.{Difference}
-use Rattle.kept_numbers.specs.declared.moved.Moved.{Moved}
-use Rattle.docket_entries.specs.declared.standing.Standing.{Standing}
-use Rattle.docket_entries.specs.Words.{Note, change_in, next_number, note_in, row_entries, row_only, row_written, rows_written}
-use Rattle.docket_entries.proofs.CallerLemmas.{no_rows_first, row_entries-more, rows_written-append}
+use Rattle.desk_journal.specs.Words.{batch_of}
+use Rattle.desk_entries.specs.declared.review.Difference.{Difference}
+use Rattle.desk_numbers.specs.declared.moved.Moved.{Moved}
+use Rattle.desk_entries.specs.declared.standing.Standing.{Standing}
+use Rattle.desk_entries.specs.Words.{Note, change_in, next_number, note_in, row_entries, row_only, row_written, rows_written}
+use Rattle.desk_entries.proofs.CallerLemmas.{no_rows_first, row_entries-more, rows_written-append}
 use Rattle.desk_program.specs.Rows.{change_text, changes_text}
 
 -- what is written before the first row

@@ -3,11 +3,11 @@ use Rattle.std.proofs.Common.{◌≡◌, ◌≢◌, ◌⊎◌, inl, inr, ◌∙�
 use Rattle.std.specs.Prelude.{get_or}
 use Rattle.std.proofs.lemmas.Grind.{flat_map-append}
 use Rattle.std.proofs.lemmas.List.{map-append, take_more}
-use Rattle.docket_entries.specs.declared.line_faults.LineFault.{LineFault}
-use Rattle.docket_entries.specs.Words.{FaultyLine, fault_in}
-use Rattle.durable_session.specs.declared.fault.SessionFault.{SessionFault}
-use Rattle.durable_session.specs.declared.fault.SessionFault.TheVariants as session
-use Rattle.durable_session.specs.Words.{Refused as Refusal, StopsBytes}
+use Rattle.desk_entries.specs.declared.line_faults.LineFault.{LineFault}
+use Rattle.desk_entries.specs.Words.{FaultyLine, fault_in}
+use Rattle.desk_session.specs.declared.fault.SessionFault.{SessionFault}
+use Rattle.desk_session.specs.declared.fault.SessionFault.TheVariants as session
+use Rattle.desk_session.specs.Words.{Refused as Refusal, StopsBytes}
 use Rattle.std.specs.Prelude.{None, Option, Some}
 use Rattle.desk_program.specs.declared.fault.DeskFault.{DeskFault}
 use Rattle.desk_program.specs.declared.fault.DeskFault.TheVariants.{Faults, OutOfMemory, Refused, Unkept}

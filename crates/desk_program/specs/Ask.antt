@@ -1,10 +1,10 @@
 -- Questions on the docket to which entries come.
 use Rattle.std.specs.Prelude.{◌≡◌, ℕ, List, [], Option}
 use Rattle.std.specs.Io.KnownBytes.{Appends}
-use Rattle.durable_session.specs.declared.outcome.Tally.{Tally}
-use Rattle.durable_session.specs.Words.{tally_of, told_to}
-use Rattle.docket_entries.specs.declared.standing.Standing.{Standing}
-use Rattle.docket_entries.specs.Words.{IsHistory, StandsAfter, came_shown, shown}
+use Rattle.desk_session.specs.declared.outcome.Tally.{Tally}
+use Rattle.desk_session.specs.Words.{tally_of, told_to}
+use Rattle.desk_entries.specs.declared.standing.Standing.{Standing}
+use Rattle.desk_entries.specs.Words.{IsHistory, StandsAfter, came_shown, shown}
 
 -- The entries are a history, and each line is answered as a question on the docket after them, under what stands
 -- there. No line changes what the next is answered. The tally says how many lines there were, and how many had faults.

@@ -1,12 +1,12 @@
 -- Rows that are held back while something speaks against them: what a session promises, and a trial of them.
 use Rattle.std.specs.Prelude.{ℕ, ℤ, List, Option}
 use Rattle.std.specs.Io.KnownBytes.{Appends}
-use Rattle.durable_journal.specs.Words.{StandsFor}
-use Rattle.durable_session.specs.Words.{IsPromised, told_to}
-use Rattle.docket_entries.specs.declared.standing.Standing.{Standing}
-use Rattle.docket_entries.specs.Words.{IsHistory, StandsAfter}
-use Rattle.office_streams.specs.Words.{AppendsFront}
-use Rattle.careful_rows.specs.Words.{careful_answers, careful_leaves}
+use Rattle.desk_journal.specs.Words.{StandsFor}
+use Rattle.desk_session.specs.Words.{IsPromised, told_to}
+use Rattle.desk_entries.specs.declared.standing.Standing.{Standing}
+use Rattle.desk_entries.specs.Words.{IsHistory, StandsAfter}
+use Rattle.program_streams.specs.Words.{AppendsFront}
+use Rattle.desk_warnings.specs.Words.{careful_answers, careful_leaves}
 
 -- What a session promises of a docket, as `IsPromisedDocket` does, where a line may be held back with its warnings.
 pub record IsPromisedCarefully (under : Standing) (today : Option ℤ) (kept lines : List (List ℕ)) (before after : Option (List ℕ)) (HasWritten : Type 0) (MayLeave : List ℕ → Type 0) : Type 0 where

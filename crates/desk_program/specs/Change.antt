@@ -1,8 +1,8 @@
 -- Another court's file for a docket: when it is taken, and what is written of it.
 use Rattle.std.specs.Prelude.{◌≡◌, ◌≢◌, ℕ, Bool, false, List, [], ◌∷◌, ◌++◌, length, Option, Some}
 use Rattle.std.specs.Io.KnownBytes.{Appends}
-use Rattle.docket_entries.specs.declared.standing.Standing.{Standing}
-use Rattle.docket_entries.specs.Words.{SaysCourt, changes_by, corrections_then, later_file}
+use Rattle.desk_entries.specs.declared.standing.Standing.{Standing}
+use Rattle.desk_entries.specs.Words.{SaysCourt, changes_by, corrections_then, later_file}
 use Rattle.desk_program.specs.Rows.{changes_text}
 
 -- The file is kept after the entries, after which this stood. The rows that it answers otherwise are written, and without leave

@@ -1,12 +1,12 @@
 -- A docket over a disk: what it keeps, and what a session on it promises.
 use Rattle.std.specs.Prelude.{◌≡◌, ◌≢◌, ℕ, List, Bool, Option, Err}
 use Rattle.court_days.specs.Words.{court_in}
-use Rattle.durable_journal.specs.Words.{IsKept, StandsFor, disk_of}
-use Rattle.durable_session.specs.Words.{IsPromised}
-use Rattle.docket_entries.specs.declared.docketed.Docketed.{Docketed}
-use Rattle.docket_entries.specs.declared.standing.Standing.{Standing}
-use Rattle.docket_entries.specs.Words.{IsDocketed, IsHistory, StandsAfter, answers, leaves}
-use Rattle.office_streams.specs.Words.{court_part}
+use Rattle.desk_journal.specs.Words.{IsKept, StandsFor, disk_of}
+use Rattle.desk_session.specs.Words.{IsPromised}
+use Rattle.desk_entries.specs.declared.docketed.Docketed.{Docketed}
+use Rattle.desk_entries.specs.declared.standing.Standing.{Standing}
+use Rattle.desk_entries.specs.Words.{IsDocketed, IsHistory, StandsAfter, answers, leaves}
+use Rattle.program_streams.specs.Words.{court_part}
 use Rattle.desk_program.specs.declared.desk.Desk.{Desk}
 use Rattle.desk_program.specs.declared.fault.DeskFault.{DeskFault}
 use Rattle.desk_program.specs.declared.fault.DeskFault.TheVariants.{BadStrike, Busy, Court, Differs, Divided, Faults, Faulty, File, Foreign, Journal, KeptCourt, LongInput, NoJournal, Other, OutOfMemory, Refused, Session, Taken, Unkept, Unstruck, Write}

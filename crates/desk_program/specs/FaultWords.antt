@@ -3,14 +3,14 @@ use Rattle.std.specs.Prelude.{ℕ, zero, suc, ◌-◌, ◌==◌, List, [], ◌�
 use Rattle.std.specs.List.{after_first, before_first, position_or_len}
 use Rattle.std.specs.Option.{option_map_or}
 use Rattle.std.specs.Str.{is_utf8}
-use Rattle.office_rows.specs.declared.fault.RowCause.{RowCause}
-use Rattle.office_rows.specs.declared.fault.RowCause.TheVariants.{BadClerk, BadField, NotText, TooManyRows, UnknownCommand, WrongCount}
-use Rattle.docket_entries.specs.declared.cause.LineCause.{LineCause}
-use Rattle.docket_entries.specs.declared.cause.LineCause.TheVariants as lines
-use Rattle.docket_entries.specs.Words.{too_many_words}
-use Rattle.row_columns.specs.declared.columns.Column.{Column}
-use Rattle.row_columns.specs.declared.columns.Column.TheVariants.{Case, Deadline, Motion, Date, Notice, SecondOrNone, Time, From, TimeOrNone, Start, To, Period, ServiceOrNone, Means, Grant, ByMotion, Cause, Neglect, Need, Judge, Judges, Slots, Holidays, Clerk, Command, Room}
-use Rattle.row_columns.specs.Words.{column_at, columns_of, commands_listed, mark_of}
+use Rattle.row_forms.specs.declared.fault.RowCause.{RowCause}
+use Rattle.row_forms.specs.declared.fault.RowCause.TheVariants.{BadClerk, BadField, NotText, TooManyRows, UnknownCommand, WrongCount}
+use Rattle.desk_entries.specs.declared.cause.LineCause.{LineCause}
+use Rattle.desk_entries.specs.declared.cause.LineCause.TheVariants as lines
+use Rattle.desk_entries.specs.Words.{too_many_words}
+use Rattle.row_forms.specs.declared.headings.columns.Column.{Column}
+use Rattle.row_forms.specs.declared.headings.columns.Column.TheVariants.{Case, Deadline, Motion, Date, Notice, SecondOrNone, Time, From, TimeOrNone, Start, To, Period, ServiceOrNone, Means, Grant, ByMotion, Cause, Neglect, Need, Judge, Judges, Slots, Holidays, Clerk, Command, Room}
+use Rattle.row_forms.specs.Headings.Words.{column_at, columns_of, commands_listed, mark_of}
 
 -- the part of a line after this many commas, up to the next one
 abbrev pub part : (commas : ℕ) → List ℕ → List ℕ

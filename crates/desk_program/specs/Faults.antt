@@ -3,11 +3,11 @@ use Rattle.std.specs.Prelude.{◌≡◌, ℕ, List, String, string_bytes}
 use Rattle.std.specs.declared.alloc.Global.{Global}
 use Rattle.std.specs.declared.io.Error.{Error}
 use Rattle.court_file_text.specs.declared.fault.CourtFault.TheVariants as court
-use Rattle.durable_journal.specs.declared.fault.JournalFault.{JournalFault}
-use Rattle.durable_journal.specs.declared.fault.JournalFault.TheVariants as journal
-use Rattle.durable_session.specs.declared.fault.SessionFault.TheVariants as session
-use Rattle.docket_entries.specs.declared.fault.HistoryFault.{HistoryFault}
-use Rattle.docket_entries.specs.declared.fault.HistoryFault.TheVariants as history
+use Rattle.desk_journal.specs.declared.fault.JournalFault.{JournalFault}
+use Rattle.desk_journal.specs.declared.fault.JournalFault.TheVariants as journal
+use Rattle.desk_session.specs.declared.fault.SessionFault.TheVariants as session
+use Rattle.desk_entries.specs.declared.fault.HistoryFault.{HistoryFault}
+use Rattle.desk_entries.specs.declared.fault.HistoryFault.TheVariants as history
 use Rattle.desk_program.specs.declared.fault.DeskFault.{DeskFault}
 use Rattle.desk_program.specs.declared.fault.DeskFault.TheVariants.{BadStrike, Busy, Court, Differs, Divided, Faults, Faulty, File, Foreign, Journal, KeptCourt, LongInput, NoJournal, Other, OutOfMemory, Refused, Session, Taken, Unkept, Unstruck, Write}
 

@@ -3,7 +3,7 @@ use Rattle.std.specs.Prelude.{ℕ, ◌==◌, ◌||◌, List, [], ◌++◌, codes
 use Rattle.std.specs.Fmt.{decimal}
 use Rattle.std.specs.List.{flat_map}
 use Rattle.case_numbers.specs.declared.names.NamedCase.{NamedCase}
-use Rattle.numbers_table.specs.Words.{has_key}
+use Rattle.desk_numbers.specs.Table.Words.{has_key}
 
 -- `1 = "1:25-cv-01234-ABC"`
 abbrev pub name_entry : NamedCase → List ℕ

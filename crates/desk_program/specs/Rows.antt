@@ -3,10 +3,10 @@ use Rattle.std.specs.Prelude.{ℕ, List, [], ◌∷◌, ◌++◌, codes, if◌th
 use Rattle.std.specs.Fmt.{decimal}
 use Rattle.std.specs.List.{ends_with, flat_map}
 use Rattle.case_numbers.specs.declared.names.NamedCase.{NamedCase}
-use Rattle.kept_numbers.specs.declared.moved.Moved.{Moved}
-use Rattle.docket_entries.specs.declared.standing.Standing.{Standing}
-use Rattle.docket_entries.specs.Words.{Change, row_entries, rows_written, standing_file}
-use Rattle.numbers_table.specs.Words.{numbers_table}
+use Rattle.desk_numbers.specs.declared.moved.Moved.{Moved}
+use Rattle.desk_entries.specs.declared.standing.Standing.{Standing}
+use Rattle.desk_entries.specs.Words.{Change, row_entries, rows_written, standing_file}
+use Rattle.desk_numbers.specs.Table.Words.{numbers_table}
 use Rattle.desk_program.specs.NamesTable.{names_table}
 
 -- a court's file, with an end of its last line

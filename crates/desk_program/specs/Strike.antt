@@ -1,10 +1,10 @@
 -- A row that is struck: when it is, and what is written of it.
 use Rattle.std.specs.Prelude.{◌≡◌, ◌≢◌, ℕ, Bool, false, List, [], ◌∷◌, ◌++◌, Ok, Option, length}
 use Rattle.std.specs.Io.KnownBytes.{Appends}
-use Rattle.row_strikes.specs.declared.strike.Strike.{Strike}
-use Rattle.row_strikes.specs.Words.{strike_entry, struck_with}
-use Rattle.docket_entries.specs.declared.standing.Standing.{Standing}
-use Rattle.docket_entries.specs.Words.{SaysCourt, changes_by, corrections_then, standing_file, strike_for}
+use Rattle.desk_numbers.specs.declared.strikes.strike.Strike.{Strike}
+use Rattle.desk_numbers.specs.Strikes.Words.{strike_entry, struck_with}
+use Rattle.desk_entries.specs.declared.standing.Standing.{Standing}
+use Rattle.desk_entries.specs.Words.{SaysCourt, changes_by, corrections_then, standing_file, strike_for}
 use Rattle.desk_program.specs.Rows.{changes_text}
 
 -- what stands once a row is struck by this strike: the same court, and the corrections with it, in which rows keep their numbers

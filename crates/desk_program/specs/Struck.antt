@@ -2,8 +2,8 @@
 use Rattle.std.specs.Prelude.{ℕ, List, [], ◌++◌, Option, Some, None, codes}
 use Rattle.std.specs.Fmt.{decimal}
 use Rattle.std.specs.List.{flat_map}
-use Rattle.row_strikes.specs.declared.strike.Strike.{Strike}
-use Rattle.row_strikes.specs.Words.{remark_in, strike_in}
+use Rattle.desk_numbers.specs.declared.strikes.strike.Strike.{Strike}
+use Rattle.desk_numbers.specs.Strikes.Words.{remark_in, strike_in}
 
 -- `row 7 ` and the remark
 abbrev pub struck_as : Option Strike → (remark : List ℕ) → List ℕ

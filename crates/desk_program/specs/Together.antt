@@ -3,12 +3,12 @@ use Rattle.std.specs.Prelude.{◌≡◌, ◌≢◌, ◌⊎◌, ℕ, Bool, List, 
 use Rattle.std.specs.Fmt.{decimal}
 use Rattle.std.specs.List.{flat_map}
 use Rattle.std.specs.Io.KnownBytes.{Appends}
-use Rattle.durable_journal.specs.Words.{StandsFor}
-use Rattle.durable_session.specs.declared.fault.SessionFault.{SessionFault}
-use Rattle.durable_session.specs.declared.fault.SessionFault.TheVariants as session
-use Rattle.durable_session.specs.Words.{IsAllOrNone, Refused, first_refused, left_by, lines_of, numbered_lines, stopped_by, told_to, unfinished_of}
-use Rattle.docket_entries.specs.declared.standing.Standing.{Standing}
-use Rattle.docket_entries.specs.Words.{FaultyLine, IsHistory, StandsAfter, answers, faults_of, leaves, line_cause_text, outcome}
+use Rattle.desk_journal.specs.Words.{StandsFor}
+use Rattle.desk_session.specs.declared.fault.SessionFault.{SessionFault}
+use Rattle.desk_session.specs.declared.fault.SessionFault.TheVariants as session
+use Rattle.desk_session.specs.Words.{IsAllOrNone, Refused, first_refused, left_by, lines_of, numbered_lines, stopped_by, told_to, unfinished_of}
+use Rattle.desk_entries.specs.declared.standing.Standing.{Standing}
+use Rattle.desk_entries.specs.Words.{FaultyLine, IsHistory, StandsAfter, answers, faults_of, leaves, line_cause_text, outcome}
 use Rattle.desk_program.specs.declared.fault.DeskFault.{DeskFault}
 use Rattle.desk_program.specs.declared.fault.DeskFault.TheVariants as desk
 use Rattle.desk_program.specs.FaultWords.{cause_words}

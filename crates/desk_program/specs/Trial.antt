@@ -1,10 +1,10 @@
 -- Rows that are tried: they are answered as if they were entered, and none is kept.
 use Rattle.std.specs.Prelude.{ℕ, List, Option}
 use Rattle.std.specs.Io.KnownBytes.{Appends}
-use Rattle.office_streams.specs.Words.{AppendsFront}
-use Rattle.durable_session.specs.Words.{told_to}
-use Rattle.docket_entries.specs.declared.standing.Standing.{Standing}
-use Rattle.docket_entries.specs.Words.{answers, leaves}
+use Rattle.program_streams.specs.Words.{AppendsFront}
+use Rattle.desk_session.specs.Words.{told_to}
+use Rattle.desk_entries.specs.declared.standing.Standing.{Standing}
+use Rattle.desk_entries.specs.Words.{answers, leaves}
 
 -- Each line is answered after what the lines before it would leave: it is what `told` of `IsServed` says of lines that are kept.
 abbrev pub IsTried : (under : Standing) → (kept lines : List (List ℕ)) → (before after : Option (List ℕ)) → Type 0

@@ -1,15 +1,15 @@
 //! Questions on a docket that is only read.
 ghost use Rattle.std.specs.Prelude.{◌≡◌, ◌≤◌, length, false, IfOk, IfSome};
-ghost use Rattle.durable_journal.specs.Words.{batch_of};
-ghost use Rattle.durable_session.specs.Words.{lines_of};
-ghost use Rattle.docket_entries.specs.Words.{most_entries};
-ghost use Rattle.office_streams.specs.Words.{has_failed, watched};
+ghost use Rattle.desk_journal.specs.Words.{batch_of};
+ghost use Rattle.desk_session.specs.Words.{lines_of};
+ghost use Rattle.desk_entries.specs.Words.{most_entries};
+ghost use Rattle.program_streams.specs.Words.{has_failed, watched};
 ghost use Rattle.desk_program.specs.Ask.{AnswersQuestions};
 
 use crate::fault::DeskFault;
-use docket_entries::{Docketed, Questions};
-use durable_session::{Tally, answer};
-use office_streams::Watched;
+use desk_entries::{Docketed, Questions};
+use desk_session::{Tally, answer};
+use program_streams::Watched;
 use std::alloc::Global;
 use std::io::{Read, Write};
 

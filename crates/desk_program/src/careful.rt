@@ -1,15 +1,15 @@
 //! Rows that are kept only if nothing speaks against them, or if the clerk says so.
 ghost use Rattle.std.specs.Prelude.{◌≡◌, [], ℕ, List, false, IfErr, IfOk, IfSome, OnOk};
-ghost use Rattle.durable_session.specs.Words.{AfterBytes, EndsSession, IsServed, lines_of, tally_of, unfinished_of};
-ghost use Rattle.office_streams.specs.Words.{has_failed, watched};
-ghost use Rattle.careful_rows.specs.Words.{careful_answers, careful_leaves, careful_outcome};
+ghost use Rattle.desk_session.specs.Words.{AfterBytes, EndsSession, IsServed, lines_of, tally_of, unfinished_of};
+ghost use Rattle.program_streams.specs.Words.{has_failed, watched};
+ghost use Rattle.desk_warnings.specs.Words.{careful_answers, careful_leaves, careful_outcome};
 ghost use Rattle.desk_program.specs.Careful.{IsPromisedCarefully, IsTriedCarefully, IsTriedCarefullyInPart};
 
 use crate::desk::Desk;
-use careful_rows::{CarefulRegister, CarefulStanding};
 use court_clock::Day;
-use durable_session::{SessionFault, Tally, answer, serve};
-use office_streams::Watched;
+use desk_session::{SessionFault, Tally, answer, serve};
+use desk_warnings::{CarefulRegister, CarefulStanding};
+use program_streams::Watched;
 use sqlite_disk::Disk;
 use std::alloc::Global;
 use std::io::{Read, Write};

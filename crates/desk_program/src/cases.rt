@@ -1,12 +1,12 @@
 //! The cases that have names, written with their numbers.
 ghost use Rattle.std.specs.Prelude.{◌≡◌, ◌++◌, false, OnOk, string_bytes};
 ghost use Rattle.std.specs.Io.KnownBytes.{Appends};
-ghost use Rattle.office_streams.specs.Words.{has_failed, watched};
+ghost use Rattle.program_streams.specs.Words.{has_failed, watched};
 ghost use Rattle.desk_program.specs.Cases.{case_line, cases_text};
 
 use crate::fault::DeskFault;
 use case_numbers::{Cases, NamedCase};
-use office_streams::{Watched, write_all};
+use program_streams::{Watched, write_all};
 use std::alloc::{AllocError, Global};
 use std::fmt::Write as AddsText;
 use std::io::Write;

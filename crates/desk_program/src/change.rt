@@ -1,20 +1,20 @@
 //! Another court's file for a docket.
 ghost use Rattle.std.specs.Prelude.{◌≡◌, ◌≢◌, ◌≤◌, ◌<◌, ◌⊎◌, ◌++◌, ◌∷◌, [], ℕ, List, length, map, false, Err, Some, IfOk, OnOk};
-ghost use Rattle.docket_entries.specs.declared.fault.StrikeFault.{StrikeFault as StrikeFaultOf};
-ghost use Rattle.durable_journal.specs.Words.{StandsFor, batch_of};
-ghost use Rattle.docket_entries.specs.Words.{SaysCourt, StandsAt, change_in, changes_by, corrections_then, later_file, most_entries};
-ghost use Rattle.office_streams.specs.Words.{has_failed, watched};
+ghost use Rattle.desk_entries.specs.declared.fault.StrikeFault.{StrikeFault as StrikeFaultOf};
+ghost use Rattle.desk_journal.specs.Words.{StandsFor, batch_of};
+ghost use Rattle.desk_entries.specs.Words.{SaysCourt, StandsAt, change_in, changes_by, corrections_then, later_file, most_entries};
+ghost use Rattle.program_streams.specs.Words.{has_failed, watched};
 ghost use Rattle.std.specs.Io.KnownBytes.{Appends};
 ghost use Rattle.desk_program.specs.Rows.{change_text, changes_text};
 
 use crate::court::court_of;
 use crate::desk::Desk;
 use crate::fault::DeskFault;
-use docket_entries::{
+use desk_entries::{
     Difference, DocketRegister, MOST_ENTRIES, Review, Standing, court_entry, decided_again,
 };
-use durable_journal::JournalFault;
-use office_streams::{Watched, write_all};
+use desk_journal::JournalFault;
+use program_streams::{Watched, write_all};
 use sqlite_disk::Disk;
 use std::alloc::{AllocError, Global};
 use std::io::Write;

@@ -1,6 +1,6 @@
 //! A docket on a copy of a journal's file.
 ghost use Rattle.std.specs.Prelude.{◌≡◌, [], ℕ, List, IsTrue, IfOk, OnOk};
-ghost use Rattle.durable_journal.specs.Words.{IsDurable, StandsFor};
+ghost use Rattle.desk_journal.specs.Words.{IsDurable, StandsFor};
 
 use crate::desk::Desk;
 use crate::fault::DeskFault;

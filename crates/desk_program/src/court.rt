@@ -1,14 +1,14 @@
 //! A court's file that is to be kept.
 ghost use Rattle.std.specs.Prelude.{◌≡◌, IfErr, IfOk, OnOk};
 ghost use Rattle.court_days.specs.Words.{CourtView};
-ghost use Rattle.docket_entries.specs.Words.{SaysCourt};
-ghost use Rattle.office_streams.specs.Words.{court_part};
+ghost use Rattle.desk_entries.specs.Words.{SaysCourt};
+ghost use Rattle.program_streams.specs.Words.{court_part};
 ghost use Rattle.desk_program.specs.Desk.{HasCourtFault};
 
 use crate::fault::DeskFault;
 use court_days::Court;
 use court_file_text::CourtFault;
-use office_streams::divide;
+use program_streams::divide;
 use std::alloc::Global;
 
 // The number of the line that comes after these bytes, counted from 1.

@@ -1,19 +1,19 @@
 //! A docket over a disk.
 ghost use Rattle.std.specs.Prelude.{◌≡◌, ◌⊎◌, ◌<◌, ◌≤◌, ◌∷◌, [], ℕ, List, length, false, IsTrue, IfErr, IfOk, IfSome, OnOk};
-ghost use Rattle.durable_journal.specs.Words.{IsDurable, IsKept, StandsFor, batch_of, disk_of};
-ghost use Rattle.durable_session.specs.Words.{AfterBytes, EndsSession, IsServed, lines_of, tally_of, unfinished_of};
-ghost use Rattle.docket_entries.specs.Words.{IsHistory, answers, cases_of, leaves, outcome, row_entries, run_by};
-ghost use Rattle.office_streams.specs.Words.{has_failed, watched};
+ghost use Rattle.desk_journal.specs.Words.{IsDurable, IsKept, StandsFor, batch_of, disk_of};
+ghost use Rattle.desk_session.specs.Words.{AfterBytes, EndsSession, IsServed, lines_of, tally_of, unfinished_of};
+ghost use Rattle.desk_entries.specs.Words.{IsHistory, answers, cases_of, leaves, outcome, row_entries, run_by};
+ghost use Rattle.program_streams.specs.Words.{has_failed, watched};
 
 use crate::court::check_court;
 use crate::fault::DeskFault;
 use case_numbers::Cases;
 use court_days::Court;
-use docket_entries::{DocketRegister, Docketed, Standing};
-use durable_journal::Journal;
-use durable_session::{SessionFault, Tally, serve};
-use kept_numbers::MovedNumbers;
-use office_streams::Watched;
+use desk_entries::{DocketRegister, Docketed, Standing};
+use desk_journal::Journal;
+use desk_numbers::MovedNumbers;
+use desk_session::{SessionFault, Tally, serve};
+use program_streams::Watched;
 use sqlite_disk::Disk;
 use std::alloc::{AllocError, Global};
 use std::io::{Read, Write};

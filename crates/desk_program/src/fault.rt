@@ -3,9 +3,9 @@ ghost use Rattle.std.specs.Prelude.{◌≡◌};
 ghost use Rattle.desk_program.specs.declared.fault.DeskFault.TheVariants.{OutOfMemory};
 
 use court_file_text::CourtFault;
-use docket_entries::{HistoryFault, StrikeFault};
-use durable_journal::JournalFault;
-use durable_session::{SessionFault, Tally};
+use desk_entries::{HistoryFault, StrikeFault};
+use desk_journal::JournalFault;
+use desk_session::{SessionFault, Tally};
 use std::alloc::{AllocError, AllocFailed};
 use std::io;
 

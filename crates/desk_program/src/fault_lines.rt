@@ -4,9 +4,9 @@ ghost use Rattle.desk_program.specs.Faults.{desk_status};
 
 use crate::fault::DeskFault;
 use court_file_text::{CourtFault, NumberedFault};
-use durable_journal::JournalFault;
-use durable_session::{SessionFault, Tally};
-use office_streams::{Watched, refused};
+use desk_journal::JournalFault;
+use desk_session::{SessionFault, Tally};
+use program_streams::{Watched, refused};
 use std::alloc::Global;
 use std::fmt;
 use std::io::Write;

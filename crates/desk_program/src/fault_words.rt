@@ -3,9 +3,8 @@ ghost use Rattle.std.specs.Prelude.{◌≡◌, ◌==◌, ◌++◌, List, OnOk, o
 ghost use Rattle.std.specs.List.{after_first, before_first};
 ghost use Rattle.desk_program.specs.FaultWords.{cause_words, expected, expected_at, fault_words, field_words, form_said, form_words, found_text, line_words, marks, not_text, part};
 
-use docket_entries::{LineCause, too_many_words};
-use office_rows::RowCause;
-use row_columns::{Column, column_at, columns_of, commands_listed, mark_of};
+use desk_entries::{LineCause, too_many_words};
+use row_forms::{Column, RowCause, column_at, columns_of, commands_listed, mark_of};
 use std::alloc::{AllocError, Global};
 
 // What comes before the first comma of a text: all of it where there is none.

@@ -1,7 +1,7 @@
 //! The journal's file of a folder.
 ghost use Rattle.std.specs.Prelude.{◌≡◌, ◌≢◌, ◌⊎◌, IfOk};
 ghost use Rattle.std.specs.IoError.{error_kind};
-ghost use Rattle.durable_journal.specs.Words.{IsDurable};
+ghost use Rattle.desk_journal.specs.Words.{IsDurable};
 ghost use Rattle.desk_program.specs.Faults.{IsNamed};
 ghost use Rattle.desk_program.specs.File.{file_is_usable, file_may_leave, file_seen};
 

@@ -4,7 +4,7 @@ ghost use Rattle.std.specs.List.{flat_map};
 ghost use Rattle.desk_program.specs.NamesTable.{name_entry, names_table, table_text};
 
 use case_numbers::{Cases, NamedCase};
-use numbers_table::has_key;
+use desk_numbers::has_key;
 use std::alloc::{AllocError, Global};
 
 // The key of the table, which clerk_office ignores and other programs read.

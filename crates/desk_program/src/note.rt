@@ -1,12 +1,12 @@
 //! An entry that is no row: it is kept, and what stands after it goes on from there.
 ghost use Rattle.std.specs.Prelude.{◌≡◌, ◌≢◌, ◌<◌, ◌⊎◌, ◌++◌, ◌∷◌, [], ℕ, List, length, Err, IsSome, OnOk};
-ghost use Rattle.docket_entries.specs.declared.fault.StrikeFault.{StrikeFault as StrikeFaultOf};
-ghost use Rattle.durable_journal.specs.Words.{StandsFor};
-ghost use Rattle.docket_entries.specs.Words.{StandsAt, most_entries, note_in};
+ghost use Rattle.desk_entries.specs.declared.fault.StrikeFault.{StrikeFault as StrikeFaultOf};
+ghost use Rattle.desk_journal.specs.Words.{StandsFor};
+ghost use Rattle.desk_entries.specs.Words.{StandsAt, most_entries, note_in};
 
 use crate::desk::{Desk, batch_with};
 use crate::fault::DeskFault;
-use docket_entries::{DocketRegister, Standing};
+use desk_entries::{DocketRegister, Standing};
 use sqlite_disk::Disk;
 use std::alloc::Global;
 use std::mem;

@@ -1,19 +1,18 @@
 //! The rows of a docket, written as clerk_office reads them.
 ghost use Rattle.std.specs.Prelude.{◌≡◌, ◌≤◌, ◌+◌, ◌++◌, [], ℕ, List, length, false, IfOk, OnOk};
 ghost use Rattle.std.specs.Io.KnownBytes.{Appends};
-ghost use Rattle.durable_journal.specs.Words.{batch_of};
-ghost use Rattle.office_streams.specs.Words.{has_failed, watched};
-ghost use Rattle.docket_entries.specs.Words.{most_entries, note_in, row_only, rows_written};
+ghost use Rattle.desk_journal.specs.Words.{batch_of};
+ghost use Rattle.program_streams.specs.Words.{has_failed, watched};
+ghost use Rattle.desk_entries.specs.Words.{most_entries, note_in, row_only, rows_written};
 ghost use Rattle.desk_program.specs.Rows.{count_text, ended, head_of, written_rows};
 
 use crate::fault::DeskFault;
 use crate::names_table::push_names;
 use case_numbers::Cases;
 use csv::StringRecord;
-use docket_entries::{Standing, is_row, push_row, standing_file};
-use kept_numbers::MovedNumbers;
-use numbers_table::push_numbers;
-use office_streams::{Watched, write_all};
+use desk_entries::{Standing, is_row, push_row, standing_file};
+use desk_numbers::{MovedNumbers, push_numbers};
+use program_streams::{Watched, write_all};
 use std::alloc::{AllocError, Global};
 use std::io::Write;
 

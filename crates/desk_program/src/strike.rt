@@ -1,19 +1,19 @@
 //! A row that is struck.
 ghost use Rattle.std.specs.Prelude.{◌≡◌, ◌≢◌, ◌<◌, ◌≤◌, ◌⊎◌, ◌++◌, ◌∷◌, [], ℕ, List, length, false, Err, Ok, IfOk, OnOk};
-ghost use Rattle.docket_entries.specs.declared.fault.StrikeFault.{StrikeFault as StrikeFaultOf};
-ghost use Rattle.durable_journal.specs.Words.{StandsFor, batch_of};
-ghost use Rattle.docket_entries.specs.Words.{SaysCourt, StandsAt, corrections_then, most_entries, standing_file, strike_for};
-ghost use Rattle.office_streams.specs.Words.{has_failed, watched};
-ghost use Rattle.row_strikes.specs.Words.{strike_entry, struck_with};
-ghost use Rattle.row_strikes.specs.declared.strike.Strike.{Strike as StrikeOf};
+ghost use Rattle.desk_entries.specs.declared.fault.StrikeFault.{StrikeFault as StrikeFaultOf};
+ghost use Rattle.desk_journal.specs.Words.{StandsFor, batch_of};
+ghost use Rattle.desk_entries.specs.Words.{SaysCourt, StandsAt, corrections_then, most_entries, standing_file, strike_for};
+ghost use Rattle.program_streams.specs.Words.{has_failed, watched};
+ghost use Rattle.desk_numbers.specs.Strikes.Words.{strike_entry, struck_with};
+ghost use Rattle.desk_numbers.specs.declared.strikes.strike.Strike.{Strike as StrikeOf};
 
 use crate::change::reviewed;
 use crate::desk::Desk;
 use crate::fault::DeskFault;
-use docket_entries::{DocketRegister, MOST_ENTRIES, Standing, standing_file};
-use durable_journal::JournalFault;
-use office_streams::Watched;
-use row_strikes::{Strike, strike_entry};
+use desk_entries::{DocketRegister, MOST_ENTRIES, Standing, standing_file};
+use desk_journal::JournalFault;
+use desk_numbers::{Strike, strike_entry};
+use program_streams::Watched;
 use sqlite_disk::Disk;
 use std::alloc::Global;
 use std::io::Write;

@@ -1,13 +1,13 @@
 //! The rows that are struck.
 ghost use Rattle.std.specs.Prelude.{◌≡◌, ◌++◌, List, ℕ, IfOk, OnOk, false};
 ghost use Rattle.std.specs.Io.KnownBytes.{Appends};
-ghost use Rattle.durable_journal.specs.Words.{batch_of};
-ghost use Rattle.office_streams.specs.Words.{has_failed, watched};
+ghost use Rattle.desk_journal.specs.Words.{batch_of};
+ghost use Rattle.program_streams.specs.Words.{has_failed, watched};
 ghost use Rattle.desk_program.specs.Struck.{struck_line, struck_text};
 
 use crate::fault::DeskFault;
-use office_streams::{Watched, write_all};
-use row_strikes::{remark_in, strike_in};
+use desk_numbers::{remark_in, strike_in};
+use program_streams::{Watched, write_all};
 use std::alloc::{AllocError, Global};
 use std::io::Write;
 

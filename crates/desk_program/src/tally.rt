@@ -2,7 +2,7 @@
 ghost use Rattle.std.specs.Prelude.{◌≡◌, ◌<◌, IfErr, OnOk};
 
 use crate::fault::DeskFault;
-use durable_session::Tally;
+use desk_session::Tally;
 
 /// A session that ended at the end of its input, after rows of this tally: a fault says that some of them had faults.
 pub fn all_taken(tally: Tally) -> Result<(), DeskFault>

@@ -1,18 +1,18 @@
 //! Rows that are kept together, or not at all.
 ghost use Rattle.std.specs.Prelude.{◌≡◌, ◌≢◌, ◌⊎◌, ◌++◌, [], ℕ, List, None, Ok, length, map, false, Err, IfErr, IfOk, OnOk};
 ghost use Rattle.std.specs.Io.KnownBytes.{Appends};
-ghost use Rattle.durable_journal.specs.Words.{StandsFor};
-ghost use Rattle.durable_session.specs.Words.{left_by, lines_of, numbered_lines, refused_in};
-ghost use Rattle.docket_entries.specs.Words.{fault_in, faults_of, leaves};
-ghost use Rattle.office_streams.specs.Words.{has_failed, watched};
+ghost use Rattle.desk_journal.specs.Words.{StandsFor};
+ghost use Rattle.desk_session.specs.Words.{left_by, lines_of, numbered_lines, refused_in};
+ghost use Rattle.desk_entries.specs.Words.{fault_in, faults_of, leaves};
+ghost use Rattle.program_streams.specs.Words.{has_failed, watched};
 ghost use Rattle.desk_program.specs.Together.{line_fault_text, line_faults_text, refused_text, together_fault};
 
 use crate::desk::Desk;
 use crate::fault::DeskFault;
 use crate::fault_words::push_cause_words;
-use docket_entries::LineFault;
-use durable_session::{RefusedLine, SessionFault, is_finished, serve_together};
-use office_streams::{Watched, write_all};
+use desk_entries::LineFault;
+use desk_session::{RefusedLine, SessionFault, is_finished, serve_together};
+use program_streams::{Watched, write_all};
 use sqlite_disk::Disk;
 use std::alloc::{AllocError, Global};
 use std::io::Write;

@@ -1,13 +1,13 @@
 //! A trial of rows, which keeps none.
 ghost use Rattle.std.specs.Prelude.{◌≡◌, [], ℕ, List, false, IfErr, IfOk, IfSome, OnOk};
-ghost use Rattle.durable_session.specs.Words.{AfterBytes, EndsSession, lines_of, tally_of, unfinished_of};
-ghost use Rattle.docket_entries.specs.Words.{leaves, outcome};
-ghost use Rattle.office_streams.specs.Words.{has_failed, watched};
+ghost use Rattle.desk_session.specs.Words.{AfterBytes, EndsSession, lines_of, tally_of, unfinished_of};
+ghost use Rattle.desk_entries.specs.Words.{leaves, outcome};
+ghost use Rattle.program_streams.specs.Words.{has_failed, watched};
 ghost use Rattle.desk_program.specs.Trial.{IsTried, IsTriedInPart};
 
 use crate::desk::Desk;
-use durable_session::{SessionFault, Tally, answer};
-use office_streams::Watched;
+use desk_session::{SessionFault, Tally, answer};
+use program_streams::Watched;
 use sqlite_disk::Disk;
 use std::alloc::Global;
 use std::io::{Read, Write};

@@ -1,13 +1,13 @@
 //! What the program does beside another one that may enter rows.
 ghost use Rattle.std.specs.Prelude.{◌≡◌, false};
-ghost use Rattle.office_streams.specs.Words.{has_failed};
+ghost use Rattle.program_streams.specs.Words.{has_failed};
 
 use crate::folder::{copied_beside, entries_beside};
 use crate::task::Beside;
 use crate::written::{plain, try_written};
 use court_clock::Day;
 use desk_program::{DeskFault, all_taken, ask, write_cases, write_struck};
-use office_streams::Watched;
+use program_streams::Watched;
 use std::io::Write;
 
 // Answers rows as they would be answered if they were entered, on a copy of the journal.

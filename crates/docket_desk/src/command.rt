@@ -1,8 +1,8 @@
 //! The command line: its tasks, and its options, which are added one by one.
 
 use clap::{Arg, ArgAction, Command};
+use program_main::with_text;
 use std::alloc::{AllocError, Global};
-use text_options::with_text;
 
 const ABOUT: &str =
     "A docket that lasts. Rows are kept in a folder's journal, through any crash, and

@@ -1,8 +1,8 @@
 //! A folder with a journal.
 ghost use Rattle.std.specs.Prelude.{◌<◌, ◌≤◌, length, IfOk};
 
+use desk_journal::{JournalFault, entries_in};
 use desk_program::{Desk, DeskFault, file_fault, open_file};
-use durable_journal::{JournalFault, entries_in};
 use sqlite_disk::Memory;
 use sqlite_std_file::{FileFrom, Wary};
 use std::fs;

@@ -10,8 +10,8 @@ mod words;
 mod written;
 
 use desk_program::{DeskFault, ended_by};
-use office_options::{OptionsFault, arguments_of};
-use office_streams::{Watched, helped, refused, unread};
+use program_main::{OptionsFault, arguments_of};
+use program_streams::{Watched, helped, refused, unread};
 use std::io;
 use std::process::ExitCode;
 use tasks::done;

@@ -1,7 +1,7 @@
 //! What the program is asked to do.
 
 use court_clock::Day;
-use written_fields::DateOrder;
+use row_fields::DateOrder;
 
 /// What is asked for, of a folder.
 #[derive(Debug, Drop)]

@@ -1,17 +1,17 @@
 //! What the program does.
 ghost use Rattle.std.specs.Prelude.{◌≡◌, ◌<◌, ◌≤◌, length, false};
-ghost use Rattle.office_streams.specs.Words.{has_failed};
+ghost use Rattle.program_streams.specs.Words.{has_failed};
 
 use crate::beside::done_beside;
 use crate::folder::{FolderDesk, journal_name, make_folder, opened, read_file};
 use crate::task::{Alone, Struck, Task};
 use crate::written::enter_written;
 use court_clock::Day;
+use desk_entries::standing_file;
+use desk_numbers::has_numbers;
 use desk_program::{Desk, DeskFault, all_taken, check_court, open_file, write_count, write_rows};
-use docket_entries::standing_file;
-use durable_session::SessionFault;
-use numbers_table::has_numbers;
-use office_streams::{OfficeFault, Watched, read_all, write_all};
+use desk_session::SessionFault;
+use program_streams::{OfficeFault, Watched, read_all, write_all};
 use sqlite_std_file::Wary;
 use std::io::Write;
 

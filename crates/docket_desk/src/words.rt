@@ -4,10 +4,9 @@ use crate::command::command;
 use crate::task::{Alone, Beside, Struck, Style, Task};
 use clap::ArgMatches;
 use court_clock::Day;
-use office_options::{OptionsFault, argument_texts, fault_from};
+use program_main::{OptionsFault, argument_texts, day_option, fault_from};
+use row_fields::DateOrder;
 use std::alloc::Global;
-use text_options::day_option;
-use written_fields::DateOrder;
 
 const OPEN_WORDS: &str = "'open' needs the court's file: open FOLDER --court FILE";
 

@@ -1,19 +1,19 @@
 //! Rows as people write them.
 ghost use Rattle.std.specs.Prelude.{◌≡◌, ◌≤◌, length, false, OnOk};
-ghost use Rattle.office_streams.specs.Words.{has_failed};
+ghost use Rattle.program_streams.specs.Words.{has_failed};
 
 use crate::folder::{FolderDesk, copied_beside, entries_beside};
 use crate::task::Style;
 use crate::tasks::whole_input;
 use court_days::Court;
+use desk_entries::{Docketed, Standing};
 use desk_program::{Desk, DeskFault, all_taken};
-use docket_entries::{Docketed, Standing};
-use durable_session::{SessionFault, is_finished};
-use office_streams::{Watched, write_all};
+use desk_session::{SessionFault, is_finished};
+use program_streams::{Watched, write_all};
+use row_input::{Reading, json_of, json_of_said, read_input, report_of};
 use sqlite_disk::Memory;
 use std::alloc::Global;
 use std::io::Write;
-use written_input::{Reading, json_of, json_of_said, read_input, report_of};
 
 // How many clerks may enter rows.
 const MOST_CLERKS: u8 = 64;

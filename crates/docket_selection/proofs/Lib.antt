@@ -2,3 +2,5 @@ pub mod CalendarLemmas
 pub mod CallerLemmas
 pub mod DueLemmas
 pub mod OrderLemmas
+pub mod ExplainedLemmas
+pub mod ChangesLemmas

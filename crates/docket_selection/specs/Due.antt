@@ -10,7 +10,7 @@ use Rattle.docket_rows.specs.declared.sheet.Sheet.{Sheet}
 use Rattle.docket_rows.specs.declared.sheet.SheetDeadline.{SheetDeadline}
 use Rattle.docket_rows.specs.declared.sheet.SheetMotion.{SheetMotion}
 use Rattle.docket_rows.specs.Words.{CourtSetup, Rows}
-use Rattle.other_readings.specs.Words.{other_end}
+use Rattle.reason_notes.specs.Readings.Words.{other_end}
 use Rattle.docket_selection.specs.declared.choice.Choice.{Choice}
 use Rattle.docket_selection.specs.declared.item.DueItem.{DueItem}
 use Rattle.docket_selection.specs.declared.item.Matter.{Matter}

@@ -5,3 +5,5 @@ pub mod Due
 pub mod Items
 pub mod Sheets
 pub mod Words
+pub mod Explained
+pub mod Changes

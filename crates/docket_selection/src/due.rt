@@ -17,7 +17,7 @@ use court_clock::Clock;
 use court_days::{Court, Days};
 use docket_core::Docket;
 use docket_rows::{Sheet, SheetDeadline, SheetMotion};
-use other_readings::other_end;
+use reason_notes::other_end;
 use std::alloc::{AllocError, Global};
 
 /// The deadlines that end within the chosen days, those with no timely act or all, and the hearings within them, by time.

@@ -4,15 +4,22 @@
 
 mod bookings;
 mod calendars;
+mod changes;
 mod choice;
 mod due;
+mod explained;
 mod item;
 mod lists;
 mod sheets;
 
 pub use bookings::{DayBookings, bookings_on, week_days, week_start};
 pub use calendars::{JudgeCalendar, calendars_of};
+pub use changes::{
+    Change, HearingChange, HearingHistories, HearingHistory, RowChange, change_made,
+    histories_end_in_the_docket, revisions_rise_with_events,
+};
 pub use choice::Choice;
 pub use due::{due_of, is_due};
+pub use explained::{ExplainedDeadline, ExplainedSheet, explained_sheets};
 pub use item::{DueDeadline, DueItem, DueTypes, Matter};
 pub use sheets::{sheets_chosen, sheets_of};

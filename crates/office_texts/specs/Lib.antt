@@ -7,3 +7,6 @@ pub mod Sheets
 pub mod Shown
 pub mod Views
 pub mod Words
+pub mod Run
+pub mod Named
+pub mod Names

@@ -9,3 +9,4 @@ pub mod What
 pub mod Section
 pub mod Line
 pub mod Words
+pub mod Periods

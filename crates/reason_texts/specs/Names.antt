@@ -1,9 +1,9 @@
 -- Names of holidays.
 use Rattle.std.specs.Prelude.{ℕ, ℤ, true, List, [], ◌∷◌, ◌++◌, Option, Some, None, codes, if◌then◌else◌}
 use Rattle.std.specs.Ordering.{int_eq}
-use Rattle.federal_holidays.specs.declared.statute.FederalHoliday.{FederalHoliday}
-use Rattle.federal_holidays.specs.declared.statute.FederalHoliday.TheVariants.{Juneteenth}
-use Rattle.federal_holidays.specs.Words.{holiday_on, observed_on, statute_name}
+use Rattle.court_holidays.specs.declared.federal.statute.FederalHoliday.{FederalHoliday}
+use Rattle.court_holidays.specs.declared.federal.statute.FederalHoliday.TheVariants.{Juneteenth}
+use Rattle.court_holidays.specs.Federal.Words.{holiday_on, observed_on, statute_name}
 
 -- a day and its name
 pub record NamedDay : Type 0 where

@@ -2,10 +2,10 @@
 
 ghost use Rattle.std.specs.Prelude.{◌≡◌, ◌++◌, OnOk, option_copied, string_bytes};
 ghost use Rattle.reason_texts.specs.Names.{legal_text, name_on, observed_text, short_name};
-ghost use Rattle.federal_holidays.specs.Words.{observed_on};
+ghost use Rattle.court_holidays.specs.Federal.Words.{observed_on};
 
 use court_clock::Day;
-use federal_holidays::{FederalHoliday, holiday_on, observed_on};
+use court_holidays::{FederalHoliday, holiday_on, observed_on};
 use std::alloc::AllocError;
 use std::marker::Model;
 

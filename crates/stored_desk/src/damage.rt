@@ -3,7 +3,7 @@ use crate::expected::Expected;
 use crate::files::are_first;
 use crate::tally::Tally;
 use anyhow::Result;
-use durable_journal::{JournalFault, entries_in};
+use desk_journal::{JournalFault, entries_in};
 use std::alloc::Global;
 
 // A shut latch.

@@ -1,7 +1,7 @@
 //! What a journal must hold, from its rows alone: they are taken one after another, with no journal and no disk.
 use anyhow::{Result, bail};
-use docket_entries::{Docketed, HistoryFault};
-use durable_session::Register;
+use desk_entries::{Docketed, HistoryFault};
+use desk_session::Register;
 use std::alloc::Global;
 
 /// How many entries there are, and how many bytes of answers, once some batches are kept and answered.

@@ -2,7 +2,7 @@
 use crate::crash::{Crashed, FILLS, crash_of};
 use crate::session::Device;
 use anyhow::Result;
-use durable_journal::{Journal, JournalFault};
+use desk_journal::{Journal, JournalFault};
 use sqlite_disk::{Disk, Fuse, Memory};
 use std::alloc::Global;
 

@@ -1,10 +1,10 @@
 //! A session of the desk on a disk that fails.
 use crate::expected::docket_of;
 use anyhow::Result;
-use docket_entries::Docketed;
-use durable_journal::Journal;
-use durable_session::serve;
-use office_streams::Watched;
+use desk_entries::Docketed;
+use desk_journal::Journal;
+use desk_session::serve;
+use program_streams::Watched;
 use sqlite_disk::{Fuse, Memory};
 use std::alloc::Global;
 

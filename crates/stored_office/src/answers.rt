@@ -1,9 +1,9 @@
 //! The text of what the calls of a seat are answered. A call that finds no memory is made once more.
 use anyhow::Result;
+use clerk_seats::{CommitError, Done, NamesOffice, PerformError, Seat};
 use court_clock::Clock;
 use court_days::Court;
 use docket_rows::{Command, PartId, Query};
-use office_seats::{CommitError, Done, NamesOffice, PerformError, Seat};
 use office_texts::{push_answer, push_number, push_view};
 use std::alloc::{AllocError, Global};
 use std::sync::Wait;

@@ -1,7 +1,7 @@
 //! The journal of clerks who did rows, compared with the commands of these rows.
 use docket_rows::{Answer, Command};
-use office_rows::{Row, Work};
 use office_texts::push_number;
+use row_forms::{Row, Work};
 use std::alloc::AllocError;
 use versioned_steps::Entry;
 

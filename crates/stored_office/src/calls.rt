@@ -3,7 +3,7 @@ use anyhow::{Context, Result, bail};
 use court_clock::Day;
 use court_days::Court;
 use docket_rows::{Command, Query};
-use office_rows::{Row, RowError, Work, read_rows};
+use row_forms::{Row, RowError, Work, read_rows};
 use rule_periods::{Grant, Request};
 use std::alloc::Global;
 

@@ -4,9 +4,9 @@ ghost use Rattle.std.specs.Prelude.{◌≡◌};
 
 use crate::dockets::push_docket;
 use anyhow::Result;
+use clerk_seats::{CloseError, Journal, NamesOffice, Office, Tally};
 use court_days::Court;
 use docket_rows::{Answer, Command};
-use office_seats::{CloseError, Journal, NamesOffice, Office, Tally};
 use office_texts::{push_answer, push_number};
 use std::alloc::{AllocError, Global};
 use std::sync::Wait;

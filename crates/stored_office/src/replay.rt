@@ -3,11 +3,11 @@
 use crate::dockets::push_docket;
 use crate::work::{Task, command_at};
 use anyhow::Result;
+use clerk_seats::{Done, Journal};
 use court_clock::Day;
 use court_days::Court;
 use docket_core::Docket;
 use docket_rows::{Answer, Command};
-use office_seats::{Done, Journal};
 use office_texts::push_number;
 use rule_periods::{Grant, Request};
 use rule6::Shown;

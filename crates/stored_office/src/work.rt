@@ -1,9 +1,9 @@
 //! What a clerk does in a thread of their own.
+use clerk_seats::{Done, NamesOffice, Seat, Tally};
 use court_clock::Day;
 use court_days::Court;
 use docket_rows::{Answer, Command, Query, Setting, View};
 use hearing_slots::{Need, Panel};
-use office_seats::{Done, NamesOffice, Seat, Tally};
 use std::alloc::{AllocError, Global};
 use std::sync::Wait;
 

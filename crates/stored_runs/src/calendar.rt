@@ -1,15 +1,15 @@
 //! One stored run of the court's calendar.
 
 ghost use Rattle.std.specs.Prelude.{◌≡◌, false};
-ghost use Rattle.office_streams.specs.Words.{has_failed};
+ghost use Rattle.program_streams.specs.Words.{has_failed};
 
 use crate::lines::input_of;
 use crate::stored::push_name;
 use crate::sums::push_sum;
-use calendar_program::CourtCalendar;
 use court_clock::Instant;
-use office_program::run_program;
-use office_streams::Watched;
+use program_main::run_program;
+use program_streams::Watched;
+use report_program::CourtCalendar;
 use std::alloc::{AllocError, Global};
 use std::sync::Wait;
 use std::thread::Threads;

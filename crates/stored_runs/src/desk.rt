@@ -1,13 +1,13 @@
 //! One stored run of the desk, over a disk in memory.
 
 ghost use Rattle.std.specs.Prelude.{◌≡◌, false};
-ghost use Rattle.office_streams.specs.Words.{has_failed};
+ghost use Rattle.program_streams.specs.Words.{has_failed};
 
 use crate::lines::input_of;
 use crate::stored::push_name;
 use crate::sums::push_sum;
 use desk_program::{Desk, DeskFault, ended_by, write_rows};
-use office_streams::{Watched, divide};
+use program_streams::{Watched, divide};
 use sqlite_disk::Memory;
 use std::alloc::{AllocError, Global};
 

@@ -4,7 +4,7 @@ use crate::calendar::push_calendar;
 use crate::desk::push_desk;
 use crate::made::push_made;
 use crate::stored::{push_name, push_run};
-use office_options::{OptionsFault, options_of};
+use program_main::{OptionsFault, options_of};
 use std::alloc::{AllocError, Global};
 use std::sync::Wait;
 use std::thread::Threads;

@@ -1,12 +1,12 @@
 //! One stored run.
 
 ghost use Rattle.std.specs.Prelude.{◌≡◌, ◌++◌, [], ◌∷◌, OnOk};
-ghost use Rattle.office_streams.specs.Words.{fault_text};
+ghost use Rattle.program_streams.specs.Words.{fault_text};
 ghost use Rattle.stored_runs.specs.Stored.{AppendsRun, name_line};
 
 use clerk_program::run_office;
-use office_options::Options;
-use office_streams::{OfficeFault, Watched, fault_line};
+use program_main::Options;
+use program_streams::{OfficeFault, Watched, fault_line};
 use std::alloc::{AllocError, Global};
 use std::sync::Wait;
 use std::thread::Threads;

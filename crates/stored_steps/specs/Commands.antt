@@ -2,9 +2,9 @@
 use Rattle.std.specs.Prelude.{◌≡◌, ℕ, List, map, Ok}
 use Rattle.court_days.specs.Words.{CourtView}
 use Rattle.docket_rows.specs.declared.command.Command.{Command as CommandOf}
-use Rattle.office_rows.specs.declared.row.Row.{Row}
-use Rattle.office_rows.specs.declared.row.Work.TheVariants.{Command}
-use Rattle.office_rows.specs.Words.{names_of, rows_read}
+use Rattle.row_forms.specs.declared.row.Row.{Row}
+use Rattle.row_forms.specs.declared.row.Work.TheVariants.{Command}
+use Rattle.row_forms.specs.Words.{names_of, rows_read}
 
 -- the rows ask for these commands, one each, and for nothing else
 abbrev pub AreAsked : List Row → List CommandOf → Type 0

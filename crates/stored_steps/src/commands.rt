@@ -7,7 +7,7 @@ use anyhow::{Result, bail};
 use court_clock::Day;
 use court_days::Court;
 use docket_rows::Command;
-use office_rows::{Row, RowError, Work, read_rows};
+use row_forms::{Row, RowError, Work, read_rows};
 use rule_periods::{Grant, Request};
 use std::alloc::Global;
 

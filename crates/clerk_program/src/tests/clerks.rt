@@ -3,9 +3,9 @@
 
 use super::{Page, make_page};
 use crate::text::text_of;
-use clerk_gates::Gate;
-use office_options::Options;
-use office_streams::{Watched, check_input, write_text};
+use clerk_workers::Gate;
+use program_main::Options;
+use program_streams::{Watched, check_input, write_text};
 use sample_court::file;
 use std::alloc::Global;
 use std::sync::Wait;

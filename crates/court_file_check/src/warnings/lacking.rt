@@ -4,10 +4,10 @@ ghost use Rattle.std.specs.Prelude.{◌≡◌, IfOk, filter, not};
 ghost use Rattle.court_clock.specs.Words.{is_weekend};
 ghost use Rattle.court_file_check.specs.Warnings.{lacking_told};
 
+use crate::review::{Due, lacking_days};
 use crate::warnings::days::is_weekend;
 use court_clock::Day;
 use court_days::Days;
-use holiday_review::{Due, lacking_days};
 use std::alloc::{AllocError, Global};
 
 /// The days of the span that are due and that the federal list lacks, each with the reason, in their order. Saturdays and

@@ -3,12 +3,12 @@
 ghost use Rattle.std.specs.Prelude.{◌≡◌, ◌||◌, ◌<◌, ◌≤◌, ◌+ℤ◌, ◌≤ℤ◌, int_le, pos, IfOk};
 ghost use Rattle.court_days.specs.Words.{is_among};
 ghost use Rattle.court_file_check.specs.Warnings.{bare_years, has_day, is_bare, is_bare_year, is_within};
-ghost use Rattle.federal_holidays.specs.Words.{set_in};
-ghost use Rattle.federal_holidays.specs.declared.statute.FederalHoliday.TheVariants.{NewYearsDay};
+ghost use Rattle.court_holidays.specs.Federal.Words.{set_in};
+ghost use Rattle.court_holidays.specs.declared.federal.statute.FederalHoliday.TheVariants.{NewYearsDay};
 
 use court_clock::Day;
 use court_days::{Days, HolidayList};
-use federal_holidays::FederalHoliday;
+use court_holidays::FederalHoliday;
 use std::alloc::{AllocError, Global};
 
 /// The years from 1970 to 2198 that lie in the span and of which the federal list has no day, in their order. An `Err`

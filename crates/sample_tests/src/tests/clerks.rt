@@ -6,14 +6,13 @@ ghost use Rattle.published_docket.specs.Words.{trail_view};
 ghost use Rattle.clerk_workers.specs.Words.{AreOfClerks};
 
 use super::{court, day};
-use clerk_gates::{Gate, OpenGate};
-use clerk_workers::{SharedReply, run_clerks};
+use clerk_seats::{NamesOffice, Office};
+use clerk_workers::{Gate, OpenGate, SharedReply, run_clerks};
 use court_days::Court;
 use docket_rows::{Answer, Command, Query, Refusal, View};
 use hearing_slots::Need;
-use office_rows::{Row, Work};
-use office_seats::{NamesOffice, Office};
 use published_docket::Publisher;
+use row_forms::{Row, Work};
 use std::alloc::Global;
 use std::marker::Brand;
 use std::process::Abort;

@@ -2,7 +2,7 @@ use Rattle.std.proofs.Common.{◌≡◌, ◌+◌, ◌-◌, ◌++◌, ◌∷◌, 
 use Rattle.std.proofs.lemmas.List.{length-map}
 use Rattle.clerk_workers.specs.declared.answer.SharedReply.{SharedReply}
 use Rattle.clerk_workers.specs.Merged.{AreFromTheLast}
-use Rattle.office_rows.specs.Words.{IsClerk}
+use Rattle.row_forms.specs.Words.{IsClerk}
 use Rattle.clerk_workers.proofs.MergeLemmas.{from_more, next_answer, next_clerk}
 use Rattle.clerk_workers.proofs.merge.merge.Goals as goal
 

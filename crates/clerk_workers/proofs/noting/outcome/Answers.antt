@@ -1,5 +1,5 @@
 use Rattle.std.proofs.Common.{◌≡◌, ◌∙◌, ◌++◌, List, All, ap, length, arith, refl, sym, subst}
-use Rattle.office_seats.specs.Words.{SeatView, TallyView}
+use Rattle.clerk_seats.specs.Words.{SeatView, TallyView}
 use Rattle.clerk_workers.specs.declared.progress.Progress.TheVariants.{Waiting, Done}
 use Rattle.clerk_workers.specs.Workers.{WorkerView, notes_at, seats_at}
 use Rattle.clerk_workers.specs.Noted.{AllNoted}

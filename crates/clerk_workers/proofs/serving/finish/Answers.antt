@@ -1,4 +1,4 @@
-use Rattle.office_rows.specs.declared.row.Work.TheVariants as work
+use Rattle.row_forms.specs.declared.row.Work.TheVariants as work
 use Rattle.clerk_workers.proofs.WorkLemmas.{answers_then}
 use Rattle.clerk_workers.proofs.serving.finish.Goals as goal
 

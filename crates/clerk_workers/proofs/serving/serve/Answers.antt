@@ -1,7 +1,7 @@
 use Rattle.std.proofs.Common.{◌≡◌, ◌+◌, ◌∙◌, ◌++◌, ◌∷◌, [], List, take, drop, take_all, take-append-drop, ap, sym, subst, arith}
 use Rattle.std.proofs.lemmas.List.{take_more}
 use mathlib.Core.List.{IsPrefix}
-use Rattle.office_rows.specs.declared.row.Row.{Row}
+use Rattle.row_forms.specs.declared.row.Row.{Row}
 use Rattle.clerk_workers.specs.Noted.{IsNoted}
 use Rattle.clerk_workers.specs.Rows.{works_of}
 use Rattle.clerk_workers.specs.Steps.{HasLeft}

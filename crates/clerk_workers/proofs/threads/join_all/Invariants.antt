@@ -1,5 +1,5 @@
 use Rattle.std.proofs.Common.{◌+◌, ◌≤◌, List, length, vec_capacity}
-use Rattle.office_rows.specs.declared.row.Row.{Row}
+use Rattle.row_forms.specs.declared.row.Row.{Row}
 use Rattle.clerk_workers.specs.Workers.{AreUnderWay, WorkerView}
 use Rattle.clerk_workers.proofs.threads.join_all.Given as goal
 

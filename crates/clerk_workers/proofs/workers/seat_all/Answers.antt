@@ -1,5 +1,5 @@
 use Rattle.std.proofs.Common.{◌≡◌, ◌++◌, ◌∷◌, [], ◌∙◌, List, All, ap, refl, sym, subst, arith}
-use Rattle.office_seats.specs.Words.{SeatView}
+use Rattle.clerk_seats.specs.Words.{SeatView}
 use Rattle.clerk_workers.specs.declared.progress.Progress.TheVariants.{Waiting}
 use Rattle.clerk_workers.specs.Workers.{WorkerView, IsReady, seats_at}
 use Rattle.clerk_workers.proofs.WorkerLemmas.{all_but_last, all_push, turned_more}

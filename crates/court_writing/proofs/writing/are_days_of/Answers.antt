@@ -1,5 +1,5 @@
 use Rattle.std.proofs.Common.{◌≡◌, pos, rules}
-use Rattle.state_holidays.specs.Words.{on}
+use Rattle.court_holidays.specs.States.Words.{on}
 use Rattle.court_writing.proofs.writing.are_days_of.Goals as goal
 
 pub returns : goal.returns

@@ -1,9 +1,9 @@
 use Rattle.std.proofs.Common.{[], ◌≡◌}
 use Rattle.std.specs.Io.KnownBytes.{Appends}
-use Rattle.durable_journal.specs.Words.{batch_of}
-use Rattle.durable_session.specs.Words.{lines_of, tally_of, told_to}
-use Rattle.docket_entries.specs.Words.{came_shown, shown}
-use Rattle.office_streams.specs.Words.{watched}
+use Rattle.desk_journal.specs.Words.{batch_of}
+use Rattle.desk_session.specs.Words.{lines_of, tally_of, told_to}
+use Rattle.desk_entries.specs.Words.{came_shown, shown}
+use Rattle.program_streams.specs.Words.{watched}
 use Rattle.desk_program.proofs.DeskLemmas.{some_both}
 use Rattle.desk_program.proofs.asking.ask.Goals as goal
 

@@ -1,5 +1,5 @@
 use Rattle.std.proofs.Common.{◌∙◌, ◌++◌, ℕ, List, ap, sym}
-use Rattle.docket_entries.specs.Words.{change_in}
+use Rattle.desk_entries.specs.Words.{change_in}
 use Rattle.desk_program.specs.Rows.{change_text}
 use Rattle.desk_program.proofs.RowsLemmas.{changes_text-more}
 use Rattle.desk_program.proofs.change.listed.Goals as goal

@@ -1,5 +1,5 @@
 use Rattle.std.proofs.Common.{◌≡◌, map, take}
-use Rattle.docket_entries.specs.Words.{change_in}
+use Rattle.desk_entries.specs.Words.{change_in}
 use Rattle.desk_program.specs.Rows.{changes_text}
 use Rattle.desk_program.proofs.change.listed.Given as goal
 

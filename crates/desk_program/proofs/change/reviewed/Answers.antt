@@ -1,9 +1,9 @@
 use Rattle.std.proofs.Common.{◌≡◌, ◌∙◌, List, Err, ap, length, map, subst, sym}
 use Rattle.std.proofs.lemmas.List.{length-map}
 use Rattle.std.specs.Io.KnownBytes.{Appends}
-use Rattle.durable_journal.specs.Words.{batch_of}
-use Rattle.docket_entries.specs.Words.{Change, change_in, changes_by}
-use Rattle.office_streams.specs.Words.{watched}
+use Rattle.desk_journal.specs.Words.{batch_of}
+use Rattle.desk_entries.specs.Words.{Change, change_in, changes_by}
+use Rattle.program_streams.specs.Words.{watched}
 use Rattle.desk_program.proofs.FaultLemmas.{same_fault}
 use Rattle.desk_program.specs.declared.fault.DeskFault.{DeskFault}
 use Rattle.desk_program.specs.declared.fault.DeskFault.TheVariants.{Differs}

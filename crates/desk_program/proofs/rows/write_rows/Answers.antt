@@ -5,10 +5,10 @@ use Rattle.std.specs.Io.KnownBytes.{Appends}
 use Rattle.std.proofs.KnownBytes.{Appends-nil, Appends-trans}
 use Rattle.std.proofs.lemmas.List.{length-take-le}
 use Rattle.std.proofs.lemmas.Result.{on_ok_weaker}
-use Rattle.durable_journal.specs.Words.{batch_of}
-use Rattle.office_streams.specs.Words.{watched}
-use Rattle.docket_entries.specs.Words.{next_number, note_in, row_entries, row_only, rows_written, standing_file}
-use Rattle.docket_entries.proofs.CallerLemmas.{begun_batch, length_batch, next_number-few, take_batch}
+use Rattle.desk_journal.specs.Words.{batch_of}
+use Rattle.program_streams.specs.Words.{watched}
+use Rattle.desk_entries.specs.Words.{next_number, note_in, row_entries, row_only, rows_written, standing_file}
+use Rattle.desk_entries.proofs.CallerLemmas.{begun_batch, length_batch, next_number-few, take_batch}
 use Rattle.desk_program.specs.Rows.{head_of, written_rows}
 use Rattle.desk_program.proofs.RowsLemmas.{number_first, number_more, rows_first, rows_more}
 use Rattle.desk_program.proofs.rows.write_rows.Goals as goal

@@ -1,8 +1,8 @@
 use Rattle.std.proofs.Common.{◌≡◌, ◌≤◌, ◌++◌, ℕ, List, false, take}
 use Rattle.std.specs.Io.KnownBytes.{Appends}
-use Rattle.durable_journal.specs.Words.{batch_of}
-use Rattle.docket_entries.specs.Words.{next_number, row_entries, rows_written, standing_file}
-use Rattle.office_streams.specs.Words.{has_failed, watched}
+use Rattle.desk_journal.specs.Words.{batch_of}
+use Rattle.desk_entries.specs.Words.{next_number, row_entries, rows_written, standing_file}
+use Rattle.program_streams.specs.Words.{has_failed, watched}
 use Rattle.desk_program.specs.Rows.{head_of}
 use Rattle.desk_program.proofs.rows.write_rows.Given as goal
 

@@ -1,5 +1,5 @@
 use Rattle.std.proofs.Common.{◌≡◌, ◌++◌, drop}
-use Rattle.durable_journal.specs.Words.{batch_of}
+use Rattle.desk_journal.specs.Words.{batch_of}
 use Rattle.desk_program.specs.Struck.{struck_text}
 use Rattle.desk_program.proofs.struck.struck_text.Given as goal
 

@@ -1,5 +1,5 @@
 use Rattle.std.proofs.Common.{◌∙◌, ◌++◌, ℕ, List, ap, sym}
-use Rattle.docket_entries.specs.Words.{fault_in}
+use Rattle.desk_entries.specs.Words.{fault_in}
 use Rattle.desk_program.specs.Together.{line_fault_text}
 use Rattle.desk_program.proofs.TogetherLemmas.{line_faults_text-more}
 use Rattle.desk_program.proofs.together.faults_listed.Goals as goal

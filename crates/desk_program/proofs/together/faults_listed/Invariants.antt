@@ -1,5 +1,5 @@
 use Rattle.std.proofs.Common.{◌≡◌, map, take}
-use Rattle.docket_entries.specs.Words.{fault_in}
+use Rattle.desk_entries.specs.Words.{fault_in}
 use Rattle.desk_program.specs.Together.{line_faults_text}
 use Rattle.desk_program.proofs.together.faults_listed.Given as goal
 

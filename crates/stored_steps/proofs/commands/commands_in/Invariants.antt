@@ -1,6 +1,6 @@
 use Rattle.std.proofs.Common.{◌≡◌, ◌++◌, drop, map}
-use Rattle.office_rows.specs.declared.row.Row.{Row}
-use Rattle.office_rows.specs.declared.row.Work.TheVariants.{Command}
+use Rattle.row_forms.specs.declared.row.Row.{Row}
+use Rattle.row_forms.specs.declared.row.Work.TheVariants.{Command}
 use Rattle.stored_steps.proofs.commands.commands_in.Given as goal
 
 -- the commands so far, and what is asked for in the rows that are left, are all that is asked for

@@ -1,5 +1,5 @@
 use Rattle.std.proofs.Common.{ap, sym}
-use Rattle.office_streams.proofs.CallerLemmas.{adds_same}
+use Rattle.program_streams.proofs.CallerLemmas.{adds_same}
 use Rattle.clerk_program.specs.ClerkText.{bytes_of}
 use Rattle.clerk_program.proofs.clerk_text.ClerkTextMadeText.hand_over.Goals as goal
 

@@ -1,7 +1,7 @@
 use Rattle.std.proofs.Common.{◌≡◌, filter_map, ap, ◌∙◌, arith}
 use Rattle.court_clock.specs.Words.{days_through}
-use Rattle.holiday_review.specs.Words.{days_from}
-use Rattle.holiday_review.proofs.ReviewLemmas.{told_step}
+use Rattle.court_file_check.specs.Review.Words.{days_from}
+use Rattle.court_file_check.proofs.ReviewLemmas.ReviewLemmas.{told_step}
 use Rattle.court_file_check.specs.Warnings.{days_that, if_passes}
 use Rattle.court_file_check.proofs.warnings.days.days_that.Goals as goal
 

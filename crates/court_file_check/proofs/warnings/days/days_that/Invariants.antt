@@ -1,5 +1,5 @@
 use Rattle.std.proofs.Common.{◌≡◌, filter_map}
-use Rattle.holiday_review.specs.Words.{days_from}
+use Rattle.court_file_check.specs.Review.Words.{days_from}
 use Rattle.court_file_check.specs.Warnings.{if_passes}
 use Rattle.court_file_check.proofs.warnings.days.days_that.Given as goal
 

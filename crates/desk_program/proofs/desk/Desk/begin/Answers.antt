@@ -1,9 +1,9 @@
 use Rattle.std.proofs.Common.{◌≡◌, ◌∙◌, ◌∷◌, [], ℕ, Bool, List, ap, inl, subst}
 use Rattle.std.specs.Prelude.{IsTrue}
-use Rattle.durable_journal.specs.Words.{IsKept, batch_of}
-use Rattle.durable_journal.proofs.CallerLemmas.{rest_kept}
-use Rattle.docket_entries.specs.Words.{SaysCourt}
-use Rattle.docket_entries.proofs.CallerLemmas.{first_history}
+use Rattle.desk_journal.specs.Words.{IsKept, batch_of}
+use Rattle.desk_journal.proofs.CallerLemmas.{rest_kept}
+use Rattle.desk_entries.specs.Words.{SaysCourt}
+use Rattle.desk_entries.proofs.CallerLemmas.{first_history}
 use Rattle.desk_program.proofs.DeskLemmas.{first_file}
 use Rattle.desk_program.proofs.desk.Desk.begin.Goals as goal
 

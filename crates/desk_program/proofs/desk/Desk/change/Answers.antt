@@ -1,8 +1,8 @@
 use Rattle.std.proofs.Common.{◌<◌, ℕ, List, Err, ap, length, refl, arith}
 use Rattle.std.proofs.lemmas.Result.{on_ok_weaker}
-use Rattle.durable_journal.specs.Words.{batch_of}
-use Rattle.docket_entries.specs.Words.{most_entries}
-use Rattle.docket_entries.proofs.CallerLemmas.{length_batch}
+use Rattle.desk_journal.specs.Words.{batch_of}
+use Rattle.desk_entries.specs.Words.{most_entries}
+use Rattle.desk_entries.proofs.CallerLemmas.{length_batch}
 use Rattle.desk_program.proofs.FaultLemmas.{same_fault}
 use Rattle.desk_program.specs.declared.fault.DeskFault.{DeskFault}
 use Rattle.desk_program.specs.declared.fault.DeskFault.TheVariants.{Differs}

@@ -1,4 +1,4 @@
-use Rattle.durable_journal.specs.Words.{batch_of}
+use Rattle.desk_journal.specs.Words.{batch_of}
 use Rattle.desk_program.proofs.desk.Desk.copied.Goals as goal
 
 pub returns-in-Ok-open : goal.returns-in-Ok-open

@@ -1,8 +1,8 @@
 use Rattle.std.proofs.Common.{◌∙◌, ℕ, List, sym, subst}
 use Rattle.std.specs.Prelude.{IsTrue}
 use Rattle.std.proofs.lemmas.Bool.{eqb-true}
-use Rattle.durable_journal.specs.Words.{IsKept, batch_of}
-use Rattle.durable_journal.proofs.CallerLemmas.{one_list, rest_kept}
+use Rattle.desk_journal.specs.Words.{IsKept, batch_of}
+use Rattle.desk_journal.proofs.CallerLemmas.{one_list, rest_kept}
 use Rattle.desk_program.proofs.DeskLemmas.{no_entries, same_entries}
 use Rattle.desk_program.proofs.desk.Desk.empty_journal.Goals as goal
 

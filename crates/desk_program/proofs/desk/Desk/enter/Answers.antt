@@ -1,9 +1,9 @@
 use Rattle.std.proofs.Common.{refl}
 use Rattle.std.proofs.lemmas.Result.{on_ok_weaker}
-use Rattle.durable_journal.specs.Words.{IsKept}
-use Rattle.durable_session.specs.Words.{IsServed, lines_of}
-use Rattle.docket_entries.specs.Words.{IsReadyAt, answers, leaves}
-use Rattle.office_streams.specs.Words.{watched}
+use Rattle.desk_journal.specs.Words.{IsKept}
+use Rattle.desk_session.specs.Words.{IsServed, lines_of}
+use Rattle.desk_entries.specs.Words.{IsReadyAt, answers, leaves}
+use Rattle.program_streams.specs.Words.{watched}
 use Rattle.desk_program.specs.Desk.{standing_at}
 use Rattle.desk_program.proofs.DeskLemmas.{promised_docket, served_docket, some_weaker}
 use Rattle.desk_program.proofs.desk.Desk.enter.Goals as goal

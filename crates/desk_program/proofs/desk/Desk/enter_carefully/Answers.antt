@@ -1,10 +1,10 @@
 use Rattle.std.proofs.Common.{refl}
 use Rattle.std.proofs.lemmas.Result.{on_ok_weaker}
-use Rattle.durable_journal.specs.Words.{IsKept}
-use Rattle.durable_session.specs.Words.{IsServed, lines_of}
-use Rattle.docket_entries.specs.Words.{IsReadyAt}
-use Rattle.office_streams.specs.Words.{watched}
-use Rattle.careful_rows.specs.Words.{careful_answers, careful_leaves}
+use Rattle.desk_journal.specs.Words.{IsKept}
+use Rattle.desk_session.specs.Words.{IsServed, lines_of}
+use Rattle.desk_entries.specs.Words.{IsReadyAt}
+use Rattle.program_streams.specs.Words.{watched}
+use Rattle.desk_warnings.specs.Words.{careful_answers, careful_leaves}
 use Rattle.desk_program.specs.Desk.{standing_at}
 use Rattle.desk_program.proofs.CarefulLemmas.{promised_carefully, served_carefully}
 use Rattle.desk_program.proofs.DeskLemmas.{some_weaker}

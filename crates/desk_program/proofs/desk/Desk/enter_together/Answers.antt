@@ -2,12 +2,12 @@ use Rattle.std.proofs.Common.{◌≡◌, ◌≢◌, ◌∙◌, ℕ, List, [], �
 use Rattle.std.specs.Prelude.{option_map, false}
 use Rattle.std.proofs.lemmas.List.{length-map}
 use Rattle.std.specs.Io.KnownBytes.{Appends}
-use Rattle.durable_journal.specs.Words.{IsKept, StandsFor, disk_of}
-use Rattle.durable_journal.proofs.CallerLemmas.{rest_kept}
-use Rattle.durable_session.specs.Words.{IsPromised, IsServed, left_by, lines_of, numbered_lines, refused_in}
-use Rattle.docket_entries.specs.Words.{FaultyLine, IsReadyAt, answers, fault_in, faults_of, leaves}
-use Rattle.office_streams.specs.declared.watched.Watched.{Watched}
-use Rattle.office_streams.specs.Words.{has_failed, watched}
+use Rattle.desk_journal.specs.Words.{IsKept, StandsFor, disk_of}
+use Rattle.desk_journal.proofs.CallerLemmas.{rest_kept}
+use Rattle.desk_session.specs.Words.{IsPromised, IsServed, left_by, lines_of, numbered_lines, refused_in}
+use Rattle.desk_entries.specs.Words.{FaultyLine, IsReadyAt, answers, fault_in, faults_of, leaves}
+use Rattle.program_streams.specs.declared.watched.Watched.{Watched}
+use Rattle.program_streams.specs.Words.{has_failed, watched}
 use Rattle.desk_program.specs.Desk.{disk_under, standing_at}
 use Rattle.desk_program.specs.Together.{line_faults_text, refused_text}
 use Rattle.desk_program.proofs.DeskLemmas.{all_or_none_docket, kept_together, none_docket, none_promised, promised_docket}

@@ -1,9 +1,9 @@
 use Rattle.std.proofs.Common.{ℕ, List, subst}
 use Rattle.std.specs.Prelude.{IsTrue, Vec}
 use Rattle.std.specs.declared.alloc.Global.{Global}
-use Rattle.durable_journal.specs.Words.{batch_of}
-use Rattle.durable_journal.proofs.CallerLemmas.{rest_kept}
-use Rattle.docket_entries.specs.Words.{IsDocketed}
+use Rattle.desk_journal.specs.Words.{batch_of}
+use Rattle.desk_journal.proofs.CallerLemmas.{rest_kept}
+use Rattle.desk_entries.specs.Words.{IsDocketed}
 use Rattle.desk_program.proofs.DeskLemmas.{same_entries}
 use Rattle.desk_program.proofs.desk.Desk.open.Goals as goal
 

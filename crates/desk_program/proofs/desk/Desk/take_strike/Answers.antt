@@ -1,9 +1,9 @@
 use Rattle.std.proofs.Common.{◌≡◌, ◌⊎◌, ◌++◌, ◌∷◌, [], Some, refl, sym, subst}
 use Rattle.std.specs.Prelude.{IsSome}
 use Rattle.std.proofs.lemmas.Result.{on_ok_weaker}
-use Rattle.durable_journal.specs.Words.{StandsFor}
-use Rattle.docket_entries.specs.Words.{note_in, row_struck}
-use Rattle.docket_entries.proofs.CallerLemmas.{strike_said_again}
+use Rattle.desk_journal.specs.Words.{StandsFor}
+use Rattle.desk_entries.specs.Words.{note_in, row_struck}
+use Rattle.desk_entries.proofs.CallerLemmas.{strike_said_again}
 use Rattle.desk_program.specs.Desk.{KeepsDocket, docketed_at, standing_at}
 use Rattle.desk_program.proofs.NoteLemmas.{comes_by_strike}
 use Rattle.desk_program.proofs.desk.Desk.take_strike.Goals as goal

@@ -1,8 +1,0 @@
-//! What margins come to.
-
-ghost use Rattle.act_margins.specs.Margin.{MarginsDecide};
-
-/// An act was timely exactly where its margin says so, and its margin decides nothing exactly where no covered day ends the time.
-pub fn margins_decide()
-    ensures { MarginsDecide }
-{}

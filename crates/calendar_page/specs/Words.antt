@@ -1,2 +1,0 @@
--- The words of clauses and definitions, for the crates above, from one place.
-unfoldable pub use Rattle.calendar_page.specs.Page.{page_text}

@@ -1,8 +1,0 @@
-use Rattle.std.proofs.Common.{◌≡◌, map}
-use Rattle.calendar_program.specs.Appointments.{numbered_appointment}
-use Rattle.kept_numbers.proofs.CallerLemmas.{changed_up_to}
-use Rattle.calendar_program.proofs.appointments.number_appointments.Given as goal
-
--- the first have their numbers, and the others are as they were
-abbrev pub invariant-list : goal.invariant-list
-invariant-list l = changed_up_to (numbered_appointment l.moved) l.appointments l.appointment-index ≡ map (numbered_appointment l.moved) l.initial.appointments

@@ -1,9 +1,0 @@
--- Events of a calendar, with the numbers that deadlines and motions keep. What changed a hearing is found by its motion's place, so
--- they get their numbers last; a motion keeps its event in a calendar program by its number.
-use Rattle.std.specs.Prelude.{List}
-use Rattle.calendar_ics.specs.declared.appointment.Appointment.{Appointment}
-use Rattle.kept_numbers.specs.declared.moved.Moved.{Moved}
-use Rattle.numbered_selection.specs.Words.{numbered_item}
-
-abbrev pub numbered_appointment : List Moved → Appointment → Appointment
-numbered_appointment moved a = record a { item = numbered_item moved a.item }

@@ -1,5 +1,0 @@
--- The words of clauses and definitions, for the crates above, from one place.
-unfoldable pub use Rattle.calendar_sql.specs.Literals.{quoted, taken_after}
-pub use Rattle.calendar_sql.specs.Literals.{IsLiteralOf}
-pub use Rattle.calendar_sql.specs.Rows.{SqlValue, row_of}
-unfoldable pub use Rattle.calendar_sql.specs.Script.{script_text}

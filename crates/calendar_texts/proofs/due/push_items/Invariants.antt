@@ -1,7 +1,0 @@
-use Rattle.std.proofs.Common.{◌≡◌, ◌++◌, None, drop, string_bytes}
-use Rattle.calendar_texts.specs.Due.{lines_after}
-use Rattle.calendar_texts.proofs.due.push_items.Given as goal
-
--- the lines so far, and those of the items that are left, are all
-abbrev pub invariant-loop-item : goal.invariant-loop-item
-invariant-loop-item l = string_bytes l.text ++ lines_after l.court l.cases.named l.before (drop l.item-index l.items) ≡ string_bytes l.fn.text ++ lines_after l.court l.cases.named None l.items

@@ -1,7 +1,0 @@
--- The words for the crates above, from one place.
-unfoldable pub use Rattle.careful_rows.specs.Warnings.{warnings_of}
-pub use Rattle.careful_rows.specs.Warnings.{warnings_on}
-pub use Rattle.careful_rows.specs.Careful.{after_mark, careful_answers, careful_leaves, careful_outcome}
-unfoldable pub use Rattle.careful_rows.specs.Careful.{taken_at, warnings_at}
-pub use Rattle.careful_rows.specs.Laws.{CarefulIsHistory, RefusedAreHeld, WarningsKeepNothing}
-unfoldable pub use Rattle.careful_rows.specs.Laws.{lines_taken}

@@ -1,8 +1,0 @@
-//! Laws of the definitions, the contracts of functions that do nothing.
-ghost use Rattle.case_names.specs.Laws.{WithoutNamesAsNumbers};
-
-/// Where no case has a name, each is called by its number.
-#[tactic(auto, using(crate::proofs::NumberLemmas::without_names_as_numbers_lem))]
-pub fn without_names_as_numbers()
-    ensures { WithoutNamesAsNumbers }
-{}

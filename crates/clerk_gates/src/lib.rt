@@ -1,8 +1,0 @@
-//! Where a test may hold clerks at work, and what holds none of them.
-#![tactic(auto)]
-
-mod gate;
-mod open_gate;
-
-pub use gate::Gate;
-pub use open_gate::OpenGate;

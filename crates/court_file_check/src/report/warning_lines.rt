@@ -1,0 +1,266 @@
+//! The lines of warnings.
+
+use crate::report::sheet::{Sheet, item_after, item_of};
+use crate::review::{Due, due_on};
+use crate::{Alike, Asked, Slip, Warnings, ZoneDoubt};
+use court_clock::Day;
+use court_file_places::{Mark, Part};
+use court_file_text::Key;
+use court_holidays::{FederalHoliday, observed_for};
+use std::alloc::AllocError;
+use toml::{Table, Value};
+
+/// Adds a line for each warning.
+pub(crate) fn push_warnings(
+    sheet: &mut Sheet<'_>,
+    file: &Table,
+    asked: &Asked,
+    warnings: &Warnings,
+) -> Result<(), AllocError> {
+    push_of_keys(sheet, asked, warnings)?;
+    for year in &warnings.bare_years {
+        push_bare_year(sheet, *year)?;
+    }
+    for (day, due) in &warnings.lacking {
+        push_lacking(sheet, file, *day, *due)?;
+    }
+    for day in &warnings.unknown {
+        push_unknown(sheet, file, *day)?;
+    }
+    push_at_weekend(sheet, file, Key::Federal, &warnings.federal_at_weekend)?;
+    push_at_weekend(sheet, file, Key::State, &warnings.state_at_weekend)?;
+    for day in &warnings.in_both {
+        push_in_both(sheet, file, *day)?;
+    }
+    push_slips(sheet, Key::Federal, &warnings.federal_slips)?;
+    push_slips(sheet, Key::State, &warnings.state_slips)?;
+    push_alike(sheet, Key::Judges, &warnings.judges_alike)?;
+    push_alike(sheet, Key::Rooms, &warnings.rooms_alike)
+}
+
+/// Those of the zone, the hours and the span.
+fn push_of_keys(
+    sheet: &mut Sheet<'_>,
+    asked: &Asked,
+    warnings: &Warnings,
+) -> Result<(), AllocError> {
+    if let Some(doubt) = warnings.zone {
+        push_zone(sheet, doubt)?;
+    }
+    if warnings.closes_early {
+        push_closes_early(sheet)?;
+    }
+    if warnings.long_day {
+        push_long_day(sheet)?;
+    }
+    if warnings.short_span {
+        push_short_span(sheet)?;
+    }
+    match asked.today {
+        Some(today) if warnings.ends_soon => push_ends_soon(sheet, today),
+        _ => Ok(()),
+    }
+}
+
+fn push_zone(sheet: &mut Sheet<'_>, doubt: ZoneDoubt) -> Result<(), AllocError> {
+    let mark = sheet.value_mark(Key::Zone)?;
+    let shown = sheet.shown(mark);
+    sheet.begin_warning(Key::Zone, mark)?;
+    write!(sheet.text, "{shown} ")?;
+    sheet.end(match doubt {
+        ZoneDoubt::NoCourtHasIt => {
+            "is the clock of no United States district court; docs/FORMATS.md has that of each"
+        }
+        ZoneDoubt::OtherChanges => {
+            "changes on other days than the clocks of the United States, which since 2007 change by ,M3.2.0/2,M11.1.0/2"
+        }
+        ZoneDoubt::OldChanges => {
+            "changes as clocks did from 1987 to 2006; since 2007 they change by ,M3.2.0/2,M11.1.0/2"
+        }
+    })
+}
+
+fn push_closes_early(sheet: &mut Sheet<'_>) -> Result<(), AllocError> {
+    let mark = sheet.value_mark(Key::Closes)?;
+    let shown = sheet.shown(mark);
+    sheet.begin_warning(Key::Closes, mark)?;
+    write!(sheet.text, "the office closes at {shown}, before noon")?;
+    sheet.end("; hours go to 23, so 5 p.m. is \"17:00\"")
+}
+
+fn push_long_day(sheet: &mut Sheet<'_>) -> Result<(), AllocError> {
+    let mark = sheet.value_mark(Key::Closes)?;
+    let shown = sheet.shown(mark);
+    let opens = sheet.shown(sheet.value_mark(Key::Opens)?);
+    sheet.begin_warning(Key::Closes, mark)?;
+    write!(
+        sheet.text,
+        "from {opens} to {shown} the office is open for more than twelve hours"
+    )?;
+    sheet.end("; see that both times are right")
+}
+
+fn push_short_span(sheet: &mut Sheet<'_>) -> Result<(), AllocError> {
+    let mark = sheet.value_mark(Key::To)?;
+    let shown = sheet.shown(mark);
+    sheet.begin_warning(Key::To, mark)?;
+    write!(
+        sheet.text,
+        "the span ends on {shown}, less than 90 days after it begins"
+    )?;
+    sheet.end(
+        ", and Rule 4(m) has 90 days; a period that ends after the span is answered 'beyond', so move to, and add the holidays until then",
+    )
+}
+
+fn push_ends_soon(sheet: &mut Sheet<'_>, today: Day) -> Result<(), AllocError> {
+    let mark = sheet.value_mark(Key::To)?;
+    let shown = sheet.shown(mark);
+    sheet.begin_warning(Key::To, mark)?;
+    write!(
+        sheet.text,
+        "the span ends on {shown}, before a year has passed from {today}"
+    )?;
+    sheet.end(
+        "; a period that ends after the span is answered 'beyond', so move to, and add the holidays until then",
+    )
+}
+
+fn push_bare_year(sheet: &mut Sheet<'_>, year: u16) -> Result<(), AllocError> {
+    let mark = sheet.value_mark(Key::Federal)?;
+    sheet.begin_warning(Key::Federal, mark)?;
+    write!(
+        sheet.text,
+        "the list has no holiday of {year}, which is a year of the span"
+    )?;
+    sheet.end("; add its holidays, or end the span before it")
+}
+
+/// Where a date is to be added to the federal list: the first item that is later, or else the list's closing bracket.
+fn where_to_add(sheet: &Sheet<'_>, file: &Table, day: Day) -> Result<Option<Mark>, AllocError> {
+    if let Some(item) = item_after(file, Key::Federal, day) {
+        return sheet.mark_of(Key::Federal, Some(item));
+    }
+    match sheet.value_mark(Key::Federal)? {
+        Some(whole) => Ok(Some(Mark {
+            start: whole.end.saturating_sub(1),
+            ..whole
+        })),
+        None => Ok(None),
+    }
+}
+
+fn push_lacking(sheet: &mut Sheet<'_>, file: &Table, day: Day, due: Due) -> Result<(), AllocError> {
+    let mark = where_to_add(sheet, file, day)?;
+    sheet.begin_warning(Key::Federal, mark)?;
+    match due {
+        Due::SetByLaw(holiday) => {
+            let name = holiday.name();
+            write!(
+                sheet.text,
+                "the list lacks {day}, which the law sets for {name}"
+            )?;
+        }
+        Due::Observed(holiday) => {
+            let name = holiday.name();
+            let weekday = if day.weekday() == 4 {
+                "Saturday"
+            } else {
+                "Sunday"
+            };
+            write!(
+                sheet.text,
+                "the list lacks {day}, on which {name} is observed, since it is on a {weekday}"
+            )?;
+        }
+    }
+    if item_of(file, Key::State, day).is_some() {
+        return sheet.end(
+            "; the state list has it, where it counts for periods after an event alone: move it here",
+        );
+    }
+    sheet.end("; add it here")
+}
+
+fn push_unknown(sheet: &mut Sheet<'_>, file: &Table, day: Day) -> Result<(), AllocError> {
+    let mark = sheet.mark_of(Key::Federal, item_of(file, Key::Federal, day))?;
+    sheet.begin_warning(Key::Federal, mark)?;
+    if due_on(day, true).is_some() {
+        write!(sheet.text, "{day} is Inauguration Day")?;
+        return sheet.end(
+            ", a holiday in the capital's region alone; say --capital if the court is there, and leave the date out if it isn't",
+        );
+    }
+    write!(
+        sheet.text,
+        "{day} is no holiday by law, and none is observed on it"
+    )?;
+    sheet.end(
+        "; it stays if an executive order closed the government on it and the court takes it for a holiday, else mend it",
+    )
+}
+
+fn push_at_weekend(
+    sheet: &mut Sheet<'_>,
+    file: &Table,
+    key: Key,
+    days: &[Day],
+) -> Result<(), AllocError> {
+    for day in days {
+        let mark = sheet.mark_of(key, item_of(file, key, *day))?;
+        let weekday = if day.weekday() == 5 {
+            "Saturday"
+        } else {
+            "Sunday"
+        };
+        sheet.begin_warning(key, mark)?;
+        write!(
+            sheet.text,
+            "{day} is a {weekday}, on which no period ends in any case, so it does nothing"
+        )?;
+        sheet.end("; if it is observed on another day, enter that")?;
+    }
+    Ok(())
+}
+
+fn push_in_both(sheet: &mut Sheet<'_>, file: &Table, day: Day) -> Result<(), AllocError> {
+    let mark = sheet.mark_of(Key::State, item_of(file, Key::State, day))?;
+    sheet.begin_warning(Key::State, mark)?;
+    write!(sheet.text, "{day} is in the federal list too")?;
+    sheet.end(", which is enough; leave it out here")
+}
+
+fn push_slips(sheet: &mut Sheet<'_>, key: Key, slips: &[(usize, Slip)]) -> Result<(), AllocError> {
+    for (item, slip) in slips {
+        let mark = sheet.mark_of(key, Some(*item))?;
+        let shown = sheet.shown(mark);
+        sheet.begin_warning(key, mark)?;
+        write!(sheet.text, "{shown} ")?;
+        sheet.end(match slip {
+            Slip::Outside => {
+                "is outside the span, so it does nothing; mend its year, or move from or to"
+            }
+            Slip::Twice => "is there twice, one after the other; leave one out",
+            Slip::Early => {
+                "is earlier than the date before it; see that its year is right, and put it where it belongs"
+            }
+        })?;
+    }
+    Ok(())
+}
+
+fn push_alike(sheet: &mut Sheet<'_>, key: Key, alike: &[Alike]) -> Result<(), AllocError> {
+    for pair in alike {
+        let mark = sheet.mark_of(key, Some(pair.item))?;
+        let shown = sheet.shown(mark);
+        let earlier = sheet.mark_of(key, Some(pair.earlier))?;
+        let other = sheet.shown(earlier);
+        sheet.begin_warning(key, mark)?;
+        write!(
+            sheet.text,
+            "{shown} and {other} differ in the case of letters alone"
+        )?;
+        sheet.end(", and rows have to write them so; leave one out if they are the same")?;
+    }
+    Ok(())
+}

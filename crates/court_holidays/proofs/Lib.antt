@@ -1,0 +1,2 @@
+pub mod FederalLemmas
+pub mod StatesLemmas

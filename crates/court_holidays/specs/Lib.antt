@@ -1,0 +1,2 @@
+pub mod Federal
+pub mod States

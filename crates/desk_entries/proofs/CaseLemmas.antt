@@ -1,0 +1,124 @@
+-- The cases that entries opened, after one more; and how lines are read.
+use Rattle.std.proofs.Common.{◌≡◌, ◌∙◌, ◌+◌, ◌<◌, ℕ, Bool, true, false, cond, List, [], ◌∷◌, ◌++◌, Option, Some, None, length, refl, sym, ap, add-zero, arith}
+use Rattle.std.specs.Prelude.{◌&&◌, IsSome, codes, is_none}
+use Rattle.std.specs.Str.{bytes_eq}
+use Rattle.case_numbers.specs.Words.{AreApart, CasesView, NameView, after_name, fresh, name_before, no_cases, number_of}
+use Rattle.case_numbers.proofs.CallerLemmas.{names_stay_apart_lem}
+use Rattle.desk_numbers.specs.Strikes.Words.{is_struck}
+use Rattle.desk_entries.specs.declared.standing.Standing.{Standing}
+use Rattle.row_forms.specs.Words.{CourtNames, column, names_of}
+use Rattle.row_forms.specs.declared.line.line.Line.{Line}
+use Rattle.row_forms.specs.declared.line.line.Line.TheVariants as line
+use Rattle.row_forms.specs.Line.Words.{fields_read, line_read}
+use Rattle.desk_entries.specs.CaseLines.{Reading, as_it_is, case_in, finds_no_number, fresh_for, lacks_number, lacks_third, named, named_if, newly, opens_too_many, reading_of}
+use Rattle.desk_entries.specs.Cases.{cases_after, cases_of, cases_with, opened_in, with_opened}
+use Rattle.desk_entries.specs.Entries.{most_clerks, next_number, note_in, row_entries}
+use Rattle.desk_entries.specs.Laws.{ACaseNumberIsOneCase, OtherLinesAreReadAsTheyAre}
+use Rattle.desk_entries.specs.Rows.{row_in}
+use Rattle.desk_entries.proofs.ListLemmas.{row_entries-note, row_entries-row}
+
+next_place : (number : ℕ) (entry : List ℕ) (entries : List (List ℕ)) → number + 1 + length entries ≡ number + length (entry ∷ entries)
+next_place number entry entries = omega arith
+
+cases_after-append : (under : Standing) (cases : CasesView) (number : ℕ) (some more : List (List ℕ)) → cases_after under cases number (some ++ more) ≡ cases_after under (cases_after under cases number some) (number + length some) more
+unfolding cases_after
+cases_after-append under cases number [] more = ap (λ n. cases_after under cases n more) (sym (add-zero number))
+cases_after-append under cases number (entry ∷ some) more =
+    cases_after-append under (cases_with under cases number entry) (number + 1) some more
+    ∙ ap (λ n. cases_after under (cases_after under (cases_with under cases number entry) (number + 1) some) n more) (next_place number entry some)
+
+one_entry : (under : Standing) (cases : CasesView) (number : ℕ) (entry : List ℕ) → cases_after under cases number (entry ∷ []) ≡ cases_with under cases number entry
+unfolding cases_after
+one_entry under cases number entry = refl
+
+-- after a row's entry
+pub cases_of-row : (under : Standing) (kept : List (List ℕ)) (entry : List ℕ) → 0 < length kept → note_in entry ≡ None → cases_of under (kept ++ entry ∷ []) ≡ cases_with under (cases_of under kept) (next_number kept) entry
+unfolding cases_of
+cases_of-row under kept entry begun none =
+    let numbered : 1 + length (row_entries kept) ≡ next_number kept = omega arith in
+    ap (cases_after under no_cases 1) (row_entries-row kept entry begun none)
+    ∙ cases_after-append under no_cases 1 (row_entries kept) (entry ∷ [])
+    ∙ one_entry under (cases_after under no_cases 1 (row_entries kept)) (1 + length (row_entries kept)) entry
+    ∙ ap (λ n. cases_with under (cases_after under no_cases 1 (row_entries kept)) n entry) numbered
+
+-- that isn't struck
+pub cases_of-live : (under : Standing) (kept : List (List ℕ)) (entry : List ℕ) → 0 < length kept → note_in entry ≡ None → is_struck under.corrections (next_number kept) ≡ false
+    → cases_of under (kept ++ entry ∷ []) ≡ with_opened (cases_of under kept) (opened_in (line_read most_clerks (names_of under.court) (after_name entry))) (name_before entry)
+cases_of-live under kept entry begun none live =
+    cases_of-row under kept entry begun none ∙ ap (λ b. cond b (cases_of under kept) (with_opened (cases_of under kept) (opened_in (line_read most_clerks (names_of under.court) (after_name entry))) (name_before entry))) live
+
+-- or that is
+pub cases_of-struck : (under : Standing) (kept : List (List ℕ)) (entry : List ℕ) → 0 < length kept → note_in entry ≡ None → is_struck under.corrections (next_number kept) ≡ true → cases_of under (kept ++ entry ∷ []) ≡ cases_of under kept
+cases_of-struck under kept entry begun none struck =
+    cases_of-row under kept entry begun none ∙ ap (λ b. cond b (cases_of under kept) (with_opened (cases_of under kept) (opened_in (line_read most_clerks (names_of under.court) (after_name entry))) (name_before entry))) struck
+
+-- and after an entry that is no row
+pub cases_of-note : (under : Standing) (kept : List (List ℕ)) (entry : List ℕ) → 0 < length kept → IsSome (note_in entry) → cases_of under (kept ++ entry ∷ []) ≡ cases_of under kept
+unfolding cases_of
+cases_of-note under kept entry begun some = ap (cases_after under no_cases 1) (row_entries-note kept entry begun some)
+
+-- what says no row opens no case
+pub none_opened : (said : Line) → row_in said ≡ [] → opened_in said ≡ None
+none_opened line.Blank none = refl
+none_opened (line.Fault cause) none = refl
+none_opened (line.Row row) none = cc none
+
+-- names stay apart
+opened_apart : (cases : CasesView) (number : Option ℕ) (name : Option NameView) → AreApart cases.named → AreApart (with_opened cases number name).named
+opened_apart cases None name apart = apart
+opened_apart cases (Some number) name apart = names_stay_apart_lem cases number name apart
+
+with_apart : (under : Standing) (cases : CasesView) (number : ℕ) (entry : List ℕ) → AreApart cases.named → AreApart (cases_with under cases number entry).named
+with_apart under cases number entry apart = by (is_struck under.corrections number)
+  where
+    by : (b : Bool) → AreApart (cond b cases (with_opened cases (opened_in (line_read most_clerks (names_of under.court) (after_name entry))) (name_before entry))).named
+    by true = apart
+    by false = opened_apart cases (opened_in (line_read most_clerks (names_of under.court) (after_name entry))) (name_before entry) apart
+
+after_apart : (under : Standing) (cases : CasesView) (number : ℕ) (entries : List (List ℕ)) → AreApart cases.named → AreApart (cases_after under cases number entries).named
+unfolding cases_after
+after_apart under cases number [] apart = apart
+after_apart under cases number (entry ∷ entries) apart = after_apart under (cases_with under cases number entry) (number + 1) entries (with_apart under cases number entry apart)
+
+none_apart : AreApart []
+none_apart i j a b at_i at_j same = cc at_i
+
+pub one_case : ACaseNumberIsOneCase
+unfolding cases_of
+one_case under kept = after_apart under no_cases 1 (row_entries kept) none_apart
+
+-- a line that lacks no third field is read as it is
+pub reads_itself : (names : CourtNames) (cases : CasesView) (bytes : List ℕ) → lacks_third (line_read most_clerks names bytes) ≡ false → reading_of names cases bytes ≡ as_it_is bytes
+unfolding reading_of
+reads_itself names cases bytes is = rw is refl
+
+pub other_lines : OtherLinesAreReadAsTheyAre
+other_lines under kept bytes is = reads_itself (names_of under.court) (cases_of under kept) bytes is
+
+-- one that lacks no third field opens no case too many
+pub few_enough : (names : CourtNames) (cases : CasesView) (bytes : List ℕ) → lacks_third (line_read most_clerks names bytes) ≡ false → opens_too_many names cases bytes ≡ false
+unfolding opens_too_many
+few_enough names cases bytes is = rw is refl
+
+-- a line that opens a case too many is read as it is, and lacks its third field
+finds_none : (line : List ℕ) (fields : List (List ℕ)) (name : NameView) (opens : Bool) (free : Option ℕ) → (opens && is_none free) ≡ true → newly line fields name (cond opens free None) ≡ as_it_is line
+finds_none line fields name false free none = cc none
+finds_none line fields name true (Some number) none = cc none
+finds_none line fields name true None none = refl
+
+takes_none : (cases : CasesView) (line : List ℕ) (fields : List (List ℕ)) (name : NameView) (number : Option ℕ) → (is_none number && finds_no_number cases fields) ≡ true → named cases line fields name number ≡ as_it_is line
+takes_none cases line fields name (Some number) none = cc none
+takes_none cases line fields name None none = finds_none line fields name (bytes_eq (column fields 2) (codes "open")) (fresh cases) none
+
+named_none : (cases : CasesView) (line : List ℕ) (fields : List (List ℕ)) (name : Option NameView) → lacks_number cases fields name ≡ true → named_if cases line fields name ≡ as_it_is line
+named_none cases line fields None none = cc none
+named_none cases line fields (Some name) none = takes_none cases line fields name (number_of cases.named name.key) none
+
+pub too_many_lacks : (names : CourtNames) (cases : CasesView) (line : List ℕ) → opens_too_many names cases line ≡ true → lacks_third (line_read most_clerks names (reading_of names cases line).text) ≡ true
+unfolding opens_too_many reading_of
+too_many_lacks names cases line too_many = by (lacks_third (line_read most_clerks names line)) refl too_many
+  where
+    by : (lacks : Bool) → lacks_third (line_read most_clerks names line) ≡ lacks → (lacks && lacks_number cases (fields_read line) (case_in (fields_read line))) ≡ true
+        → lacks_third (line_read most_clerks names (cond lacks (named_if cases line (fields_read line) (case_in (fields_read line))) (as_it_is line)).text) ≡ true
+    by false is none = cc none
+    by true is none = ap (λ (r : Reading). lacks_third (line_read most_clerks names r.text)) (named_none cases line (fields_read line) (case_in (fields_read line)) none) ∙ is

@@ -1,0 +1,12 @@
+use Rattle.std.proofs.Common.{ap, subst, sym}
+use Rattle.court_days.specs.Words.{CourtView}
+use Rattle.desk_entries.specs.declared.standing.Standing.{Standing}
+use Rattle.desk_entries.specs.History.{SaysCourt}
+use Rattle.desk_entries.proofs.HistoryLemmas.{first_docketed}
+use Rattle.desk_entries.proofs.docketed.Docketed.begin.Goals as goal
+
+pub returns-clause-docketed : goal.returns-clause-docketed
+returns-clause-docketed c =
+    let is = c.in_ok-docketed.ensures.standing in
+    first_docketed c.in_ok-docketed.docketed c.args.file.now (subst (λ (court : CourtView). SaysCourt c.args.file.now court) (sym (ap (λ (u : Standing). u.court) is)) c.in_ok-court.ensures.court) (ap (λ (u : Standing). u.corrections) is)
+    (c.in_ok-docketed.ensures.stands c.args.file.now)

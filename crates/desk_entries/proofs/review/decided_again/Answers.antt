@@ -1,0 +1,33 @@
+use Rattle.std.proofs.Common.{◌≡◌, ◌∙◌, ◌+◌, ◌<◌, ◌++◌, ◌∷◌, ℕ, List, [], ap, length, map, sym, subst, arith, take}
+use Rattle.desk_journal.specs.Words.{batch_of}
+use Rattle.desk_entries.specs.Differences.{Change, change_as, change_in, changes_by}
+use Rattle.desk_entries.specs.Entries.{note_in}
+use Rattle.desk_entries.specs.Register.{StandsAt}
+use Rattle.desk_entries.proofs.ChangeLemmas.{changes_by-more, none_first}
+use Rattle.desk_entries.proofs.ListLemmas.{begun_batch, some_first, take_batch}
+use Rattle.desk_entries.proofs.review.decided_again.Goals as goal
+
+pub loop-place-init : goal.loop-place-init
+loop-place-init c =
+    let (first, is) = some_first c.args.entries.now c.requires.some in
+    record {
+      begun = omega arith;
+      stands = subst (StandsAt c.args.under.now c.in_ok-register.register) (sym is) (c.in_ok-register.ensures.stands first);
+      changes = ap (map change_in) c.new-differences.ensures.items ∙ sym (ap (changes_by c.args.under.now) is ∙ none_first c.args.under.now first);
+    }
+
+pub loop-place-preserved : goal.loop-place-preserved
+loop-place-preserved c =
+    let kept : List (List ℕ) = batch_of (take c.loop-place.place c.args.entries.now) in
+    let entry : List ℕ = c.index-entries-place.result.items in
+    let more : batch_of (take (c.loop-place.place + 1) c.args.entries.now) ≡ kept ++ entry ∷ [] = take_batch c.args.entries.now c.loop-place.place c.index-entries-place.result c.loop-place-test.true c.index-entries-place.is in
+    let begun : 0 < length kept = begun_batch c.args.entries.now c.loop-place.place c.loop-place.invariant.begun c.loop-place-test.true in
+    let then : kept ++ c.deref.result.now ∷ [] ≡ batch_of (take (c.loop-place.place + 1) c.args.entries.now) = ap (λ (e : List ℕ). kept ++ e ∷ []) c.deref.ensures.value ∙ sym more in
+    record {
+      begun = omega arith;
+      stands = subst (StandsAt c.args.under.now c.decide_entry.new.register) then (c.in_ok-decide_entry.ensures.stands kept c.loop-place.invariant.stands);
+      changes = c.in_ok-decide_entry.ensures.changes kept c.loop-place.invariant.stands
+          ∙ ap (λ (l : List Change). l ++ change_as (note_in c.deref.result.now) c.args.under.now kept c.deref.result.now) c.loop-place.invariant.changes
+          ∙ sym (changes_by-more c.args.under.now kept c.deref.result.now begun)
+          ∙ ap (changes_by c.args.under.now) then;
+    }

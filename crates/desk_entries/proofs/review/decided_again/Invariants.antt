@@ -1,0 +1,13 @@
+use Rattle.std.proofs.Common.{◌≡◌, ◌≤◌, map, take}
+use Rattle.desk_journal.specs.Words.{batch_of}
+use Rattle.desk_entries.specs.Differences.{change_in, changes_by}
+use Rattle.desk_entries.specs.Register.{StandsAt}
+use Rattle.desk_entries.proofs.review.decided_again.Given as goal
+
+-- the rows so far are decided
+abbrev pub invariant-loop-place : goal.invariant-loop-place
+invariant-loop-place l = record {
+  begun : 1 ≤ l.place;
+  stands : StandsAt l.under l.register (batch_of (take l.place l.entries));
+  changes : map change_in l.differences.items ≡ changes_by l.under (batch_of (take l.place l.entries));
+}

@@ -1,0 +1,61 @@
+-- The rows of the docket that stands, as they are written for other programs: no row that is struck, and deadlines and motions
+-- by their places, as those programs count them.
+use Rattle.std.specs.Prelude.{ℕ, ◌+◌, List, [], ◌∷◌, ◌++◌, Option, Some, None, option_map, drop, nat_eq, take, if◌then◌else◌}
+use Rattle.std.specs.Fmt.{decimal}
+use Rattle.csv.specs.Writing.{default_writer, row_text}
+use Rattle.case_numbers.specs.Words.{after_name}
+use Rattle.docket_rows.specs.declared.command.Command.{Command as CommandOf}
+use Rattle.docket_rows.specs.declared.command.Subject.{Subject}
+use Rattle.docket_rows.specs.Words.{subject_of}
+use Rattle.row_forms.specs.declared.row.Work.{Work}
+use Rattle.row_forms.specs.declared.row.Work.TheVariants.{Command, Query}
+use Rattle.row_forms.specs.Words.{names_of}
+use Rattle.desk_numbers.specs.declared.moved.Moved.{Moved}
+use Rattle.desk_numbers.specs.Words.{placed}
+use Rattle.row_forms.specs.declared.line.line.Line.{Line}
+use Rattle.row_forms.specs.declared.line.line.Line.TheVariants as line
+use Rattle.row_forms.specs.Line.Words.{fields_read, line_read}
+use Rattle.desk_numbers.specs.Strikes.Words.{is_struck}
+use Rattle.desk_entries.specs.declared.standing.Standing.{Standing}
+use Rattle.desk_entries.specs.Entries.{most_clerks}
+
+-- the number of the deadline or the motion that a command names, which is the fourth field of its row
+abbrev pub number_in : CommandOf → Option ℕ
+number_in command = option_map (λ (s : Subject). s.number) (subject_of command)
+
+abbrev pub number_asked : Work → Option ℕ
+number_asked (Command command) = number_in command
+number_asked (Query query) = None
+
+-- A row with these fields that names this number, where what has the number is at this place: with the place in the fourth
+-- field, where it is another. A number that nothing has is at no place, and its row, which was refused, is left out.
+abbrev pub row_placed : (number place : Option ℕ) → (fields : List (List ℕ)) → List ℕ
+row_placed None place fields = row_text default_writer fields
+row_placed (Some number) None fields = row_text default_writer fields
+row_placed (Some number) (Some place) fields =
+    if nat_eq number place then row_text default_writer fields
+    else if nat_eq place 0 then []
+    else row_text default_writer (take 3 fields ++ decimal place ∷ drop 4 fields)
+
+-- what is written of a line that says this
+abbrev pub said_placed : List Moved → Line → (fields : List (List ℕ)) → List ℕ
+said_placed moved line.Blank fields = []
+said_placed moved (line.Fault cause) fields = []
+said_placed moved (line.Row row) fields = row_placed (number_asked row.work) (number_asked (placed moved row.work)) fields
+
+-- what is written of the row of that number, whose entry this is, where this is what isn't at the place of its number
+unfoldable pub row_written : Standing → List Moved → (number : ℕ) → (entry : List ℕ) → List ℕ
+row_written under moved number entry =
+    if is_struck under.corrections number then []
+    else said_placed moved (line_read most_clerks (names_of under.court) (after_name entry)) (fields_read (after_name entry))
+
+-- what is written of rows, of which the first has this number
+unfoldable pub rows_written : Standing → List Moved → (number : ℕ) → (entries : List (List ℕ)) → List ℕ
+rows_written under moved number [] = []
+rows_written under moved number (entry ∷ entries) = row_written under moved number entry ++ rows_written under moved (number + 1) entries
+
+-- the row with which an entry begins, as CSV
+abbrev pub shown_as : Line → (fields : List (List ℕ)) → List ℕ
+shown_as line.Blank fields = []
+shown_as (line.Fault cause) fields = []
+shown_as (line.Row row) fields = row_text default_writer fields

@@ -1,0 +1,92 @@
+-- What these definitions come to.
+use Rattle.std.specs.Prelude.{◌≡◌, ◌≢◌, ◌<◌, ⊤, ℕ, true, false, List, [], ◌∷◌, ◌++◌, Option, length, map, None, Some, All}
+use Rattle.case_numbers.specs.Words.{AreApart, after_name}
+use Rattle.court_days.specs.Words.{CourtView}
+use Rattle.docket_rows.specs.Words.{parts_of}
+use Rattle.row_forms.specs.declared.fault.RowCause.{RowCause}
+use Rattle.row_forms.specs.declared.row.Work.{Work}
+use Rattle.row_forms.specs.declared.line.line.Line.TheVariants as line
+use Rattle.row_forms.specs.Words.{CourtNames, names_of}
+use Rattle.row_forms.specs.Line.Words.{fields_read, line_read}
+use Rattle.office_texts.specs.Run.Words.{closing_text, run_text}
+use Rattle.desk_session.specs.Words.{left_by, told_to}
+use Rattle.desk_numbers.specs.Strikes.Words.{is_struck, no_corrections}
+use Rattle.desk_entries.specs.Cases.{cases_of}
+use Rattle.desk_entries.specs.CaseLines.{as_it_is, lacks_third}
+use Rattle.desk_numbers.specs.declared.given.Given.{Given}
+use Rattle.desk_numbers.specs.Words.{given_by, kept_of, number_for}
+use Rattle.desk_entries.specs.declared.standing.Standing.{Standing}
+use Rattle.desk_entries.specs.Entries.{most_clerks, most_entries, next_number, note_in}
+use Rattle.desk_entries.specs.Rows.{answers, follows, leaves, reading_at, rows_in}
+use Rattle.desk_entries.specs.Run.{docketed_by, reply_by_places, reply_under, run_by}
+use Rattle.desk_entries.specs.Export.{row_written, shown_as}
+use Rattle.desk_entries.specs.History.{IsHistory, StandsAfter}
+use Rattle.desk_entries.specs.LineFaults.{faults_of}
+
+-- What a line leaves may follow when the journal is opened again, and is no court's file and no strike.
+abbrev pub WhatIsLeftFollows : Type 0
+WhatIsLeftFollows = (under : Standing) (kept : List (List ℕ)) (line entry : List ℕ) → leaves under kept line ≡ entry ∷ [] → (note_in entry ≡ None) × follows under kept entry
+
+-- What lines leave after a history is a history with it, under what stands, and the same stands after them.
+abbrev pub WhatIsLeftIsHistory : Type 0
+WhatIsLeftIsHistory = (under : Standing) (kept lines : List (List ℕ)) → IsHistory kept → StandsAfter kept under
+    → IsHistory (kept ++ left_by (leaves under) kept lines) × StandsAfter (kept ++ left_by (leaves under) kept lines) under
+
+-- a line has no fault
+abbrev pub HasNoFault : CourtNames → List ℕ → Type 0
+HasNoFault names bytes = (cause : RowCause) → line_read most_clerks names bytes ≢ line.Fault cause
+
+-- what stands where nothing is struck
+abbrev pub plain : CourtView → Standing
+plain court = record { court = court; corrections = no_corrections }
+
+-- The answers to lines one by one, after a court's file and with nothing struck, are those that a run of clerk_office writes of
+-- their rows together: its text is these answers and then the sheets and calendars of the docket after them.
+abbrev pub AnswersAreTheRuns : Type 0
+AnswersAreTheRuns = (court : CourtView) (file : List ℕ) (lines : List (List ℕ)) → All (HasNoFault (names_of court)) lines → length lines < most_entries
+    → run_text court (rows_in (names_of court) lines)
+    ≡ told_to (leaves (plain court)) (answers (plain court)) (file ∷ []) lines ++ closing_text court (parts_of (docketed_by (plain court) (file ∷ left_by (leaves (plain court)) (file ∷ []) lines)))
+
+-- lines that are blank or say rows, each after what those before it leave
+unfoldable pub AllSayRows : Standing → (kept : List (List ℕ)) → (lines : List (List ℕ)) → Type 0
+AllSayRows under kept [] = ⊤
+AllSayRows under kept (bytes ∷ lines) = HasNoFault (names_of under.court) (reading_at under kept bytes).text × AllSayRows under (kept ++ leaves under kept bytes) lines
+
+-- Lines in which no fault is found are blank or say rows.
+abbrev pub FaultlessLinesSayRows : Type 0
+FaultlessLinesSayRows = (under : Standing) (kept : List (List ℕ)) (lines : List (ℕ × List ℕ)) → faults_of under kept lines ≡ [] → AllSayRows under kept (map (λ line. line.1) lines)
+
+-- A case number is one case: after any entries no two names have one number, and no two have one key.
+abbrev pub ACaseNumberIsOneCase : Type 0
+ACaseNumberIsOneCase = (under : Standing) (kept : List (List ℕ)) → AreApart (cases_of under kept).named
+
+-- A line that says a row, or has another fault than in its third field, is read as it is.
+abbrev pub OtherLinesAreReadAsTheyAre : Type 0
+OtherLinesAreReadAsTheyAre = (under : Standing) (kept : List (List ℕ)) (bytes : List ℕ) → lacks_third (line_read most_clerks (names_of under.court) bytes) ≡ false → reading_at under kept bytes ≡ as_it_is bytes
+
+-- A row that is struck is left out: its entry changes neither what is docketed nor the cases.
+abbrev pub AStruckRowIsLeftOut : Type 0
+AStruckRowIsLeftOut = (under : Standing) (kept : List (List ℕ)) (entry : List ℕ) → 0 < length kept → note_in entry ≡ None → is_struck under.corrections (next_number kept) ≡ true
+    → (docketed_by under (kept ++ entry ∷ []) ≡ docketed_by under kept) × (cases_of under (kept ++ entry ∷ []) ≡ cases_of under kept)
+
+-- With nothing struck, each row is written as it is in its entry.
+abbrev pub RowsAreWrittenAsTheyAre : Type 0
+RowsAreWrittenAsTheyAre = (court : CourtView) (number : ℕ) (entry : List ℕ) → row_written (plain court) [] number entry ≡ shown_as (line_read most_clerks (names_of court) (after_name entry)) (fields_read (after_name entry))
+
+-- a row gives this number
+abbrev pub KeepsNumber : Given → Option Given → Type 0
+KeepsNumber own None = ⊥
+KeepsNumber own (Some given) = given.number ≡ own.number
+
+-- Each row has the number that it keeps, whatever is struck and whichever court's file stands: one that gave a number before the
+-- last correction gives it to what it starts or enters, or, where it is struck or refused now, goes on keeping it.
+abbrev pub RowsKeepTheirNumbers : Type 0
+RowsKeepTheirNumbers = (under : Standing) (kept : List (List ℕ)) (row : ℕ) (own : Given) → 0 < row → row < next_number kept → kept_of under.corrections.kept row ≡ Some own → KeepsNumber own (kept_of (run_by under kept).numbers.given row)
+
+-- An answer shows the number that is noted of its row: where the docket gives what a row starts or enters a place, the answer has
+-- the number that the row keeps, or else the new one.
+abbrev pub AnAnswerShowsItsNumber : Type 0
+AnAnswerShowsItsNumber = (under : Standing) (kept : List (List ℕ)) (asked : Work) (at : Given) →
+    let run = run_by under kept in
+    given_by asked (reply_by_places under run.docketed run.numbers asked) ≡ Some at
+    → given_by asked (reply_under under run (next_number kept) asked) ≡ Some (record at { number = number_for under.corrections.kept run.numbers.moved (next_number kept) at })

@@ -1,0 +1,43 @@
+-- What is wrong with the lines of an input.
+use Rattle.std.specs.Prelude.{◌≡◌, ◌<◌, ℕ, Bool, true, List, [], ◌∷◌, ◌++◌, length}
+use Rattle.case_numbers.specs.Words.{CasesView}
+use Rattle.row_forms.specs.Words.{names_of}
+use Rattle.row_forms.specs.declared.line.line.Line.{Line}
+use Rattle.row_forms.specs.declared.line.line.Line.TheVariants as says
+use Rattle.row_forms.specs.Line.Words.{line_read}
+use Rattle.desk_entries.specs.declared.cause.LineCause.{LineCause}
+use Rattle.desk_entries.specs.declared.line_faults.LineFault.{LineFault}
+use Rattle.desk_numbers.specs.Strikes.Words.{all_before}
+use Rattle.desk_entries.specs.declared.standing.Standing.{Standing}
+use Rattle.desk_entries.specs.Cases.{cases_of}
+use Rattle.desk_entries.specs.Entries.{most_clerks, next_number}
+use Rattle.desk_entries.specs.LineCauses.{cause_as}
+use Rattle.desk_entries.specs.Rows.{leaves, reading_at, too_many_at, within}
+
+-- a line that has a fault: its number, what is wrong with it, and the line
+pub record FaultyLine : Type 0 where
+  pub number : ℕ
+  pub cause : LineCause
+  pub line : List ℕ
+
+abbrev pub fault_in : LineFault → FaultyLine
+fault_in fault = record { number = fault.number; cause = fault.cause; line = fault.line.items }
+
+-- the fault of the line of that number, which says this, and opens a case too many or not
+abbrev pub fault_as : (number : ℕ) → (line : List ℕ) → (too_many : Bool) → Line → List FaultyLine
+fault_as number line too_many says.Blank = []
+fault_as number line too_many (says.Fault cause) = record { number = number; cause = cause_as too_many cause; line = line } ∷ []
+fault_as number line too_many (says.Row row) = []
+
+-- there are as many entries, they opened these cases, and each row that is struck is among them
+pub record CountsAs (under : Standing) (kept : List (List ℕ)) (count : ℕ) (cases : CasesView) : Type 0 where
+  pub count_is : count ≡ length kept
+  pub cases_are : cases ≡ cases_of under kept
+  pub begun : 0 < length kept
+  pub before : all_before under.corrections (next_number kept) ≡ true
+
+-- the faults of lines with their numbers, each line after what those before it leave
+unfoldable pub faults_of : Standing → (kept : List (List ℕ)) → List (ℕ × List ℕ) → List FaultyLine
+faults_of under kept [] = []
+faults_of under kept (line ∷ lines) =
+    fault_as line.0 line.1 (too_many_at under kept line.1) (within kept (line_read most_clerks (names_of under.court) (reading_at under kept line.1).text)) ++ faults_of under (kept ++ leaves under kept line.1) lines

@@ -1,0 +1,23 @@
+-- The words for the crates above, from one place.
+pub use Rattle.desk_entries.specs.Entries.{Note, can_strike, court_file, court_line, file_with, most_clerks, later_file, most_entries, next_number, note_in, note_of, row_entries, row_only, row_struck, standing_file, struck_in}
+pub use Rattle.desk_entries.specs.Run.{Run, corrections_then, docketed_by, docketed_with, numbers_with, reply_under}
+unfoldable pub use Rattle.desk_entries.specs.Run.{run_by}
+pub use Rattle.desk_entries.specs.Rows.{came_of, entry_of, follows, outcome_by, outcome_of, reading_at, too_many_at, with_name, within}
+unfoldable pub use Rattle.desk_entries.specs.Rows.{answer_to, answers, leaves, outcome, plain_answers, plain_leaves, rows_in}
+unfoldable pub use Rattle.desk_entries.specs.Cases.{cases_of}
+pub use Rattle.desk_entries.specs.CaseLines.{Reading, as_it_is, lacks_third}
+unfoldable pub use Rattle.desk_entries.specs.CaseLines.{opens_too_many, reading_of}
+pub use Rattle.desk_entries.specs.LineCauses.{cause_as, fault_told, line_cause_text}
+unfoldable pub use Rattle.desk_entries.specs.LineCauses.{too_many_words}
+pub use Rattle.desk_entries.specs.History.{IsHistory, Keep, SaysCourt, StandsAfter}
+pub use Rattle.desk_entries.specs.Register.{IsReadyAt, StandsAt}
+pub use Rattle.desk_entries.specs.Differences.{Change, change_in, changes_by}
+pub use Rattle.desk_entries.specs.Docketed.{HasHistoryFault, IsDocketed}
+pub use Rattle.desk_entries.specs.Laws.{ACaseNumberIsOneCase, AStruckRowIsLeftOut, AnswersAreTheRuns, FaultlessLinesSayRows, OtherLinesAreReadAsTheyAre, RowsAreWrittenAsTheyAre, RowsKeepTheirNumbers, WhatIsLeftFollows, WhatIsLeftIsHistory, plain}
+unfoldable pub use Rattle.desk_entries.specs.Laws.{AllSayRows}
+pub use Rattle.desk_entries.specs.Questions.{AsksOf, command_text}
+unfoldable pub use Rattle.desk_entries.specs.Questions.{came_shown, shown}
+pub use Rattle.desk_entries.specs.LineFaults.{FaultyLine, fault_in}
+unfoldable pub use Rattle.desk_entries.specs.LineFaults.{faults_of}
+unfoldable pub use Rattle.desk_entries.specs.Striking.{strike_for}
+unfoldable pub use Rattle.desk_entries.specs.Export.{row_written, rows_written}

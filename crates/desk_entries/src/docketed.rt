@@ -1,0 +1,217 @@
+//! A court and its docket, made of a journal's entries.
+ghost use Rattle.std.specs.Prelude.{◌≡◌, ◌<◌, ◌≤◌, ◌+◌, ◌&&◌, ◌++◌, ◌∷◌, [], ℕ, false, List, length, nat_lt, not, take, None, Some, IfErr, IfOk, OnOk};
+ghost use Rattle.desk_journal.specs.Words.{batch_of};
+ghost use Rattle.desk_entries.specs.Entries.{later_file, most_entries, note_in, row_struck};
+ghost use Rattle.desk_numbers.specs.Strikes.Words.{is_struck, no_corrections, struck_with};
+ghost use Rattle.desk_entries.specs.Register.{StandsAt};
+ghost use Rattle.desk_entries.specs.Docketed.{IsBadFile};
+ghost use Rattle.desk_entries.specs.History.{SaysCourt};
+ghost use Rattle.desk_entries.specs.Run.{corrections_then};
+
+use crate::entry::later_file;
+use crate::fault::HistoryFault;
+use crate::register::DocketRegister;
+use crate::review::{Review, decided_again};
+use crate::standing::Standing;
+use court_days::Court;
+use court_file_text::CourtFault;
+use desk_numbers::{Corrections, Strike, strike_in};
+use std::alloc::{AllocError, Global};
+use std::mem;
+
+/// A court and its docket, as a journal's entries come to them.
+#[derive(Drop)]
+pub struct Docketed {
+    /// What stands after the entries: the court of the last file, and what strikes come to.
+    pub standing: Standing,
+    /// The docket after the rows.
+    pub register: DocketRegister,
+}
+
+// The court of a file, which is in the entry of that number.
+fn court_of(alloc: Global, file: &[u8], number: u32) -> Result<Court, HistoryFault>
+    ensures court { IfOk result (λ court. SaysCourt file.now court) }
+    ensures cause { IfErr result (IsBadFile file.now number) }
+{
+    match Court::from_bytes(alloc, file) {
+        Ok(court) => Ok(court),
+        Err(CourtFault::OutOfMemory) => Err(HistoryFault::OutOfMemory),
+        Err(cause) => Err(HistoryFault::Court(number, cause)),
+    }
+}
+
+// A court and its docket before the first row, with nothing struck.
+fn before_rows(alloc: Global, court: Court) -> Result<Docketed, AllocError>
+    ensures standing { IfOk result (λ docketed. docketed.standing ≡ record { court = court; corrections = no_corrections }) }
+    ensures stands { (file : List ℕ) → IfOk result (λ docketed. StandsAt docketed.standing docketed.register (file ∷ [])) }
+{
+    let standing = Standing {
+        court,
+        corrections: Corrections::new(alloc),
+    };
+    let register = DocketRegister::new(alloc, &standing)?;
+    Ok(Docketed { standing, register })
+}
+
+impl Docketed {
+    ghost use Rattle.desk_entries.specs.Docketed.{HasHistoryFault, IsDocketed};
+
+    // A court and its docket before the first row.
+    fn begin(alloc: Global, file: &[u8]) -> Result<Docketed, HistoryFault>
+        ensures docketed { IfOk result (λ docketed. IsDocketed docketed (file.now ∷ [])) }
+        ensures cause { IfErr result (IsBadFile file.now 1) }
+    {
+        let court = court_of(alloc, file, 1)?;
+        let docketed = before_rows(alloc, court)?;
+        Ok(docketed)
+    }
+
+    // The corrections with one strike more.
+    fn corrected(&self, alloc: Global, strike: &Strike) -> Result<Corrections, AllocError>
+        ensures { (kept : List (List ℕ)) → StandsAt self.now.standing self.now.register kept → IfOk result (λ corrections. corrections ≡ corrections_then self.now.standing kept (struck_with self.now.standing.corrections.struck strike.now.row)) }
+    {
+        let mut corrections = self.register.corrections(alloc, &self.standing)?;
+        corrections.strike(strike.row)?;
+        Ok(corrections)
+    }
+
+    // Decides all rows of these entries again under what stands.
+    fn decide(&mut self, alloc: Global, entries: &[Vec<u8>]) -> Result<(), AllocError>
+        requires some { 0 < length entries.now }
+        requires few { length entries.now ≤ most_entries }
+        ensures standing { self.new.standing ≡ self.old.standing }
+        ensures stands { OnOk result (StandsAt self.old.standing self.new.register (batch_of entries.now)) }
+    {
+        let Review { register, .. } = decided_again(alloc, &self.standing, entries)?;
+        drop(mem::replace(&mut self.register, register));
+        Ok(())
+    }
+
+    // Goes by a later court's file from here on, which is in the last of these entries: their rows are decided again.
+    fn change(
+        &mut self,
+        alloc: Global,
+        file: &[u8],
+        entries: &[Vec<u8>],
+    ) -> Result<(), HistoryFault>
+        requires some { 0 < length entries.now }
+        requires few { length entries.now ≤ most_entries }
+        ensures docketed { (before : List (List ℕ)) (entry : List ℕ) → batch_of entries.now ≡ before ++ entry ∷ [] → later_file entry ≡ Some file.now → IsDocketed self.old before
+            → OnOk result (IsDocketed self.new (before ++ entry ∷ [])) }
+        ensures cause { IfErr result (IsBadFile file.now (length entries.now)) }
+    {
+        let court = court_of(alloc, file, entries.len() as u32)?;
+        let corrections = self.register.corrections(alloc, &self.standing)?;
+        drop(mem::replace(&mut self.standing, Standing { court, corrections }));
+        self.decide(alloc, entries)?;
+        Ok(())
+    }
+
+    // Whether a row can be struck: it was entered, and isn't struck yet.
+    fn can_strike(&self, strike: &Strike) -> bool
+        ensures { result ≡ (nat_lt 0 strike.now.row && nat_lt strike.now.row self.now.register.number && not (is_struck self.now.standing.corrections strike.now.row)) }
+    {
+        0 < strike.row
+            && strike.row < self.register.number
+            && !self.standing.corrections.is_struck(strike.row)
+    }
+
+    // Leaves out a row from here on, which the last of these entries strikes: the others are decided again.
+    fn strike(
+        &mut self,
+        alloc: Global,
+        strike: Strike,
+        entries: &[Vec<u8>],
+    ) -> Result<(), HistoryFault>
+        requires some { 0 < length entries.now }
+        requires few { length entries.now ≤ most_entries }
+        ensures docketed { (before : List (List ℕ)) (entry : List ℕ) → batch_of entries.now ≡ before ++ entry ∷ [] → note_in entry ≡ Some (row_struck strike) → IsDocketed self.old before
+            → OnOk result (IsDocketed self.new (before ++ entry ∷ [])) }
+        ensures cause { (before : List (List ℕ)) (entry : List ℕ) → batch_of entries.now ≡ before ++ entry ∷ [] → note_in entry ≡ Some (row_struck strike) → IsDocketed self.old before
+            → IfErr result (HasHistoryFault (before ++ entry ∷ [])) }
+    {
+        if !self.can_strike(&strike) {
+            return Err(HistoryFault::Strike(entries.len() as u32));
+        }
+        let corrections = self.corrected(alloc, &strike)?;
+        drop(mem::replace(&mut self.standing.corrections, corrections));
+        self.decide(alloc, entries)?;
+        Ok(())
+    }
+
+    // Takes an entry that is a row, if it has the answer that it gets.
+    fn retake(&mut self, alloc: Global, entry: &[u8]) -> Result<(), HistoryFault>
+        requires row { note_in entry.now ≡ None }
+        requires room { self.old.register.count < most_entries }
+        requires stays { is_struck self.old.standing.corrections self.old.register.number ≡ false }
+        ensures docketed { (before : List (List ℕ)) → IsDocketed self.old before → OnOk result (IsDocketed self.new (before ++ entry.now ∷ [])) }
+        ensures cause { (before : List (List ℕ)) → IsDocketed self.old before → IfErr result (HasHistoryFault (before ++ entry.now ∷ [])) }
+    {
+        let number = self.register.number;
+        let other = self.register.review(alloc, &self.standing, entry)?;
+        if other.is_some() {
+            return Err(HistoryFault::Other(number));
+        }
+        Ok(())
+    }
+
+    // Takes an entry, which is the last of these.
+    fn take_entry(
+        &mut self,
+        alloc: Global,
+        entry: &[u8],
+        entries: &[Vec<u8>],
+    ) -> Result<(), HistoryFault>
+        requires some { 0 < length entries.now }
+        requires few { length entries.now ≤ most_entries }
+        requires room { self.old.register.count < most_entries }
+        requires stays { is_struck self.old.standing.corrections self.old.register.number ≡ false }
+        ensures docketed { (before : List (List ℕ)) → batch_of entries.now ≡ before ++ entry.now ∷ [] → IsDocketed self.old before → OnOk result (IsDocketed self.new (before ++ entry.now ∷ [])) }
+        ensures cause { (before : List (List ℕ)) → batch_of entries.now ≡ before ++ entry.now ∷ [] → IsDocketed self.old before → IfErr result (HasHistoryFault (before ++ entry.now ∷ [])) }
+    {
+        match later_file(entry) {
+            Some(file) => self.change(alloc, file, entries),
+            None => match strike_in(entry) {
+                Some(strike) => self.strike(alloc, strike, entries),
+                None => self.retake(alloc, entry),
+            },
+        }
+    }
+
+    // Takes the entries after the first.
+    fn take_later(&mut self, alloc: Global, entries: &[Vec<u8>]) -> Result<(), HistoryFault>
+        requires few { length entries.now ≤ most_entries }
+        requires begun { IsDocketed self.old (batch_of (take 1 entries.now)) }
+        ensures docketed { OnOk result (IsDocketed self.new (batch_of entries.now)) }
+        ensures cause { IfErr result (HasHistoryFault (batch_of entries.now)) }
+    {
+        for place in 1..entries.len() {
+            match self.take_entry(alloc, &entries[place], entries.split_at(place + 1).0) {
+                Ok(()) => {}
+                Err(fault) => return Err(fault),
+            }
+        }
+        Ok(())
+    }
+
+    /// The court and its docket to which a journal's entries come, of which the first is a court's file. Each row must have
+    /// the answer that it gets under what stands before it, and each strike must be of a row before it that isn't struck
+    /// yet; after a later court's file, and after a strike, all rows so far are decided again.
+    pub fn of(alloc: Global, entries: &[Vec<u8>]) -> Result<Docketed, HistoryFault>
+        requires few { length entries.now ≤ most_entries }
+        ensures docketed { IfOk result (λ docketed. IsDocketed docketed (batch_of entries.now)) }
+        ensures cause { IfErr result (HasHistoryFault (batch_of entries.now)) }
+    {
+        let Some(file) = entries.first() else {
+            return Err(HistoryFault::NoCourt);
+        };
+        let mut docketed = match Docketed::begin(alloc, file) {
+            Ok(docketed) => docketed,
+            Err(fault) => return Err(fault),
+        };
+        match docketed.take_later(alloc, entries) {
+            Ok(()) => Ok(docketed),
+            Err(fault) => Err(fault),
+        }
+    }
+}

@@ -1,0 +1,44 @@
+//! Why a journal's entries make no docket, and why a row can't be struck.
+ghost use Rattle.std.specs.Prelude.{◌≡◌};
+ghost use Rattle.desk_entries.specs.declared.fault.HistoryFault.TheVariants.{OutOfMemory};
+
+use court_file_text::CourtFault;
+use std::alloc::AllocError;
+use thiserror::Error;
+
+/// Why a journal's entries make no docket.
+#[derive(Debug, Drop)]
+pub enum HistoryFault {
+    /// There is no entry, and so no court's file.
+    NoCourt,
+    /// The entry of this number, counted from 1, is a court's file with this fault.
+    Court(u32, CourtFault),
+    /// The entry of this number, counted from 1, strikes a row that wasn't entered before it, or that is struck already.
+    Strike(u32),
+    /// The row of this number, counted from 1, has another answer than it gets.
+    Other(u32),
+    /// Memory ran out.
+    OutOfMemory,
+}
+
+impl From<AllocError> for HistoryFault {
+    ghost from_gives = { λ _ e. e ≡ OutOfMemory };
+
+    fn from(_: AllocError) -> HistoryFault {
+        HistoryFault::OutOfMemory
+    }
+}
+
+/// Why a row can't be struck.
+#[derive(Clone, Copy, Debug, PartialEq, Eq, Error)]
+pub enum StrikeFault {
+    /// No row of that number was entered.
+    #[error("no row has that number")]
+    NoSuchRow,
+    /// It is struck already.
+    #[error("the row is struck already")]
+    AlreadyStruck,
+    /// It is a question, or its entry says no row of this court: the docket has nothing of it.
+    #[error("the row is no command, so the docket has nothing of it")]
+    NotACommand,
+}

@@ -1,0 +1,61 @@
+//! Laws of the definitions, the contracts of functions that do nothing.
+ghost use Rattle.desk_entries.specs.Laws.{ACaseNumberIsOneCase, AStruckRowIsLeftOut, AnAnswerShowsItsNumber, AnswersAreTheRuns, FaultlessLinesSayRows, OtherLinesAreReadAsTheyAre, RowsAreWrittenAsTheyAre, RowsKeepTheirNumbers, WhatIsLeftFollows, WhatIsLeftIsHistory};
+
+/// What a line leaves may follow when the journal is opened again, and is no court's file and no strike.
+#[tactic(auto, using(crate::proofs::EntryLemmas::left_follows))]
+pub fn what_is_left_follows()
+    ensures { WhatIsLeftFollows }
+{}
+
+/// What lines leave after a history is a history with it, and the same stands after them.
+#[tactic(auto, using(crate::proofs::HistoryLemmas::left_history))]
+pub fn what_is_left_is_history()
+    ensures { WhatIsLeftIsHistory }
+{}
+
+/// With nothing struck, the answers to lines one by one are those that a run of clerk_office writes of their rows together.
+#[tactic(auto, using(crate::proofs::RunLemmas::answers_are_the_runs_lem))]
+pub fn answers_are_the_runs()
+    ensures { AnswersAreTheRuns }
+{}
+
+/// Lines in which no fault is found are blank or say rows.
+#[tactic(auto, using(crate::proofs::LineFaultLemmas::faultless_lines_say_rows_lem))]
+pub fn faultless_lines_say_rows()
+    ensures { FaultlessLinesSayRows }
+{}
+
+/// After any entries no two names have one number, and no two have one key.
+#[tactic(auto, using(crate::proofs::CaseLemmas::one_case))]
+pub fn a_case_number_is_one_case()
+    ensures { ACaseNumberIsOneCase }
+{}
+
+/// A line that says a row, or has another fault than in its third field, is read as it is.
+#[tactic(auto, using(crate::proofs::CaseLemmas::other_lines))]
+pub fn other_lines_are_read_as_they_are()
+    ensures { OtherLinesAreReadAsTheyAre }
+{}
+
+/// A row that is struck changes neither what is docketed nor the cases.
+pub fn a_struck_row_is_left_out()
+    ensures { AStruckRowIsLeftOut }
+{}
+
+/// With nothing struck, each row is written for other programs as it is in its entry.
+#[tactic(auto, using(crate::proofs::ExportLemmas::rows_as_they_are))]
+pub fn rows_are_written_as_they_are()
+    ensures { RowsAreWrittenAsTheyAre }
+{}
+
+/// Each row has the number that it keeps, whatever is struck and whichever court's file stands.
+#[tactic(auto, using(crate::proofs::GivenLemmas::rows_keep))]
+pub fn rows_keep_their_numbers()
+    ensures { RowsKeepTheirNumbers }
+{}
+
+/// An answer shows the number that its row keeps, or else the new one that is noted of it.
+#[tactic(auto, using(crate::proofs::PlaceLemmas::shows_its_number))]
+pub fn an_answer_shows_its_number()
+    ensures { AnAnswerShowsItsNumber }
+{}

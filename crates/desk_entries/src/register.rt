@@ -1,0 +1,395 @@
+//! The register of rows.
+ghost use Rattle.std.specs.Prelude.{◌≡◌, ◌<◌, ◌≤◌, ◌+◌, ◌++◌, ◌∷◌, ◌≢◌, [], ℕ, false, List, length, None, IfOk, IsSome, MatchOption, OnOk, nat_lt, string_bytes};
+ghost use Rattle.csv.specs.Records.{fields_of};
+ghost use Rattle.row_forms.specs.Words.{names_of};
+ghost use Rattle.row_forms.specs.declared.row.Row.{Row as RowOf};
+ghost use Rattle.row_forms.specs.Line.Words.{fields_read, line_read};
+ghost use Rattle.row_forms.specs.declared.line.line.Line.TheVariants as says;
+ghost use Rattle.desk_entries.specs.Differences.{IsOtherwise};
+ghost use Rattle.desk_entries.specs.Entries.{most_clerks, most_entries, next_number, note_in};
+ghost use Rattle.desk_numbers.specs.Strikes.Words.{is_struck};
+ghost use Rattle.desk_entries.specs.Cases.{cases_of};
+ghost use Rattle.desk_entries.specs.declared.standing.Standing.{Standing as StandingOf};
+ghost use Rattle.docket_rows.specs.Words.{setup_of};
+ghost use Rattle.office_texts.specs.Run.Words.{Holds};
+ghost use Rattle.desk_entries.specs.Rows.{answer_to, follows, outcome_by, within};
+ghost use Rattle.desk_entries.specs.Run.{corrections_then, docketed_by, docketed_with, numbers_with, reply_by_places, run_by};
+ghost use Rattle.docket_rows.specs.declared.command.Command.{Command as CommandOf};
+ghost use Rattle.row_forms.specs.declared.row.Work.TheVariants as work;
+ghost use Rattle.desk_numbers.specs.Words.{numbered, passed};
+ghost use Rattle.office_texts.specs.Named.Words.{named_line_of};
+
+use crate::case_line::{note_case, opens_too_many, read_named};
+use crate::cause::{cause_as, push_cause, push_fault};
+use crate::entry::{answer_of, entry_of};
+use crate::outcome::{outcome_of, within};
+use crate::standing::Standing;
+use case_numbers::{CaseName, Cases, after_name, name_before};
+use court_clock::Day;
+use csv::StringRecord;
+use desk_numbers::{Corrections, RowNumbers, given_by};
+use desk_session::{Outcome, Register};
+use docket_core::Docket;
+use docket_rows::{Command, Query};
+use office_texts::{Reply, reply_to};
+use row_forms::{Line, Row, RowCause, Work, read_line};
+use rule_periods::{Grant, Request};
+use std::alloc::{AllocError, Global};
+
+/// How many clerks may enter rows.
+pub const MOST_CLERKS: u8 = 64;
+
+/// How many entries a journal has at most, and the court's file is the first of them.
+pub const MOST_ENTRIES: u32 = 1_000_000;
+
+// A row that is done.
+#[derive(Drop)]
+pub(crate) struct Done {
+    // Its answer.
+    pub answer: String,
+    // Its entry.
+    pub entry: Vec<u8>,
+    // What came of it.
+    pub outcome: Outcome,
+}
+
+// The types inside a row. The checker finds them only where they have names, so a function that takes a row out of a line
+// has a variable of this type.
+pub(crate) type RowTypes = Option<(Row, Work, Command, Query, Option<Day>, Grant, Request)>;
+
+/// A court's docket as the entries of a journal come to it, of which the first is the court's file.
+#[derive(Drop)]
+pub struct DocketRegister {
+    pub(crate) docket: Docket,
+    // How many entries there are.
+    pub(crate) count: u32,
+    // The number of the next row, counted from 1.
+    pub(crate) number: u32,
+    // The cases that were opened.
+    pub(crate) cases: Cases,
+    // The numbers of what rows started and entered.
+    pub(crate) numbers: RowNumbers,
+    // The fields of the row that was read last.
+    pub(crate) fields: StringRecord,
+    ghost numbered: { number ≤ count },
+}
+
+impl DocketRegister {
+    ghost use Rattle.desk_entries.specs.Register.{IsDone, IsHeard, StandsAt};
+
+    // The register of a court before its first row.
+    pub(crate) fn new(alloc: Global, under: &Standing) -> Result<DocketRegister, AllocError>
+        ensures stands { (file : List ℕ) → IfOk result (λ register. StandsAt under.now register (file ∷ [])) }
+        ensures count { IfOk result (λ register. register.count ≡ 1) }
+    {
+        Ok(DocketRegister {
+            docket: Docket::new(alloc, &under.court)?,
+            count: 1,
+            number: 1,
+            cases: Cases::new(alloc),
+            numbers: RowNumbers::new(alloc),
+            fields: StringRecord::new(alloc),
+        })
+    }
+
+    // What a plain line says, whose fields are kept where it says a row.
+    pub(crate) fn said(
+        &mut self,
+        alloc: Global,
+        under: &Standing,
+        line: &[u8],
+    ) -> Result<Line, AllocError>
+        ensures said { (kept : List (List ℕ)) → self.old.count ≡ length kept → IfOk result (λ said. said ≡ within kept (line_read most_clerks (names_of under.now.court) line.now)) }
+        ensures fields { IfOk result (λ said. (row : RowOf) → said ≡ says.Row row → fields_of self.new.fields ≡ fields_read line.now) }
+        ensures cases { self.new.cases ≡ self.old.cases }
+        ensures docket { self.new.docket ≡ self.old.docket }
+        ensures numbers { self.new.numbers ≡ self.old.numbers }
+        ensures count { self.new.count ≡ self.old.count }
+        ensures number { self.new.number ≡ self.old.number }
+        ensures room { IfOk result (λ said. (row : RowOf) → said ≡ says.Row row → self.old.count < most_entries) }
+    {
+        let said = read_line(alloc, line, MOST_CLERKS, &under.court, &mut self.fields)?;
+        Ok(within(said, self.count))
+    }
+
+    // What a line says, and the name in it that no case has yet. The fields of its plain line are kept where it says a row.
+    pub(crate) fn heard(
+        &mut self,
+        alloc: Global,
+        under: &Standing,
+        line: &[u8],
+    ) -> Result<(Line, Option<CaseName>), AllocError>
+        ensures said { (kept : List (List ℕ)) → StandsAt under.now self.old kept → IfOk result (IsHeard under.now kept line.now (fields_of self.new.fields)) }
+        ensures docket { self.new.docket ≡ self.old.docket }
+        ensures numbers { self.new.numbers ≡ self.old.numbers }
+        ensures cases { self.new.cases ≡ self.old.cases }
+        ensures count { self.new.count ≡ self.old.count }
+        ensures number { self.new.number ≡ self.old.number }
+        ensures room { IfOk result (λ heard. (row : RowOf) → heard.0 ≡ says.Row row → self.old.count < most_entries) }
+    {
+        let (said, name) = read_named(alloc, &under.court, &self.cases, line, &mut self.fields)?;
+        Ok((within(said, self.count), name))
+    }
+
+    // The docket's reply to what a row asks for, in which things are named by their places.
+    fn replied(
+        &mut self,
+        alloc: Global,
+        under: &Standing,
+        asked: &Work,
+    ) -> Result<Reply, AllocError>
+        ensures reply { (kept : List (List ℕ)) → StandsAt under.now self.old kept → IfOk result (λ reply. reply ≡ reply_by_places under.now (docketed_by under.now kept) (run_by under.now kept).numbers asked.now) }
+        ensures docket { (kept : List (List ℕ)) → StandsAt under.now self.old kept → OnOk result (Holds (setup_of under.now.court) self.new.docket (docketed_with under.now (run_by under.now kept) asked.now)) }
+        ensures numbers { self.new.numbers ≡ self.old.numbers }
+        ensures count { self.new.count ≡ self.old.count }
+        ensures number { self.new.number ≡ self.old.number }
+        ensures cases { self.new.cases ≡ self.old.cases }
+        ensures fields { self.new.fields ≡ self.old.fields }
+    {
+        let placed = self.numbers.moved().place(asked);
+        reply_to(alloc, &mut self.docket, &placed)
+    }
+
+    // The answer to the row that comes next, of which this is the reply by places.
+    fn answer(
+        &self,
+        alloc: Global,
+        under: &Standing,
+        row: &Row,
+        reply: Reply,
+    ) -> Result<String, AllocError>
+        ensures { IfOk result (λ answer. string_bytes answer ≡ named_line_of under.now.court self.now.cases.named self.now.number row.now.clerk (numbered self.now.numbers.moved row.now.work reply)) }
+    {
+        let reply = self.numbers.moved().number_reply(&row.work, reply);
+        answer_of(
+            alloc,
+            &under.court,
+            &self.cases,
+            self.number,
+            row.clerk,
+            &reply,
+        )
+    }
+
+    // Answers a row that asks a question, as it would be answered if it came next.
+    #[tactic(auto, unfolding(crate::specs::Rows::answer_to))]
+    pub(crate) fn shown(
+        &mut self,
+        alloc: Global,
+        under: &Standing,
+        row: &Row,
+    ) -> Result<String, AllocError>
+        requires { (command : CommandOf) → row.now.work ≢ work.Command command }
+        ensures answer { (kept : List (List ℕ)) → StandsAt under.now self.old kept → IfOk result (λ answer. string_bytes answer ≡ answer_to under.now kept row.now) }
+        ensures docket { (kept : List (List ℕ)) → StandsAt under.now self.old kept → OnOk result (Holds (setup_of under.now.court) self.new.docket (docketed_with under.now (run_by under.now kept) row.now.work)) }
+        ensures numbers { self.new.numbers ≡ self.old.numbers }
+        ensures count { self.new.count ≡ self.old.count }
+        ensures number { self.new.number ≡ self.old.number }
+        ensures cases { self.new.cases ≡ self.old.cases }
+    {
+        let reply = self.replied(alloc, under, &row.work)?;
+        self.answer(alloc, under, row, reply)
+    }
+
+    // Decides a row, and gives its answer and what came of it.
+    #[tactic(auto, unfolding(crate::specs::Rows::answer_to))]
+    fn answered(
+        &mut self,
+        alloc: Global,
+        under: &Standing,
+        row: &Row,
+    ) -> Result<(String, Outcome), AllocError>
+        ensures answer { (kept : List (List ℕ)) → StandsAt under.now self.old kept → IfOk result (λ made. string_bytes made.0 ≡ answer_to under.now kept row.now) }
+        ensures came { (kept : List (List ℕ)) → StandsAt under.now self.old kept → IfOk result (λ made. made.1 ≡ outcome_by (reply_by_places under.now (docketed_by under.now kept) (run_by under.now kept).numbers row.now.work)) }
+        ensures docket { (kept : List (List ℕ)) → StandsAt under.now self.old kept → OnOk result (Holds (setup_of under.now.court) self.new.docket (docketed_with under.now (run_by under.now kept) row.now.work)) }
+        ensures numbers { (kept : List (List ℕ)) → StandsAt under.now self.old kept → OnOk result (self.new.numbers ≡ numbers_with under.now (run_by under.now kept) (next_number kept) row.now.work) }
+        ensures count { self.new.count ≡ self.old.count }
+        ensures number { self.new.number ≡ self.old.number }
+        ensures cases { self.new.cases ≡ self.old.cases }
+        ensures fields { self.new.fields ≡ self.old.fields }
+    {
+        let reply = self.replied(alloc, under, &row.work)?;
+        let outcome = outcome_of(&reply);
+        let given = given_by(&row.work, &reply);
+        self.numbers
+            .take(under.corrections.kept(), self.number, given)?;
+        let answer = self.answer(alloc, under, row, reply)?;
+        Ok((answer, outcome))
+    }
+
+    // Does a row, perhaps with a new name.
+    fn done(
+        &mut self,
+        alloc: Global,
+        under: &Standing,
+        row: &Row,
+        name: Option<CaseName>,
+    ) -> Result<Done, AllocError>
+        requires { self.old.count < most_entries }
+        ensures done { (kept : List (List ℕ)) → StandsAt under.now self.old kept → IfOk result (IsDone under.now kept (fields_of self.old.fields) row.now name self.new) }
+        ensures count { OnOk result (self.new.count ≡ self.old.count + 1) }
+    {
+        let (answer, outcome) = self.answered(alloc, under, row)?;
+        let entry = entry_of(alloc, &name, &self.fields, &answer)?;
+        note_case(alloc, &mut self.cases, &row.work, name)?;
+        self.count += 1;
+        self.number += 1;
+        Ok(Done {
+            answer,
+            entry,
+            outcome,
+        })
+    }
+
+    /// The number of the next row, counted from 1.
+    pub fn next_number(&self) -> u32
+        ensures { (under : StandingOf) (kept : List (List ℕ)) → StandsAt under self.now kept → result ≡ next_number kept }
+    {
+        self.number
+    }
+
+    /// The docket, with what the rows of all entries have docketed.
+    pub fn docket(&self) -> &Docket
+        ensures { (under : StandingOf) (kept : List (List ℕ)) → StandsAt under self.now kept → Holds (setup_of under.court) result.now (docketed_by under kept) }
+    {
+        &self.docket
+    }
+
+    /// The numbers of what rows started and entered.
+    pub fn numbers(&self) -> &RowNumbers
+        ensures { (under : StandingOf) (kept : List (List ℕ)) → StandsAt under self.now kept → result.now ≡ (run_by under kept).numbers }
+    {
+        &self.numbers
+    }
+
+    /// The corrections, after which rows keep the numbers that they have by now. `Err` says that memory ran out.
+    pub fn corrections(&self, alloc: Global, under: &Standing) -> Result<Corrections, AllocError>
+        ensures { (kept : List (List ℕ)) → StandsAt under.now self.now kept → IfOk result (λ corrections. corrections ≡ corrections_then under.now kept under.now.corrections.struck) }
+    {
+        let kept = self.numbers.kept(alloc)?;
+        under.corrections.keeping(kept)
+    }
+
+    /// The cases that were opened, with their names.
+    pub fn cases(&self) -> &Cases
+        ensures { (under : StandingOf) (kept : List (List ℕ)) → StandsAt under self.now kept → result.now ≡ cases_of under kept }
+    {
+        &self.cases
+    }
+
+    /// Whether the journal has room for another entry.
+    pub fn has_room(&self) -> bool
+        ensures { (under : StandingOf) (kept : List (List ℕ)) → StandsAt under self.now kept → result ≡ nat_lt (length kept) most_entries }
+    {
+        self.count < MOST_ENTRIES
+    }
+
+    /// Passes over an entry that is no row.
+    pub fn pass_note(&mut self)
+        ensures { (under : StandingOf) (kept : List (List ℕ)) (entry : List ℕ) → StandsAt under self.old kept → length kept < most_entries → IsSome (note_in entry) → StandsAt under self.new (kept ++ entry ∷ []) }
+    {
+        self.count = self.count.saturating_add(1);
+    }
+
+    // Passes over an entry that says no row of this court, or whose row is struck: the row keeps its number.
+    pub(crate) fn pass_row(&mut self, under: &Standing) -> Result<(), AllocError>
+        requires { self.old.count < most_entries }
+        ensures docket { self.new.docket ≡ self.old.docket }
+        ensures numbers { OnOk result (self.new.numbers ≡ passed under.now.corrections.kept self.old.numbers self.old.number) }
+        ensures cases { self.new.cases ≡ self.old.cases }
+        ensures count { OnOk result (self.new.count ≡ self.old.count + 1) }
+        ensures number { OnOk result (self.new.number ≡ self.old.number + 1) }
+    {
+        self.numbers.pass(under.corrections.kept(), self.number)?;
+        self.count += 1;
+        self.number += 1;
+        Ok(())
+    }
+
+    /// Decides the row of an entry again. `None` says that it has the answer that it gets; else this is the one that it gets.
+    pub(crate) fn review(
+        &mut self,
+        alloc: Global,
+        under: &Standing,
+        entry: &[u8],
+    ) -> Result<Option<Vec<u8>>, AllocError>
+        requires room { self.old.count < most_entries }
+        requires stays { is_struck under.now.corrections self.old.number ≡ false }
+        ensures other { (kept : List (List ℕ)) → StandsAt under.now self.old kept → IfOk result (λ other.
+            MatchOption other (follows under.now kept entry.now) (λ answer. IsOtherwise under.now kept entry.now answer.items)) }
+        ensures stands { (kept : List (List ℕ)) → StandsAt under.now self.old kept → note_in entry.now ≡ None → OnOk result (StandsAt under.now self.new (kept ++ entry.now ∷ [])) }
+        ensures count { OnOk result (self.new.count ≡ self.old.count + 1) }
+    {
+        let _types: RowTypes = None;
+        let name = name_before(alloc, entry)?;
+        match self.said(alloc, under, after_name(entry))? {
+            Line::Row(row) => {
+                let Done {
+                    answer,
+                    entry: again,
+                    ..
+                } = self.done(alloc, under, &row, name)?;
+                if again.as_slice() == entry {
+                    Ok(None)
+                } else {
+                    Ok(Some(answer.into_bytes()))
+                }
+            }
+            Line::Fault(cause) => {
+                let mut answer = Vec::new(alloc);
+                push_fault(alloc, &mut answer, self.number, cause)?;
+                self.pass_row(under)?;
+                Ok(Some(answer))
+            }
+            Line::Blank => {
+                self.pass_row(under)?;
+                Ok(Some(Vec::new(alloc)))
+            }
+        }
+    }
+}
+
+impl Register for DocketRegister {
+    type Setup = Standing;
+
+    ghost use Rattle.desk_entries.specs.Register.{IsReadyAt};
+    ghost use Rattle.desk_entries.specs.Rows.{answers, leaves, outcome};
+
+    ghost stands = { λ under register kept. IsReadyAt under register kept };
+
+    ghost leaves = { λ under kept line. leaves under kept line };
+
+    ghost answers = { λ under kept line. answers under kept line };
+
+    ghost outcome = { λ under kept line. outcome under kept line };
+
+    fn take(
+        &mut self,
+        under: &Standing,
+        alloc: Global,
+        line: &[u8],
+        batch: &mut Vec<Vec<u8>>,
+        text: &mut Vec<u8>,
+    ) -> Result<Outcome, AllocError> {
+        let _types: RowTypes = None;
+        let (said, name) = self.heard(alloc, under, line)?;
+        match said {
+            Line::Blank => Ok(Outcome::Blank),
+            Line::Fault(cause) => {
+                let too_many = opens_too_many(alloc, &under.court, &self.cases, line)?;
+                push_cause(alloc, text, self.number, cause_as(too_many, cause))?;
+                Ok(Outcome::Fault)
+            }
+            Line::Row(row) => {
+                let Done {
+                    answer,
+                    entry,
+                    outcome,
+                } = self.done(alloc, under, &row, name)?;
+                text.extend_from_slice(answer.as_bytes())?;
+                batch.push(entry)?;
+                Ok(outcome)
+            }
+        }
+    }
+}

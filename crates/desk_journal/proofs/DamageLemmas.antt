@@ -1,0 +1,204 @@
+-- A changed byte is found, unless two texts have one checksum.
+use Rattle.std.proofs.Common.{◌≡◌, ◌≢◌, ◌⊎◌, inl, inr, ℕ, Bool, true, false, List, [], ◌∷◌, ◌++◌, length, refl, sym, ◌∙◌, ap, arith, append_assoc}
+use Rattle.std.specs.Prelude.{All}
+use Rattle.std.specs.Str.{bytes_eq}
+use Rattle.std.proofs.lemmas.List.{append-nil, append_cancel_left, map-append}
+use Rattle.std.proofs.lemmas.Bool.Decides.{not_from_Decides}
+use Rattle.std.proofs.lemmas.Slice.Eq.{bytes_eq-Decides}
+use Rattle.std.proofs.lemmas.List.Elements.{All-head, All-tail}
+use Rattle.desk_journal.specs.Damage.{DifferInOne, BeginsWith, Collide, NoEntryIsAnother, CutFilesKeepTheFirst}
+use Rattle.desk_journal.specs.Frames.{Frame, IsFrame, IsShut, number_of, checksum, first_checksum, last_checksum, packed, frames, entries_of}
+use Rattle.desk_journal.proofs.FrameLemmas.{apart, length-checksum}
+use Rattle.desk_journal.proofs.OneList.{ends_shut, further, same_walk}
+
+-- equal texts that are cut at one length
+record SameHalves (p q x y : List ℕ) : Type 0 where
+  first : p ≡ q
+  rest : x ≡ y
+
+same_halves : (p q x y : List ℕ) → length p ≡ length q → p ++ x ≡ q ++ y → SameHalves p q x y
+same_halves [] [] x y long e = record { first = refl; rest = e }
+same_halves [] (b ∷ q) x y long e = absurd (omega (arith, long))
+same_halves (a ∷ p) [] x y long e = absurd (omega (arith, long))
+same_halves (a ∷ p) (b ∷ q) x y long e =
+    let on = same_halves p q x y (omega (arith, long)) cc in
+    let one : a ≡ b = cc in
+    record { first = cc; rest = on.rest }
+
+-- two texts that are cut at one length differ before the cut or after it
+abbrev Half : (p q x y : List ℕ) → Type 0
+Half p q x y = ((p ≡ q) × DifferInOne x y) ⊎ ((x ≡ y) × DifferInOne p q)
+
+half : (p q x y front : List ℕ) (byte changed : ℕ) (tail : List ℕ) → length p ≡ length q → p ++ x ≡ front ++ byte ∷ tail → q ++ y ≡ front ++ changed ∷ tail → Half p q x y
+half [] [] x y front byte changed tail long e f = inl (refl, record { front = front; byte = byte; changed = changed; tail = tail; file_is = e; other_is = f })
+half [] (b ∷ q) x y front byte changed tail long e f = absurd (omega (arith, long))
+half (a ∷ p) [] x y front byte changed tail long e f = absurd (omega (arith, long))
+half (a ∷ p) (b ∷ q) x y [] byte changed tail long e f =
+    let on = same_halves p q x y (omega (arith, long)) cc in
+    inr (on.rest, record { front = []; byte = a; changed = b; tail = p; file_is = refl; other_is = ap (λ (l : List ℕ). b ∷ l) (sym on.first) })
+half (a ∷ p) (b ∷ q) x y (c ∷ front) byte changed tail long e f =
+    let before : p ++ x ≡ front ++ byte ∷ tail = cc in
+    let after : q ++ y ≡ front ++ changed ∷ tail = cc in
+    joined (half p q x y front byte changed tail (omega (arith, long)) before after)
+  where
+    same : a ≡ b
+    same = cc
+
+    joined : Half p q x y → Half (a ∷ p) (b ∷ q) x y
+    joined (inl both) = inl (cc, both.1)
+    joined (inr both) = inr (
+      both.0,
+      record {
+        front = a ∷ both.1.front;
+        byte = both.1.byte;
+        changed = both.1.changed;
+        tail = both.1.tail;
+        file_is = ap (λ (l : List ℕ). a ∷ l) both.1.file_is;
+        other_is = ap (λ (b : ℕ). b ∷ q) (sym same) ∙ ap (λ (l : List ℕ). a ∷ l) both.1.other_is;
+      },
+    )
+
+-- the same of texts that differ in one byte
+halved : (p q x y : List ℕ) → length p ≡ length q → DifferInOne (p ++ x) (q ++ y) → Half p q x y
+halved p q x y long d = half p q x y d.front d.byte d.changed d.tail long d.file_is d.other_is
+
+decided : (xs ys : List ℕ) → (xs ≡ ys) ⊎ (xs ≢ ys)
+decided xs ys = by (bytes_eq xs ys) refl
+  where
+    by : (b : Bool) → bytes_eq xs ys ≡ b → (xs ≡ ys) ⊎ (xs ≢ ys)
+    by true e = inl ((bytes_eq-Decides xs ys).0 e)
+    by false e = inr (not_from_Decides (bytes_eq xs ys) (bytes_eq-Decides xs ys) e)
+
+-- what is found of the entries of two files
+abbrev Found : List Frame → List Frame → Type 0
+Found fs gs = (BeginsWith (entries_of fs) (entries_of gs) ⊎ BeginsWith (entries_of gs) (entries_of fs)) ⊎ Collide
+
+-- files that are the same
+equal : (previous : List ℕ) (fs gs : List Frame) (end more : List ℕ) → All IsFrame fs → All IsFrame gs → IsShut end → IsShut more → frames previous fs ++ end ≡ frames previous gs ++ more → Found fs gs
+equal previous fs gs end more are_f are_g shut shut' e =
+    let walk = same_walk previous fs gs end more are_f are_g (ends_shut (last_checksum previous fs) end shut) (ends_shut (last_checksum previous gs) more shut') e in
+    inl (inl ([], ap entries_of walk.frames_are ∙ sym (append-nil (entries_of gs))))
+
+-- one frame before them
+onward : (f g : Frame) (fs gs : List Frame) → f.entry ≡ g.entry → Found fs gs → Found (f ∷ fs) (g ∷ gs)
+onward f g fs gs same (inl (inl both)) = inl (inl (both.0, λ i. same i ∷ both.1 i))
+onward f g fs gs same (inl (inr both)) = inl (inr (both.0, λ i. sym same i ∷ both.1 i))
+onward f g fs gs same (inr collide) = inr collide
+
+split_text : (previous d s e : List ℕ) → previous ++ d ++ s ++ e ≡ previous ++ (d ++ (s ++ e))
+split_text previous d s e = append_assoc (previous ++ d) s e ∙ append_assoc previous d (s ++ e)
+
+-- Two frames after the same bytes, of which each begins its file's rest.
+module _ (previous : List ℕ) (f g : Frame) (fs gs : List Frame) (end more : List ℕ) (is_f : IsFrame f) (is_g : IsFrame g) (are_f : All IsFrame fs) (are_g : All IsFrame gs) (shut : IsShut end) (shut' : IsShut more)
+    (next : DifferInOne (frames (checksum previous f) fs ++ end) (frames (checksum previous f) gs ++ more) → Found fs gs) where
+  abbrev x : List ℕ
+  x = frames (checksum previous f) fs ++ end
+
+  abbrev y : List ℕ
+  y = frames (checksum previous g) gs ++ more
+
+  -- the sums and all after the frames are the same, and so are the entries
+  rest_same : f.entry ≡ g.entry → checksum previous f ≡ checksum previous g → x ≡ y → Found (f ∷ fs) (g ∷ gs)
+  rest_same entries sums rests = onward f g fs gs entries (equal (checksum previous f) fs gs end more are_f are_g shut shut' (rests ∙ ap (λ (s : List ℕ). frames s gs ++ more) (sym sums)))
+
+  -- the texts of which the checksums are taken
+  abbrev text_f : List ℕ
+  text_f = previous ++ f.durable ++ f.size ++ f.entry
+
+  abbrev text_g : List ℕ
+  text_g = previous ++ g.durable ++ g.size ++ g.entry
+
+  collide : text_f ≢ text_g → checksum previous f ≡ checksum previous g → Collide
+  unfolding checksum
+  collide differ sums = record { one = text_f; another = text_g; differ = differ; same = sums }
+
+  same_text : text_f ≡ text_g → SameHalves f.size g.size f.entry g.entry
+  same_text e =
+      let parts = same_halves f.durable g.durable (f.size ++ f.entry) (g.size ++ g.entry) (is_f.four ∙ sym is_g.four) (append_cancel_left previous (f.durable ++ (f.size ++ f.entry)) (g.durable ++ (g.size ++ g.entry)) (sym (split_text previous f.durable f.size f.entry) ∙ e ∙ split_text previous g.durable g.size g.entry)) in
+      same_halves f.size g.size f.entry g.entry (is_f.four_more ∙ sym is_g.four_more) parts.rest
+
+  sized : f.size ≡ g.size → length f.entry ≡ length g.entry
+  sized sizes = sym is_f.sized ∙ ap number_of sizes ∙ is_g.sized
+
+  -- the lengths are the same, and so is all from the checksums on
+  sums_same : f.size ≡ g.size → checksum previous f ≡ checksum previous g → f.entry ++ x ≡ g.entry ++ y → Found (f ∷ fs) (g ∷ gs)
+  sums_same sizes sums behind = let parts = same_halves f.entry g.entry x y (sized sizes) behind in rest_same parts.first sums parts.rest
+
+  -- the changed byte is after the checksum
+  behind_sum : f.size ≡ g.size → checksum previous f ≡ checksum previous g → Half f.entry g.entry x y → Found (f ∷ fs) (g ∷ gs)
+  behind_sum sizes sums (inl both) = onward f g fs gs both.0 (next (record {
+    front = both.1.front;
+    byte = both.1.byte;
+    changed = both.1.changed;
+    tail = both.1.tail;
+    file_is = both.1.file_is;
+    other_is = ap (λ (s : List ℕ). frames s gs ++ more) sums ∙ both.1.other_is;
+  }))
+  behind_sum sizes sums (inr both) = by (decided f.entry g.entry)
+    where
+      by : (f.entry ≡ g.entry) ⊎ (f.entry ≢ g.entry) → Found (f ∷ fs) (g ∷ gs)
+      by (inl entries) = rest_same entries sums both.0
+      by (inr differ) = inr (collide (λ e. differ (same_text e).rest) sums)
+
+  -- the changed byte is in the checksum or after it
+  at_sum : f.durable ≡ g.durable → f.size ≡ g.size → Half (checksum previous f) (checksum previous g) (f.entry ++ x) (g.entry ++ y) → Found (f ∷ fs) (g ∷ gs)
+  at_sum durables sizes (inl both) = behind_sum sizes both.0 (halved f.entry g.entry x y (sized sizes) both.1)
+  at_sum durables sizes (inr both) =
+      let parts = same_halves f.entry g.entry x y (sized sizes) both.0 in
+      let one : f ≡ g = λ i. record { durable = durables i; size = sizes i; entry = parts.first i } in
+      rest_same parts.first (ap (checksum previous) one) parts.rest
+
+  -- the changed byte is in the length or after it
+  at_size : f.durable ≡ g.durable → Half f.size g.size (checksum previous f ++ (f.entry ++ x)) (checksum previous g ++ (g.entry ++ y)) → Found (f ∷ fs) (g ∷ gs)
+  at_size durables (inl both) = at_sum durables both.0 (halved (checksum previous f) (checksum previous g) (f.entry ++ x) (g.entry ++ y) (length-checksum previous f ∙ sym (length-checksum previous g)) both.1)
+  at_size durables (inr both) = by (decided f.size g.size)
+    where
+      parts : SameHalves (checksum previous f) (checksum previous g) (f.entry ++ x) (g.entry ++ y)
+      parts = same_halves (checksum previous f) (checksum previous g) (f.entry ++ x) (g.entry ++ y) (length-checksum previous f ∙ sym (length-checksum previous g)) both.0
+
+      by : (f.size ≡ g.size) ⊎ (f.size ≢ g.size) → Found (f ∷ fs) (g ∷ gs)
+      by (inl sizes) = sums_same sizes parts.first parts.rest
+      by (inr differ) = inr (collide (λ e. differ (same_text e).first) parts.first)
+
+  -- the changed byte is anywhere
+  at_durable : Half f.durable g.durable (f.size ++ (checksum previous f ++ (f.entry ++ x))) (g.size ++ (checksum previous g ++ (g.entry ++ y))) → Found (f ∷ fs) (g ∷ gs)
+  at_durable (inl both) = at_size both.0 (halved f.size g.size (checksum previous f ++ (f.entry ++ x)) (checksum previous g ++ (g.entry ++ y)) (is_f.four_more ∙ sym is_g.four_more) both.1)
+  at_durable (inr both) =
+      let sizes = same_halves f.size g.size (checksum previous f ++ (f.entry ++ x)) (checksum previous g ++ (g.entry ++ y)) (is_f.four_more ∙ sym is_g.four_more) both.0 in
+      let sums = same_halves (checksum previous f) (checksum previous g) (f.entry ++ x) (g.entry ++ y) (length-checksum previous f ∙ sym (length-checksum previous g)) sizes.rest in
+      sums_same sizes.first sums.first sums.rest
+
+  at_frame : (front : List ℕ) (byte changed : ℕ) (tail : List ℕ) → packed previous f ++ x ≡ front ++ byte ∷ tail → packed previous g ++ y ≡ front ++ changed ∷ tail → Found (f ∷ fs) (g ∷ gs)
+  at_frame front byte changed tail e h =
+      at_durable (half f.durable g.durable (f.size ++ (checksum previous f ++ (f.entry ++ x))) (g.size ++ (checksum previous g ++ (g.entry ++ y))) front byte changed tail (is_f.four ∙ sym is_g.four)
+      (sym (apart previous f x) ∙ e) (sym (apart previous g y) ∙ h))
+
+found : (previous : List ℕ) (fs gs : List Frame) (end more front : List ℕ) (byte changed : ℕ) (tail : List ℕ) → All IsFrame fs → All IsFrame gs → IsShut end → IsShut more
+    → frames previous fs ++ end ≡ front ++ byte ∷ tail → frames previous gs ++ more ≡ front ++ changed ∷ tail → Found fs gs
+found previous [] gs end more front byte changed tail are_f are_g shut shut' e h = inl (inr (entries_of gs, refl))
+found previous (f ∷ fs) [] end more front byte changed tail are_f are_g shut shut' e h = inl (inl (entries_of (f ∷ fs), refl))
+found previous (f ∷ fs) (g ∷ gs) end more [] byte changed tail are_f are_g shut shut' e h =
+    let same : frames previous (f ∷ fs) ++ end ≡ frames previous (g ∷ gs) ++ more = cc in
+    equal previous (f ∷ fs) (g ∷ gs) end more are_f are_g shut shut' same
+found previous (f ∷ fs) (g ∷ gs) end more (c ∷ front) byte changed tail are_f are_g shut shut' e h =
+    let before : (packed previous f ++ frames (checksum previous f) fs) ++ end ≡ front ++ byte ∷ tail = cc in
+    let after : (packed previous g ++ frames (checksum previous g) gs) ++ more ≡ front ++ changed ∷ tail = cc in
+    at_frame previous f g fs gs end more (All-head IsFrame f fs are_f) (All-head IsFrame g gs are_g) (All-tail IsFrame f fs are_f) (All-tail IsFrame g gs are_g) shut shut'
+    (λ d. found (checksum previous f) fs gs end more d.front d.byte d.changed d.tail (All-tail IsFrame f fs are_f) (All-tail IsFrame g gs are_g) shut shut' d.file_is d.other_is)
+    front byte changed tail
+    (sym (append_assoc (packed previous f) (frames (checksum previous f) fs) end) ∙ before)
+    (sym (append_assoc (packed previous g) (frames (checksum previous g) gs) more) ∙ after)
+
+pub no_entry_is_another : NoEntryIsAnother
+no_entry_is_another file other entries others a b d = named (found first_checksum a.fs b.fs a.end b.end d.front d.byte d.changed d.tail a.is.whole b.is.whole a.is.shut b.is.shut (sym a.is.parts ∙ d.file_is) (sym b.is.parts ∙ d.other_is))
+  where
+    named : Found a.fs b.fs → (BeginsWith entries others ⊎ BeginsWith others entries) ⊎ Collide
+    named (inl (inl both)) = inl (inl (both.0, a.same ∙ both.1 ∙ ap (λ (l : List (List ℕ)). l ++ both.0) (sym b.same)))
+    named (inl (inr both)) = inl (inr (both.0, b.same ∙ both.1 ∙ ap (λ (l : List (List ℕ)). l ++ both.0) (sym a.same)))
+    named (inr collide) = inr collide
+
+pub cut_files_keep_the_first : CutFilesKeepTheFirst
+cut_files_keep_the_first file tail entries others a b =
+    let on = further first_checksum b.fs a.fs a.end (b.end ++ tail) b.is.whole a.is.whole (ends_shut (last_checksum first_checksum a.fs) a.end a.is.shut)
+    (sym (append_assoc (frames first_checksum b.fs) b.end tail) ∙ ap (λ (l : List ℕ). l ++ tail) (sym b.is.parts) ∙ a.is.parts) in
+    (entries_of on.others, a.same ∙ ap entries_of on.same ∙ map-append (λ (f : Frame). f.entry) b.fs on.others ∙ ap (λ (l : List (List ℕ)). l ++ entries_of on.others) (sym b.same))

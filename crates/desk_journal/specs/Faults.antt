@@ -1,0 +1,77 @@
+-- Why a call is refused.
+use Rattle.std.specs.Prelude.{◌⊎◌, ◌<◌, ◌≤◌, ◌+◌, ◌^◌, ℕ, List, [], ◌∷◌, ◌++◌, length, Vec}
+use Rattle.std.specs.List.{Any}
+use Rattle.std.specs.declared.alloc.Global.{Global}
+use Rattle.sqlite_disk.specs.Disk.{MoreFaults}
+use Rattle.desk_journal.specs.Batches.{batch_of}
+use Rattle.desk_journal.specs.Reading.{IsDamaged, HasTooMany}
+use Rattle.desk_journal.specs.declared.fault.JournalFault.{JournalFault}
+use Rattle.desk_journal.specs.declared.fault.JournalFault.TheVariants.{Damaged, Full, Read, Write, Sync, OutOfMemory}
+
+-- how many bytes the frames of entries take, with their latches
+abbrev pub taken : List (List ℕ) → ℕ
+taken [] = 0
+taken (entry ∷ entries) = 41 + length entry + taken entries
+
+-- an entry is longer than 16,777,216 bytes
+abbrev pub HasLong : List (Vec ℕ Global) → Type 0
+HasLong batch = Any (λ v. 16777216 < length v.items) batch
+
+-- a batch is too much after these entries: more than 1,000,000 in all, a long entry, or more bytes than a number holds
+abbrev pub IsTooMuch : List (List ℕ) → List (Vec ℕ Global) → Type 0
+IsTooMuch entries batch = (1000000 < length entries + length batch) ⊎ (HasLong batch ⊎ (2 ^ 64 ≤ taken (entries ++ batch_of batch)))
+
+-- a write or a sync has failed
+abbrev pub HasWriteFault : JournalFault → Type 0
+HasWriteFault (Damaged number) = ⊥
+HasWriteFault Full = ⊥
+HasWriteFault Read = ⊥
+HasWriteFault Write = Unit {0}
+HasWriteFault Sync = Unit {0}
+HasWriteFault OutOfMemory = ⊥
+
+-- a read has failed, or memory ran out
+abbrev pub HasReadFault : JournalFault → Type 0
+HasReadFault (Damaged number) = ⊥
+HasReadFault Full = ⊥
+HasReadFault Read = Unit {0}
+HasReadFault Write = ⊥
+HasReadFault Sync = ⊥
+HasReadFault OutOfMemory = Unit {0}
+
+-- a batch isn't packed, since an entry is long or memory ran out
+abbrev pub HasPackFault : List (Vec ℕ Global) → JournalFault → Type 0
+HasPackFault batch (Damaged number) = ⊥
+HasPackFault batch Full = HasLong batch
+HasPackFault batch Read = ⊥
+HasPackFault batch Write = ⊥
+HasPackFault batch Sync = ⊥
+HasPackFault batch OutOfMemory = Unit {0}
+
+-- A batch isn't appended: the disk has failed between these two counts of its faults, the batch is too much, or memory ran
+-- out.
+abbrev pub HasAppendFault : ℕ → ℕ → List (List ℕ) → List (Vec ℕ Global) → JournalFault → Type 0
+HasAppendFault before after entries batch (Damaged number) = ⊥
+HasAppendFault before after entries batch Full = IsTooMuch entries batch
+HasAppendFault before after entries batch Read = ⊥
+HasAppendFault before after entries batch Write = MoreFaults before after
+HasAppendFault before after entries batch Sync = MoreFaults before after
+HasAppendFault before after entries batch OutOfMemory = Unit {0}
+
+-- A file isn't read: an entry is damaged, there are too many, or memory ran out.
+abbrev pub HasFileFault : List ℕ → JournalFault → Type 0
+HasFileFault file (Damaged number) = IsDamaged file number
+HasFileFault file Full = HasTooMany file
+HasFileFault file Read = ⊥
+HasFileFault file Write = ⊥
+HasFileFault file Sync = ⊥
+HasFileFault file OutOfMemory = Unit {0}
+
+-- A journal isn't opened: that, or the disk has failed between these two counts of its faults.
+abbrev pub HasOpenFault : ℕ → ℕ → List ℕ → JournalFault → Type 0
+HasOpenFault before after file (Damaged number) = IsDamaged file number
+HasOpenFault before after file Full = HasTooMany file
+HasOpenFault before after file Read = MoreFaults before after
+HasOpenFault before after file Write = MoreFaults before after
+HasOpenFault before after file Sync = MoreFaults before after
+HasOpenFault before after file OutOfMemory = Unit {0}

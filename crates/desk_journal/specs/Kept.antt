@@ -1,0 +1,31 @@
+-- What a journal keeps on its disk.
+use Rattle.std.specs.Prelude.{◌≡◌, ℕ, List, [], ◌∷◌, ◌++◌, length, Bool, All}
+use Rattle.desk_journal.specs.Frames.{Frame, IsFrame, first_checksum, last_checksum, frames, entries_of}
+use Rattle.desk_journal.specs.Disks.{IsDurable}
+use Rattle.desk_journal.specs.declared.journal.Journal.{Journal}
+
+-- the disk under a journal
+abbrev pub disk_of : {D : Type 0} → Journal D → D
+disk_of journal = journal.disk
+
+-- how many entries it has
+abbrev pub count_of : {D : Type 0} → Journal D → ℕ
+count_of journal = journal.count
+
+-- the place of its shut latch
+abbrev pub end_of : {D : Type 0} → Journal D → ℕ
+end_of journal = journal.end
+
+-- these frames and a shut latch are all of the file, and all of it is on the disk
+pub record KeepsFrames {D : Type 0} (seen : D → List ℕ) (may_leave : D → List ℕ → Type 0) (is_usable : D → Bool) (fs : List Frame) (journal : Journal D) : Type 0 where
+  pub whole : All IsFrame fs
+  pub file : IsDurable seen may_leave is_usable (frames first_checksum fs ++ 45 ∷ []) journal.disk
+  pub end : length (frames first_checksum fs) ≡ journal.end
+  pub count : journal.count ≡ length fs
+  pub last : journal.last ≡ last_checksum first_checksum fs
+
+-- the entries are kept: a read gives their frames and a shut latch, and so does each read after a crash
+pub record IsKept {D : Type 0} (seen : D → List ℕ) (may_leave : D → List ℕ → Type 0) (is_usable : D → Bool) (entries : List (List ℕ)) (journal : Journal D) : Type 0 where
+  pub fs : List Frame
+  pub kept : KeepsFrames seen may_leave is_usable fs journal
+  pub same : entries ≡ entries_of fs

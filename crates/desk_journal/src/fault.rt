@@ -1,0 +1,45 @@
+//! Why a journal can't be opened, or an entry can't be appended.
+ghost use Rattle.std.specs.Prelude.{◌≡◌};
+ghost use Rattle.desk_journal.specs.declared.fault.JournalFault.TheVariants.{OutOfMemory};
+
+use std::alloc::{AllocError, AllocFailed};
+use thiserror::Error;
+
+/// Why a journal can't be opened, or a batch can't be appended.
+#[derive(Clone, Copy, Debug, PartialEq, Eq, Error)]
+pub enum JournalFault {
+    /// The entry of this number, counted from 1, is damaged, or the latch before it. The file is as it was.
+    #[error("entry {0} is damaged")]
+    Damaged(u32),
+    /// More than 1,000,000 entries, an entry of more than 16,777,216 bytes, or no room for its end in a number.
+    #[error("the journal is full, or an entry is too long")]
+    Full,
+    /// A call that reads has failed.
+    #[error("the journal can't be read")]
+    Read,
+    /// A call that writes has failed, as on a full disk. Open the journal anew.
+    #[error("the journal can't be written")]
+    Write,
+    /// A sync has failed: what was written may be lost. Open the journal anew.
+    #[error("the journal can't be made durable")]
+    Sync,
+    /// Memory ran out.
+    #[error("out of memory")]
+    OutOfMemory,
+}
+
+impl From<AllocError> for JournalFault {
+    ghost from_gives = { λ _ e. e ≡ OutOfMemory };
+
+    fn from(_: AllocError) -> JournalFault {
+        JournalFault::OutOfMemory
+    }
+}
+
+impl<T: Drop> From<AllocFailed<T>> for JournalFault {
+    ghost from_gives = { λ _ e. e ≡ OutOfMemory };
+
+    fn from(_: AllocFailed<T>) -> JournalFault {
+        JournalFault::OutOfMemory
+    }
+}

@@ -1,0 +1,154 @@
+//! A journal that was opened: entries in one file, and what is appended to them.
+ghost use Rattle.std.specs.Prelude.{◌≡◌, ◌⊎◌, ◌<◌, ◌≤◌, ◌+◌, ◌++◌, [], ◌∷◌, List, ℕ, length, All, IsTrue, IfOk, IfErr, OnOk, IsErrOf, ◌↔◌};
+ghost use Rattle.desk_journal.specs.Frames.{Frame, StandsFor, frames, last_checksum, entries_of};
+ghost use Rattle.desk_journal.specs.Batches.{batch_of, frames_of};
+ghost use Rattle.desk_journal.specs.Disks.{IsDurable};
+ghost use Rattle.desk_journal.specs.Faults.{HasAppendFault, HasOpenFault, HasPackFault};
+ghost use Rattle.desk_journal.specs.Reading.{IsWhole};
+
+use crate::JournalFault;
+use crate::pack::pack;
+use crate::publish::publish;
+use crate::recovery::recover;
+use sqlite_disk::Disk;
+use std::alloc::Global;
+
+/// The most entries of a journal.
+pub const MOST: usize = 1_000_000;
+
+/// Entries in one file, each of which has its place for ever.
+#[derive(Drop)]
+pub struct Journal<D: Disk> {
+    pub(crate) disk: D,
+    // The place of the shut latch, counted from the file's first byte as 0.
+    pub(crate) end: usize,
+    pub(crate) count: u32,
+    // The checksum of the last entry.
+    pub(crate) last: [u8; 32],
+    // The bytes of the batch that is being written.
+    pub(crate) buffer: Vec<u8>,
+}
+
+// Packs a batch, with the open latch before it and the shut latch after it, and gives the checksum of its last entry.
+fn pack_whole(
+    buffer: &mut Vec<u8>,
+    previous: &[u8; 32],
+    durable: u32,
+    batch: &[Vec<u8>],
+) -> Result<[u8; 32], JournalFault>
+    ensures bytes { IfOk result (λ _. buffer.new.items ≡ frames previous.now (frames_of durable batch.now) ++ 45 ∷ []) }
+    ensures sum { IfOk result (λ sum. sum ≡ last_checksum previous.now (frames_of durable batch.now)) }
+    ensures short { IfOk result (λ _. All (λ v. length v.items ≤ 16777216) batch.now) }
+    ensures cause { IfErr result (HasPackFault batch.now) }
+{
+    buffer.clear();
+    let last = pack(buffer, previous, durable, batch)?;
+    buffer.push(45)?;
+    Ok(last)
+}
+
+// Whether a journal has room for this number of entries more.
+fn has_room(count: u32, more: usize) -> bool
+    ensures { IsTrue result ↔ (count + more ≤ 1000000) }
+{
+    more <= MOST && count as usize + more <= MOST
+}
+
+impl<D: Disk> Journal<D> {
+    ghost use Rattle.desk_journal.specs.Kept.{KeepsFrames, IsKept, disk_of};
+
+    // Appends a batch that isn't empty, and for which there is room.
+    fn add(&mut self, batch: &[Vec<u8>]) -> Result<(), JournalFault>
+        requires usable { IsTrue (D.Disk.is_usable self.old.disk) }
+        requires some { 0 < length batch.now }
+        requires room { self.old.count + length batch.now ≤ 1000000 }
+        ensures kept { (fs : List Frame) → KeepsFrames D.Disk.seen D.Disk.may_leave D.Disk.is_usable fs self.old
+            → OnOk result (KeepsFrames D.Disk.seen D.Disk.may_leave D.Disk.is_usable (fs ++ frames_of (length fs) batch.now) self.new) }
+        ensures crash { (fs : List Frame) → KeepsFrames D.Disk.seen D.Disk.may_leave D.Disk.is_usable fs self.old → (c : List ℕ) → D.Disk.may_leave self.new.disk c
+            → StandsFor c (entries_of fs) ⊎ StandsFor c (entries_of (fs ++ frames_of (length fs) batch.now)) }
+        ensures refused { (fs : List Frame) → KeepsFrames D.Disk.seen D.Disk.may_leave D.Disk.is_usable fs self.old
+            → IsErrOf result JournalFault.Full → KeepsFrames D.Disk.seen D.Disk.may_leave D.Disk.is_usable fs self.new }
+        ensures clean { D.Disk.is_clean self.new.disk ≡ D.Disk.is_clean self.old.disk }
+        ensures cause { (fs : List Frame) → KeepsFrames D.Disk.seen D.Disk.may_leave D.Disk.is_usable fs self.old
+            → IfErr result (HasAppendFault (D.Disk.faults self.old.disk) (D.Disk.faults self.new.disk) (entries_of fs) batch.now) }
+    {
+        let last = pack_whole(&mut self.buffer, &self.last, self.count, batch)?;
+        let (_, behind) = self.buffer.split_at(1);
+        match self.end.checked_add(behind.len()) {
+            None => Err(JournalFault::Full),
+            Some(end) => {
+                publish(&mut self.disk, self.end, behind)?;
+                self.end = end;
+                self.count += batch.len() as u32;
+                self.last = last;
+                Ok(())
+            }
+        }
+    }
+
+    /// Appends a batch. At `Ok` its entries are kept after those before them. Whatever a crash leaves at any moment within
+    /// the call stands for the entries before it, with all of the batch or none of it.
+    /// At `Full` the journal is as it was: there would be more than 1,000,000 entries, or an entry has more than
+    /// 16,777,216 bytes. At another `Err` open it anew.
+    pub fn append(&mut self, batch: &[Vec<u8>]) -> Result<(), JournalFault>
+        ensures kept { (entries : List (List ℕ)) → IsKept D.Disk.seen D.Disk.may_leave D.Disk.is_usable entries self.old
+            → OnOk result (IsKept D.Disk.seen D.Disk.may_leave D.Disk.is_usable (entries ++ batch_of batch.now) self.new) }
+        ensures crash { (entries : List (List ℕ)) → IsKept D.Disk.seen D.Disk.may_leave D.Disk.is_usable entries self.old → (c : List ℕ) → D.Disk.may_leave (disk_of self.new) c
+            → StandsFor c entries ⊎ StandsFor c (entries ++ batch_of batch.now) }
+        ensures refused { (entries : List (List ℕ)) → IsKept D.Disk.seen D.Disk.may_leave D.Disk.is_usable entries self.old
+            → IsErrOf result JournalFault.Full → IsKept D.Disk.seen D.Disk.may_leave D.Disk.is_usable entries self.new }
+        ensures clean { D.Disk.is_clean (disk_of self.new) ≡ D.Disk.is_clean (disk_of self.old) }
+        ensures cause { (entries : List (List ℕ)) → IsKept D.Disk.seen D.Disk.may_leave D.Disk.is_usable entries self.old
+            → IfErr result (HasAppendFault (D.Disk.faults (disk_of self.old)) (D.Disk.faults (disk_of self.new)) entries batch.now) }
+        // Each frame says how many entries were durable before its batch.
+        ensures numbered { (fs : List Frame) → KeepsFrames D.Disk.seen D.Disk.may_leave D.Disk.is_usable fs self.old
+            → OnOk result (KeepsFrames D.Disk.seen D.Disk.may_leave D.Disk.is_usable (fs ++ frames_of (length fs) batch.now) self.new) }
+    {
+        if batch.is_empty() {
+            return Ok(());
+        }
+        if !self.disk.may_be_used() {
+            return Err(JournalFault::Sync);
+        }
+        if !has_room(self.count, batch.len()) {
+            return Err(JournalFault::Full);
+        }
+        self.add(batch)
+    }
+
+    /// Opens the journal of a file that a crash may have left, and gives its entries. A crash within it leaves a file that
+    /// stands for the same entries. An `Err` gives the disk back.
+    pub fn open(alloc: Global, mut disk: D) -> Result<(Journal<D>, Vec<Vec<u8>>), (JournalFault, D)>
+        ensures kept { (file : List ℕ) → IsDurable D.Disk.seen D.Disk.may_leave D.Disk.is_usable file disk → IfOk result (λ opened. IsTrue (D.Disk.is_clean (disk_of opened.0))
+            → StandsFor file (batch_of opened.1.items) × IsWhole file × IsKept D.Disk.seen D.Disk.may_leave D.Disk.is_usable (batch_of opened.1.items) opened.0) }
+        ensures crash { (file : List ℕ) (entries : List (List ℕ)) → IsDurable D.Disk.seen D.Disk.may_leave D.Disk.is_usable file disk → StandsFor file entries
+            → IfErr result (λ e. IsTrue (D.Disk.is_clean e.1) → (c : List ℕ) → D.Disk.may_leave e.1 c → StandsFor c entries) }
+        ensures cause { (file : List ℕ) → IsDurable D.Disk.seen D.Disk.may_leave D.Disk.is_usable file disk
+            → IfErr result (λ e. IsTrue (D.Disk.is_clean e.1) → HasOpenFault (D.Disk.faults disk) (D.Disk.faults e.1) file e.0) }
+        ensures few { IfOk result (λ opened. length opened.1.items ≤ 1000000) }
+        // Where an entry is damaged, nothing is written.
+        ensures untouched { (file : List ℕ) (number : ℕ) → IsDurable D.Disk.seen D.Disk.may_leave D.Disk.is_usable file disk
+            → IfErr result (λ e. e.0 ≡ JournalFault.Damaged number → IsDurable D.Disk.seen D.Disk.may_leave D.Disk.is_usable file e.1) }
+    {
+        match recover(alloc, &mut disk) {
+            Err(fault) => Err((fault, disk)),
+            Ok(found) => {
+                let journal = Journal {
+                    disk,
+                    end: found.end,
+                    count: found.entries.len() as u32,
+                    last: found.last,
+                    buffer: Vec::new(alloc),
+                };
+                Ok((journal, found.entries))
+            }
+        }
+    }
+
+    /// The disk under the journal, as it is.
+    pub fn into_disk(self) -> D
+        ensures { result ≡ disk_of self }
+    {
+        self.disk
+    }
+}

@@ -1,0 +1,58 @@
+//! A batch, packed into the bytes that are written for it.
+ghost use Rattle.std.specs.Prelude.{◌≡◌, ◌<◌, ◌≤◌, ◌^◌, ◌++◌, [], ◌∷◌, length, All, IfOk, IfErr};
+ghost use Rattle.desk_journal.specs.Frames.{checksum, packed, frames, framed, last_checksum};
+ghost use Rattle.desk_journal.specs.Batches.{frames_of};
+ghost use Rattle.desk_journal.specs.Faults.{HasPackFault};
+
+use crate::JournalFault;
+use crate::checksum::checksum_of;
+
+/// The most bytes of an entry.
+pub const LONGEST: usize = 16_777_216;
+
+// Adds an entry's frame after an open latch, and gives its checksum.
+fn push_frame(
+    buffer: &mut Vec<u8>,
+    previous: &[u8; 32],
+    durable: u32,
+    entry: &[u8],
+) -> Result<[u8; 32], JournalFault>
+    requires { length entry.now < 2 ^ 32 }
+    ensures bytes { IfOk result (λ _. buffer.new.items ≡ buffer.old.items ++ 43 ∷ packed previous.now (framed durable entry.now)) }
+    ensures sum { IfOk result (λ sum. sum ≡ checksum previous.now (framed durable entry.now)) }
+    ensures cause { IfErr result (λ e. e ≡ JournalFault.OutOfMemory) }
+{
+    let durable = durable.to_be_bytes();
+    let size = (entry.len() as u32).to_be_bytes();
+    let sum = checksum_of(previous, &durable, &size, entry);
+    buffer.push(43)?;
+    buffer.extend_from_slice(&durable)?;
+    buffer.extend_from_slice(&size)?;
+    buffer.extend_from_slice(&sum)?;
+    buffer.extend_from_slice(entry)?;
+    Ok(sum)
+}
+
+/// Adds the frames of a batch, each after an open latch, and gives the checksum of the last.
+pub fn pack(
+    buffer: &mut Vec<u8>,
+    previous: &[u8; 32],
+    durable: u32,
+    batch: &[Vec<u8>],
+) -> Result<[u8; 32], JournalFault>
+    requires { buffer.old.items ≡ [] }
+    ensures bytes { IfOk result (λ _. buffer.new.items ≡ frames previous.now (frames_of durable batch.now)) }
+    ensures sum { IfOk result (λ sum. sum ≡ last_checksum previous.now (frames_of durable batch.now)) }
+    ensures short { IfOk result (λ _. All (λ v. length v.items ≤ 16777216) batch.now) }
+    ensures cause { IfErr result (HasPackFault batch.now) }
+{
+    let mut sum = *previous;
+    for entry in batch {
+        let bytes = entry.as_slice();
+        if bytes.len() > LONGEST {
+            return Err(JournalFault::Full);
+        }
+        sum = push_frame(buffer, &sum, durable, bytes)?;
+    }
+    Ok(sum)
+}

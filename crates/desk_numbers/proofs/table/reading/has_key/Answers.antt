@@ -1,0 +1,18 @@
+use Rattle.std.proofs.Common.{◌∙◌}
+use Rattle.std.proofs.lemmas.Bool.{both_ways}
+use Rattle.toml.specs.View.{table_view}
+use Rattle.toml.proofs.Views.{table_get}
+use Rattle.court_file_text.proofs.CallerLemmas.{toml_of-text, toml_of-none}
+use Rattle.desk_numbers.proofs.TableLemmas.ReadingLemmas.{mapped_some}
+use Rattle.desk_numbers.proofs.table.reading.has_key.Goals as goal
+
+pub returns-in-Ok : goal.returns-in-Ok
+returns-in-Ok c =
+    let ok = c.in-Ok.ensures.ok in
+    let found = table_get c.get.result c.args.key.now c.in-Ok.document.entries c.get.ensures.value in
+    rw (toml_of-text c.args.file.now (table_view c.in-Ok.document) ok.0 ok.1, ← found) (c.is_some.ensures ∙ mapped_some _ c.get.result)
+
+pub returns-else-is_memory : goal.returns-else-is_memory
+returns-else-is_memory c =
+    let refused = c.in-Err.ensures.refused (λ memory. both_ways _ c.if-is_memory.false (c.is_memory.ensures.1 memory)) in
+    rw (toml_of-none c.args.file.now refused)

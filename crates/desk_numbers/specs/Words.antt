@@ -1,0 +1,10 @@
+-- The words of clauses and definitions, for the crates above, from one place.
+pub use Rattle.desk_numbers.specs.Kept.{kept_of}
+pub use Rattle.desk_numbers.specs.Numbers.{NumbersView, new_number, no_numbers, number_for, own_or, passed, with_number}
+unfoldable pub use Rattle.desk_numbers.specs.Given.{given_by}
+unfoldable pub use Rattle.desk_numbers.specs.Numbers.{numbers_after}
+unfoldable pub use Rattle.desk_numbers.specs.Numbered.{numbered, placed}
+pub use Rattle.desk_numbers.specs.Moved.{is_at, is_moved, number_of}
+unfoldable pub use Rattle.desk_numbers.specs.Moved.{number_in}
+pub use Rattle.desk_numbers.specs.Numbered.{numbered_booking, numbered_refusal, numbered_sheet, numbered_view, placed_command}
+pub use Rattle.desk_numbers.specs.Laws.{ANumberIsGivenOnce, ARowKeepsItsNumber, NothingMovesAtFirst, NumberAndPlaceGoTogether, OthersAreAtTheirPlaces, WithNoneMovedNothingChanges}

@@ -1,0 +1,37 @@
+//! Laws of the definitions, the contracts of functions that do nothing.
+ghost use Rattle.desk_numbers.specs.Laws.{ANumberIsGivenOnce, ARowKeepsItsNumber, NothingMovesAtFirst, NumberAndPlaceGoTogether, OthersAreAtTheirPlaces, WithNoneMovedNothingChanges};
+
+/// A row keeps the number that it gave.
+#[tactic(auto, using(crate::proofs::NumberLemmas::keeps))]
+pub fn a_row_keeps_its_number()
+    ensures { ARowKeepsItsNumber }
+{}
+
+/// A number is given once, also where its row is struck or refused since.
+#[tactic(auto, using(crate::proofs::NumberLemmas::given_once))]
+pub fn a_number_is_given_once()
+    ensures { ANumberIsGivenOnce }
+{}
+
+/// What isn't at its place is found by its number, and its number by its place.
+#[tactic(auto, using(crate::proofs::PlaceLemmas::go_together))]
+pub fn number_and_place_go_together()
+    ensures { NumberAndPlaceGoTogether }
+{}
+
+/// All else has its place as its number, and a number that nothing has names nothing.
+#[tactic(auto, using(crate::proofs::PlaceLemmas::at_their_places))]
+pub fn others_are_at_their_places()
+    ensures { OthersAreAtTheirPlaces }
+{}
+
+/// Before the first correction no row keeps a number, and all is at its place.
+#[tactic(auto, using(crate::proofs::NumberLemmas::nothing_moves))]
+pub fn nothing_moves_at_first()
+    ensures { NothingMovesAtFirst }
+{}
+
+/// Where all is at its place, what rows ask for and what they are answered stays as it is.
+pub fn with_none_moved_nothing_changes()
+    ensures { WithNoneMovedNothingChanges }
+{}

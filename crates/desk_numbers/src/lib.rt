@@ -1,0 +1,25 @@
+//! Numbers of deadlines and motions: each stays with the row that gave it first, when others are struck.
+#![tactic(auto)]
+
+mod given;
+mod kept;
+mod laws;
+mod moved;
+mod numbered;
+mod numbers;
+mod placed;
+mod shown;
+mod strikes;
+mod table;
+mod tops;
+
+pub use given::{Given, given_by};
+pub use kept::KeptNumbers;
+pub use laws::{
+    a_number_is_given_once, a_row_keeps_its_number, nothing_moves_at_first,
+    number_and_place_go_together, others_are_at_their_places, with_none_moved_nothing_changes,
+};
+pub use moved::{Moved, MovedNumbers};
+pub use numbers::RowNumbers;
+pub use strikes::{Corrections, Strike, remark_in, strike_entry, strike_in, strikes_are_read_back};
+pub use table::{has_key, has_numbers, moved_numbers, push_numbers};

@@ -1,0 +1,31 @@
+-- What comes of lines, and how many there are.
+use Rattle.std.specs.Prelude.{ℕ, Bool, true, false, List, [], ◌∷◌, ◌++◌}
+use Rattle.program_streams.specs.Words.{counted}
+use Rattle.desk_session.specs.declared.outcome.Outcome.{Outcome}
+use Rattle.desk_session.specs.declared.outcome.Outcome.TheVariants.{Blank, Fault, Refused, Taken}
+use Rattle.desk_session.specs.declared.outcome.Tally.{Tally}
+
+abbrev pub is_refused : Outcome → Bool
+is_refused Blank = false
+is_refused Fault = false
+is_refused Refused = true
+is_refused Taken = false
+
+abbrev pub no_lines : Tally
+no_lines = record { rows = 0; faults = 0 }
+
+-- with a line of which this comes
+abbrev pub counted_with : Tally → Outcome → Tally
+counted_with tally Blank = tally
+counted_with tally Fault = record { rows = counted tally.rows 1; faults = counted tally.faults 1 }
+counted_with tally Refused = record { rows = counted tally.rows 1; faults = tally.faults }
+counted_with tally Taken = record { rows = counted tally.rows 1; faults = tally.faults }
+
+-- with lines, after the entries `kept`: each counts by what comes of it after what those before it leave
+unfoldable pub tally_after : (leaves : List (List ℕ) → List ℕ → List (List ℕ)) → (outcome : List (List ℕ) → List ℕ → Outcome) → Tally → (kept : List (List ℕ)) → List (List ℕ) → Tally
+tally_after leaves outcome tally kept [] = tally
+tally_after leaves outcome tally kept (line ∷ lines) = tally_after leaves outcome (counted_with tally (outcome kept line)) (kept ++ leaves kept line) lines
+
+-- the tally of lines
+abbrev pub tally_of : (leaves : List (List ℕ) → List ℕ → List (List ℕ)) → (outcome : List (List ℕ) → List ℕ → Outcome) → (kept : List (List ℕ)) → List (List ℕ) → Tally
+tally_of leaves outcome kept lines = tally_after leaves outcome no_lines kept lines

@@ -1,0 +1,64 @@
+//! What comes of lines, and how many there were.
+ghost use Rattle.std.specs.Prelude.{◌≡◌};
+ghost use Rattle.desk_session.specs.Outcomes.{counted_with, is_refused, no_lines};
+
+/// What comes of a line.
+#[derive(Clone, Copy, Debug, PartialEq, Eq)]
+pub enum Outcome {
+    /// There is nothing in it.
+    Blank,
+    /// It has a fault, so it isn't taken.
+    Fault,
+    /// It is taken, and what it asks for is refused.
+    Refused,
+    /// It is taken, or held back with a warning.
+    Taken,
+}
+
+impl Outcome {
+    /// Whether what the line asks for is refused.
+    pub fn is_refused(&self) -> bool
+        ensures { result ≡ is_refused self.now }
+    {
+        match self {
+            Outcome::Refused => true,
+            _ => false,
+        }
+    }
+}
+
+/// How many lines had something in them, and how many of these had a fault. Both stop at 2^64 - 1.
+#[derive(Clone, Copy, Debug, PartialEq, Eq)]
+pub struct Tally {
+    /// How many lines had something in them.
+    pub rows: u64,
+    /// How many of them had a fault.
+    pub faults: u64,
+}
+
+impl Tally {
+    /// Before the first line.
+    pub fn new() -> Tally
+        ensures { result ≡ no_lines }
+    {
+        Tally { rows: 0, faults: 0 }
+    }
+
+    // With a line of which this comes.
+    pub(crate) fn counted(&self, outcome: Outcome) -> Tally
+        ensures { result ≡ counted_with self.now outcome }
+    {
+        let Tally { rows, faults } = *self;
+        match outcome {
+            Outcome::Blank => *self,
+            Outcome::Fault => Tally {
+                rows: rows.saturating_add(1),
+                faults: faults.saturating_add(1),
+            },
+            Outcome::Refused | Outcome::Taken => Tally {
+                rows: rows.saturating_add(1),
+                faults,
+            },
+        }
+    }
+}

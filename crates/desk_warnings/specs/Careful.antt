@@ -1,0 +1,70 @@
+-- What lines leave and are answered where rows that draw a warning are held back.
+use Rattle.std.specs.Prelude.{ℕ, ℤ, List, [], ◌∷◌, ◌++◌, codes, drop, nat_eq, Option, Some, None, if◌then◌else◌}
+use Rattle.std.specs.List.{starts_with}
+use Rattle.std.specs.Fmt.{decimal}
+use Rattle.docket_rows.specs.Words.{parts_of}
+use Rattle.row_forms.specs.declared.line.line.Line.{Line}
+use Rattle.row_forms.specs.declared.line.line.Line.TheVariants as says
+use Rattle.row_forms.specs.Line.Words.{line_read}
+use Rattle.row_forms.specs.Words.{names_of}
+use Rattle.desk_session.specs.declared.outcome.Outcome.{Outcome}
+use Rattle.desk_session.specs.declared.outcome.Outcome.TheVariants.{Taken}
+use Rattle.desk_entries.specs.declared.standing.Standing.{Standing}
+use Rattle.desk_entries.specs.Words.{answers, cases_of, docketed_by, leaves, most_clerks, next_number, outcome, reading_at, run_by, within}
+use Rattle.desk_warnings.specs.Warnings.{warnings_on}
+
+-- what comes after the '!' with which a line begins, if it does: that is taken without warnings
+abbrev pub after_mark : (line : List ℕ) → Option (List ℕ)
+after_mark line = if starts_with nat_eq line (codes "!") then Some (drop 1 line) else None
+
+-- what a clerk is warned of a line that says this, by what is docketed before it
+abbrev pub warnings_said : Standing → (today : Option ℤ) → (kept : List (List ℕ)) → Line → List ℕ
+warnings_said under today kept says.Blank = []
+warnings_said under today kept (says.Fault cause) = []
+warnings_said under today kept (says.Row row) = warnings_on under.court (run_by under kept).numbers.moved (cases_of under kept).named (parts_of (docketed_by under kept)) today row.work
+
+unfoldable pub warnings_at : Standing → (today : Option ℤ) → (kept : List (List ℕ)) → (line : List ℕ) → List ℕ
+warnings_at under today kept line = warnings_said under today kept (within kept (line_read most_clerks (names_of under.court) (reading_at under kept line).text))
+
+-- what is answered where there are warnings, and the next row has this number
+unfoldable pub held_first : (number : ℕ) → List ℕ
+held_first number = codes "row " ++ decimal number ++ codes " not kept:\n"
+
+unfoldable pub held_last : List ℕ
+held_last = codes "enter the row with '!' before it to keep it all the same\n"
+
+abbrev pub held_text : (number : ℕ) → (warnings : List ℕ) → List ℕ
+held_text number warnings = held_first number ++ warnings ++ held_last
+
+-- the line that is taken, where there is this after a '!' and there are these warnings: none where there are some
+abbrev pub line_taken : (line : List ℕ) → (marked : Option (List ℕ)) → (warnings : List ℕ) → Option (List ℕ)
+line_taken line (Some rest) warnings = Some rest
+line_taken line None [] = Some line
+line_taken line None (byte ∷ bytes) = None
+
+unfoldable pub taken_at : Standing → (today : Option ℤ) → (kept : List (List ℕ)) → (line : List ℕ) → Option (List ℕ)
+taken_at under today kept line = line_taken line (after_mark line) (warnings_at under today kept line)
+
+-- what a line leaves: what the line leaves that is taken, if one is
+abbrev pub left_by_taken : Standing → (kept : List (List ℕ)) → Option (List ℕ) → List (List ℕ)
+left_by_taken under kept None = []
+left_by_taken under kept (Some line) = leaves under kept line
+
+abbrev pub careful_leaves : Standing → (today : Option ℤ) → (kept : List (List ℕ)) → (line : List ℕ) → List (List ℕ)
+careful_leaves under today kept line = left_by_taken under kept (taken_at under today kept line)
+
+-- what it is answered: as that line, or its warnings
+abbrev pub told_of_taken : Standing → (kept : List (List ℕ)) → (warnings : List ℕ) → Option (List ℕ) → List ℕ
+told_of_taken under kept warnings None = held_text (next_number kept) warnings
+told_of_taken under kept warnings (Some line) = answers under kept line
+
+abbrev pub careful_answers : Standing → (today : Option ℤ) → (kept : List (List ℕ)) → (line : List ℕ) → List ℕ
+careful_answers under today kept line = told_of_taken under kept (warnings_at under today kept line) (taken_at under today kept line)
+
+-- what comes of it: what comes of that line, and one that is held back has no fault
+abbrev pub came_of_taken : Standing → (kept : List (List ℕ)) → Option (List ℕ) → Outcome
+came_of_taken under kept None = Taken
+came_of_taken under kept (Some line) = outcome under kept line
+
+abbrev pub careful_outcome : Standing → (today : Option ℤ) → (kept : List (List ℕ)) → (line : List ℕ) → Outcome
+careful_outcome under today kept line = came_of_taken under kept (taken_at under today kept line)

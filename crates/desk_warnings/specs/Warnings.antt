@@ -1,0 +1,106 @@
+-- What a clerk is warned of before a row is kept, by the court and the docket before it, in which these cases have names and this
+-- isn't at the place of its number. No deadline depends on a warning.
+use Rattle.std.specs.Prelude.{ℕ, ℤ, List, [], ◌∷◌, ◌++◌, length, map, Option, Some, None, codes}
+use Rattle.std.specs.List.{flat_map, range_with_len}
+use Rattle.std.specs.Option.{option_map_or}
+use Rattle.court_clock.specs.Words.{ClockView}
+use Rattle.court_days.specs.Words.{CourtView}
+use Rattle.rule6.specs.declared.timeliness.Filing.{Filing}
+use Rattle.rule_periods.specs.declared.grant.Request.{Request}
+use Rattle.rule_periods.specs.Words.{DeadlineRowView, direction_of, runs_from, with_grant}
+use Rattle.hearing_slots.specs.declared.booking.Booking.{Booking}
+use Rattle.hearing_slots.specs.Words.{on_day}
+use Rattle.docket_rows.specs.declared.answer.Answer.TheVariants as answer
+use Rattle.docket_rows.specs.declared.command.Command.{Command as CommandOf}
+use Rattle.docket_rows.specs.declared.command.Command.TheVariants as command
+use Rattle.docket_rows.specs.declared.refusal.Refusal.{Refusal}
+use Rattle.docket_rows.specs.declared.refusal.Refusal.TheVariants.{HearingThatDay}
+use Rattle.docket_rows.specs.Words.{CaseRecordView, Parts, deadline_in, refusal, setup_of, shown_now, started}
+use Rattle.case_numbers.specs.declared.names.NamedCase.{NamedCase}
+use Rattle.reason_notes.specs.Warnings.Words.{early_act, extension_notes, note, start_notes}
+use Rattle.reason_refusals.specs.Words.{motion_of_refusal}
+use Rattle.reason_refusals.specs.Commands.Words.{why_refused}
+use Rattle.row_forms.specs.declared.row.Work.{Work}
+use Rattle.row_forms.specs.declared.row.Work.TheVariants.{Command, Query}
+use Rattle.office_texts.specs.Named.Words.{motion_called, named_answer, named_calendar}
+use Rattle.desk_numbers.specs.declared.moved.Moved.{Moved}
+use Rattle.desk_numbers.specs.Words.{numbered_booking, numbered_refusal, placed_command}
+use Rattle.desk_warnings.specs.Instead.{instead}
+
+-- on a deadline, as it would start in the case: the notes that the memo of the case would have on it
+abbrev pub at_start : CourtView → Parts → (today : Option ℤ) → Option CaseRecordView → DeadlineRowView → List ℕ
+at_start court parts today None row = []
+at_start court parts today (Some c) row =
+    start_notes parts.days court.clock c.filed today row (shown_now (setup_of court) parts row)
+
+-- on an act: it comes before the day from which its period runs, where that is counted after its event
+abbrev pub on_act : Option DeadlineRowView → Filing → List ℕ
+on_act None filing = []
+on_act (Some row) filing = early_act (direction_of row.period) (runs_from row) (Some filing)
+
+-- on an extension: the end that it gives is past when it is asked for, or lies after the event it counts back from
+abbrev pub on_request : CourtView → Parts → Option DeadlineRowView → Request → List ℕ
+on_request court parts None request = []
+on_request court parts (Some row) request =
+    extension_notes court.clock row (shown_now (setup_of court) parts (with_grant row request.grant)) request
+
+-- the hearings of a judge on a day, with the judge's name before them, where there are some
+abbrev pub hearings_before : CourtView → List NamedCase → (judge : ℕ) → List Booking → List ℕ
+hearings_before court named judge [] = []
+hearings_before court named judge (b ∷ bs) = named_calendar court named judge (b ∷ bs)
+
+-- those of the docket, with the numbers of their motions
+abbrev pub hearings_of : CourtView → List Moved → List NamedCase → Parts → (day : ℤ) → (judge : ℕ) → List ℕ
+hearings_of court moved named parts day judge = hearings_before court named judge (map (numbered_booking moved) (on_day day (parts.judge judge)))
+
+-- the hearings of all judges on a day
+unfoldable pub hearings_on : CourtView → List Moved → List NamedCase → Parts → (day : ℤ) → List ℕ
+hearings_on court moved named parts day = flat_map (hearings_of court moved named parts day) (range_with_len 0 (length court.judges))
+
+-- what is said of them, after a line of why they matter
+abbrev pub said_of : (day : ℤ) → (why hearings : List ℕ) → List ℕ
+said_of day why [] = []
+said_of day why (byte ∷ bytes) = note (Some day) why ++ (byte ∷ bytes)
+
+-- on a command that isn't refused
+abbrev pub if_made : CourtView → List Moved → List NamedCase → Parts → (today : Option ℤ) → CommandOf → List ℕ
+if_made court moved named parts today (command.Start case period event second service) =
+    at_start court parts today (parts.case case) (started period event second service)
+if_made court moved named parts today (command.FileAct case deadline filing) = on_act (deadline_in parts case deadline) filing
+if_made court moved named parts today (command.Extend case deadline request) = on_request court parts (deadline_in parts case deadline) request
+if_made court moved named parts today (command.Inaccessible day from to) =
+    said_of day (codes "these hearings stay set on this day") (hearings_on court moved named parts day)
+if_made court moved named parts today command = []
+
+-- `  would be refused 17 NotACourtDay`: the words that it would be answered
+abbrev pub refused_line : ClockView → List NamedCase → Refusal → List ℕ
+refused_line clock named refusal = codes "  would be " ++ named_answer clock named (answer.Refused refusal) ++ 10 ∷ []
+
+-- a holiday is refused where hearings are set that day, and its refusal names one of them: here are all
+abbrev pub hearings_kept : CourtView → List Moved → List NamedCase → Parts → CommandOf → Refusal → List ℕ
+hearings_kept court moved named parts (command.Holiday day list) (HearingThatDay case motion) =
+    said_of day (codes "refused while these hearings are set on this day") (hearings_on court moved named parts day)
+hearings_kept court moved named parts command refusal = []
+
+-- what the motion is called on which a refusal of what was asked rests; the refusal names it by its number
+abbrev pub called_in : List NamedCase → (asked : CommandOf) → (numbered : Refusal) → List ℕ
+called_in named asked numbered = motion_called named (motion_of_refusal asked numbered)
+
+-- on a command that is refused: that it is, why, and what would do instead; the docket is asked for the command, which names a
+-- deadline or a motion by its place, where what was asked names it by its number
+unfoldable pub if_refused : CourtView → List Moved → List NamedCase → Parts → (asked command : CommandOf) → Refusal → List ℕ
+if_refused court moved named parts asked command refusal =
+    refused_line court.clock named (numbered_refusal moved refusal)
+    ++ why_refused court parts command (called_in named asked (numbered_refusal moved refusal)) refusal
+    ++ hearings_kept court moved named parts command refusal
+    ++ instead (setup_of court) parts command refusal
+
+-- on what was asked, and the command for which the docket is asked
+unfoldable pub warnings_of : CourtView → List Moved → List NamedCase → Parts → (today : Option ℤ) → (asked command : CommandOf) → List ℕ
+warnings_of court moved named parts today asked command =
+    option_map_or (if_refused court moved named parts asked command) (refusal (setup_of court) parts command) (if_made court moved named parts today command)
+
+-- what a clerk is warned of what a row asks for, where a day may count as today; a question draws none
+abbrev pub warnings_on : CourtView → List Moved → List NamedCase → Parts → (today : Option ℤ) → Work → List ℕ
+warnings_on court moved named parts today (Command asked) = warnings_of court moved named parts today asked (placed_command moved asked)
+warnings_on court moved named parts today (Query query) = []

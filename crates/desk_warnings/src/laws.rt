@@ -1,0 +1,20 @@
+//! Laws of the definitions, the contracts of functions that do nothing.
+ghost use Rattle.desk_warnings.specs.Laws.{CarefulIsHistory, RefusedAreHeld, WarningsKeepNothing};
+
+/// Lines leave what the lines that are taken of them would leave without warnings.
+#[tactic(auto, using(crate::proofs::CarefulLemmas::keep_nothing))]
+pub fn warnings_keep_nothing()
+    ensures { WarningsKeepNothing }
+{}
+
+/// What they leave after a history is a history with it, and the same stands after it.
+#[tactic(auto, using(crate::proofs::CarefulLemmas::careful_history))]
+pub fn careful_is_history()
+    ensures { CarefulIsHistory }
+{}
+
+/// A command that would be refused is taken with a `!` before it alone.
+#[tactic(auto, using(crate::proofs::CarefulLemmas::refused_held))]
+pub fn refused_are_held()
+    ensures { RefusedAreHeld }
+{}

@@ -1,0 +1,128 @@
+//! What a clerk is warned of a row before it is kept.
+
+ghost use Rattle.std.specs.Prelude.{◌≡◌, ◌++◌, None, IfOk, OnOk, string_bytes};
+ghost use Rattle.docket_rows.specs.Words.{Rows, parts_of, refusal, setup_of};
+ghost use Rattle.docket_core.specs.Words.{parts_held};
+ghost use Rattle.office_texts.specs.Run.Words.{Holds};
+ghost use Rattle.desk_warnings.specs.Warnings.{if_made, warnings_of, warnings_on};
+
+use crate::deadline::{push_act, push_request};
+use crate::hearings::push_outage;
+use crate::refused::push_refused;
+use crate::start::push_start;
+use case_numbers::Cases;
+use court_clock::Day;
+use court_days::Court;
+use desk_numbers::MovedNumbers;
+use docket_core::Docket;
+use docket_rows::Command;
+use row_forms::Work;
+use std::alloc::{AllocError, Global};
+
+/// Adds what a clerk is warned of what was asked, by the docket as it is, which is asked for the command.
+#[tactic(auto, unfolding(crate::specs::Warnings::warnings_of))]
+fn push_warnings(
+    alloc: Global,
+    text: &mut String,
+    court: &Court,
+    moved: &MovedNumbers,
+    cases: &Cases,
+    docket: &Docket,
+    today: Option<Day>,
+    asked: &Command,
+    command: &Command,
+) -> Result<(), AllocError>
+    ensures { docket.now.setup ≡ setup_of court.now → OnOk result (string_bytes text.new ≡ string_bytes text.old ++ warnings_of court.now moved.now cases.now.named (parts_held docket.now) today asked.now command.now) }
+{
+    let refused = docket.refusal(alloc, command)?;
+    match refused {
+        Some(refusal) => {
+            push_refused(
+                alloc, text, court, moved, cases, docket, asked, command, &refusal,
+            )
+        }
+        None => push_if_made(alloc, text, court, moved, cases, docket, today, command),
+    }
+}
+
+/// Adds what a clerk is warned of a command that isn't refused.
+fn push_if_made(
+    alloc: Global,
+    text: &mut String,
+    court: &Court,
+    moved: &MovedNumbers,
+    cases: &Cases,
+    docket: &Docket,
+    today: Option<Day>,
+    command: &Command,
+) -> Result<(), AllocError>
+    ensures { docket.now.setup ≡ setup_of court.now → refusal (setup_of court.now) (parts_held docket.now) command.now ≡ None → OnOk result (string_bytes text.new ≡ string_bytes text.old ++ if_made court.now moved.now cases.now.named (parts_held docket.now) today command.now) }
+{
+    match command {
+        Command::Start {
+            case,
+            period,
+            event,
+            second,
+            service,
+        } => push_start(
+            alloc, text, court, docket, today, *case, period, event, second, service,
+        ),
+        Command::FileAct {
+            case,
+            deadline,
+            filing,
+        } => push_act(text, docket, *case, *deadline, filing),
+        Command::Extend {
+            case,
+            deadline,
+            request,
+        } => push_request(text, court, docket, *case, *deadline, request),
+        Command::Inaccessible { day, .. } => push_outage(
+            alloc, text, court, moved, cases, docket, *day,
+        ),
+        _ => Ok(()),
+    }
+}
+
+/// Adds what a clerk is warned of a row: nothing where it asks a question.
+fn push_warnings_on(
+    alloc: Global,
+    text: &mut String,
+    court: &Court,
+    moved: &MovedNumbers,
+    cases: &Cases,
+    docket: &Docket,
+    today: Option<Day>,
+    work: &Work,
+) -> Result<(), AllocError>
+    ensures { docket.now.setup ≡ setup_of court.now → OnOk result (string_bytes text.new ≡ string_bytes text.old ++ warnings_on court.now moved.now cases.now.named (parts_held docket.now) today work.now) }
+{
+    match work {
+        Work::Command(asked) => {
+            let command = moved.place_command(asked);
+            push_warnings(
+                alloc, text, court, moved, cases, docket, today, asked, &command,
+            )
+        }
+        Work::Query(_) => Ok(()),
+    }
+}
+
+/// What a clerk is warned of a row, a line each, by what is docketed, with the names of cases that have one: nothing where it
+/// asks a question. `Err` says that memory ran out.
+pub fn warnings_on(
+    alloc: Global,
+    court: &Court,
+    moved: &MovedNumbers,
+    cases: &Cases,
+    docket: &Docket,
+    today: Option<Day>,
+    work: &Work,
+) -> Result<String, AllocError>
+    ensures { (docketed : Rows) → Holds (setup_of court.now) docket.now docketed → IfOk result (λ text. string_bytes text ≡ warnings_on court.now moved.now cases.now.named (parts_of docketed) today work.now) }
+{
+    let mut text = String::new(alloc);
+    push_warnings_on(alloc, &mut text, court, moved, cases, docket, today, work)?;
+    Ok(text)
+}

@@ -1,5 +1,0 @@
-use Rattle.docket_entries.proofs.EntryLemmas.{left_follows}
-use Rattle.docket_entries.proofs.laws.what_is_left_follows.Goals as goal
-
-pub returns : goal.returns
-returns c = left_follows

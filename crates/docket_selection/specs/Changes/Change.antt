@@ -1,0 +1,44 @@
+-- What a row changed of what calendars show.
+use Rattle.std.specs.Option.{option_and_then, option_map_or}
+use Rattle.std.specs.Prelude.{ℕ, nat_le, Option, Some, None, option_map, if◌then◌else◌}
+use Rattle.docket_rows.specs.declared.answer.Answer.{Answer}
+use Rattle.docket_rows.specs.declared.answer.Answer.TheVariants.{Refused}
+use Rattle.docket_rows.specs.declared.command.Command.{Command}
+use Rattle.docket_rows.specs.declared.command.Command.TheVariants.{OpenCase, Start, FileAct, Extend, Motion, Holiday, Inaccessible}
+use Rattle.docket_rows.specs.declared.command.HearingOrder.{HearingOrder}
+use Rattle.docket_rows.specs.declared.hearing.Setting.{Setting}
+use Rattle.docket_rows.specs.Words.{hearing_asked, order_of}
+use Rattle.docket_selection.specs.declared.changes.change.Change.{Change}
+use Rattle.docket_selection.specs.declared.changes.change.Change.TheVariants.{Days, Deadline, Hearing}
+use Rattle.docket_selection.specs.declared.changes.change.HearingChange.{HearingChange}
+use Rattle.docket_selection.specs.declared.changes.change.RowChange.{RowChange}
+
+-- The hearing of a motion was set as it was asked for. One that isn't refused takes at most the 96 slots of a day.
+abbrev pub setting_made : Setting → Option HearingChange
+setting_made s = if nat_le s.count 96 then Some (record { case = s.case; motion = s.motion; hearing = Some (hearing_asked s) }) else None
+
+-- the hearing of a motion was set, or where no setting is asked for it was taken off the calendar
+abbrev pub order_made : HearingOrder → Option HearingChange
+order_made order = option_map_or setting_made order.setting (Some (record { case = order.case; motion = order.motion; hearing = None }))
+
+-- what a command about the hearing of a motion asks for
+abbrev pub hearing_change : Command → Option HearingChange
+hearing_change command = option_and_then order_made (order_of command)
+
+-- What a command asks for changes of what calendars show: a deadline of a case, which is started or extended or for which an act is
+-- recorded; the court's days, by a holiday or an outage, on which the end of any deadline may rest; or the hearing of a motion. A case
+-- that is opened and a motion that is entered are in no calendar.
+abbrev pub change_asked : Command → Option Change
+change_asked (OpenCase case filed) = None
+change_asked (Start case period event second service) = Some (Deadline case)
+change_asked (FileAct case deadline filing) = Some (Deadline case)
+change_asked (Extend case deadline request) = Some (Deadline case)
+change_asked (Motion case served need) = None
+change_asked (Holiday day list) = Some Days
+change_asked (Inaccessible day from to) = Some Days
+change_asked command = option_map Hearing (hearing_change command)
+
+-- what the row of that number changed, by a command that was so answered: nothing where it was refused, and else what it asks for
+abbrev pub change_made : (row : ℕ) → Command → Answer → Option RowChange
+change_made row command (Refused refusal) = None
+change_made row command made = option_map (λ change. record { row = row; change = change }) (change_asked command)

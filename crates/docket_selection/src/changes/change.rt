@@ -1,0 +1,107 @@
+//! What a row changed of what calendars show.
+
+ghost use Rattle.std.specs.Prelude.{◌≡◌, None};
+ghost use Rattle.docket_selection.specs.Changes.Change.{change_asked, change_made, hearing_change, setting_made};
+
+use docket_rows::{Answer, Command, Hearing, Setting};
+
+/// A change of the hearing of a motion.
+#[derive(Clone, Copy, Debug, PartialEq, Eq)]
+pub struct HearingChange {
+    /// The number of the case.
+    pub case: u32,
+    /// The number of the motion in its case.
+    pub motion: u32,
+    /// The hearing as it is set now. None: it is off the calendar.
+    pub hearing: Option<Hearing>,
+}
+
+/// What is changed.
+#[derive(Clone, Copy, Debug, PartialEq, Eq)]
+pub enum Change {
+    /// The court's days: a holiday or an outage was entered.
+    Days,
+    /// A deadline of the case of that number: it was started or extended, or an act was recorded for it.
+    Deadline(u32),
+    /// The hearing of a motion.
+    Hearing(HearingChange),
+}
+
+/// A change, with the row that made it.
+#[derive(Clone, Copy, Debug, PartialEq, Eq)]
+pub struct RowChange {
+    /// The number of the row, from 1.
+    pub row: u64,
+    /// What it changed.
+    pub change: Change,
+}
+
+/// What the row of that number changed, if anything, by a command that was so answered.
+pub fn change_made(row: u64, command: &Command, answer: &Answer) -> Option<RowChange>
+    ensures { result ≡ change_made row command.now answer.now }
+{
+    if let Answer::Refused(_) = answer {
+        return None;
+    }
+    let change = change_asked(command)?;
+    Some(RowChange { row, change })
+}
+
+/// What a command asks for changes.
+fn change_asked(command: &Command) -> Option<Change>
+    ensures { result ≡ change_asked command.now }
+{
+    match command {
+        Command::Start { case, .. }
+        | Command::FileAct { case, .. }
+        | Command::Extend { case, .. } => Some(Change::Deadline(*case)),
+        Command::Holiday { .. } | Command::Inaccessible { .. } => Some(Change::Days),
+        Command::OpenCase { .. } | Command::Motion { .. } => None,
+        Command::Book(_) | Command::MoveHearing(_) | Command::Cancel { .. } => {
+            Some(Change::Hearing(hearing_change(command)?))
+        }
+    }
+}
+
+/// What a command about the hearing of a motion asks for.
+fn hearing_change(command: &Command) -> Option<HearingChange>
+    ensures { result ≡ hearing_change command.now }
+{
+    let order = command.order()?;
+    match order.setting {
+        Some(setting) => setting_made(&setting),
+        None => Some(off(order.case, order.motion)),
+    }
+}
+
+/// The hearing of a motion is set as it was asked for.
+fn setting_made(setting: &Setting) -> Option<HearingChange>
+    ensures { result ≡ setting_made setting.now }
+{
+    if setting.count > 96 {
+        return None;
+    }
+    Some(HearingChange {
+        case: setting.case,
+        motion: setting.motion,
+        hearing: Some(Hearing {
+            judges: setting.judges,
+            room: setting.room,
+            day: setting.day,
+            first: setting.first,
+            count: setting.count as u8,
+            notice: setting.notice,
+        }),
+    })
+}
+
+/// The hearing of a motion is taken off the calendar.
+fn off(case: u32, motion: u32) -> HearingChange
+    ensures { result ≡ record { case = case; motion = motion; hearing = None } }
+{
+    HearingChange {
+        case,
+        motion,
+        hearing: None,
+    }
+}

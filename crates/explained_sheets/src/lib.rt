@@ -1,6 +1,0 @@
-//! The sheets of cases, with the reasons of each deadline.
-#![tactic(auto)]
-
-mod explained;
-
-pub use explained::{ExplainedDeadline, ExplainedSheet, explained_sheets};

@@ -1,5 +1,0 @@
-use Rattle.federal_holidays.proofs.CalendarLemmas.{year_is}
-use Rattle.federal_holidays.proofs.calendar.year_of.Goals as goal
-
-pub returns : goal.returns
-returns c = year_is c.date_of.result c.args.day c.date_of.ensures

@@ -1,5 +1,0 @@
-use Rattle.federal_holidays.proofs.WeekdayLemmas.{weekdays_are_counted}
-use Rattle.federal_holidays.proofs.laws.weekdays_are_counted.Goals as goal
-
-pub returns : goal.returns
-returns c = weekdays_are_counted

@@ -1,9 +1,0 @@
--- The words of clauses and definitions, for the crates above, from one place.
-pub use Rattle.federal_holidays.specs.Weekdays.{IsInMonth, IsNthWeekday, IsLastWeekday, WeekdaysAreCounted, LastWeekdaysAreLast}
-unfoldable pub use Rattle.federal_holidays.specs.Weekdays.{nth_weekday, last_weekday}
-pub use Rattle.federal_holidays.specs.Statute.{is_stated, is_inauguration_year, inauguration_in, since, words_of, statute_name, LaborDayIsAMonday, HolidaysLieInTheirYear, NoTwoShareADay}
-unfoldable pub use Rattle.federal_holidays.specs.Statute.{set_in}
-pub use Rattle.federal_holidays.specs.Calendar.{all_holidays, is_kept, kept_on, dated, is_day, DaysAreTheirHolidays}
-unfoldable pub use Rattle.federal_holidays.specs.Calendar.{holidays_in, holiday_on}
-pub use Rattle.federal_holidays.specs.Observed.{beside_weekend, ObservedAreInPlace}
-unfoldable pub use Rattle.federal_holidays.specs.Observed.{observed_for, observed_on}

@@ -1,7 +1,0 @@
-use Rattle.std.proofs.Common.{take}
-use Rattle.hearing_changes.specs.Noted.{NotesRows}
-use Rattle.hearing_changes.proofs.revision.rows_by.Given as goal
-
--- the rows of the changes so far are noted
-abbrev pub invariant-loop-change : goal.invariant-loop-change
-invariant-loop-change l = NotesRows (take l.change-index l.changes) l.rows

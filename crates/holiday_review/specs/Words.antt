@@ -1,3 +1,0 @@
--- The words of clauses and definitions, for the crates above, from one place.
-pub use Rattle.holiday_review.specs.Review.{due_of, due_on, with_reason, lacked, unless_due, unknown, LackingIsExact, UnknownsAreExact, ReviewIsInOrder}
-unfoldable pub use Rattle.holiday_review.specs.Review.{days_from, lacking, unknowns}

@@ -1,5 +1,0 @@
--- The lemmas for the crates above, from one place.
-pub use Rattle.kept_numbers.proofs.MapLemmas.{changed_up_to}
-pub use Rattle.kept_numbers.proofs.NumberLemmas.{nothing_moves}
-pub use Rattle.kept_numbers.proofs.PlaceLemmas.{found_after, its_place, none_found}
-pub use Rattle.kept_numbers.proofs.PlainLemmas.{nothing_changes, placed_alone}

@@ -1,6 +1,0 @@
-pub mod PlaceLemmas
-pub mod NumberLemmas
-pub mod TopLemmas
-pub mod PlainLemmas
-pub mod MapLemmas
-pub mod CallerLemmas

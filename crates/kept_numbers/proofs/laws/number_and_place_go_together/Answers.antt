@@ -1,5 +1,0 @@
-use Rattle.kept_numbers.proofs.PlaceLemmas.{go_together}
-use Rattle.kept_numbers.proofs.laws.number_and_place_go_together.Goals as goal
-
-pub returns : goal.returns
-returns c = go_together

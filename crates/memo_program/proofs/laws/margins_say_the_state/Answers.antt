@@ -1,5 +1,0 @@
-use Rattle.memo_program.proofs.MarginLemmas.{says_the_state}
-use Rattle.memo_program.proofs.laws.margins_say_the_state.Goals as goal
-
-pub returns : goal.returns
-returns c setup parts d filing closing filed = rw filed (says_the_state setup.clock _ filing closing)

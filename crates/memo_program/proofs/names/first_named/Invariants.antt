@@ -1,8 +1,0 @@
-use Rattle.std.proofs.Common.{◌≡◌, ◌++◌}
-use Rattle.toml.specs.View.{members_view}
-use Rattle.memo_program.specs.Names.{named_among}
-use Rattle.memo_program.proofs.names.first_named.Given as goal
-
--- the names so far and those of the entries that are left are those of all entries
-abbrev pub invariant-loop-key : goal.invariant-loop-key
-invariant-loop-key l = l.names.items ++ named_among (members_view l.key-iterator) ≡ named_among (members_view l.table.entries)

@@ -1,8 +1,0 @@
-use Rattle.std.proofs.Common.{◌≡◌, ◌∙◌}
-use Rattle.memo_program.proofs.DocketLemmas.{days_held}
-use Rattle.memo_program.proofs.notes.push_notes_viewed.Goals as goal
-
-pub returns-in-Refused : goal.returns-in-Refused
-returns-in-Refused c setup docketed holds =
-    let days : c.days.result.now ≡ docketed.days = c.days.ensures ∙ days_held setup c.args.docket.now docketed holds in
-    rw c.in-Refused.is (rw days at c.push_query_refusal.ensures)

@@ -1,5 +1,0 @@
-use Rattle.std.proofs.Common.{append-nil, sym}
-use Rattle.memo_program.proofs.sources.push_source.Goals as goal
-
-pub returns-in-None : goal.returns-in-None
-returns-in-None c = rw c.in-None.is (sym (append-nil _))

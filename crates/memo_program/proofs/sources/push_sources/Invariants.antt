@@ -1,8 +1,0 @@
-use Rattle.std.proofs.Common.{◌≡◌, ◌++◌, drop, string_bytes}
-use Rattle.std.specs.List.{flat_map}
-use Rattle.memo_program.specs.Sources.{source_line}
-use Rattle.memo_program.proofs.sources.push_sources.Given as goal
-
--- the lines so far, and those of the rows that are left, are all the lines
-abbrev pub invariant-loop-source : goal.invariant-loop-source
-invariant-loop-source l = string_bytes l.text ++ flat_map (source_line l.deadline) (drop l.source-index l.sources) ≡ string_bytes l.fn.text ++ flat_map (source_line l.deadline) l.sources

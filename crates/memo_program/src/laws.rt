@@ -1,8 +1,0 @@
-//! What the definitions of a memo come to.
-
-ghost use Rattle.memo_program.specs.States.{MarginsSayTheState};
-
-/// What is said of an act begins with the state that the sheet shows of its deadline, so that the two lines of a memo agree.
-pub fn margins_say_the_state()
-    ensures { MarginsSayTheState }
-{}

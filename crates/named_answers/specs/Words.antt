@@ -1,4 +1,0 @@
--- The words for the crates above, from one place.
-pub use Rattle.named_answers.specs.Named.{motion_called, named_answer, named_case_line, named_reply}
-unfoldable pub use Rattle.named_answers.specs.Named.{named_calendar, named_line_of, named_refusal}
-pub use Rattle.named_answers.specs.Laws.{WithoutNamesAsBefore}

@@ -1,8 +1,0 @@
-//! Laws of the definitions, the contracts of functions that do nothing.
-ghost use Rattle.named_answers.specs.Laws.{WithoutNamesAsBefore};
-
-/// Where no case has a name, a reply is written as clerk_office writes it.
-#[tactic(auto, using(crate::proofs::PlainLemmas::without_names_as_before_lem))]
-pub fn without_names_as_before()
-    ensures { WithoutNamesAsBefore }
-{}

@@ -1,2 +1,0 @@
-pub mod EndingLemmas
-pub mod HelpLemmas

@@ -1,7 +1,0 @@
--- How a process ends that runs the program.
-use Rattle.std.specs.Prelude.{ℕ}
-use Rattle.office_program.specs.declared.process.Ended.{Ended}
-
--- the status with which it ends
-abbrev pub ended_status : Ended → ℕ
-ended_status ended = ended.status

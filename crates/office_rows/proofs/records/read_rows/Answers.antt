@@ -1,6 +1,0 @@
-use Rattle.office_rows.specs.Rows.{rows_read}
-use Rattle.office_rows.proofs.records.read_rows.Goals as goal
-
-pub returns : goal.returns
-unfolding rows_read
-returns c = rw c.rows_reader-reader.ensures.records at c.take_rows.ensures

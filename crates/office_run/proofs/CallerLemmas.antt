@@ -1,3 +1,0 @@
--- The lemmas for the crates above.
-pub use Rattle.office_run.proofs.AlikeLemmas.{run_text_alike}
-pub use Rattle.office_run.proofs.RunLemmas.{docketed_at, docketed_more, calendars_same, closing_same, range_more}

@@ -1,5 +1,0 @@
--- The words of clauses and definitions, for the crates above, from one place.
-pub use Rattle.office_run.specs.Replies.{reply_to, docketed_then, Holds}
-unfoldable pub use Rattle.office_run.specs.Replies.{docketed_after}
-pub use Rattle.office_run.specs.Text.{row_numbers, reply_text, sheet_shown, closing_text}
-unfoldable pub use Rattle.office_run.specs.Text.{line_of, lines_from, sheets_from, calendars_from, run_text}

@@ -1,6 +1,0 @@
-use Rattle.office_seats.specs.Closed.{HasTallies}
-use Rattle.office_seats.proofs.closing.first_missing.Given as goal
-
--- the seats so far have tallies
-abbrev pub invariant-loop-before : goal.invariant-loop-before
-invariant-loop-before g l = HasTallies l.before l.tallies

@@ -1,5 +1,0 @@
-use Rattle.office_streams.proofs.DividerLemmas.{first_divider_divides_lem}
-use Rattle.office_streams.proofs.laws.first_divider_divides.Goals as goal
-
-pub returns : goal.returns
-returns c = first_divider_divides_lem

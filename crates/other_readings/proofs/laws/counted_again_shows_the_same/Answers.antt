@@ -1,8 +1,0 @@
-use Rattle.other_readings.proofs.AgainLemmas.{added_again, extended_again}
-use Rattle.other_readings.proofs.laws.counted_again_shows_the_same.Goals as goal
-
-pub returns-clause-extended : goal.returns-clause-extended
-returns-clause-extended c = extended_again
-
-pub returns-clause-added : goal.returns-clause-added
-returns-clause-added c = added_again

@@ -1,3 +1,0 @@
--- The words of clauses and definitions, for the crates above, from one place.
-pub use Rattle.period_texts.specs.Heading.{rule_section, rule_words, event_words, mark_section, mark_words, heading_of}
-unfoldable pub use Rattle.period_texts.specs.Heading.{entered_text, rule_text, heading_lines}

@@ -1,8 +1,0 @@
-//! The text of periods: how long one is, what is to be done within it, from which event it runs, and which Rule sets it.
-#![tactic(auto)]
-
-mod heading;
-mod words;
-
-pub use heading::push_heading;
-pub use words::{event_words, rule_section, rule_words};

@@ -1,0 +1,3 @@
+pub mod EndingLemmas
+pub mod HelpLemmas
+pub mod OptionsLemmas

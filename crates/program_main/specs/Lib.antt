@@ -1,0 +1,4 @@
+pub mod Program
+pub mod Process
+pub mod Options
+pub mod Texts

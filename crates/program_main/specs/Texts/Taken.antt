@@ -1,0 +1,20 @@
+-- Which texts of options are taken, and the fault of one that isn't.
+use Rattle.std.specs.Prelude.{Bool, true, [], ◌∷◌, Option, Some, None, is_some, if◌then◌else◌}
+use Rattle.clap.specs.Words.{Kinds, Text}
+use Rattle.clap.specs.declared.error.kind.ErrorKind.TheVariants.{ValueValidation}
+use Rattle.office_texts.specs.Names.Words.{case_called}
+use Rattle.court_clock.specs.Words.{day_of_text}
+
+-- the text of an option writes a day, or none is given
+abbrev pub is_day_taken : (text : Option Text) → Bool
+is_day_taken None = true
+is_day_taken (Some text) = is_some (day_of_text text)
+
+-- it calls a case, or none is given
+abbrev pub is_case_taken : (text : Option Text) → Bool
+is_case_taken None = true
+is_case_taken (Some text) = is_some (case_called text)
+
+-- the fault of a text that isn't taken
+abbrev pub faults_unless : (taken : Bool) → Kinds
+faults_unless taken = if taken then [] else ValueValidation ∷ []

@@ -1,0 +1,3 @@
+pub mod MarginsLemmas
+pub mod ReadingsLemmas
+pub mod WarningsLemmas

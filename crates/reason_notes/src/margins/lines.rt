@@ -1,0 +1,251 @@
+//! The lines of an act.
+
+ghost use Rattle.std.specs.Prelude.{◌≡◌, ◌<◌, ◌++◌, OnOk, codes, option_copied, string_bytes};
+ghost use Rattle.std.specs.Fmt.{decimal};
+ghost use Rattle.reason_texts.specs.Words.{minute_time};
+ghost use Rattle.reason_notes.specs.Margins.Lines.{act_lines, day_end_text, days_text, detail_text, done_text, early_line, ends_at_closing, event_after, first_words, last_words, margin_lines, margin_section, margin_text, means_text, recorded_lines, seconds_text};
+
+use crate::margins::ends::end_day;
+use crate::margins::margin::{Margin, margin_of};
+use court_clock::{Clock, Day, Direction};
+use court_days::Days;
+use reason_texts::{push_minute, push_note};
+use rule_periods::{DeadlineRow, runs_from, shown};
+use rule6::{Act, Filing, Means, Shown};
+use std::alloc::{AllocError, Global};
+use std::fmt::Write;
+
+/// Adds the act that was done for a deadline, and by how much it was in time or late, a line each, and one more where it was
+/// done before the event. `Err` says that memory ran out.
+#[tactic(auto, unfolding(crate::specs::Margins::Lines::act_lines))]
+pub fn push_act(
+    alloc: Global,
+    text: &mut String,
+    days: &Days,
+    clock: &Clock,
+    row: &DeadlineRow,
+    filing: Filing,
+) -> Result<(), AllocError>
+    requires { filing.minute < 1440 }
+    ensures { OnOk result (string_bytes text.new ≡ string_bytes text.old ++ act_lines days.now clock.now row.now filing) }
+{
+    let done = filing.day;
+    push_margin_lines(alloc, text, clock, &shown(days, clock, row), filing)?;
+    let event = event_after(row.period().direction(), runs_from(row));
+    push_early(text, event, done)
+}
+
+/// Adds the lines of the act that is recorded for a deadline, where there is one. `Err` says that memory ran out.
+pub fn push_recorded(
+    alloc: Global,
+    text: &mut String,
+    days: &Days,
+    clock: &Clock,
+    row: Option<&DeadlineRow>,
+) -> Result<(), AllocError>
+    ensures { OnOk result (string_bytes text.new ≡ string_bytes text.old ++ recorded_lines days.now clock.now (option_copied row.entry)) }
+{
+    match row {
+        Some(row) => match row.filed() {
+            Some(filing) => push_act(alloc, text, days, clock, row, filing),
+            None => Ok(()),
+        },
+        None => Ok(()),
+    }
+}
+
+/// The day before which an act comes before its event, where the period is measured after one.
+fn event_after(direction: Direction, event: Day) -> Option<Day>
+    ensures { result ≡ event_after direction event }
+{
+    match direction {
+        Direction::After => Some(event),
+        Direction::Before => None,
+    }
+}
+
+/// Adds the line of an act that was done before its event.
+fn push_early(text: &mut String, event: Option<Day>, done: Day) -> Result<(), AllocError>
+    ensures { OnOk result (string_bytes text.new ≡ string_bytes text.old ++ early_line event done) }
+{
+    match event {
+        Some(event) if done.number() < event.number() => push_note(
+            text,
+            Some(event),
+            "other reading: no act, done before its event",
+            "ours",
+        ),
+        _ => Ok(()),
+    }
+}
+
+/// Adds the act, and by how much it was in time or late for a deadline of which this is shown.
+#[tactic(auto, unfolding(crate::specs::Margins::Lines::margin_lines))]
+fn push_margin_lines(
+    alloc: Global,
+    text: &mut String,
+    clock: &Clock,
+    shown: &Shown,
+    filing: Filing,
+) -> Result<(), AllocError>
+    requires { filing.minute < 1440 }
+    ensures { OnOk result (string_bytes text.new ≡ string_bytes text.old ++ margin_lines clock.now shown.now filing) }
+{
+    let (day, means) = (filing.day, filing.means);
+    let mut done = String::new(alloc);
+    push_done(&mut done, filing.minute, means)?;
+    push_note(text, Some(day), done.as_str(), "docketed")?;
+    let margin = margin_of(clock, shown, filing);
+    let mut what = String::new(alloc);
+    push_margin(&mut what, clock, ends_at_closing(shown, means), &margin)?;
+    push_note(
+        text,
+        end_day(clock, shown),
+        what.as_str(),
+        margin_section(shown),
+    )
+}
+
+/// Adds when and how the act was done.
+fn push_done(text: &mut String, minute: u16, means: Means) -> Result<(), AllocError>
+    ensures { OnOk result (string_bytes text.new ≡ string_bytes text.old ++ done_text minute means) }
+{
+    text.push_str("done at ")?;
+    push_minute(text, minute)?;
+    text.push_str(means_text(means))
+}
+
+/// By which means it was done.
+fn means_text(means: Means) -> &'static str
+    ensures { result.now ≡ means_text means }
+{
+    match means {
+        Means::Electronic => ", electronically",
+        Means::Paper => ", on paper",
+    }
+}
+
+/// Adds by how much it was in time or late.
+#[tactic(auto, unfolding(crate::specs::Margins::Lines::margin_text))]
+fn push_margin(
+    text: &mut String,
+    clock: &Clock,
+    closing: bool,
+    margin: &Margin,
+) -> Result<(), AllocError>
+    ensures { OnOk result (string_bytes text.new ≡ string_bytes text.old ++ margin_text clock.now closing margin.now) }
+{
+    text.push_str(first_words(margin))?;
+    push_detail(text, clock, closing, margin)?;
+    text.push_str(last_words(margin))
+}
+
+/// The words that a margin begins with.
+fn first_words(margin: &Margin) -> &'static str
+    ensures { result.now ≡ first_words margin.now }
+{
+    match *margin {
+        Margin::DaysEarly(_) | Margin::SecondsEarly(_) => "timely, ",
+        Margin::OnLastDay => "timely, on the last day, which ends at ",
+        Margin::AfterClosing(_) | Margin::DaysLate(_) | Margin::SecondsLate(_) => "late, ",
+        Margin::Undecided => "undecided: the end is beyond the days covered",
+    }
+}
+
+/// Adds how much it is, and on the last day when that ends.
+fn push_detail(
+    text: &mut String,
+    clock: &Clock,
+    closing: bool,
+    margin: &Margin,
+) -> Result<(), AllocError>
+    ensures { OnOk result (string_bytes text.new ≡ string_bytes text.old ++ detail_text clock.now closing margin.now) }
+{
+    match *margin {
+        Margin::DaysEarly(days) | Margin::DaysLate(days) => push_days(text, days),
+        Margin::OnLastDay => push_day_end(text, clock, closing),
+        Margin::AfterClosing(minutes) => push_after_closing(text, clock, minutes),
+        Margin::SecondsEarly(seconds) | Margin::SecondsLate(seconds) => {
+            push_seconds(text, seconds)
+        }
+        Margin::Undecided => Ok(()),
+    }
+}
+
+/// The words that it ends with.
+fn last_words(margin: &Margin) -> &'static str
+    ensures { result.now ≡ last_words margin.now }
+{
+    match *margin {
+        Margin::DaysEarly(_) => " before this last day",
+        Margin::DaysLate(_) => " after this last day",
+        Margin::SecondsEarly(_) => " before the end",
+        Margin::SecondsLate(_) => " after the end",
+        _ => "",
+    }
+}
+
+/// Adds how many minutes after closing the act came.
+fn push_after_closing(text: &mut String, clock: &Clock, minutes: u16) -> Result<(), AllocError>
+    ensures { OnOk result (string_bytes text.new ≡ string_bytes text.old ++ decimal minutes ++ codes " min after closing at " ++ minute_time clock.now.closes) }
+{
+    write!(text, "{minutes} min after closing at ")?;
+    push_minute(text, clock.closes())
+}
+
+/// Adds when the last day ends.
+fn push_day_end(text: &mut String, clock: &Clock, closing: bool) -> Result<(), AllocError>
+    ensures { OnOk result (string_bytes text.new ≡ string_bytes text.old ++ day_end_text clock.now closing) }
+{
+    if closing {
+        push_minute(text, clock.closes())
+    } else {
+        text.push_str("midnight")
+    }
+}
+
+/// Whether the last day ends when the clerk's office closes.
+fn ends_at_closing(shown: &Shown, means: Means) -> bool
+    ensures { result ≡ ends_at_closing shown.now means }
+{
+    match *shown {
+        Shown::Last {
+            act: Act::Filing,
+            ..
+        } => means == Means::Paper,
+        _ => false,
+    }
+}
+
+/// Adds a number of days.
+pub(crate) fn push_days(text: &mut String, days: u32) -> Result<(), AllocError>
+    ensures { OnOk result (string_bytes text.new ≡ string_bytes text.old ++ days_text days) }
+{
+    if days == 1 {
+        write!(text, "{days} day")
+    } else {
+        write!(text, "{days} days")
+    }
+}
+
+/// Adds a number of seconds as hours, minutes and seconds.
+fn push_seconds(text: &mut String, seconds: u64) -> Result<(), AllocError>
+    ensures { OnOk result (string_bytes text.new ≡ string_bytes text.old ++ seconds_text seconds) }
+{
+    let (hours, minutes, rest) = (seconds / 3600, seconds / 60 % 60, seconds % 60);
+    write!(text, "{hours} h {minutes} min {rest} s")
+}
+
+/// The section that decides.
+fn margin_section(shown: &Shown) -> &'static str
+    ensures { result.now ≡ margin_section shown.now }
+{
+    match *shown {
+        Shown::Last {
+            act: Act::Filing,
+            ..
+        } => "6(a)(4)",
+        Shown::Until(_) => "6(a)(2)",
+        _ => "ours",
+    }
+}

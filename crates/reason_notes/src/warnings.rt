@@ -1,0 +1,13 @@
+//! What a reader is warned of: what is docketed is lawful, and may be a mistake.
+
+mod deadline;
+mod end;
+mod event;
+mod extension;
+mod hearing;
+mod holidays;
+
+pub use deadline::{push_deadline_notes, push_start_notes};
+pub use end::push_early_act;
+pub use extension::push_extension_notes;
+pub use hearing::push_hearing_notes;

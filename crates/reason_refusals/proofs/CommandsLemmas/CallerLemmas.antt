@@ -1,0 +1,2 @@
+-- The lemmas for the crates above.
+pub use Rattle.reason_refusals.proofs.CommandsLemmas.PartsLemmas.{parts_same}

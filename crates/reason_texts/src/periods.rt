@@ -1,0 +1,7 @@
+//! The text of periods: how long one is, what is to be done within it, from which event it runs, and which Rule sets it.
+
+mod heading;
+mod words;
+
+pub use heading::push_heading;
+pub use words::{event_words, rule_section, rule_words};

@@ -1,5 +1,0 @@
-use Rattle.std.proofs.Common.{length}
-use Rattle.refused_commands.proofs.entries.+motion_of.Given as goal
-
-abbrev pub decreases-motion_of : goal.decreases-motion_of
-decreases-motion_of l = length l.motions.now

@@ -1,8 +1,0 @@
-//! Why a docket refuses a command, with the entries on which that rests.
-#![tactic(auto)]
-
-mod entries;
-mod reasons;
-
-pub use entries::{deadline_at, motion_at};
-pub use reasons::push_why_refused;

@@ -1,0 +1,79 @@
+-- What a calendar program shows: what is selected of the docket, and what was taken off the calendar.
+use Rattle.std.specs.Prelude.{ℕ, Bool, true, false, ◌&&◌, List, ◌++◌, Option, Some, None, is_some, map, option_to_list, if◌then◌else◌}
+use Rattle.std.specs.List.{flat_map, list_all, list_any, range_with_len}
+use Rattle.std.specs.Option.{option_and_then}
+use Rattle.docket_rows.specs.Words.{last_case, most_motions}
+use Rattle.docket_selection.specs.declared.choice.Choice.{Choice}
+use Rattle.docket_selection.specs.declared.item.DueItem.{DueItem}
+use Rattle.docket_selection.specs.declared.item.Matter.{Matter}
+use Rattle.docket_selection.specs.declared.item.Matter.TheVariants.{Deadline, Hearing}
+use Rattle.docket_selection.specs.Words.{is_due, set_item}
+use Rattle.docket_selection.specs.declared.changes.history.HearingHistory.{HearingHistory}
+use Rattle.docket_selection.specs.Changes.Words.{FollowedChanges, history_of, revision_of}
+use Rattle.report_ics.specs.declared.appointment.Appointment.{Appointment}
+
+-- an item as it is set
+abbrev pub appointment_of : FollowedChanges → DueItem → Appointment
+appointment_of followed item = record { item = item; revision = revision_of item.case followed.changes; cancelled = false }
+
+-- a hearing as it was set last
+abbrev pub item_of : (case number : ℕ) → HearingHistory → DueItem
+item_of case number history = set_item case number (record { hearing = history.hearing; affidavits = None })
+
+-- the hearing of a motion, if it was taken off the calendar and not set again
+abbrev pub set_off : (revision case number : ℕ) → Option HearingHistory → Option Appointment
+set_off revision case number (Some history) =
+    if history.cancelled then Some (record { item = item_of case number history; revision = revision; cancelled = true }) else None
+set_off revision case number None = None
+
+-- and if it is chosen
+abbrev pub chosen_only : Choice → Option Appointment → Option Appointment
+chosen_only choice off = option_and_then (λ (a : Appointment). if is_due choice true a.item then Some a else None) off
+
+abbrev pub off_hearing : Choice → FollowedChanges → (case number : ℕ) → Option Appointment
+off_hearing choice followed case number =
+    chosen_only choice (set_off (revision_of case followed.changes) case number (history_of followed.judge case number followed.changes))
+
+-- those of some motions of a case, and of some cases, from a first number on
+unfoldable pub off_in_case : Choice → FollowedChanges → (case first count : ℕ) → List Appointment
+off_in_case choice followed case first count = flat_map (λ number. option_to_list (off_hearing choice followed case number)) (range_with_len first count)
+
+unfoldable pub off_from : Choice → FollowedChanges → (first count : ℕ) → List Appointment
+off_from choice followed first count = flat_map (λ case. off_in_case choice followed case 1 most_motions) (range_with_len first count)
+
+-- those of all cases, by case and motion
+abbrev pub off_hearings : Choice → FollowedChanges → List Appointment
+off_hearings choice followed = off_from choice followed 1 last_case
+
+-- the hearings that the judge had, of some motions of a case, from a first number on
+unfoldable pub histories_in : FollowedChanges → (case first count : ℕ) → List HearingHistory
+histories_in followed case first count = flat_map (λ number. option_to_list (history_of followed.judge case number followed.changes)) (range_with_len first count)
+
+abbrev pub is_off : HearingHistory → Bool
+is_off h = h.cancelled
+
+-- one of them is off, and so are all
+abbrev pub are_off : List HearingHistory → Bool
+are_off had = list_any is_off had && list_all is_off had
+
+-- the judge had a hearing in the case, and has none there now
+abbrev pub has_left : FollowedChanges → (case : ℕ) → Bool
+has_left followed case = is_some followed.judge && are_off (histories_in followed case 1 most_motions)
+
+-- a deadline of a case in which the judge has no hearing any more
+abbrev pub off_matter : FollowedChanges → DueItem → Matter → Option Appointment
+off_matter followed item (Deadline d) =
+    if has_left followed item.case then Some (record { item = item; revision = revision_of item.case followed.changes; cancelled = true }) else None
+off_matter followed item (Hearing h) = None
+
+abbrev pub off_item : FollowedChanges → DueItem → Option Appointment
+off_item followed item = off_matter followed item item.matter
+
+-- those among what is due before any judge
+unfoldable pub off_deadlines : FollowedChanges → List DueItem → List Appointment
+off_deadlines followed others = flat_map (λ item. option_to_list (off_item followed item)) others
+
+-- The items, in their order; then the deadlines, among what is due before any judge, of cases in which the chosen judge has no hearing
+-- any more; and then the chosen hearings that are off.
+unfoldable pub appointments_of : Choice → FollowedChanges → (items others : List DueItem) → List Appointment
+appointments_of choice followed items others = map (appointment_of followed) items ++ off_deadlines followed others ++ off_hearings choice followed

@@ -1,0 +1,74 @@
+//! What a calendar program shows.
+
+ghost use Rattle.std.specs.Prelude.{◌≡◌, ◌++◌, map, IfOk, OnOk};
+ghost use Rattle.report_ics.specs.Appointments.{appointment_of, appointments_of};
+
+use crate::cancelled::push_off;
+use crate::left::push_off_deadlines;
+use court_clock::{Day, Instant};
+use docket_rows::Hearing;
+use docket_selection::{Choice, DueItem, DueTypes, HearingHistories};
+use hearing_slots::Panel;
+use std::alloc::{AllocError, Global};
+
+/// A deadline or a hearing, as an event of a calendar.
+#[derive(Clone, Copy, Debug, PartialEq, Eq)]
+pub struct Appointment {
+    /// The deadline or the hearing; a hearing that is off as it was set last.
+    pub item: DueItem,
+    /// The number of the last row that changed its case or the court's days.
+    pub revision: u64,
+    /// Whether it is off the calendar.
+    pub cancelled: bool,
+}
+
+/// The types inside an appointment. The checker finds them only where they have names, so a function that has a `Vec` of
+/// appointments has a variable of this type.
+pub(crate) type AppointmentTypes = Option<(DueTypes, DueItem, Hearing, Panel, Day, Instant)>;
+
+/// The items; then the deadlines, among what is due before any judge, of cases in which the chosen judge has no hearing any more;
+/// and then the chosen hearings that are off, by case and motion. The histories are as that judge saw them. `Err` says that memory
+/// ran out.
+#[tactic(auto, unfolding(crate::specs::Appointments::appointments_of))]
+pub fn appointments_of(
+    alloc: Global,
+    choice: &Choice,
+    histories: &HearingHistories,
+    items: &[DueItem],
+    others: &[DueItem],
+) -> Result<Vec<Appointment>, AllocError>
+    ensures { IfOk result (λ list. list.items ≡ appointments_of choice.now histories.now items.now others.now) }
+{
+    let _types: DueTypes = None;
+    let mut list = Vec::new(alloc);
+    push_items(&mut list, histories, items)?;
+    push_off_deadlines(alloc, &mut list, histories, others)?;
+    push_off(&mut list, choice, histories)?;
+    Ok(list)
+}
+
+/// Adds the items as they are set.
+fn push_items(
+    list: &mut Vec<Appointment>,
+    histories: &HearingHistories,
+    items: &[DueItem],
+) -> Result<(), AllocError>
+    ensures { OnOk result (list.new.items ≡ list.old.items ++ map (appointment_of histories.now) items.now) }
+{
+    let _types: DueTypes = None;
+    for item in items {
+        list.push(appointment_of(histories, item))?;
+    }
+    Ok(())
+}
+
+/// The item, as it is set.
+fn appointment_of(histories: &HearingHistories, item: &DueItem) -> Appointment
+    ensures { result ≡ appointment_of histories.now item.now }
+{
+    Appointment {
+        item: *item,
+        revision: histories.revision(item.case),
+        cancelled: false,
+    }
+}

@@ -1,0 +1,123 @@
+//! Hearings that are off.
+
+ghost use Rattle.std.specs.Prelude.{◌≡◌, ◌+◌, ◌≤◌, ◌++◌, OnOk};
+ghost use Rattle.report_ics.specs.Appointments.{chosen_only, item_of, off_from, off_hearing, off_hearings, off_in_case, set_off};
+
+use crate::appointment::{Appointment, AppointmentTypes};
+use crate::lists::push_if;
+use docket_rows::{LAST_CASE, MOST_MOTIONS, SheetHearing};
+use docket_selection::{Choice, DueItem, HearingHistories, HearingHistory, Matter, is_due};
+use std::alloc::AllocError;
+
+/// Adds the chosen hearings that are off, by case and motion.
+pub(crate) fn push_off(
+    list: &mut Vec<Appointment>,
+    choice: &Choice,
+    histories: &HearingHistories,
+) -> Result<(), AllocError>
+    ensures { OnOk result (list.new.items ≡ list.old.items ++ off_hearings choice.now histories.now) }
+{
+    push_off_from(list, choice, histories, 1, LAST_CASE)
+}
+
+/// Adds those of some cases, from the first number on.
+fn push_off_from(
+    list: &mut Vec<Appointment>,
+    choice: &Choice,
+    histories: &HearingHistories,
+    first: u32,
+    count: u32,
+) -> Result<(), AllocError>
+    requires numbers { first + count ≤ 5_000 }
+    ensures { OnOk result (list.new.items ≡ list.old.items ++ off_from choice.now histories.now first count) }
+{
+    let _types: AppointmentTypes = None;
+    for case in first..first + count {
+        push_off_in(list, choice, histories, case, 1, MOST_MOTIONS as u32)?;
+    }
+    Ok(())
+}
+
+/// Adds those of some motions of a case, from the first number on.
+fn push_off_in(
+    list: &mut Vec<Appointment>,
+    choice: &Choice,
+    histories: &HearingHistories,
+    case: u32,
+    first: u32,
+    count: u32,
+) -> Result<(), AllocError>
+    requires numbers { first + count ≤ 5_000 }
+    ensures { OnOk result (list.new.items ≡ list.old.items ++ off_in_case choice.now histories.now case first count) }
+{
+    let _types: AppointmentTypes = None;
+    for motion in first..first + count {
+        push_if(list, off_hearing(choice, histories, case, motion))?;
+    }
+    Ok(())
+}
+
+/// The hearing of a motion, if it is off and chosen.
+fn off_hearing(
+    choice: &Choice,
+    histories: &HearingHistories,
+    case: u32,
+    motion: u32,
+) -> Option<Appointment>
+    ensures { result ≡ off_hearing choice.now histories.now case motion }
+{
+    let revision = histories.revision(case);
+    chosen_only(
+        choice,
+        set_off(revision, case, motion, histories.of(case, motion)),
+    )
+}
+
+/// The hearing of a motion, if it is off.
+fn set_off(
+    revision: u64,
+    case: u32,
+    motion: u32,
+    history: Option<HearingHistory>,
+) -> Option<Appointment>
+    ensures { result ≡ set_off revision case motion history }
+{
+    let history = history?;
+    if history.cancelled {
+        Some(Appointment {
+            item: item_of(case, motion, &history),
+            revision,
+            cancelled: true,
+        })
+    } else {
+        None
+    }
+}
+
+/// A hearing as it was set last.
+fn item_of(case: u32, number: u32, history: &HearingHistory) -> DueItem
+    ensures { result ≡ item_of case number history.now }
+{
+    DueItem {
+        day: history.hearing.day,
+        second: 900 * u32::from(history.hearing.first),
+        case,
+        number,
+        matter: Matter::Hearing(SheetHearing {
+            hearing: history.hearing,
+            affidavits: None,
+        }),
+    }
+}
+
+/// The appointment, if there is one and it is chosen.
+fn chosen_only(choice: &Choice, appointment: Option<Appointment>) -> Option<Appointment>
+    ensures { result ≡ chosen_only choice.now appointment }
+{
+    let appointment = appointment?;
+    if is_due(choice, true, &appointment.item) {
+        Some(appointment)
+    } else {
+        None
+    }
+}

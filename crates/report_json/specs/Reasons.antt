@@ -1,0 +1,68 @@
+-- The sheets of cases, with the reasons of each deadline.
+use Rattle.std.specs.Prelude.{ℤ, List, [], ◌∷◌, ◌++◌, map, Option, Some, None, codes}
+use Rattle.json.specs.Json.{Json, string}
+use Rattle.court_clock.specs.Words.{ClockView}
+use Rattle.case_numbers.specs.declared.names.NamedCase.{NamedCase}
+use Rattle.court_days.specs.Words.{CourtView}
+use Rattle.deadline_reasons.specs.declared.reason.Reason.{Reason}
+use Rattle.deadline_reasons.specs.declared.reason.Reason.TheVariants.{HoursFrom, HoursCounted, SameTime, UntilInstant}
+use Rattle.reason_texts.specs.declared.course.Course.{Course}
+use Rattle.reason_texts.specs.Words.{course_after, course_of, day_shown, section_text, what_text}
+use Rattle.docket_selection.specs.declared.explained.explained.ExplainedDeadline.{ExplainedDeadline}
+use Rattle.docket_selection.specs.declared.explained.explained.ExplainedSheet.{ExplainedSheet}
+use Rattle.report_json.specs.Cases.{case_fields}
+use Rattle.report_json.specs.Deadlines.{deadline_fields}
+use Rattle.report_json.specs.Motions.{motion_value}
+use Rattle.report_json.specs.Times.{day_value, instant_value}
+use Rattle.report_json.specs.Values.{Field, array_of, field, object_of, or_null}
+
+-- the instant that a reason is about, where it is about one
+abbrev pub instant_shown : Reason → Option ℤ
+instant_shown (HoursFrom instant) = Some instant
+instant_shown (HoursCounted hours instant forward) = Some instant
+instant_shown (SameTime day instant) = Some instant
+instant_shown (UntilInstant instant) = Some instant
+instant_shown _ = None
+
+-- the day and the instant that a reason is about, what happened, and the section of the Rules by which it goes; no holiday is
+-- called by a name of the court's file
+abbrev pub reason_fields : ClockView → Course → Reason → List Field
+reason_fields clock course r =
+    field (codes "day") (or_null day_value (day_shown clock r))
+    ∷ field (codes "at") (or_null (instant_value clock.zone) (instant_shown r))
+    ∷ field (codes "text") (string (what_text clock [] course.direction r))
+    ∷ field (codes "section") (string (section_text course r))
+    ∷ []
+
+unfoldable pub reason_value : ClockView → Course → Reason → Json
+reason_value clock course r = object_of (reason_fields clock course r)
+
+-- the reasons in their order, each in the course of those before it
+unfoldable pub reason_values : ClockView → Course → List Reason → List Json
+reason_values clock course [] = []
+reason_values clock course (r ∷ reasons) = reason_value clock course r ∷ reason_values clock (course_after course r) reasons
+
+abbrev pub reasons_field : ClockView → ExplainedDeadline → Field
+reasons_field clock e = field (codes "reasons") (array_of (reason_values clock (course_of e.deadline.row.period) e.reasons.items))
+
+-- a deadline, and why its time ends when it does
+abbrev pub explained_fields : ClockView → ExplainedDeadline → List Field
+explained_fields clock e = deadline_fields clock.zone e.deadline ++ reasons_field clock e ∷ []
+
+unfoldable pub explained_value : ClockView → ExplainedDeadline → Json
+explained_value clock e = object_of (explained_fields clock e)
+
+-- when a case was filed, each of its deadlines with its reasons, and each of its motions, in order
+unfoldable pub explained_docketed : CourtView → ExplainedSheet → List Field
+explained_docketed court e =
+    field (codes "filed") (day_value e.filed)
+    ∷ field (codes "deadlines") (array_of (map (explained_value court.clock) e.deadlines.items))
+    ∷ field (codes "motions") (array_of (map (motion_value court) e.motions))
+    ∷ []
+
+-- a case: its number, its name where it has one, and what is docketed in it
+abbrev pub explained_sheet_fields : CourtView → List NamedCase → ExplainedSheet → List Field
+explained_sheet_fields court named e = case_fields named e.case ++ explained_docketed court e
+
+unfoldable pub case_value : CourtView → List NamedCase → ExplainedSheet → Json
+case_value court named e = object_of (explained_sheet_fields court named e)

@@ -1,0 +1,189 @@
+//! The whole: the court, what each row was answered, the sheets of cases and the calendars of judges.
+
+ghost use Rattle.std.specs.Prelude.{◌≡◌, ◌<◌, [], ◌∷◌, IfOk, OnOk, codes};
+ghost use Rattle.std.specs.List.{flat_map};
+ghost use Rattle.json.specs.Tree.{json_tokens};
+ghost use Rattle.docket_rows.specs.Words.{Rows, opening_rows, setup_of};
+ghost use Rattle.docket_core.specs.Words.{StandsFor};
+ghost use Rattle.office_texts.specs.Run.Words.{Holds, docketed_after};
+ghost use Rattle.report_json.specs.Document.{AreSheetsAfter, IsDocketJson, answers_from, calendars_field, court_fields, court_value, document_fields, document_value};
+ghost use Rattle.report_json.specs.Values.{Adds, AddsFields, AddsValue, array_of, field};
+
+use crate::answers::AnsweredRow;
+use crate::names::push_judges;
+use crate::to_json::ToJson;
+use crate::writer::JsonWriter;
+use case_numbers::Cases;
+use court_days::Court;
+use desk_numbers::MovedNumbers;
+use docket_core::Docket;
+use docket_selection::{Choice, ExplainedSheet};
+use office_texts::reply_to;
+use report_numbers::{explained_selection, numbered_calendars};
+use row_forms::Row;
+use std::alloc::{AllocError, Global};
+
+/// One line of JSON: an object with the court, what each row was answered, the sheets of the chosen cases with the reasons
+/// of each deadline, and the calendars of the chosen judges after the last row. `cases` has the names of cases, each of which
+/// is beside the number of its case. Deadlines and motions have the numbers that `moved` says, while rows name them by their
+/// places. `Err` says that memory ran out.
+pub fn json_text(
+    alloc: Global,
+    court: &Court,
+    cases: &Cases,
+    moved: &MovedNumbers,
+    rows: &[Row],
+    choice: &Choice,
+) -> Result<Vec<u8>, AllocError>
+    ensures { IfOk result (λ text. IsDocketJson court.now cases.now.named moved.now choice.now rows.now text.items) }
+{
+    let mut out = JsonWriter::new(alloc);
+    let _sheets = push_document(alloc, &mut out, court, cases, moved, rows, choice)?;
+    let mut text = out.into_text();
+    text.push(b'\n')?;
+    Ok(text)
+}
+
+/// Writes the whole object, and gives the sheets that are in it.
+fn push_document(
+    alloc: Global,
+    out: &mut JsonWriter,
+    court: &Court,
+    cases: &Cases,
+    moved: &MovedNumbers,
+    rows: &[Row],
+    choice: &Choice,
+) -> Result<Vec<ExplainedSheet>, AllocError>
+    ensures sheets { IfOk result (λ sheets. AreSheetsAfter court.now moved.now choice.now rows.now sheets.items) }
+    ensures object { IfOk result (λ sheets. AddsValue out.old out.new (document_value court.now cases.now.named moved.now choice.now rows.now sheets.items)) }
+{
+    out.begin_object()?;
+    let sheets = push_document_fields(alloc, out, court, cases, moved, rows, choice)?;
+    out.end_object()?;
+    Ok(sheets)
+}
+
+fn push_document_fields(
+    alloc: Global,
+    out: &mut JsonWriter,
+    court: &Court,
+    cases: &Cases,
+    moved: &MovedNumbers,
+    rows: &[Row],
+    choice: &Choice,
+) -> Result<Vec<ExplainedSheet>, AllocError>
+    ensures sheets { IfOk result (λ sheets. AreSheetsAfter court.now moved.now choice.now rows.now sheets.items) }
+    ensures fields { IfOk result (λ sheets. AddsFields out.old out.new (document_fields court.now cases.now.named moved.now choice.now rows.now sheets.items)) }
+{
+    let mut docket = Docket::new(alloc, court)?;
+    push_court(out, court, cases)?;
+    push_answers(alloc, out, court, cases, moved, &mut docket, rows)?;
+    let sheets = explained_selection(alloc, court, &docket, moved, choice)?;
+    out.list_field(court, cases, "cases", &sheets)?;
+    push_calendars(alloc, out, court, cases, moved, &docket, choice)?;
+    Ok(sheets)
+}
+
+/// Writes the court.
+#[tactic(auto, unfolding(crate::specs::Values::field_tokens))]
+fn push_court(out: &mut JsonWriter, court: &Court, cases: &Cases) -> Result<(), AllocError>
+    ensures { OnOk result (AddsFields out.old out.new (field (codes "court") (court_value court.now) ∷ [])) }
+{
+    out.key("court")?;
+    push_court_value(out, court, cases)
+}
+
+fn push_court_value(out: &mut JsonWriter, court: &Court, cases: &Cases) -> Result<(), AllocError>
+    ensures { OnOk result (AddsValue out.old out.new (court_value court.now)) }
+{
+    out.begin_object()?;
+    push_court_fields(out, court, cases)?;
+    out.end_object()
+}
+
+/// Writes the hours of the clerk's office, the first and the last day, and the judges.
+fn push_court_fields(out: &mut JsonWriter, court: &Court, cases: &Cases) -> Result<(), AllocError>
+    ensures { OnOk result (AddsFields out.old out.new (court_fields court.now)) }
+{
+    let (opens, closes) = hours_of(court);
+    out.minute_field("opens", opens)?;
+    out.minute_field("closes", closes)?;
+    out.field(court, cases, "from", &court.days().from())?;
+    out.field(court, cases, "to", &court.days().to())?;
+    push_judges(out, court)
+}
+
+/// The minutes of the day at which the clerk's office opens and closes.
+fn hours_of(court: &Court) -> (u16, u16)
+    ensures opens { (result.0 ≡ court.now.clock.opens) × (result.0 < 1440) }
+    ensures closes { (result.1 ≡ court.now.clock.closes) × (result.1 < 1440) }
+{
+    let clock = court.clock();
+    let closes = clock.closes();
+    (clock.opens(), closes)
+}
+
+/// Writes what each row is answered, and carries it out.
+fn push_answers(
+    alloc: Global,
+    out: &mut JsonWriter,
+    court: &Court,
+    cases: &Cases,
+    moved: &MovedNumbers,
+    docket: &mut Docket,
+    rows: &[Row],
+) -> Result<(), AllocError>
+    requires { Holds (setup_of court.now) docket.old (opening_rows (setup_of court.now)) }
+    ensures answers { OnOk result (AddsFields out.old out.new (field (codes "answers") (array_of (answers_from court.now cases.now.named moved.now (opening_rows (setup_of court.now)) 1 rows.now)) ∷ [])) }
+    ensures docket { OnOk result (Holds (setup_of court.now) docket.new (docketed_after (setup_of court.now) (opening_rows (setup_of court.now)) rows.now)) }
+{
+    out.key("answers")?;
+    out.begin_array()?;
+    push_answered(alloc, out, court, cases, moved, docket, rows)?;
+    out.end_array()
+}
+
+/// Carries out each row in turn, and writes what it is answered, without the brackets.
+fn push_answered(
+    alloc: Global,
+    out: &mut JsonWriter,
+    court: &Court,
+    cases: &Cases,
+    moved: &MovedNumbers,
+    docket: &mut Docket,
+    rows: &[Row],
+) -> Result<(), AllocError>
+    requires { Holds (setup_of court.now) docket.old (opening_rows (setup_of court.now)) }
+    ensures answers { OnOk result (Adds out.old out.new (flat_map json_tokens (answers_from court.now cases.now.named moved.now (opening_rows (setup_of court.now)) 1 rows.now))) }
+    ensures docket { OnOk result (Holds (setup_of court.now) docket.new (docketed_after (setup_of court.now) (opening_rows (setup_of court.now)) rows.now)) }
+{
+    let mut number = 1u64;
+    for row in rows {
+        let reply = reply_to(alloc, docket, &row.work)?;
+        let answered = AnsweredRow {
+            number,
+            clerk: row.clerk,
+            reply: moved.number_reply(&row.work, reply),
+        };
+        answered.write(out, court, cases)?;
+        number += 1;
+    }
+    Ok(())
+}
+
+/// Writes the calendars of the chosen judges.
+fn push_calendars(
+    alloc: Global,
+    out: &mut JsonWriter,
+    court: &Court,
+    cases: &Cases,
+    moved: &MovedNumbers,
+    docket: &Docket,
+    choice: &Choice,
+) -> Result<(), AllocError>
+    requires court { docket.now.setup ≡ setup_of court.now }
+    ensures { (docketed : Rows) → StandsFor docket.now docketed → OnOk result (AddsFields out.old out.new (calendars_field court.now cases.now.named moved.now choice.now docketed ∷ [])) }
+{
+    let calendars = numbered_calendars(alloc, court, docket, moved, choice)?;
+    out.list_field(court, cases, "calendars", &calendars)
+}

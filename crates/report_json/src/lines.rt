@@ -1,0 +1,83 @@
+//! What each row is answered, as a line of JSON, for a reader that takes them one by one.
+
+ghost use Rattle.std.specs.Prelude.{◌≡◌, ◌++◌, All, IfOk, OnOk};
+ghost use Rattle.std.specs.List.{flat_map};
+ghost use Rattle.docket_rows.specs.Words.{opening_rows, setup_of};
+ghost use Rattle.office_texts.specs.Run.Words.{Holds};
+ghost use Rattle.report_json.specs.Answers.{answered_value};
+ghost use Rattle.report_json.specs.Lines.{AreAnswerLines, ReadsBack, answers_of, line_of};
+
+use crate::answers::AnsweredRow;
+use crate::to_json::ToJson;
+use crate::writer::JsonWriter;
+use case_numbers::Cases;
+use court_days::Court;
+use desk_numbers::MovedNumbers;
+use docket_core::Docket;
+use office_texts::reply_to;
+use row_forms::Row;
+use std::alloc::{AllocError, Global};
+
+/// A line of JSON for each row, in their order: an object that says what the row is answered, as among the answers of
+/// `json_text`, with the numbers that `moved` says. `Err` says that memory ran out.
+pub fn answer_lines(
+    alloc: Global,
+    court: &Court,
+    cases: &Cases,
+    moved: &MovedNumbers,
+    rows: &[Row],
+) -> Result<Vec<u8>, AllocError>
+    ensures { IfOk result (λ text. AreAnswerLines court.now cases.now.named moved.now rows.now text.items) }
+{
+    let mut docket = Docket::new(alloc, court)?;
+    let mut text = Vec::new(alloc);
+    push_lines(alloc, &mut text, court, cases, moved, &mut docket, rows)?;
+    Ok(text)
+}
+
+/// Carries out each row in turn, and adds the line of what it is answered.
+fn push_lines(
+    alloc: Global,
+    text: &mut Vec<u8>,
+    court: &Court,
+    cases: &Cases,
+    moved: &MovedNumbers,
+    docket: &mut Docket,
+    rows: &[Row],
+) -> Result<(), AllocError>
+    requires { Holds (setup_of court.now) docket.old (opening_rows (setup_of court.now)) }
+    ensures lines { OnOk result (text.new.items ≡ text.old.items ++ flat_map line_of (answers_of court.now cases.now.named moved.now rows.now)) }
+    ensures read { OnOk result (All ReadsBack (answers_of court.now cases.now.named moved.now rows.now)) }
+{
+    let mut number = 1u64;
+    for row in rows {
+        let reply = reply_to(alloc, docket, &row.work)?;
+        let answered = AnsweredRow {
+            number,
+            clerk: row.clerk,
+            reply: moved.number_reply(&row.work, reply),
+        };
+        push_line(alloc, text, court, cases, &answered)?;
+        number += 1;
+    }
+    Ok(())
+}
+
+/// Adds the line of what a row is answered.
+fn push_line(
+    alloc: Global,
+    text: &mut Vec<u8>,
+    court: &Court,
+    cases: &Cases,
+    answered: &AnsweredRow,
+) -> Result<(), AllocError>
+    ensures line { OnOk result (text.new.items ≡ text.old.items ++ line_of (answered_value court.now cases.now.named answered.now)) }
+    ensures read { OnOk result (ReadsBack (answered_value court.now cases.now.named answered.now)) }
+{
+    let mut out = JsonWriter::new(alloc);
+    answered.write(&mut out, court, cases)?;
+    let line = out.into_text();
+    text.extend_from_slice(&line)?;
+    text.push(b'\n')?;
+    Ok(())
+}

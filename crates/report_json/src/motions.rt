@@ -1,0 +1,109 @@
+//! Motions, with their hearings.
+
+ghost use Rattle.std.specs.Prelude.{[], ◌∷◌, OnOk, codes};
+ghost use Rattle.report_json.specs.Motions.{hearing_value, notice_days_of};
+ghost use Rattle.report_json.specs.Values.{AddsFields, amount, field, or_null};
+
+use crate::names::push_panel;
+use crate::spans::push_span;
+use crate::to_json::{ToFields, ToJson};
+use crate::writer::JsonWriter;
+use case_numbers::Cases;
+use court_days::Court;
+use docket_rows::{SheetHearing, SheetMotion};
+use hearing_slots::Need;
+use std::alloc::AllocError;
+
+impl ToFields for SheetMotion {
+    ghost use Rattle.report_json.specs.Motions.{motion_fields};
+
+    ghost fields = { λ court named motion. motion_fields court motion };
+
+    fn write_fields(
+        &self,
+        out: &mut JsonWriter,
+        court: &Court,
+        cases: &Cases,
+    ) -> Result<(), AllocError> {
+        out.field(court, cases, "number", &self.number)?;
+        out.field(court, cases, "served", &self.served)?;
+        out.field(court, cases, "notice_days", &self.need)?;
+        push_hearing_if_set(out, court, cases, &self.hearing)
+    }
+}
+
+/// Writes the hearing of a motion, if one is set.
+#[tactic(auto, unfolding(crate::specs::Values::field_tokens))]
+fn push_hearing_if_set(
+    out: &mut JsonWriter,
+    court: &Court,
+    cases: &Cases,
+    hearing: &Option<SheetHearing>,
+) -> Result<(), AllocError>
+    ensures { OnOk result (AddsFields out.old out.new (field (codes "hearing") (or_null (hearing_value court.now) hearing.now) ∷ [])) }
+{
+    out.key("hearing")?;
+    match hearing {
+        Some(hearing) => hearing.write(out, court, cases),
+        None => out.null(),
+    }
+}
+
+impl ToJson for SheetMotion {
+    ghost use Rattle.report_json.specs.Motions.{motion_value};
+
+    ghost value = { λ court named motion. motion_value court motion };
+
+    #[tactic(auto, unfolding(crate::specs::Motions::motion_value))]
+    fn write(&self, out: &mut JsonWriter, court: &Court, cases: &Cases) -> Result<(), AllocError> {
+        out.object(court, cases, self)
+    }
+}
+
+/// The days of notice that a motion needs; none if it may be heard without notice.
+impl ToJson for Need {
+    ghost value = { λ court named need. or_null amount (notice_days_of need) };
+
+    fn write(
+        &self,
+        out: &mut JsonWriter,
+        _court: &Court,
+        _cases: &Cases,
+    ) -> Result<(), AllocError> {
+        match self {
+            Need::ExParte => out.null(),
+            Need::Days(days) => out.number(u64::from(*days)),
+        }
+    }
+}
+
+impl ToFields for SheetHearing {
+    ghost use Rattle.report_json.specs.Motions.{hearing_fields};
+
+    ghost fields = { λ court named hearing. hearing_fields court hearing };
+
+    fn write_fields(
+        &self,
+        out: &mut JsonWriter,
+        court: &Court,
+        cases: &Cases,
+    ) -> Result<(), AllocError> {
+        let hearing = &self.hearing;
+        push_panel(out, court, hearing.judges.judges())?;
+        out.text_if_any("room", court.room_name(hearing.room))?;
+        out.field(court, cases, "notice", &hearing.notice)?;
+        out.field(court, cases, "affidavits", &self.affidavits)?;
+        push_span(out, court, cases, hearing.day, hearing.first, hearing.count)
+    }
+}
+
+impl ToJson for SheetHearing {
+    ghost use Rattle.report_json.specs.Motions.{hearing_value};
+
+    ghost value = { λ court named hearing. hearing_value court hearing };
+
+    #[tactic(auto, unfolding(crate::specs::Motions::hearing_value))]
+    fn write(&self, out: &mut JsonWriter, court: &Court, cases: &Cases) -> Result<(), AllocError> {
+        out.object(court, cases, self)
+    }
+}

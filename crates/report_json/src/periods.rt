@@ -1,0 +1,190 @@
+//! The period of a deadline, and its extensions.
+
+ghost use Rattle.std.specs.Prelude.{◌≡◌, option_copied};
+ghost use Rattle.office_texts.specs.Words.{act_text, direction_text, start_text};
+ghost use Rattle.report_json.specs.Periods.{code_of, day_of_grant, days_of_grant, days_of_length, entered_of, hours_of_grant, hours_of_length, service_letter};
+
+use crate::to_json::{ToFields, ToJson};
+use crate::writer::JsonWriter;
+use case_numbers::Cases;
+use court_clock::{Day, Direction};
+use court_days::Court;
+use rule_periods::{Entered, Grant, Length, Period};
+use rule6::{Act, ServiceKind};
+use std::alloc::AllocError;
+
+/// The code of a period that the Rules set.
+pub(crate) fn code_of(period: &Period) -> Option<&'static str>
+    ensures { option_copied result ≡ code_of period.now }
+{
+    match period {
+        Period::Rule(rule) => Some(rule.code()),
+        Period::Entered(_) => None,
+    }
+}
+
+/// What a court entered.
+pub(crate) fn entered_of(period: &Period) -> Option<Entered>
+    ensures { result ≡ entered_of period.now }
+{
+    match period {
+        Period::Rule(_) => None,
+        Period::Entered(entered) => Some(*entered),
+    }
+}
+
+impl ToFields for Entered {
+    ghost use Rattle.report_json.specs.Periods.{entered_fields};
+
+    ghost fields = { λ court named entered. entered_fields entered };
+
+    fn write_fields(
+        &self,
+        out: &mut JsonWriter,
+        court: &Court,
+        cases: &Cases,
+    ) -> Result<(), AllocError> {
+        out.field(court, cases, "days", &days_of_length(self.length))?;
+        out.field(court, cases, "hours", &hours_of_length(self.length))?;
+        out.text_field("direction", direction_word(self.direction))?;
+        out.text_field("act", act_word(self.act))?;
+        out.text_field("from", start_word(self.served))?;
+        out.text_field("mark", self.mark.code())
+    }
+}
+
+impl ToJson for Entered {
+    ghost use Rattle.report_json.specs.Periods.{entered_value};
+
+    ghost value = { λ court named entered. entered_value entered };
+
+    #[tactic(auto, unfolding(crate::specs::Periods::entered_value))]
+    fn write(&self, out: &mut JsonWriter, court: &Court, cases: &Cases) -> Result<(), AllocError> {
+        out.object(court, cases, self)
+    }
+}
+
+fn days_of_length(length: Length) -> Option<u32>
+    ensures { result ≡ days_of_length length }
+{
+    match length {
+        Length::Days(days) => Some(days),
+        Length::Hours(_) => None,
+    }
+}
+
+fn hours_of_length(length: Length) -> Option<u32>
+    ensures { result ≡ hours_of_length length }
+{
+    match length {
+        Length::Days(_) => None,
+        Length::Hours(hours) => Some(hours),
+    }
+}
+
+fn direction_word(direction: Direction) -> &'static str
+    ensures { result.now ≡ direction_text direction }
+{
+    match direction {
+        Direction::After => "after",
+        Direction::Before => "before",
+    }
+}
+
+fn act_word(act: Act) -> &'static str
+    ensures { result.now ≡ act_text act }
+{
+    match act {
+        Act::Filing => "filing",
+        Act::Service => "service",
+    }
+}
+
+fn start_word(served: bool) -> &'static str
+    ensures { result.now ≡ start_text served }
+{
+    if served { "served" } else { "event" }
+}
+
+impl ToJson for ServiceKind {
+    ghost use Rattle.report_json.specs.Periods.{service_value};
+
+    ghost value = { λ court named kind. service_value kind };
+
+    fn write(
+        &self,
+        out: &mut JsonWriter,
+        _court: &Court,
+        _cases: &Cases,
+    ) -> Result<(), AllocError> {
+        out.text(service_letter(*self))
+    }
+}
+
+fn service_letter(kind: ServiceKind) -> &'static str
+    ensures { result.now ≡ service_letter kind }
+{
+    match kind {
+        ServiceKind::HandA => "A",
+        ServiceKind::LeftB => "B",
+        ServiceKind::MailC => "C",
+        ServiceKind::ClerkD => "D",
+        ServiceKind::ElectronicE => "E",
+        ServiceKind::OtherF => "F",
+    }
+}
+
+impl ToFields for Grant {
+    ghost use Rattle.report_json.specs.Periods.{grant_fields};
+
+    ghost fields = { λ court named grant. grant_fields grant };
+
+    fn write_fields(
+        &self,
+        out: &mut JsonWriter,
+        court: &Court,
+        cases: &Cases,
+    ) -> Result<(), AllocError> {
+        out.field(court, cases, "days", &days_of_grant(*self))?;
+        out.field(court, cases, "hours", &hours_of_grant(*self))?;
+        out.field(court, cases, "until", &day_of_grant(*self))
+    }
+}
+
+impl ToJson for Grant {
+    ghost use Rattle.report_json.specs.Periods.{grant_value};
+
+    ghost value = { λ court named grant. grant_value grant };
+
+    #[tactic(auto, unfolding(crate::specs::Periods::grant_value))]
+    fn write(&self, out: &mut JsonWriter, court: &Court, cases: &Cases) -> Result<(), AllocError> {
+        out.object(court, cases, self)
+    }
+}
+
+fn days_of_grant(grant: Grant) -> Option<u32>
+    ensures { result ≡ days_of_grant grant }
+{
+    match grant {
+        Grant::ByDays(days) => Some(days),
+        Grant::ByHours(_) | Grant::Until(_) => None,
+    }
+}
+
+fn hours_of_grant(grant: Grant) -> Option<u32>
+    ensures { result ≡ hours_of_grant grant }
+{
+    match grant {
+        Grant::ByHours(hours) => Some(hours),
+        Grant::ByDays(_) | Grant::Until(_) => None,
+    }
+}
+
+fn day_of_grant(grant: Grant) -> Option<Day>
+    ensures { result ≡ day_of_grant grant }
+{
+    match grant {
+        Grant::Until(day) => Some(day),
+        Grant::ByDays(_) | Grant::ByHours(_) => None,
+    }
+}

@@ -1,0 +1,176 @@
+//! The sheets of cases, with the reasons of each deadline.
+
+ghost use Rattle.std.specs.Prelude.{◌≡◌, [], ◌∷◌, OnOk};
+ghost use Rattle.std.specs.List.{flat_map};
+ghost use Rattle.json.specs.Tree.{json_tokens};
+ghost use Rattle.report_json.specs.Reasons.{explained_docketed, instant_shown, reason_values, reasons_field};
+ghost use Rattle.report_json.specs.Values.{Adds, AddsFields};
+
+use crate::to_json::{ToFields, ToJson};
+use crate::writer::JsonWriter;
+use case_numbers::Cases;
+use court_clock::Instant;
+use court_days::Court;
+use deadline_reasons::Reason;
+use docket_selection::{ExplainedDeadline, ExplainedSheet};
+use reason_texts::{Course, day_shown};
+use std::alloc::AllocError;
+
+/// A reason, in the course of those before it.
+#[derive(Clone, Copy, Debug)]
+struct Step {
+    course: Course,
+    reason: Reason,
+}
+
+impl ToFields for Step {
+    ghost use Rattle.report_json.specs.Reasons.{reason_fields};
+
+    ghost fields = { λ court named step. reason_fields court.clock step.course step.reason };
+
+    fn write_fields(
+        &self,
+        out: &mut JsonWriter,
+        court: &Court,
+        cases: &Cases,
+    ) -> Result<(), AllocError> {
+        let clock = court.clock();
+        out.field(court, cases, "day", &day_shown(clock, &self.reason))?;
+        out.field(court, cases, "at", &instant_shown(&self.reason))?;
+        out.what_field(clock, &self.course, &self.reason)?;
+        out.section_field(&self.course, &self.reason)
+    }
+}
+
+impl ToJson for Step {
+    ghost use Rattle.report_json.specs.Reasons.{reason_value};
+
+    ghost value = { λ court named step. reason_value court.clock step.course step.reason };
+
+    #[tactic(auto, unfolding(crate::specs::Reasons::reason_value))]
+    fn write(&self, out: &mut JsonWriter, court: &Court, cases: &Cases) -> Result<(), AllocError> {
+        out.object(court, cases, self)
+    }
+}
+
+/// The instant that a reason is about, where it is about one.
+fn instant_shown(reason: &Reason) -> Option<Instant>
+    ensures { result ≡ instant_shown reason.now }
+{
+    match *reason {
+        Reason::HoursFrom(instant)
+        | Reason::HoursCounted(_, instant, _)
+        | Reason::SameTime(_, instant)
+        | Reason::UntilInstant(instant) => Some(instant),
+        _ => None,
+    }
+}
+
+/// Writes the reasons of a deadline.
+fn push_reasons(
+    out: &mut JsonWriter,
+    court: &Court,
+    cases: &Cases,
+    explained: &ExplainedDeadline,
+) -> Result<(), AllocError>
+    ensures { OnOk result (AddsFields out.old out.new (reasons_field court.now.clock explained.now ∷ [])) }
+{
+    let course = Course::of(&explained.deadline.row.period());
+    out.key("reasons")?;
+    out.begin_array()?;
+    push_steps(out, court, cases, course, &explained.reasons)?;
+    out.end_array()
+}
+
+/// Writes each reason, without the brackets.
+fn push_steps(
+    out: &mut JsonWriter,
+    court: &Court,
+    cases: &Cases,
+    course: Course,
+    reasons: &[Reason],
+) -> Result<(), AllocError>
+    ensures { OnOk result (Adds out.old out.new (flat_map json_tokens (reason_values court.now.clock course reasons.now))) }
+{
+    let mut here = course;
+    for reason in reasons {
+        let step = Step {
+            course: here,
+            reason: *reason,
+        };
+        step.write(out, court, cases)?;
+        here = here.after(reason);
+    }
+    Ok(())
+}
+
+impl ToFields for ExplainedDeadline {
+    ghost use Rattle.report_json.specs.Reasons.{explained_fields};
+
+    ghost fields = { λ court named e. explained_fields court.clock e };
+
+    #[tactic(auto, using(crate::proofs::TokenLemmas::more_fields))]
+    fn write_fields(
+        &self,
+        out: &mut JsonWriter,
+        court: &Court,
+        cases: &Cases,
+    ) -> Result<(), AllocError> {
+        self.deadline.write_fields(out, court, cases)?;
+        push_reasons(out, court, cases, self)
+    }
+}
+
+impl ToJson for ExplainedDeadline {
+    ghost use Rattle.report_json.specs.Reasons.{explained_value};
+
+    ghost value = { λ court named e. explained_value court.clock e };
+
+    #[tactic(auto, unfolding(crate::specs::Reasons::explained_value))]
+    fn write(&self, out: &mut JsonWriter, court: &Court, cases: &Cases) -> Result<(), AllocError> {
+        out.object(court, cases, self)
+    }
+}
+
+impl ToFields for ExplainedSheet {
+    ghost use Rattle.report_json.specs.Reasons.{explained_sheet_fields};
+
+    ghost fields = { explained_sheet_fields };
+
+    #[tactic(auto, using(crate::proofs::TokenLemmas::more_fields))]
+    fn write_fields(
+        &self,
+        out: &mut JsonWriter,
+        court: &Court,
+        cases: &Cases,
+    ) -> Result<(), AllocError> {
+        out.case_fields(court, cases, self.case)?;
+        push_docketed(out, court, cases, self)
+    }
+}
+
+/// Writes when a case was filed, its deadlines with their reasons and its motions.
+#[tactic(auto, unfolding(crate::specs::Reasons::explained_docketed))]
+fn push_docketed(
+    out: &mut JsonWriter,
+    court: &Court,
+    cases: &Cases,
+    sheet: &ExplainedSheet,
+) -> Result<(), AllocError>
+    ensures { OnOk result (AddsFields out.old out.new (explained_docketed court.now sheet.now)) }
+{
+    out.field(court, cases, "filed", &sheet.filed)?;
+    out.list_field(court, cases, "deadlines", sheet.deadlines.as_slice())?;
+    out.list_field(court, cases, "motions", sheet.motions.as_slice())
+}
+
+impl ToJson for ExplainedSheet {
+    ghost use Rattle.report_json.specs.Reasons.{case_value};
+
+    ghost value = { case_value };
+
+    #[tactic(auto, unfolding(crate::specs::Reasons::case_value))]
+    fn write(&self, out: &mut JsonWriter, court: &Court, cases: &Cases) -> Result<(), AllocError> {
+        out.object(court, cases, self)
+    }
+}

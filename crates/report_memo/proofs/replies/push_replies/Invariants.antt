@@ -1,0 +1,19 @@
+use Rattle.std.proofs.Common.{◌≡◌, ◌+◌, ℕ, List, drop, take, string_bytes}
+use Rattle.docket_rows.specs.Words.{setup_of, opening_rows}
+use Rattle.office_texts.specs.Run.Words.{Holds, docketed_after}
+use Rattle.report_memo.specs.Replies.{AreReplies}
+use Rattle.report_memo.specs.Texts.{Adds}
+use Rattle.report_memo.proofs.replies.push_replies.Given as goal
+
+-- the docket holds what is docketed after the rows so far; whatever adds the replies to those that are left adds all
+abbrev pub invariant-loop-row : goal.invariant-loop-row
+invariant-loop-row l =
+    let setup = setup_of l.court in
+    let docketed = docketed_after setup (opening_rows setup) (take l.row-index l.rows) in
+    record {
+      number : l.number ≡ l.row-index + 1;
+      holds : Holds setup l.docket docketed;
+      leads : (new : List ℕ)
+          → Adds (AreReplies l.court l.names l.cases.named l.moved docketed l.number (drop l.row-index l.rows)) (string_bytes l.text) new
+          → Adds (AreReplies l.court l.names l.cases.named l.moved (opening_rows setup) 1 l.rows) (string_bytes l.fn.text) new;
+    }

@@ -1,0 +1,117 @@
+-- The replies to rows, with the reasons of each deadline that they show.
+use Rattle.std.specs.Prelude.{◌≡◌, ℕ, ◌+◌, Bool, true, false, List, [], ◌∷◌, Option, Some, None, ◌++◌, codes, if◌then◌else◌}
+use Rattle.case_numbers.specs.declared.names.NamedCase.{NamedCase}
+use Rattle.court_days.specs.Words.{CourtView}
+use Rattle.rule_periods.specs.Words.{DeadlineRowView}
+use Rattle.docket_rows.specs.declared.answer.Answer.TheVariants as answer
+use Rattle.docket_rows.specs.declared.command.Command.TheVariants as command
+use Rattle.docket_rows.specs.declared.query.Query.{Query as QueryOf}
+use Rattle.docket_rows.specs.declared.query.Query.TheVariants as query
+use Rattle.docket_rows.specs.declared.sheet.Sheet.{Sheet}
+use Rattle.docket_rows.specs.declared.view.View.TheVariants as view
+use Rattle.docket_rows.specs.Words.{Rows, setup_of, started}
+use Rattle.docket_core.specs.Words.{DocketView}
+use Rattle.desk_numbers.specs.declared.moved.Moved.{Moved}
+use Rattle.desk_numbers.specs.Words.{numbered}
+use Rattle.row_forms.specs.declared.row.Row.{Row}
+use Rattle.row_forms.specs.declared.row.Work.{Work}
+use Rattle.row_forms.specs.declared.row.Work.TheVariants.{Command, Query}
+use Rattle.office_texts.specs.declared.run.reply.Reply.{Reply}
+use Rattle.office_texts.specs.declared.run.reply.Reply.TheVariants.{Made, Viewed}
+use Rattle.office_texts.specs.Run.Words.{Holds, docketed_then, reply_to, row_numbers}
+use Rattle.office_texts.specs.Named.Words.{named_line_of}
+use Rattle.reason_texts.specs.Words.{NamedDay}
+use Rattle.report_memo.specs.declared.detail.Detail.TheVariants.{Reasons}
+use Rattle.report_memo.specs.Notes.{notes_text}
+use Rattle.report_memo.specs.Reasons.{AreReasonsDocketed, AreReasonsIfAny}
+use Rattle.report_memo.specs.Sheets.{IsSheet}
+use Rattle.report_memo.specs.Texts.{Is, Then}
+
+-- the case and the place of the deadline that was to start and was given that place, and of the one whose time was to be
+-- extended
+abbrev pub deadline_started : Work → (place : ℕ) → Option (ℕ × ℕ)
+deadline_started (Command (command.Start case period event second service)) place = Some (case, place)
+deadline_started work place = None
+
+abbrev pub deadline_extended : Work → Option (ℕ × ℕ)
+deadline_extended (Command (command.Extend case deadline request)) = Some (case, deadline)
+deadline_extended work = None
+
+-- the case and the place of the docketed deadline whose end a reply tells
+abbrev pub deadline_told : Work → Reply → Option (ℕ × ℕ)
+deadline_told work (Made (answer.Started place shown)) = deadline_started work place
+deadline_told work (Made (answer.Extended shown)) = deadline_extended work
+deadline_told work reply = None
+
+-- the deadline whose end a query asks for, as it would start now
+abbrev pub deadline_queried : QueryOf → Option DeadlineRowView
+deadline_queried (query.Compute period event second service) = Some (started period event second service)
+deadline_queried q = None
+
+abbrev pub deadline_asked : Work → Option DeadlineRowView
+deadline_asked (Query q) = deadline_queried q
+deadline_asked (Command c) = None
+
+-- the reply is that end
+abbrev pub is_computed : Reply → Bool
+is_computed (Viewed (view.Computed shown)) = true
+is_computed reply = false
+
+-- the deadline whose end was asked for, where it is computed
+abbrev pub deadline_computed : Work → Reply → Option DeadlineRowView
+deadline_computed work reply = if is_computed reply then deadline_asked work else None
+
+-- The docket of that court has answered the work so, and stands for what is docketed since.
+pub record HasAnswered (court : CourtView) (docket : DocketView) (docketed : Rows) (work : Work) (reply : Reply) : Type 0 where
+  pub before : Rows
+  pub said : reply ≡ reply_to (setup_of court) before work
+  pub left : docketed ≡ docketed_then (setup_of court) before work
+  pub holds : Holds (setup_of court) docket docketed
+
+-- the reasons of the deadline whose end a reply tells, as it is docketed after the row, or of that whose end is computed
+abbrev pub AreReasonsTold : CourtView → List NamedDay → (docketed : Rows) → Option (ℕ × ℕ) → Option DeadlineRowView → List ℕ → Type 0
+AreReasonsTold court names docketed (Some told) computed = AreReasonsDocketed court names docketed told.0 told.1
+AreReasonsTold court names docketed None computed = AreReasonsIfAny court names docketed.days computed
+
+abbrev pub AreReasonsWith : CourtView → List NamedDay → (docketed : Rows) → Work → Reply → List ℕ → Type 0
+AreReasonsWith court names docketed work reply = AreReasonsTold court names docketed (deadline_told work reply) (deadline_computed work reply)
+
+-- what is written below the line of a reply: the reasons of the deadline that it tells, and what is said of an act or a refusal
+abbrev pub IsTold : CourtView → List NamedDay → List NamedCase → List Moved → (docketed : Rows) → Work → Reply → List ℕ → Type 0
+IsTold court names named moved docketed work reply = Then (AreReasonsWith court names docketed work reply) (Is (notes_text court named moved docketed work reply))
+
+-- the sheet that a reply shows
+abbrev pub sheet_replied : Reply → Option Sheet
+sheet_replied (Viewed (view.Sheet sheet)) = Some sheet
+sheet_replied reply = None
+
+-- a reply that shows no list: nothing is written below a list
+abbrev pub without_list : Reply → Option Reply
+without_list (Viewed (view.Sheet sheet)) = None
+without_list (Viewed (view.Bookings bookings)) = None
+without_list reply = Some reply
+
+-- to the row of that number of that clerk a sheet with the reasons of its deadlines, or the text of the reply with numbers and
+-- what is written below it
+abbrev pub IsReplyWith : CourtView → List NamedDay → List NamedCase → List Moved → (docketed : Rows) → (number clerk : ℕ) → Work → Reply → Option Sheet → List ℕ → Type 0
+IsReplyWith court names named moved docketed number clerk work reply (Some sheet) =
+    Then (Is (row_numbers number clerk ++ codes "sheet\n")) (IsSheet court names named docketed.days Reasons sheet)
+IsReplyWith court names named moved docketed number clerk work reply None =
+    Then (Is (named_line_of court named number clerk (numbered moved work reply))) (IsTold court names named moved docketed work reply)
+
+-- the docket's reply is by places, and what it shows has numbers
+abbrev pub IsReply : CourtView → List NamedDay → List NamedCase → List Moved → (docketed : Rows) → (number clerk : ℕ) → Work → Reply → List ℕ → Type 0
+IsReply court names named moved docketed number clerk work reply =
+    IsReplyWith court names named moved docketed number clerk work reply (sheet_replied (numbered moved work reply))
+
+-- the reply to a row, before which this is docketed: the row's number, its clerk's, and the reply
+abbrev pub IsRow : CourtView → List NamedDay → List NamedCase → List Moved → (docketed : Rows) → (number : ℕ) → Row → List ℕ → Type 0
+IsRow court names named moved docketed number row =
+    IsReply court names named moved (docketed_then (setup_of court) docketed row.work) number row.clerk row.work (reply_to (setup_of court) docketed row.work)
+
+-- the replies to rows, the first of which has that number
+unfoldable pub AreReplies : CourtView → List NamedDay → List NamedCase → List Moved → (docketed : Rows) → (number : ℕ) → List Row → List ℕ → Type 0
+AreReplies court names named moved docketed number [] = Is []
+AreReplies court names named moved docketed number (row ∷ rows) =
+    Then (IsRow court names named moved docketed number row)
+    (AreReplies court names named moved (docketed_then (setup_of court) docketed row.work) (number + 1) rows)

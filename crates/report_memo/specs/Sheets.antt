@@ -1,0 +1,76 @@
+-- A sheet with the reasons of its deadlines.
+use Rattle.std.specs.Prelude.{ℕ, ℤ, List, [], ◌++◌, Option, Some, None}
+use Rattle.std.specs.List.{flat_map}
+use Rattle.case_numbers.specs.declared.names.NamedCase.{NamedCase}
+use Rattle.court_clock.specs.Words.{ClockView}
+use Rattle.court_days.specs.Words.{CourtView, DaysView}
+use Rattle.docket_rows.specs.declared.sheet.Sheet.{Sheet}
+use Rattle.docket_rows.specs.declared.sheet.SheetDeadline.{SheetDeadline}
+use Rattle.docket_rows.specs.declared.sheet.SheetHearing.{SheetHearing}
+use Rattle.docket_rows.specs.declared.sheet.SheetMotion.{SheetMotion}
+use Rattle.docket_rows.specs.declared.sheet.State.{State}
+use Rattle.docket_rows.specs.declared.sheet.State.TheVariants.{Pending}
+use Rattle.docket_rows.specs.declared.view.View.{View}
+use Rattle.docket_rows.specs.declared.view.View.TheVariants as view
+use Rattle.rule6.specs.declared.timeliness.Shown.{Shown}
+use Rattle.office_texts.specs.Words.{deadline_line, motion_lines}
+use Rattle.office_texts.specs.Named.Words.{named_case_line}
+use Rattle.reason_texts.specs.Words.{NamedDay}
+use Rattle.reason_notes.specs.Margins.Words.{ahead_line, recorded_lines}
+use Rattle.reason_notes.specs.Warnings.Words.{deadline_notes, hearing_notes}
+use Rattle.report_memo.specs.declared.detail.Detail.{Detail}
+use Rattle.report_memo.specs.declared.detail.Detail.TheVariants.{Reasons, Whole}
+use Rattle.report_memo.specs.Reasons.{AreReasons}
+use Rattle.report_memo.specs.Sources.{source_lines}
+use Rattle.report_memo.specs.Texts.{Each, Is, Then}
+
+-- how far the end of a deadline lies from a day, where one is given and no act is recorded
+abbrev pub ahead_if_pending : ClockView → (today : Option ℤ) → State → Shown → List ℕ
+ahead_if_pending clock (Some today) Pending shown = ahead_line clock today shown
+ahead_if_pending clock today state shown = []
+
+-- what comes before the reasons of a deadline: its line, and on the whole sheet of a case the rows that made it what it is
+abbrev pub source_lines_if : Detail → (number : ℕ) → List ℕ
+source_lines_if Reasons number = []
+source_lines_if (Whole today sources) number = source_lines number sources
+
+abbrev pub first_lines : ClockView → Detail → SheetDeadline → List ℕ
+first_lines clock detail d = deadline_line clock d ++ source_lines_if detail d.number
+
+-- what comes after them on that of a case that was filed on that day: the act that is recorded and by how much it was in time
+-- or late, how far the end lies from a day, and what a reader is warned of
+abbrev pub whole_lines : CourtView → DaysView → (filed : ℤ) → (today : Option ℤ) → SheetDeadline → List ℕ
+whole_lines court days filed today d =
+    recorded_lines days court.clock (Some d.row) ++ ahead_if_pending court.clock today d.state d.shown ++ deadline_notes days court.clock filed today d.row d.shown
+
+abbrev pub more_lines : CourtView → DaysView → (filed : ℤ) → Detail → SheetDeadline → List ℕ
+more_lines court days filed Reasons d = []
+more_lines court days filed (Whole today sources) d = whole_lines court days filed today d
+
+-- the line of a deadline, its reasons, and what comes before and after them
+abbrev pub IsDeadline : CourtView → List NamedDay → DaysView → (filed : ℤ) → Detail → SheetDeadline → List ℕ → Type 0
+IsDeadline court names days filed detail d =
+    Then (Is (first_lines court.clock detail d)) (Then (AreReasons court names days d.row) (Is (more_lines court days filed detail d)))
+
+-- what a reader is warned of a hearing, where one is set
+abbrev pub notes_if_set : DaysView → Option SheetHearing → List ℕ
+notes_if_set days (Some h) = hearing_notes days h.hearing.day
+notes_if_set days None = []
+
+-- a motion on the whole sheet of a case
+abbrev pub whole_motion : CourtView → DaysView → SheetMotion → List ℕ
+whole_motion court days m = motion_lines court m ++ notes_if_set days m.hearing
+
+abbrev pub motions_text : CourtView → DaysView → Detail → List SheetMotion → List ℕ
+motions_text court days Reasons motions = flat_map (motion_lines court) motions
+motions_text court days (Whole today sources) motions = flat_map (whole_motion court days) motions
+
+-- the line of the case, then its deadlines, each with its reasons, then its motions
+abbrev pub IsSheet : CourtView → List NamedDay → List NamedCase → DaysView → Detail → Sheet → List ℕ → Type 0
+IsSheet court names named days detail sheet =
+    Then (Is (named_case_line named sheet)) (Then (Each (IsDeadline court names days sheet.filed detail) sheet.deadlines) (Is (motions_text court days detail sheet.motions)))
+
+-- a case that isn't open shows none
+abbrev pub IsSheetShown : CourtView → List NamedDay → List NamedCase → DaysView → View → List ℕ → Type 0
+IsSheetShown court names named days (view.Sheet sheet) = IsSheet court names named days Reasons sheet
+IsSheetShown court names named days _ = Is []

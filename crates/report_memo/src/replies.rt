@@ -1,0 +1,273 @@
+//! The replies to rows, with the numbers of what they show, and the reasons of each deadline.
+
+ghost use Rattle.std.specs.Prelude.{◌≡◌, ◌++◌, codes, option_copied, OnOk};
+ghost use Rattle.rule6.specs.declared.timeliness.Shown.{Shown};
+ghost use Rattle.docket_rows.specs.declared.view.View.TheVariants.{Computed};
+ghost use Rattle.docket_rows.specs.Words.{Rows, setup_of, opening_rows, view_of};
+ghost use Rattle.office_texts.specs.declared.run.reply.Reply.{Reply};
+ghost use Rattle.office_texts.specs.declared.run.reply.Reply.TheVariants.{Viewed};
+ghost use Rattle.office_texts.specs.Run.Words.{Holds, docketed_after, docketed_then, row_numbers};
+ghost use Rattle.office_texts.specs.Words.{AddsText};
+ghost use Rattle.report_memo.specs.Reasons.{AreReasonsIfAny};
+ghost use Rattle.report_memo.specs.Replies.{AreReasonsWith, AreReplies, HasAnswered, IsReply, IsRow, IsTold, deadline_asked, deadline_extended, deadline_queried, deadline_started, deadline_told, is_computed, sheet_replied, without_list};
+ghost use Rattle.report_memo.specs.Texts.{Pushes};
+
+use crate::detail::Detail;
+use crate::notes::push_notes;
+use crate::reasons::{push_docketed_reasons, push_started_reasons};
+use crate::sheets::push_sheet;
+use case_numbers::Cases;
+use court_days::Court;
+use desk_numbers::MovedNumbers;
+use docket_core::Docket;
+use docket_rows::{Answer, Command, Query, Sheet, View};
+use office_texts::{Reply, push_named_line, push_numbers, reply_to};
+use reason_texts::HolidayName;
+use row_forms::{Row, Work};
+use std::alloc::{AllocError, Global};
+
+/// Carries out each row in turn, and adds the reply to it. `Err` says that memory ran out.
+pub(crate) fn push_replies(
+    alloc: Global,
+    text: &mut String,
+    court: &Court,
+    names: &[HolidayName],
+    cases: &Cases,
+    moved: &MovedNumbers,
+    docket: &mut Docket,
+    rows: &[Row],
+) -> Result<(), AllocError>
+    requires { Holds (setup_of court.now) docket.old (opening_rows (setup_of court.now)) }
+    ensures text { Pushes (AreReplies court.now names.now cases.now.named moved.now (opening_rows (setup_of court.now)) 1 rows.now) result text.old text.new }
+    ensures docket { OnOk result (Holds (setup_of court.now) docket.new (docketed_after (setup_of court.now) (opening_rows (setup_of court.now)) rows.now)) }
+{
+    let mut number = 1u64;
+    for row in rows {
+        push_row(alloc, text, court, names, cases, moved, docket, number, row)?;
+        number += 1;
+    }
+    Ok(())
+}
+
+/// Carries out a row of that number, counted from 1, and adds the reply to it.
+fn push_row(
+    alloc: Global,
+    text: &mut String,
+    court: &Court,
+    names: &[HolidayName],
+    cases: &Cases,
+    moved: &MovedNumbers,
+    docket: &mut Docket,
+    number: u64,
+    row: &Row,
+) -> Result<(), AllocError>
+    ensures text { (docketed : Rows) → Holds (setup_of court.now) docket.old docketed → Pushes (IsRow court.now names.now cases.now.named moved.now docketed number row.now) result text.old text.new }
+    ensures docket { (docketed : Rows) → Holds (setup_of court.now) docket.old docketed → OnOk result (Holds (setup_of court.now) docket.new (docketed_then (setup_of court.now) docketed row.now.work)) }
+{
+    let reply = reply_to(alloc, docket, &row.work)?;
+    push_explained(
+        alloc, text, court, names, cases, moved, docket, number, row.clerk, &row.work, reply,
+    )
+}
+
+/// Adds the reply to what was asked for in the row of that number of that clerk, with the numbers of what it shows, and the
+/// reasons of the deadlines that it shows, where the docket is as it was left. The docket is asked by places, so what is said
+/// of the reply goes by the reply without numbers.
+fn push_explained(
+    alloc: Global,
+    text: &mut String,
+    court: &Court,
+    names: &[HolidayName],
+    cases: &Cases,
+    moved: &MovedNumbers,
+    docket: &Docket,
+    number: u64,
+    clerk: u8,
+    work: &Work,
+    reply: Reply,
+) -> Result<(), AllocError>
+    ensures { (docketed : Rows) → HasAnswered court.now docket.now docketed work.now reply → Pushes (IsReply court.now names.now cases.now.named moved.now docketed number clerk work.now reply) result text.old text.new }
+{
+    let placed = without_list(&reply);
+    let numbered = moved.number_reply(work, reply);
+    match sheet_replied(&numbered) {
+        Some(sheet) => {
+            push_sheet_front(text, number, clerk)?;
+            push_sheet(
+                alloc,
+                text,
+                court,
+                names,
+                cases,
+                docket.days(),
+                &Detail::Reasons,
+                sheet,
+            )
+        }
+        None => {
+            push_named_line(text, court, cases, number, clerk, &numbered)?;
+            push_told(
+                alloc, text, court, names, cases, moved, docket, work, placed,
+            )
+        }
+    }
+}
+
+/// The same reply, unless it shows a list.
+fn without_list(reply: &Reply) -> Option<Reply>
+    ensures { result ≡ without_list reply.now }
+{
+    match reply {
+        Reply::Made(answer) => Some(Reply::Made(*answer)),
+        Reply::Viewed(View::Computed(shown)) => Some(Reply::Viewed(View::Computed(*shown))),
+        Reply::Viewed(View::Refused(refusal)) => Some(Reply::Viewed(View::Refused(*refusal))),
+        Reply::Viewed(_) => None,
+    }
+}
+
+/// Adds what is written below the line of a reply, which is given unless it shows a list.
+fn push_told(
+    alloc: Global,
+    text: &mut String,
+    court: &Court,
+    names: &[HolidayName],
+    cases: &Cases,
+    moved: &MovedNumbers,
+    docket: &Docket,
+    work: &Work,
+    placed: Option<Reply>,
+) -> Result<(), AllocError>
+    ensures { (docketed : Rows) (reply : Reply) → HasAnswered court.now docket.now docketed work.now reply → placed ≡ without_list reply →
+        Pushes (IsTold court.now names.now cases.now.named moved.now docketed work.now reply) result text.old text.new }
+{
+    match placed {
+        Some(reply) => {
+            push_reasons_told(alloc, text, court, names, docket, work, &reply)?;
+            push_notes(alloc, text, court, cases, moved, docket, work, &reply)
+        }
+        None => Ok(()),
+    }
+}
+
+/// Adds what comes before a sheet that a reply shows.
+fn push_sheet_front(text: &mut String, number: u64, clerk: u8) -> Result<(), AllocError>
+    ensures { OnOk result (AddsText text.old text.new (row_numbers number clerk ++ codes "sheet\n")) }
+{
+    push_numbers(text, number, clerk)?;
+    text.push_str("sheet\n")
+}
+
+/// The sheet that a reply shows.
+fn sheet_replied(reply: &Reply) -> Option<&Sheet>
+    ensures { option_copied result ≡ sheet_replied reply.now }
+{
+    match reply {
+        Reply::Viewed(View::Sheet(sheet)) => Some(sheet),
+        _ => None,
+    }
+}
+
+/// Adds the reasons of the deadline that a reply tells, if it tells one.
+fn push_reasons_told(
+    alloc: Global,
+    text: &mut String,
+    court: &Court,
+    names: &[HolidayName],
+    docket: &Docket,
+    work: &Work,
+    reply: &Reply,
+) -> Result<(), AllocError>
+    ensures { (docketed : Rows) → HasAnswered court.now docket.now docketed work.now reply.now → Pushes (AreReasonsWith court.now names.now docketed work.now reply.now) result text.old text.new }
+{
+    match deadline_told(work, reply) {
+        Some((case, place)) => push_docketed_reasons(
+            alloc, text, court, names, docket, case, place,
+        ),
+        None if is_computed(reply) => push_reasons_asked(alloc, text, court, names, docket, work),
+        None => Ok(()),
+    }
+}
+
+/// Whether a reply is the end that was asked for.
+fn is_computed(reply: &Reply) -> bool
+    ensures { result ≡ is_computed reply.now }
+{
+    matches!(reply, Reply::Viewed(View::Computed(_)))
+}
+
+/// Adds the reasons of the deadline whose end was asked for and is computed.
+fn push_reasons_asked(
+    alloc: Global,
+    text: &mut String,
+    court: &Court,
+    names: &[HolidayName],
+    docket: &Docket,
+    work: &Work,
+) -> Result<(), AllocError>
+    ensures { (docketed : Rows) (shown : Shown) → HasAnswered court.now docket.now docketed work.now (Viewed (Computed shown)) →
+        Pushes (AreReasonsIfAny court.now names.now docketed.days (deadline_asked work.now)) result text.old text.new }
+{
+    match work {
+        Work::Query(query) => push_reasons_queried(alloc, text, court, names, docket, query),
+        _ => Ok(()),
+    }
+}
+
+/// Adds the reasons of the deadline whose end a query asked for and is computed.
+fn push_reasons_queried(
+    alloc: Global,
+    text: &mut String,
+    court: &Court,
+    names: &[HolidayName],
+    docket: &Docket,
+    query: &Query,
+) -> Result<(), AllocError>
+    ensures { (docketed : Rows) (shown : Shown) → Computed shown ≡ view_of (setup_of court.now) docketed query.now → Holds (setup_of court.now) docket.now docketed →
+        Pushes (AreReasonsIfAny court.now names.now docketed.days (deadline_queried query.now)) result text.old text.new }
+{
+    match query {
+        Query::Compute(period, event, second, service) => push_started_reasons(
+            alloc,
+            text,
+            court,
+            names,
+            docket.days(),
+            period,
+            event,
+            second,
+            service,
+        ),
+        _ => Ok(()),
+    }
+}
+
+/// The case and the place of the docketed deadline whose end a reply tells.
+fn deadline_told(work: &Work, reply: &Reply) -> Option<(u32, u32)>
+    ensures { result ≡ deadline_told work.now reply.now }
+{
+    match reply {
+        Reply::Made(Answer::Started(place, _)) => deadline_started(work, *place),
+        Reply::Made(Answer::Extended(_)) => deadline_extended(work),
+        _ => None,
+    }
+}
+
+/// The case and the place of the deadline that was to start, and was given that place.
+fn deadline_started(work: &Work, place: u32) -> Option<(u32, u32)>
+    ensures { result ≡ deadline_started work.now place }
+{
+    match work {
+        Work::Command(Command::Start { case, .. }) => Some((*case, place)),
+        _ => None,
+    }
+}
+
+/// The case and the place of the deadline whose time was to be extended.
+fn deadline_extended(work: &Work) -> Option<(u32, u32)>
+    ensures { result ≡ deadline_extended work.now }
+{
+    match work {
+        Work::Command(Command::Extend { case, deadline, .. }) => Some((*case, *deadline)),
+        _ => None,
+    }
+}

@@ -1,0 +1,157 @@
+//! Sheets with the reasons of their deadlines.
+
+ghost use Rattle.std.specs.Prelude.{◌≡◌, ◌+◌, ◌++◌, ◌≤◌, OnOk, string_bytes};
+ghost use Rattle.docket_rows.specs.Words.{Rows, setup_of};
+ghost use Rattle.office_texts.specs.Run.Words.{Holds};
+ghost use Rattle.report_memo.specs.Memo.{AreSheets};
+ghost use Rattle.report_memo.specs.Sheets.{IsDeadline, IsSheet, IsSheetShown, first_lines};
+ghost use Rattle.report_memo.specs.Texts.{Each, Pushes};
+
+use crate::detail::Detail;
+use crate::reasons::push_deadline_reasons;
+use crate::sources::push_sources;
+use crate::whole::{push_all_motions, push_more};
+use case_numbers::Cases;
+use court_clock::Day;
+use court_days::{Court, Days};
+use desk_numbers::MovedNumbers;
+use docket_core::Docket;
+use docket_rows::{Query, Sheet, SheetDeadline, View};
+use office_texts::{push_case_line, push_deadline};
+use reason_texts::HolidayName;
+use std::alloc::{AllocError, Global};
+
+/// Adds the lines of a sheet, with the reasons of each deadline after its line, and more where more is asked for. `Err`
+/// says that memory ran out.
+pub(crate) fn push_sheet(
+    alloc: Global,
+    text: &mut String,
+    court: &Court,
+    names: &[HolidayName],
+    cases: &Cases,
+    days: &Days,
+    detail: &Detail,
+    sheet: &Sheet,
+) -> Result<(), AllocError>
+    ensures { Pushes (IsSheet court.now names.now cases.now.named days.now detail.now sheet.now) result text.old text.new }
+{
+    push_case_line(text, cases, sheet)?;
+    push_deadlines(
+        alloc,
+        text,
+        court,
+        names,
+        days,
+        sheet.filed,
+        detail,
+        sheet.deadlines.as_slice(),
+    )?;
+    push_all_motions(text, court, days, detail, sheet.motions.as_slice())
+}
+
+/// Adds the line of each deadline, its reasons, and what comes before and after them.
+fn push_deadlines(
+    alloc: Global,
+    text: &mut String,
+    court: &Court,
+    names: &[HolidayName],
+    days: &Days,
+    filed: Day,
+    detail: &Detail,
+    deadlines: &[SheetDeadline],
+) -> Result<(), AllocError>
+    ensures { Pushes (Each (IsDeadline court.now names.now days.now filed detail.now) deadlines.now) result text.old text.new }
+{
+    for deadline in deadlines {
+        push_explained(alloc, text, court, names, days, filed, detail, deadline)?;
+    }
+    Ok(())
+}
+
+/// Adds the line of a deadline, its reasons, and what comes before and after them.
+fn push_explained(
+    alloc: Global,
+    text: &mut String,
+    court: &Court,
+    names: &[HolidayName],
+    days: &Days,
+    filed: Day,
+    detail: &Detail,
+    deadline: &SheetDeadline,
+) -> Result<(), AllocError>
+    ensures { Pushes (IsDeadline court.now names.now days.now filed detail.now deadline.now) result text.old text.new }
+{
+    push_first_lines(alloc, text, court, detail, deadline)?;
+    push_deadline_reasons(alloc, text, court, names, days, &deadline.row)?;
+    push_more(alloc, text, court, days, filed, detail, deadline)
+}
+
+/// Adds the line of a deadline, and where the whole sheet is asked for the rows that made it what it is.
+fn push_first_lines(
+    alloc: Global,
+    text: &mut String,
+    court: &Court,
+    detail: &Detail,
+    deadline: &SheetDeadline,
+) -> Result<(), AllocError>
+    ensures { OnOk result (string_bytes text.new ≡ string_bytes text.old ++ first_lines court.now.clock detail.now deadline.now) }
+{
+    push_deadline(text, court.clock(), deadline)?;
+    match detail {
+        Detail::Reasons => Ok(()),
+        Detail::Whole { sources, .. } => {
+            push_sources(alloc, text, deadline.number, sources.as_slice())
+        }
+    }
+}
+
+/// Adds the sheets of the open ones of that number of cases, from the first number on, with the numbers of their deadlines and
+/// motions.
+pub(crate) fn push_sheets(
+    alloc: Global,
+    text: &mut String,
+    court: &Court,
+    names: &[HolidayName],
+    cases: &Cases,
+    moved: &MovedNumbers,
+    docket: &Docket,
+    first: u32,
+    count: u32,
+) -> Result<(), AllocError>
+    requires numbers { first + count ≤ 5_000 }
+    ensures { (docketed : Rows) → Holds (setup_of court.now) docket.now docketed → Pushes (AreSheets court.now names.now cases.now.named moved.now docketed first count) result text.old text.new }
+{
+    for case in first..first + count {
+        let view = docket.show(alloc, &Query::Sheet(case))?;
+        let numbered = moved.number_view(view);
+        push_sheet_shown(alloc, text, court, names, cases, docket.days(), &numbered)?;
+    }
+    Ok(())
+}
+
+/// Adds the lines of a sheet and the reasons of its deadlines, where the view is one.
+fn push_sheet_shown(
+    alloc: Global,
+    text: &mut String,
+    court: &Court,
+    names: &[HolidayName],
+    cases: &Cases,
+    days: &Days,
+    view: &View,
+) -> Result<(), AllocError>
+    ensures { Pushes (IsSheetShown court.now names.now cases.now.named days.now view.now) result text.old text.new }
+{
+    match view {
+        View::Sheet(sheet) => push_sheet(
+            alloc,
+            text,
+            court,
+            names,
+            cases,
+            days,
+            &Detail::Reasons,
+            sheet,
+        ),
+        _ => Ok(()),
+    }
+}

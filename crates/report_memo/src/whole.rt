@@ -1,0 +1,137 @@
+//! What the whole sheet of a case says beside the reasons of its deadlines.
+
+ghost use Rattle.std.specs.Prelude.{◌≡◌, ◌++◌, OnOk, string_bytes};
+ghost use Rattle.std.specs.List.{flat_map};
+ghost use Rattle.report_memo.specs.Sheets.{ahead_if_pending, more_lines, motions_text, notes_if_set, whole_lines, whole_motion};
+
+use crate::detail::Detail;
+use court_clock::{Clock, Day};
+use court_days::{Court, Days};
+use docket_rows::{SheetDeadline, SheetHearing, SheetMotion, State};
+use office_texts::push_motions;
+use reason_notes::{push_ahead, push_deadline_notes, push_hearing_notes, push_recorded};
+use rule6::Shown;
+use std::alloc::{AllocError, Global};
+use std::slice::from_ref;
+
+/// Adds what comes after the reasons of a deadline, where the whole sheet is asked for. `Err` says that memory ran out.
+pub(crate) fn push_more(
+    alloc: Global,
+    text: &mut String,
+    court: &Court,
+    days: &Days,
+    filed: Day,
+    detail: &Detail,
+    deadline: &SheetDeadline,
+) -> Result<(), AllocError>
+    ensures { OnOk result (string_bytes text.new ≡ string_bytes text.old ++ more_lines court.now days.now filed detail.now deadline.now) }
+{
+    match detail {
+        Detail::Reasons => Ok(()),
+        Detail::Whole { today, .. } => {
+            push_whole(alloc, text, court, days, filed, today, deadline)
+        }
+    }
+}
+
+/// Adds the act of a deadline, how far its end lies from a day, and what a reader is warned of.
+fn push_whole(
+    alloc: Global,
+    text: &mut String,
+    court: &Court,
+    days: &Days,
+    filed: Day,
+    today: &Option<Day>,
+    deadline: &SheetDeadline,
+) -> Result<(), AllocError>
+    ensures { OnOk result (string_bytes text.new ≡ string_bytes text.old ++ whole_lines court.now days.now filed today.now deadline.now) }
+{
+    let (clock, row) = (court.clock(), &deadline.row);
+    push_recorded(alloc, text, days, clock, Some(row))?;
+    push_if_pending(alloc, text, clock, *today, deadline.state, &deadline.shown)?;
+    push_deadline_notes(
+        alloc,
+        text,
+        days,
+        clock,
+        filed,
+        *today,
+        row,
+        &deadline.shown,
+    )
+}
+
+/// Adds how far the end of a deadline lies from a day, where one is given and no act is recorded.
+fn push_if_pending(
+    alloc: Global,
+    text: &mut String,
+    clock: &Clock,
+    today: Option<Day>,
+    state: State,
+    shown: &Shown,
+) -> Result<(), AllocError>
+    ensures { OnOk result (string_bytes text.new ≡ string_bytes text.old ++ ahead_if_pending clock.now today state shown.now) }
+{
+    match (today, state) {
+        (Some(today), State::Pending) => push_ahead(alloc, text, clock, today, shown),
+        _ => Ok(()),
+    }
+}
+
+/// Adds the lines of all motions, and where the whole sheet is asked for the notes on their hearings.
+pub(crate) fn push_all_motions(
+    text: &mut String,
+    court: &Court,
+    days: &Days,
+    detail: &Detail,
+    motions: &[SheetMotion],
+) -> Result<(), AllocError>
+    ensures { OnOk result (string_bytes text.new ≡ string_bytes text.old ++ motions_text court.now days.now detail.now motions.now) }
+{
+    match detail {
+        Detail::Reasons => push_motions(text, court, motions),
+        Detail::Whole { .. } => push_whole_motions(text, court, days, motions),
+    }
+}
+
+/// Adds the lines of each motion, and the notes on its hearing.
+fn push_whole_motions(
+    text: &mut String,
+    court: &Court,
+    days: &Days,
+    motions: &[SheetMotion],
+) -> Result<(), AllocError>
+    ensures { OnOk result (string_bytes text.new ≡ string_bytes text.old ++ flat_map (whole_motion court.now days.now) motions.now) }
+{
+    for motion in motions {
+        push_whole_motion(text, court, days, motion)?;
+    }
+    Ok(())
+}
+
+/// Adds the lines of a motion, and the notes on its hearing.
+fn push_whole_motion(
+    text: &mut String,
+    court: &Court,
+    days: &Days,
+    motion: &SheetMotion,
+) -> Result<(), AllocError>
+    ensures { OnOk result (string_bytes text.new ≡ string_bytes text.old ++ whole_motion court.now days.now motion.now) }
+{
+    push_motions(text, court, from_ref(motion))?;
+    push_notes_if_set(text, days, motion.hearing)
+}
+
+/// Adds the notes on a hearing, where one is set.
+fn push_notes_if_set(
+    text: &mut String,
+    days: &Days,
+    hearing: Option<SheetHearing>,
+) -> Result<(), AllocError>
+    ensures { OnOk result (string_bytes text.new ≡ string_bytes text.old ++ notes_if_set days.now hearing) }
+{
+    match hearing {
+        Some(hearing) => push_hearing_notes(text, days, hearing.hearing.day),
+        None => Ok(()),
+    }
+}

@@ -1,0 +1,27 @@
+-- Items of what is due and judges' bookings, with the numbers that deadlines and motions keep.
+use Rattle.std.specs.Prelude.{List, map}
+use Rattle.docket_selection.specs.declared.bookings.DayBookings.{DayBookings}
+use Rattle.docket_selection.specs.declared.calendars.JudgeCalendar.{JudgeCalendar}
+use Rattle.docket_selection.specs.declared.item.DueItem.{DueItem}
+use Rattle.docket_selection.specs.declared.item.Matter.{Matter}
+use Rattle.docket_selection.specs.declared.item.Matter.TheVariants as matter
+use Rattle.docket_rows.specs.declared.command.Counted.{Counted}
+use Rattle.docket_rows.specs.declared.command.Counted.TheVariants.{Deadline, Motion}
+use Rattle.desk_numbers.specs.declared.moved.Moved.{Moved}
+use Rattle.desk_numbers.specs.Words.{number_in, numbered_booking}
+
+-- what the number of an item is the number of
+abbrev pub counted_in : Matter → Counted
+counted_in (matter.Deadline d) = Deadline
+counted_in (matter.Hearing h) = Motion
+
+-- an item with the number of its deadline or its motion
+abbrev pub numbered_item : List Moved → DueItem → DueItem
+numbered_item moved item = record item { number = number_in moved item.case (counted_in item.matter) item.number }
+
+-- the bookings of a judge, and those on a day, with the numbers of their motions
+abbrev pub numbered_calendar : List Moved → JudgeCalendar → JudgeCalendar
+numbered_calendar moved c = record c { bookings = map (numbered_booking moved) c.bookings }
+
+abbrev pub numbered_day : List Moved → DayBookings → DayBookings
+numbered_day moved d = record d { bookings = map (numbered_booking moved) d.bookings }

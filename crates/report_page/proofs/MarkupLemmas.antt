@@ -1,0 +1,189 @@
+-- Each part of a page is made of elements and escaped texts alone.
+use Rattle.std.proofs.Common.{ℕ, ℤ, Bool, true, false, List, [], ◌∷◌, ◌++◌, Option, Some, None}
+use Rattle.std.specs.Prelude.{if◌then◌else◌}
+use Rattle.std.specs.List.{flat_map}
+use Rattle.case_numbers.specs.declared.names.NamedCase.{NamedCase}
+use Rattle.court_clock.specs.Words.{ClockView}
+use Rattle.court_days.specs.Words.{CourtView, DaysView}
+use Rattle.rule6.specs.declared.timeliness.Shown.{Shown}
+use Rattle.hearing_slots.specs.declared.booking.Booking.{Booking}
+use Rattle.rule_periods.specs.Words.{DeadlineRowView}
+use Rattle.docket_rows.specs.declared.sheet.SheetDeadline.{SheetDeadline}
+use Rattle.docket_rows.specs.declared.sheet.SheetHearing.{SheetHearing}
+use Rattle.docket_rows.specs.declared.sheet.SheetMotion.{SheetMotion}
+use Rattle.docket_selection.specs.declared.calendars.JudgeCalendar.{JudgeCalendar}
+use Rattle.docket_selection.specs.declared.item.DueItem.{DueItem}
+use Rattle.reason_notes.specs.Readings.Words.{other_end}
+use Rattle.page_markup.specs.declared.tag.Tag.{Tag}
+use Rattle.page_markup.specs.declared.tag.Tag.TheVariants as tag
+use Rattle.page_markup.specs.Words.{IsMarkup, element, text_in}
+use Rattle.page_markup.specs.Elements.IsMarkup.{nothing, text, inside, after}
+use Rattle.report_texts.specs.Words.{is_day_of, whole_day}
+use Rattle.docket_selection.specs.declared.explained.explained.ExplainedDeadline.{ExplainedDeadline}
+use Rattle.docket_selection.specs.declared.explained.explained.ExplainedSheet.{ExplainedSheet}
+use Rattle.report_page.specs.Cases.{case_part, case_parts, cases_part, deadline_heads, deadline_row, deadline_rows, deadline_table, end_cell, hearing_cell, motion_heads, motion_row, motion_table, period_cell, reasons_cell}
+use Rattle.report_page.specs.Due.{due_heads, due_part, due_row, due_rows, due_table}
+use Rattle.report_page.specs.Judges.{booking_heads, booking_row, booking_rows, is_week_of, judge_part, judge_parts, judges_part, week_name}
+use Rattle.report_page.specs.Page.{ContentIsMarkup, content}
+use Rattle.report_page.specs.Phrases.{motion_name}
+use Rattle.report_page.specs.Tables.{case_cell, case_link, four_heads, motion_cell, three_heads}
+
+both : {first second : List ℕ} → IsMarkup first → IsMarkup second → IsMarkup (first ++ second)
+both {first} {second} p q = after first second p q
+
+within : (t : Tag) {inner : List ℕ} → IsMarkup inner → IsMarkup (element t inner)
+within t {inner} p = inside t inner p
+
+words : (t : Tag) (written : List ℕ) → IsMarkup (text_in t written)
+unfolding text_in
+words t written = within t (text written)
+
+-- what each of some things has, one after another
+each : {X : Type 0} (f : X → List ℕ) → ((x : X) → IsMarkup (f x)) → (xs : List X) → IsMarkup (flat_map f xs)
+each f is [] = nothing
+each f is (x ∷ xs) = both (is x) (each f is xs)
+
+-- nothing, or a row
+row_unless : (test : Bool) (t : Tag) (written : List ℕ) → IsMarkup (if test then [] else element tag.Row (text_in t written))
+row_unless true t written = nothing
+row_unless false t written = within tag.Row (words t written)
+
+three_heads_are : (a b c : List ℕ) → IsMarkup (three_heads a b c)
+unfolding three_heads
+three_heads_are a b c = within tag.TableHead (within tag.Row (both (both (words tag.ColumnHead a) (words tag.ColumnHead b)) (words tag.ColumnHead c)))
+
+four_heads_are : (a b c d : List ℕ) → IsMarkup (four_heads a b c d)
+unfolding four_heads
+four_heads_are a b c d =
+    within tag.TableHead (within tag.Row (both (both (both (words tag.ColumnHead a) (words tag.ColumnHead b)) (words tag.ColumnHead c)) (words tag.ColumnHead d)))
+
+case_link_is : (named : List NamedCase) (case : ℕ) → IsMarkup (case_link named case)
+unfolding case_link
+case_link_is named case = words (tag.CaseLink case) _
+
+case_cell_is : (named : List NamedCase) (case : ℕ) → IsMarkup (case_cell named case)
+unfolding case_cell
+case_cell_is named case = within tag.Cell (case_link_is named case)
+
+motion_cell_is : (named : List NamedCase) (case motion : ℕ) → IsMarkup (motion_cell named case motion)
+unfolding motion_cell
+motion_cell_is named case motion = within tag.Cell (both (case_link_is named case) (text (motion_name motion)))
+
+due_row_is : (court : CourtView) (named : List NamedCase) (item : DueItem) → IsMarkup (due_row court named item)
+unfolding due_row
+due_row_is court named item = within tag.Row (both (both (words tag.RowHead _) (case_cell_is named item.case)) (words _ _))
+
+due_rows_are : (court : CourtView) (named : List NamedCase) (before : Option ℤ) (items : List DueItem) → IsMarkup (due_rows court named before items)
+unfolding due_rows
+due_rows_are court named before [] = nothing
+due_rows_are court named before (item ∷ items) =
+    both (both (row_unless (is_day_of before item.day) tag.DayHead (whole_day item.day)) (due_row_is court named item)) (due_rows_are court named (Some item.day) items)
+
+due_heads_are : IsMarkup due_heads
+unfolding due_heads
+due_heads_are = three_heads_are _ _ _
+
+due_table_is : (court : CourtView) (named : List NamedCase) (items : List DueItem) → IsMarkup (due_table court named items)
+unfolding due_table
+due_table_is court named [] = words tag.Paragraph _
+due_table_is court named (item ∷ items) = within tag.Table (both (both (words tag.Caption _) due_heads_are) (within tag.TableBody (due_rows_are court named None (item ∷ items))))
+
+due_part_is : (court : CourtView) (named : List NamedCase) (items : List DueItem) → IsMarkup (due_part court named items)
+unfolding due_part
+due_part_is court named items = within tag.Section (both (both (words tag.Heading2 _) (words tag.Paragraph _)) (due_table_is court named items))
+
+booking_row_is : (court : CourtView) (named : List NamedCase) (b : Booking) → IsMarkup (booking_row court named b)
+unfolding booking_row
+booking_row_is court named b = within tag.Row (both (both (both (words tag.RowHead _) (words tag.Cell _)) (motion_cell_is named b.case b.motion)) (words tag.Cell _))
+
+booking_rows_are : (court : CourtView) (named : List NamedCase) (before : Option ℤ) (bookings : List Booking) → IsMarkup (booking_rows court named before bookings)
+unfolding booking_rows
+booking_rows_are court named before [] = nothing
+booking_rows_are court named before (b ∷ bookings) =
+    both (both (row_unless (is_week_of before b.day) tag.WeekHead (week_name b.day)) (booking_row_is court named b)) (booking_rows_are court named (Some b.day) bookings)
+
+booking_heads_are : IsMarkup booking_heads
+unfolding booking_heads
+booking_heads_are = four_heads_are _ _ _ _
+
+judge_part_is : (court : CourtView) (named : List NamedCase) (c : JudgeCalendar) → IsMarkup (judge_part court named c)
+unfolding judge_part
+judge_part_is court named c =
+    within tag.Section (both (words tag.Heading3 _) (within tag.Table (both (both (words tag.Caption _) booking_heads_are) (within tag.TableBody (booking_rows_are court named None c.bookings)))))
+
+judge_parts_are : (court : CourtView) (named : List NamedCase) (calendars : List JudgeCalendar) → IsMarkup (judge_parts court named calendars)
+judge_parts_are court named [] = words tag.Paragraph _
+judge_parts_are court named (c ∷ calendars) = each (judge_part court named) (judge_part_is court named) (c ∷ calendars)
+
+judges_part_is : (court : CourtView) (named : List NamedCase) (calendars : List JudgeCalendar) → IsMarkup (judges_part court named calendars)
+unfolding judges_part
+judges_part_is court named calendars = within tag.Section (both (words tag.Heading2 _) (judge_parts_are court named calendars))
+
+period_cell_is : (row : DeadlineRowView) → IsMarkup (period_cell row)
+unfolding period_cell
+period_cell_is row = within tag.Cell (both (words tag.Line _) (words tag.Note _))
+
+end_cell_is : (clock : ClockView) (shown : Shown) (other : Option Shown) → IsMarkup (end_cell clock shown other)
+unfolding end_cell
+end_cell_is clock shown None = words tag.Cell _
+end_cell_is clock shown (Some other) = within tag.Cell (both (words tag.Line _) (words tag.Note _))
+
+deadline_row_is : (days : DaysView) (clock : ClockView) (d : SheetDeadline) → IsMarkup (deadline_row days clock d)
+unfolding deadline_row
+deadline_row_is days clock d =
+    within tag.Row (both (both (both (words tag.RowHead _) (period_cell_is d.row)) (end_cell_is clock d.shown (other_end days clock d.row))) (words _ _))
+
+reasons_cell_is : (days : DaysView) (clock : ClockView) (e : ExplainedDeadline) → IsMarkup (reasons_cell days clock e)
+unfolding reasons_cell
+reasons_cell_is days clock e = within tag.WideCell (within tag.Details (both (words tag.Summary _) (words tag.Reasons _)))
+
+deadline_rows_are : (days : DaysView) (clock : ClockView) (e : ExplainedDeadline) → IsMarkup (deadline_rows days clock e)
+unfolding deadline_rows
+deadline_rows_are days clock e = both (deadline_row_is days clock e.deadline) (within tag.Row (reasons_cell_is days clock e))
+
+deadline_heads_are : IsMarkup deadline_heads
+unfolding deadline_heads
+deadline_heads_are = four_heads_are _ _ _ _
+
+deadline_table_is : (days : DaysView) (clock : ClockView) (named : List NamedCase) (case : ℕ) (deadlines : List ExplainedDeadline) → IsMarkup (deadline_table days clock named case deadlines)
+unfolding deadline_table
+deadline_table_is days clock named case [] = words tag.Paragraph _
+deadline_table_is days clock named case (e ∷ deadlines) =
+    within tag.Table (both (both (words tag.Caption _) deadline_heads_are) (within tag.TableBody (each (deadline_rows days clock) (deadline_rows_are days clock) (e ∷ deadlines))))
+
+hearing_cell_is : (court : CourtView) (hearing : Option SheetHearing) → IsMarkup (hearing_cell court hearing)
+unfolding hearing_cell
+hearing_cell_is court None = words tag.Cell _
+hearing_cell_is court (Some h) = within tag.Cell (both (both (both (words tag.Line _) (words tag.Line _)) (words tag.Line _)) (words tag.Line _))
+
+motion_row_is : (court : CourtView) (m : SheetMotion) → IsMarkup (motion_row court m)
+unfolding motion_row
+motion_row_is court m = within tag.Row (both (both (both (words tag.RowHead _) (words tag.Cell _)) (words tag.Cell _)) (hearing_cell_is court m.hearing))
+
+motion_heads_are : IsMarkup motion_heads
+unfolding motion_heads
+motion_heads_are = four_heads_are _ _ _ _
+
+motion_table_is : (court : CourtView) (named : List NamedCase) (case : ℕ) (motions : List SheetMotion) → IsMarkup (motion_table court named case motions)
+unfolding motion_table
+motion_table_is court named case [] = words tag.Paragraph _
+motion_table_is court named case (m ∷ motions) =
+    within tag.Table (both (both (words tag.Caption _) motion_heads_are) (within tag.TableBody (each (motion_row court) (motion_row_is court) (m ∷ motions))))
+
+case_part_is : (court : CourtView) (days : DaysView) (named : List NamedCase) (s : ExplainedSheet) → IsMarkup (case_part court days named s)
+unfolding case_part
+case_part_is court days named s =
+    within (tag.CaseSection s.case) (both (both (both (words tag.Heading3 _) (words tag.Paragraph _)) (deadline_table_is days court.clock named s.case s.deadlines.items)) (motion_table_is court named s.case s.motions))
+
+case_parts_are : (court : CourtView) (days : DaysView) (named : List NamedCase) (sheets : List ExplainedSheet) → IsMarkup (case_parts court days named sheets)
+case_parts_are court days named [] = words tag.Paragraph _
+case_parts_are court days named (s ∷ sheets) = each (case_part court days named) (case_part_is court days named) (s ∷ sheets)
+
+cases_part_is : (court : CourtView) (days : DaysView) (named : List NamedCase) (sheets : List ExplainedSheet) → IsMarkup (cases_part court days named sheets)
+unfolding cases_part
+cases_part_is court days named sheets = within tag.Section (both (words tag.Heading2 _) (case_parts_are court days named sheets))
+
+pub content_is_markup : ContentIsMarkup
+unfolding content
+content_is_markup court days named choice items calendars sheets =
+    both (both (both (both (words tag.Heading1 _) (words tag.Paragraph _)) (due_part_is court named items)) (judges_part_is court named calendars)) (cases_part_is court days named sheets)

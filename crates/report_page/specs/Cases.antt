@@ -1,0 +1,116 @@
+-- The sheet of each case: its deadlines and its motions.
+use Rattle.std.specs.Prelude.{ℕ, ℤ, List, [], ◌∷◌, ◌++◌, Option, Some, None, codes}
+use Rattle.std.specs.Fmt.{decimal}
+use Rattle.std.specs.List.{flat_map}
+use Rattle.case_numbers.specs.Words.{case_text}
+use Rattle.case_numbers.specs.declared.names.NamedCase.{NamedCase}
+use Rattle.court_clock.specs.Words.{ClockView}
+use Rattle.court_days.specs.Words.{CourtView, DaysView}
+use Rattle.rule6.specs.declared.timeliness.Shown.{Shown}
+use Rattle.rule_periods.specs.Words.{DeadlineRowView}
+use Rattle.docket_rows.specs.declared.sheet.SheetDeadline.{SheetDeadline}
+use Rattle.docket_rows.specs.declared.sheet.SheetHearing.{SheetHearing}
+use Rattle.docket_rows.specs.declared.sheet.SheetMotion.{SheetMotion}
+use Rattle.deadline_reasons.specs.declared.reason.Reason.{Reason}
+use Rattle.reason_texts.specs.Words.{course_of, reason_lines}
+use Rattle.reason_texts.specs.Periods.Words.{heading_lines}
+use Rattle.reason_notes.specs.Readings.Words.{other_end, reading_lines}
+use Rattle.page_markup.specs.declared.tag.Tag.TheVariants as tag
+use Rattle.page_markup.specs.Words.{element, text_in}
+use Rattle.report_texts.specs.Words.{period_words, reading_words, whole_day}
+use Rattle.docket_selection.specs.declared.explained.explained.ExplainedDeadline.{ExplainedDeadline}
+use Rattle.docket_selection.specs.declared.explained.explained.ExplainedSheet.{ExplainedSheet}
+use Rattle.report_page.specs.Due.{state_cell}
+use Rattle.report_page.specs.Phrases.{affidavits_words, ends_words, hearing_place, hearing_time, need_words, notice_words, state_words}
+use Rattle.report_page.specs.Tables.{four_heads}
+
+-- the period of a deadline, and in words what it is for, which section sets it, and from which day and event it runs
+unfoldable pub period_cell : DeadlineRowView → List ℕ
+period_cell row = element tag.Cell (text_in tag.Line (period_words row.period) ++ text_in tag.Note (heading_lines row))
+
+-- when the time of a deadline ends, and below it the end by another reading, if there is one
+unfoldable pub end_cell : ClockView → Shown → Option Shown → List ℕ
+end_cell clock shown None = text_in tag.Cell (ends_words clock shown)
+end_cell clock shown (Some other) = element tag.Cell (text_in tag.Line (ends_words clock shown) ++ text_in tag.Note (reading_words clock other))
+
+-- the number of a deadline, its period, when its time ends, and whether it was met
+unfoldable pub deadline_row : DaysView → ClockView → SheetDeadline → List ℕ
+deadline_row days clock d =
+    element tag.Row (text_in tag.RowHead (decimal d.number) ++ period_cell d.row ++ end_cell clock d.shown (other_end days clock d.row) ++ text_in (state_cell d.state) (state_words d.state d.row.filed))
+
+-- `Reasons of deadline 3`
+unfoldable pub reasons_title : (number : ℕ) → List ℕ
+reasons_title number = codes "Reasons of deadline " ++ decimal number
+
+-- a line for each reason, and for each other reading that gives another end; a holiday is named as the law of the United
+-- States names it
+unfoldable pub reasons_text : DaysView → ClockView → DeadlineRowView → List Reason → List ℕ
+reasons_text days clock row reasons = reason_lines clock [] (course_of row.period) reasons ++ reading_lines days clock row
+
+-- a cell over the whole table, with the reasons of a deadline folded in it
+unfoldable pub reasons_cell : DaysView → ClockView → ExplainedDeadline → List ℕ
+reasons_cell days clock e =
+    element tag.WideCell (element tag.Details (text_in tag.Summary (reasons_title e.deadline.number) ++ text_in tag.Reasons (reasons_text days clock e.deadline.row e.reasons.items)))
+
+-- the row of a deadline, and below it the row of its reasons
+unfoldable pub deadline_rows : DaysView → ClockView → ExplainedDeadline → List ℕ
+deadline_rows days clock e = deadline_row days clock e.deadline ++ element tag.Row (reasons_cell days clock e)
+
+unfoldable pub deadline_heads : List ℕ
+deadline_heads = four_heads (codes "No.") (codes "Period") (codes "Time ends") (codes "State")
+
+-- `Deadlines of case 3`
+unfoldable pub deadline_caption : List NamedCase → (case : ℕ) → List ℕ
+deadline_caption named case = codes "Deadlines of case " ++ case_text named case
+
+-- two rows for each deadline, or that there are none
+unfoldable pub deadline_table : DaysView → ClockView → List NamedCase → (case : ℕ) → List ExplainedDeadline → List ℕ
+deadline_table days clock named case [] = text_in tag.Paragraph (codes "No deadline is entered.")
+deadline_table days clock named case (e ∷ deadlines) =
+    element tag.Table (text_in tag.Caption (deadline_caption named case) ++ deadline_heads ++ element tag.TableBody (flat_map (deadline_rows days clock) (e ∷ deadlines)))
+
+-- the hearing of a motion, or that none is set
+unfoldable pub hearing_cell : CourtView → Option SheetHearing → List ℕ
+hearing_cell court None = text_in tag.Cell (codes "not set")
+hearing_cell court (Some h) =
+    element tag.Cell (text_in tag.Line (hearing_time h.hearing) ++ text_in tag.Line (hearing_place court h.hearing) ++ text_in tag.Line (notice_words h.hearing.notice) ++ text_in tag.Line (affidavits_words h.affidavits))
+
+-- the number of a motion, when it was served, the notice that it needs, and its hearing
+unfoldable pub motion_row : CourtView → SheetMotion → List ℕ
+motion_row court m =
+    element tag.Row (text_in tag.RowHead (decimal m.number) ++ text_in tag.Cell (whole_day m.served) ++ text_in tag.Cell (need_words m.need) ++ hearing_cell court m.hearing)
+
+unfoldable pub motion_heads : List ℕ
+motion_heads = four_heads (codes "No.") (codes "Served") (codes "Notice") (codes "Hearing")
+
+-- `Motions of case 3`
+unfoldable pub motion_caption : List NamedCase → (case : ℕ) → List ℕ
+motion_caption named case = codes "Motions of case " ++ case_text named case
+
+-- a row for each motion, or that there are none
+unfoldable pub motion_table : CourtView → List NamedCase → (case : ℕ) → List SheetMotion → List ℕ
+motion_table court named case [] = text_in tag.Paragraph (codes "No motion is entered.")
+motion_table court named case (m ∷ motions) =
+    element tag.Table (text_in tag.Caption (motion_caption named case) ++ motion_heads ++ element tag.TableBody (flat_map (motion_row court) (m ∷ motions)))
+
+-- `Case 3`; a case that has a name is called by it
+unfoldable pub case_title : List NamedCase → (case : ℕ) → List ℕ
+case_title named case = codes "Case " ++ case_text named case
+
+-- `Filed Mon 2025-03-03`
+unfoldable pub filed_words : (filed : ℤ) → List ℕ
+filed_words filed = codes "Filed " ++ whole_day filed
+
+-- the sheet of a case
+unfoldable pub case_part : CourtView → DaysView → List NamedCase → ExplainedSheet → List ℕ
+case_part court days named s =
+    element (tag.CaseSection s.case) (text_in tag.Heading3 (case_title named s.case) ++ text_in tag.Paragraph (filed_words s.filed) ++ deadline_table days court.clock named s.case s.deadlines.items ++ motion_table court named s.case s.motions)
+
+-- a part for each case, or that there is none
+abbrev pub case_parts : CourtView → DaysView → List NamedCase → List ExplainedSheet → List ℕ
+case_parts court days named [] = text_in tag.Paragraph (codes "No case is open.")
+case_parts court days named (s ∷ sheets) = flat_map (case_part court days named) (s ∷ sheets)
+
+-- the sheets of the cases
+unfoldable pub cases_part : CourtView → DaysView → List NamedCase → List ExplainedSheet → List ℕ
+cases_part court days named sheets = element tag.Section (text_in tag.Heading2 (codes "Cases") ++ case_parts court days named sheets)

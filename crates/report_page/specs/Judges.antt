@@ -1,0 +1,62 @@
+-- The hearings of each judge, by week.
+use Rattle.std.specs.Prelude.{ℕ, ℤ, Bool, false, List, [], ◌∷◌, ◌++◌, Option, Some, None, codes, if◌then◌else◌}
+use Rattle.std.specs.List.{flat_map}
+use Rattle.std.specs.Option.{option_map_or}
+use Rattle.std.specs.Ordering.{int_eq}
+use Rattle.case_numbers.specs.declared.names.NamedCase.{NamedCase}
+use Rattle.court_days.specs.Words.{CourtView}
+use Rattle.hearing_slots.specs.declared.booking.Booking.{Booking}
+use Rattle.docket_selection.specs.declared.calendars.JudgeCalendar.{JudgeCalendar}
+use Rattle.docket_selection.specs.Words.{week_start}
+use Rattle.page_markup.specs.declared.tag.Tag.TheVariants as tag
+use Rattle.page_markup.specs.Words.{element, text_in}
+use Rattle.office_texts.specs.Words.{name_of}
+use Rattle.report_texts.specs.Words.{span_words, whole_day}
+use Rattle.report_page.specs.Tables.{four_heads, motion_cell}
+
+-- the two days are of one week
+abbrev pub is_week_of : (before : Option ℤ) → (day : ℤ) → Bool
+is_week_of before day = option_map_or (λ b. int_eq (week_start b) (week_start day)) before false
+
+-- `Week of Mon 2025-09-15`
+unfoldable pub week_name : (day : ℤ) → List ℕ
+week_name day = codes "Week of " ++ whole_day (week_start day)
+
+-- a row for the week, unless it is that of the booking before
+abbrev pub week_row_if_new : (before : Option ℤ) → (day : ℤ) → List ℕ
+week_row_if_new before day = if is_week_of before day then [] else element tag.Row (text_in tag.WeekHead (week_name day))
+
+-- the day of a booking, its time, what is heard, and where
+unfoldable pub booking_row : CourtView → List NamedCase → Booking → List ℕ
+booking_row court named b =
+    element tag.Row (text_in tag.RowHead (whole_day b.day) ++ text_in tag.Cell (span_words b.first b.count) ++ motion_cell named b.case b.motion ++ text_in tag.Cell (name_of court.rooms b.other))
+
+-- a row for each booking, in the order of the list, and one for each week before the first booking of it
+unfoldable pub booking_rows : CourtView → List NamedCase → (before : Option ℤ) → List Booking → List ℕ
+booking_rows court named before [] = []
+booking_rows court named before (b ∷ bookings) = week_row_if_new before b.day ++ booking_row court named b ++ booking_rows court named (Some b.day) bookings
+
+unfoldable pub booking_heads : List ℕ
+booking_heads = four_heads (codes "Day") (codes "Time") (codes "Hearing") (codes "Room")
+
+-- `Judge Ames`
+unfoldable pub judge_title : CourtView → (judge : ℕ) → List ℕ
+judge_title court judge = codes "Judge " ++ name_of court.judges judge
+
+-- `Hearings of judge Ames, by week`
+unfoldable pub judge_caption : CourtView → (judge : ℕ) → List ℕ
+judge_caption court judge = codes "Hearings of judge " ++ name_of court.judges judge ++ codes ", by week"
+
+-- the hearings of a judge
+unfoldable pub judge_part : CourtView → List NamedCase → JudgeCalendar → List ℕ
+judge_part court named c =
+    element tag.Section (text_in tag.Heading3 (judge_title court c.judge) ++ element tag.Table (text_in tag.Caption (judge_caption court c.judge) ++ booking_heads ++ element tag.TableBody (booking_rows court named None c.bookings)))
+
+-- a part for each judge, or that there is none
+abbrev pub judge_parts : CourtView → List NamedCase → List JudgeCalendar → List ℕ
+judge_parts court named [] = text_in tag.Paragraph (codes "No hearing is set.")
+judge_parts court named (c ∷ calendars) = flat_map (judge_part court named) (c ∷ calendars)
+
+-- the judges' hearings
+unfoldable pub judges_part : CourtView → List NamedCase → List JudgeCalendar → List ℕ
+judges_part court named calendars = element tag.Section (text_in tag.Heading2 (codes "Hearings by judge") ++ judge_parts court named calendars)

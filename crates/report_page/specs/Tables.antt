@@ -1,0 +1,28 @@
+-- The parts of tables.
+use Rattle.std.specs.Prelude.{ℕ, List, ◌++◌}
+use Rattle.case_numbers.specs.declared.names.NamedCase.{NamedCase}
+use Rattle.page_markup.specs.declared.tag.Tag.TheVariants as tag
+use Rattle.page_markup.specs.Words.{element, escaped, text_in}
+use Rattle.report_page.specs.Phrases.{case_name, motion_name}
+
+-- the heads of three columns
+unfoldable pub three_heads : (first second third : List ℕ) → List ℕ
+three_heads first second third =
+    element tag.TableHead (element tag.Row (text_in tag.ColumnHead first ++ text_in tag.ColumnHead second ++ text_in tag.ColumnHead third))
+
+-- the heads of four columns
+unfoldable pub four_heads : (first second third fourth : List ℕ) → List ℕ
+four_heads first second third fourth =
+    element tag.TableHead (element tag.Row (text_in tag.ColumnHead first ++ text_in tag.ColumnHead second ++ text_in tag.ColumnHead third ++ text_in tag.ColumnHead fourth))
+
+-- a link to the part of a case, which has an anchor by the case's number
+unfoldable pub case_link : List NamedCase → (case : ℕ) → List ℕ
+case_link named case = text_in (tag.CaseLink case) (case_name named case)
+
+-- a cell that names a case
+unfoldable pub case_cell : List NamedCase → (case : ℕ) → List ℕ
+case_cell named case = element tag.Cell (case_link named case)
+
+-- a cell that names a case and one of its motions
+unfoldable pub motion_cell : List NamedCase → (case motion : ℕ) → List ℕ
+motion_cell named case motion = element tag.Cell (case_link named case ++ escaped (motion_name motion))

@@ -1,0 +1,129 @@
+//! The sheet of each case.
+
+ghost use Rattle.std.specs.Prelude.{◌≡◌, ◌++◌, OnOk, string_bytes};
+ghost use Rattle.std.specs.List.{flat_map};
+ghost use Rattle.report_page.specs.Cases.{case_part, case_parts, case_title, cases_part, filed_words};
+
+use crate::deadlines::push_deadlines;
+use crate::motions::push_motions;
+use case_numbers::{Cases, push_case_text};
+use court_clock::Day;
+use court_days::{Court, Days};
+use docket_selection::ExplainedSheet;
+use page_markup::{Page, Tag};
+use report_texts::push_whole_day;
+use std::alloc::{AllocError, Global};
+
+/// Adds the sheets of the cases.
+#[tactic(auto, unfolding(crate::specs::Cases::cases_part))]
+pub(crate) fn push_cases(
+    alloc: Global,
+    page: &mut Page,
+    line: &mut String,
+    court: &Court,
+    days: &Days,
+    cases: &Cases,
+    sheets: &[ExplainedSheet],
+) -> Result<(), AllocError>
+    ensures { OnOk result (page.new ≡ page.old ++ cases_part court.now days.now cases.now.named sheets.now) }
+{
+    page.open(Tag::Section)?;
+    page.text_in(Tag::Heading2, "Cases")?;
+    push_parts(alloc, page, line, court, days, cases, sheets)?;
+    page.close(Tag::Section)
+}
+
+/// Adds a part for each case, or that there is none.
+fn push_parts(
+    alloc: Global,
+    page: &mut Page,
+    line: &mut String,
+    court: &Court,
+    days: &Days,
+    cases: &Cases,
+    sheets: &[ExplainedSheet],
+) -> Result<(), AllocError>
+    ensures { OnOk result (page.new ≡ page.old ++ case_parts court.now days.now cases.now.named sheets.now) }
+{
+    if sheets.is_empty() {
+        return page.text_in(Tag::Paragraph, "No case is open.");
+    }
+    push_sheets(alloc, page, line, court, days, cases, sheets)
+}
+
+/// Adds a part for each case.
+fn push_sheets(
+    alloc: Global,
+    page: &mut Page,
+    line: &mut String,
+    court: &Court,
+    days: &Days,
+    cases: &Cases,
+    sheets: &[ExplainedSheet],
+) -> Result<(), AllocError>
+    ensures { OnOk result (page.new ≡ page.old ++ flat_map (case_part court.now days.now cases.now.named) sheets.now) }
+{
+    for sheet in sheets {
+        push_case(alloc, page, line, court, days, cases, sheet)?;
+    }
+    Ok(())
+}
+
+/// Adds the sheet of a case.
+#[tactic(auto, unfolding(crate::specs::Cases::case_part))]
+fn push_case(
+    alloc: Global,
+    page: &mut Page,
+    line: &mut String,
+    court: &Court,
+    days: &Days,
+    cases: &Cases,
+    sheet: &ExplainedSheet,
+) -> Result<(), AllocError>
+    ensures { OnOk result (page.new ≡ page.old ++ case_part court.now days.now cases.now.named sheet.now) }
+{
+    page.open(Tag::CaseSection(sheet.case))?;
+    set_title(line, cases, sheet.case)?;
+    page.text_in(Tag::Heading3, line)?;
+    set_filed(line, sheet.filed)?;
+    page.text_in(Tag::Paragraph, line)?;
+    push_deadlines(
+        alloc,
+        page,
+        line,
+        days,
+        court.clock(),
+        cases,
+        sheet.case,
+        &sheet.deadlines,
+    )?;
+    push_motions(
+        page,
+        line,
+        court,
+        cases,
+        sheet.case,
+        sheet.motions.as_slice(),
+    )?;
+    page.close(Tag::CaseSection(sheet.case))
+}
+
+/// Makes the line the title of a case's part.
+#[tactic(auto, unfolding(crate::specs::Cases::case_title))]
+fn set_title(line: &mut String, cases: &Cases, case: u32) -> Result<(), AllocError>
+    ensures { OnOk result (string_bytes line.new ≡ case_title cases.now.named case) }
+{
+    line.clear();
+    line.push_str("Case ")?;
+    push_case_text(line, cases, case)
+}
+
+/// Makes the line when a case was filed.
+#[tactic(auto, unfolding(crate::specs::Cases::filed_words))]
+fn set_filed(line: &mut String, filed: Day) -> Result<(), AllocError>
+    ensures { OnOk result (string_bytes line.new ≡ filed_words filed) }
+{
+    line.clear();
+    line.push_str("Filed ")?;
+    push_whole_day(line, filed)
+}

@@ -1,0 +1,120 @@
+//! The motions of a case.
+
+ghost use Rattle.std.specs.Prelude.{◌≡◌, ◌++◌, OnOk, string_bytes};
+ghost use Rattle.std.specs.List.{flat_map};
+ghost use Rattle.report_page.specs.Cases.{hearing_cell, motion_caption, motion_heads, motion_row, motion_table};
+
+use crate::phrases::{
+    set_affidavits, set_day, set_hearing_place, set_hearing_time, set_need, set_notice, set_number,
+};
+use crate::tables::push_four_heads;
+use case_numbers::{Cases, push_case_text};
+use court_days::Court;
+use docket_rows::{SheetHearing, SheetMotion};
+use page_markup::{Page, Tag};
+use std::alloc::AllocError;
+
+/// Adds the table of a case's motions, or that there are none.
+#[tactic(auto, unfolding(crate::specs::Cases::motion_table))]
+pub(crate) fn push_motions(
+    page: &mut Page,
+    line: &mut String,
+    court: &Court,
+    cases: &Cases,
+    case: u32,
+    motions: &[SheetMotion],
+) -> Result<(), AllocError>
+    ensures { OnOk result (page.new ≡ page.old ++ motion_table court.now cases.now.named case motions.now) }
+{
+    if motions.is_empty() {
+        return page.text_in(Tag::Paragraph, "No motion is entered.");
+    }
+    page.open(Tag::Table)?;
+    set_caption(line, cases, case)?;
+    page.text_in(Tag::Caption, line)?;
+    push_heads(page)?;
+    page.open(Tag::TableBody)?;
+    push_rows(page, line, court, motions)?;
+    page.close(Tag::TableBody)?;
+    page.close(Tag::Table)
+}
+
+/// Makes the line what the table of a case's motions has.
+#[tactic(auto, unfolding(crate::specs::Cases::motion_caption))]
+fn set_caption(line: &mut String, cases: &Cases, case: u32) -> Result<(), AllocError>
+    ensures { OnOk result (string_bytes line.new ≡ motion_caption cases.now.named case) }
+{
+    line.clear();
+    line.push_str("Motions of case ")?;
+    push_case_text(line, cases, case)
+}
+
+#[tactic(auto, unfolding(crate::specs::Cases::motion_heads))]
+fn push_heads(page: &mut Page) -> Result<(), AllocError>
+    ensures { OnOk result (page.new ≡ page.old ++ motion_heads) }
+{
+    push_four_heads(page, "No.", "Served", "Notice", "Hearing")
+}
+
+/// Adds a row for each motion.
+fn push_rows(
+    page: &mut Page,
+    line: &mut String,
+    court: &Court,
+    motions: &[SheetMotion],
+) -> Result<(), AllocError>
+    ensures { OnOk result (page.new ≡ page.old ++ flat_map (motion_row court.now) motions.now) }
+{
+    for motion in motions {
+        push_row(page, line, court, motion)?;
+    }
+    Ok(())
+}
+
+/// Adds the row of a motion.
+#[tactic(auto, unfolding(crate::specs::Cases::motion_row))]
+fn push_row(
+    page: &mut Page,
+    line: &mut String,
+    court: &Court,
+    motion: &SheetMotion,
+) -> Result<(), AllocError>
+    ensures { OnOk result (page.new ≡ page.old ++ motion_row court.now motion.now) }
+{
+    page.open(Tag::Row)?;
+    set_number(line, motion.number)?;
+    page.text_in(Tag::RowHead, line)?;
+    set_day(line, motion.served)?;
+    page.text_in(Tag::Cell, line)?;
+    set_need(line, motion.need)?;
+    page.text_in(Tag::Cell, line)?;
+    push_hearing(page, line, court, &motion.hearing)?;
+    page.close(Tag::Row)
+}
+
+/// Adds the cell of a motion's hearing, or that none is set.
+#[tactic(auto, unfolding(crate::specs::Cases::hearing_cell))]
+fn push_hearing(
+    page: &mut Page,
+    line: &mut String,
+    court: &Court,
+    hearing: &Option<SheetHearing>,
+) -> Result<(), AllocError>
+    ensures { OnOk result (page.new ≡ page.old ++ hearing_cell court.now hearing.now) }
+{
+    match hearing {
+        None => page.text_in(Tag::Cell, "not set"),
+        Some(set) => {
+            page.open(Tag::Cell)?;
+            set_hearing_time(line, &set.hearing)?;
+            page.text_in(Tag::Line, line)?;
+            set_hearing_place(line, court, &set.hearing)?;
+            page.text_in(Tag::Line, line)?;
+            set_notice(line, set.hearing.notice)?;
+            page.text_in(Tag::Line, line)?;
+            set_affidavits(line, set.affidavits)?;
+            page.text_in(Tag::Line, line)?;
+            page.close(Tag::Cell)
+        }
+    }
+}

@@ -1,0 +1,10 @@
+use Rattle.std.proofs.Common.{◌≡◌, rules}
+use Rattle.report_program.specs.Calendar.{changes_by, docketed_by}
+use Rattle.report_program.proofs.report.listed.Goals as goal
+
+pub returns : goal.returns
+returns c =
+    let court = c.args.court.now in
+    let rows = c.args.rows.now in
+    let made : c.docket_after.new.changes.items ≡ changes_by court rows = search rules in
+    rw made at (c.listing_of.ensures (docketed_by court rows) c.in_ok-docket.ensures.docket)

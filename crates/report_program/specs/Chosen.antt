@@ -1,0 +1,102 @@
+-- What is chosen of a court by what was asked for.
+use Rattle.std.specs.Prelude.{ℕ, ℤ, Bool, true, false, List, Option, Some, None, Result, Ok, Err, ok_or, option_map, string_bytes, unwrap_or, if◌then◌else◌}
+use Rattle.std.specs.Option.{option_and_then}
+use Rattle.office_texts.specs.Names.Words.{number_called}
+use Rattle.office_texts.specs.declared.names.called.CaseCalled.{CaseCalled}
+use Rattle.case_numbers.specs.declared.names.NamedCase.{NamedCase}
+use Rattle.court_days.specs.Words.{CourtView, DaysView, is_covered}
+use Rattle.court_file_text.specs.Words.{name_index}
+use Rattle.docket_selection.specs.declared.choice.Choice.{Choice}
+use Rattle.report_program.specs.declared.asked.Asked.{Asked}
+use Rattle.report_program.specs.declared.asked.Task.TheVariants as task
+use Rattle.report_program.specs.declared.asked.Task.{Task}
+use Rattle.report_program.specs.declared.chosen.Chosen.{Chosen}
+use Rattle.report_program.specs.declared.chosen.Chosen.TheVariants.{Json, Lines, Listed, Sql}
+use Rattle.report_program.specs.declared.chosen.Listing.TheVariants.{Due, Ics, Page, Week}
+use Rattle.report_program.specs.declared.chosen.Missing.{Missing}
+use Rattle.report_program.specs.declared.chosen.Missing.TheVariants as missing
+
+-- the number of the case that is asked for, if one is; none where no case has that name
+abbrev pub case_given : List NamedCase → Option CaseCalled → Option (Option ℕ)
+case_given named None = Some None
+case_given named (Some called) = option_map (λ number. Some number) (number_called named called)
+
+-- of that judge or of any, and of that case or of any: all days of the court's file, as far as nothing else is asked for
+abbrev pub choice_of : CourtView → (case : Option ℕ) → Asked → (met : Bool) → (judge : Option ℕ) → Choice
+choice_of court case asked met judge = record {
+  judge = judge;
+  case = case;
+  from = unwrap_or asked.from court.days.from;
+  to = unwrap_or asked.to court.days.to;
+  met = met;
+}
+
+-- of the judge of that name, where the court has one, or of any where none is asked for
+abbrev pub choice_named : CourtView → (case : Option ℕ) → Asked → (met : Bool) → (name : Option (List ℕ)) → Option Choice
+choice_named court case asked met (Some name) = option_map (λ judge. choice_of court case asked met (Some judge)) (name_index court.judges name)
+choice_named court case asked met None = Some (choice_of court case asked met None)
+
+abbrev pub choice_asked : CourtView → (case : Option ℕ) → Asked → (met : Bool) → Option Choice
+choice_asked court case asked met = choice_named court case asked met (option_map string_bytes asked.judge)
+
+-- the judge of that name, who has to be given
+abbrev pub judge_given : CourtView → (name : Option (List ℕ)) → Option ℕ
+judge_given court name = option_and_then (name_index court.judges) name
+
+-- what is due of that: deadlines with no timely act
+abbrev pub due_chosen : CourtView → (case : Option ℕ) → Asked → Option Chosen
+due_chosen court case asked = option_map (λ choice. Listed (Due choice)) (choice_asked court case asked false)
+
+-- the page of that
+abbrev pub page_chosen : CourtView → (case : Option ℕ) → Asked → Option Chosen
+page_chosen court case asked = option_map (λ choice. Listed (Page choice)) (choice_asked court case asked false)
+
+-- the calendar of that, with all deadlines, written at the instant that is asked for, or else at the clock's time
+abbrev pub ics_chosen : CourtView → (case : Option ℕ) → Asked → Option Chosen
+ics_chosen court case asked = option_map (λ choice. Listed (Ics choice (unwrap_or asked.stamp asked.clock_time))) (choice_asked court case asked true)
+
+-- the JSON of that, or the answers alone as lines
+abbrev pub json_chosen : CourtView → (case : Option ℕ) → Asked → Option Chosen
+json_chosen court case asked = option_map (λ choice. if asked.lines then Lines else Json choice) (choice_asked court case asked true)
+
+-- the week of the judge in which the day is
+abbrev pub week_chosen : CourtView → Asked → Option Chosen
+week_chosen court asked =
+    option_map (λ judge. Listed (Week judge (unwrap_or asked.of court.days.from))) (judge_given court (option_map string_bytes asked.judge))
+
+abbrev pub chosen_for : Task → CourtView → (case : Option ℕ) → Asked → Option Chosen
+chosen_for task.Due court case asked = due_chosen court case asked
+chosen_for task.Week court case asked = week_chosen court asked
+chosen_for task.Page court case asked = page_chosen court case asked
+chosen_for task.Ics court case asked = ics_chosen court case asked
+chosen_for task.Json court case asked = json_chosen court case asked
+chosen_for task.Sql court case asked = Some Sql
+
+-- what is chosen of that case or of any, where the court has the judge that is asked for
+unfoldable pub chosen_by : CourtView → (case : Option ℕ) → Asked → Option Chosen
+chosen_by court case asked = chosen_for asked.task court case asked
+
+infixl 10 ◌>>=◌
+abbrev pub ◌>>=◌ : {A B : Type 0} → Result A Missing → (A → Result B Missing) → Result B Missing
+(Ok x) >>= more = more x
+(Err missing) >>= more = Err missing
+
+-- the day, where the court's file doesn't cover it
+abbrev pub uncovered : DaysView → (day : ℤ) → Option ℤ
+uncovered days day = if is_covered days day then None else Some day
+
+-- the day of the week that is chosen, where the court's file doesn't cover it
+abbrev pub day_missing : DaysView → Chosen → Option ℤ
+day_missing days (Listed (Week judge day)) = uncovered days day
+day_missing days chosen = None
+
+abbrev pub unless_missing : Chosen → (day : Option ℤ) → Result Chosen Missing
+unless_missing chosen (Some day) = Err (missing.Day day)
+unless_missing chosen None = Ok chosen
+
+-- what is chosen, or the first that isn't there: the case by its name, the judge, the day of a week
+unfoldable pub chosen_of : CourtView → List NamedCase → Asked → Result Chosen Missing
+chosen_of court named asked = do
+  case ← ok_or (case_given named asked.case) missing.Case
+  chosen ← ok_or (chosen_by court case asked) missing.Judge
+  unless_missing chosen (day_missing court.days chosen)

@@ -1,0 +1,46 @@
+//! Events of a calendar, with the numbers of their deadlines and motions.
+
+ghost use Rattle.std.specs.Prelude.{◌≡◌, map, IfOk};
+ghost use Rattle.report_ics.specs.Words.{appointments_of};
+ghost use Rattle.report_program.specs.Appointments.{numbered_appointment};
+
+use desk_numbers::MovedNumbers;
+use docket_selection::{Choice, DueItem, DueTypes, HearingHistories};
+use report_ics::{Appointment, appointments_of};
+use report_numbers::number_item;
+use std::alloc::{AllocError, Global};
+
+/// Gives an event, which has the place of its deadline or its motion, the number of that.
+fn number_appointment(moved: &MovedNumbers, appointment: &mut Appointment)
+    ensures { appointment.new ≡ numbered_appointment moved.now appointment.old }
+{
+    number_item(moved, &mut appointment.item);
+}
+
+/// Gives events, which have the places of their deadlines and motions, the numbers of those.
+fn number_appointments(moved: &MovedNumbers, appointments: &mut [Appointment])
+    ensures { appointments.new ≡ map (numbered_appointment moved.now) appointments.old }
+{
+    let _types: DueTypes = None;
+    'list: for appointment in appointments.iter_mut() {
+        number_appointment(moved, appointment);
+    }
+}
+
+/// The events of these items, and of the deadlines among the others and the chosen hearings that are off, with the numbers of
+/// deadlines and motions. A hearing's history is found by the place of its motion. `Err` says that memory ran out.
+pub(crate) fn numbered_appointments(
+    alloc: Global,
+    moved: &MovedNumbers,
+    choice: &Choice,
+    histories: &HearingHistories,
+    items: &[DueItem],
+    others: &[DueItem],
+) -> Result<Vec<Appointment>, AllocError>
+    ensures { IfOk result (λ list. list.items ≡ map (numbered_appointment moved.now) (appointments_of choice.now histories.now items.now others.now)) }
+{
+    let _types: DueTypes = None;
+    let mut list = appointments_of(alloc, choice, histories, items, others)?;
+    number_appointments(moved, &mut list);
+    Ok(list)
+}

@@ -1,0 +1,202 @@
+//! What is chosen of a court by what was asked for.
+
+ghost use Rattle.std.specs.Prelude.{◌≡◌, option_map, string_bytes};
+ghost use Rattle.report_program.specs.Chosen.{case_given, choice_asked, choice_of, chosen_by, chosen_of, day_missing, due_chosen, ics_chosen, json_chosen, judge_given, page_chosen, uncovered, week_chosen};
+
+use crate::asked::{Asked, Task};
+use case_numbers::Cases;
+use court_clock::{Day, Instant};
+use court_days::Court;
+use docket_selection::Choice;
+use office_texts::{CaseCalled, number_called};
+
+/// What is shown of the docket after all rows.
+#[derive(Clone, Copy, Debug, PartialEq, Eq)]
+pub enum Listing {
+    /// What is due.
+    Due(Choice),
+    /// The week of that judge in which the day is.
+    Week(u8, Day),
+    /// The page.
+    Page(Choice),
+    /// The calendar of deadlines and hearings, written at that instant.
+    Ics(Choice, Instant),
+}
+
+/// What is chosen, by what is written of it.
+#[derive(Clone, Copy, Debug, PartialEq, Eq)]
+pub enum Chosen {
+    /// What is shown of the docket after all rows.
+    Listed(Listing),
+    /// What rows were answered, and of the docket the chosen cases and calendars, as JSON.
+    Json(Choice),
+    /// What rows were answered, as lines of JSON.
+    Lines,
+    /// What rows were answered, and all of the docket, as SQL.
+    Sql,
+}
+
+/// What isn't there of what is asked for.
+#[derive(Clone, Copy, Debug, PartialEq, Eq)]
+pub enum Missing {
+    /// No case has the name in the court's file.
+    Case,
+    /// No judge has the name there.
+    Judge,
+    /// The day of a week isn't covered.
+    Day(Day),
+    /// No row has opened the case of this number.
+    Closed(u32),
+}
+
+/// The types inside what is chosen. The checker finds them only where they have names, so a function that takes what is chosen out
+/// of a result has a variable of this type.
+pub(crate) type ChosenTypes = Option<(Listing, Choice, Day, Instant)>;
+
+/// What is chosen of the court by what is asked for, or the first that isn't there of it, but for a case that isn't open.
+#[tactic(auto, unfolding(crate::specs::Chosen::chosen_of))]
+pub(crate) fn chosen_of(court: &Court, cases: &Cases, asked: &Asked) -> Result<Chosen, Missing>
+    ensures { result ≡ chosen_of court.now cases.now.named asked.now }
+{
+    let Some(case) = case_given(cases, &asked.case) else {
+        return Err(Missing::Case);
+    };
+    let Some(chosen) = chosen_by(court, case, asked) else {
+        return Err(Missing::Judge);
+    };
+    match day_missing(court, &chosen) {
+        Some(day) => Err(Missing::Day(day)),
+        None => Ok(chosen),
+    }
+}
+
+/// The number of the case that is asked for, if one is. None where no case has that name.
+fn case_given(cases: &Cases, called: &Option<CaseCalled>) -> Option<Option<u32>>
+    ensures { result ≡ case_given cases.now.named called.now }
+{
+    match called {
+        Some(called) => match number_called(cases, called) {
+            Some(number) => Some(Some(number)),
+            None => None,
+        },
+        None => Some(None),
+    }
+}
+
+/// What is chosen of the court, and of that case or of any. None where the court's file names no such judge.
+#[tactic(auto, unfolding(crate::specs::Chosen::chosen_by))]
+fn chosen_by(court: &Court, case: Option<u32>, asked: &Asked) -> Option<Chosen>
+    ensures { result ≡ chosen_by court.now case asked.now }
+{
+    match asked.task {
+        Task::Due => due_chosen(court, case, asked),
+        Task::Week => week_chosen(court, asked),
+        Task::Page => page_chosen(court, case, asked),
+        Task::Ics => ics_chosen(court, case, asked),
+        Task::Json => json_chosen(court, case, asked),
+        Task::Sql => Some(Chosen::Sql),
+    }
+}
+
+/// The day of the week that is chosen, where the court's file doesn't cover it.
+fn day_missing(court: &Court, chosen: &Chosen) -> Option<Day>
+    ensures { result ≡ day_missing court.now.days chosen.now }
+{
+    match chosen {
+        Chosen::Listed(Listing::Week(_, day)) => uncovered(court, *day),
+        _ => None,
+    }
+}
+
+/// The day, where the court's file doesn't cover it.
+fn uncovered(court: &Court, day: Day) -> Option<Day>
+    ensures { result ≡ uncovered court.now.days day }
+{
+    if court.days().covered(day) {
+        return None;
+    }
+    Some(day)
+}
+
+fn due_chosen(court: &Court, case: Option<u32>, asked: &Asked) -> Option<Chosen>
+    ensures { result ≡ due_chosen court.now case asked.now }
+{
+    let choice = choice_asked(court, case, asked, false)?;
+    Some(Chosen::Listed(Listing::Due(choice)))
+}
+
+fn page_chosen(court: &Court, case: Option<u32>, asked: &Asked) -> Option<Chosen>
+    ensures { result ≡ page_chosen court.now case asked.now }
+{
+    let choice = choice_asked(court, case, asked, false)?;
+    Some(Chosen::Listed(Listing::Page(choice)))
+}
+
+fn ics_chosen(court: &Court, case: Option<u32>, asked: &Asked) -> Option<Chosen>
+    ensures { result ≡ ics_chosen court.now case asked.now }
+{
+    let choice = choice_asked(court, case, asked, true)?;
+    let stamp = asked.stamp.unwrap_or(asked.clock_time);
+    Some(Chosen::Listed(Listing::Ics(choice, stamp)))
+}
+
+fn json_chosen(court: &Court, case: Option<u32>, asked: &Asked) -> Option<Chosen>
+    ensures { result ≡ json_chosen court.now case asked.now }
+{
+    let choice = choice_asked(court, case, asked, true)?;
+    if asked.lines {
+        return Some(Chosen::Lines);
+    }
+    Some(Chosen::Json(choice))
+}
+
+fn week_chosen(court: &Court, asked: &Asked) -> Option<Chosen>
+    ensures { result ≡ week_chosen court.now asked.now }
+{
+    let judge = judge_given(court, &asked.judge)?;
+    let day = asked.of.unwrap_or(court.days().from());
+    Some(Chosen::Listed(Listing::Week(judge, day)))
+}
+
+/// The judge and the days that are asked for, and that case, or any. `met` says whether deadlines with a timely act are
+/// chosen too.
+fn choice_asked(court: &Court, case: Option<u32>, asked: &Asked, met: bool) -> Option<Choice>
+    ensures { result ≡ choice_asked court.now case asked.now met }
+{
+    match &asked.judge {
+        Some(name) => {
+            let judge = court.judge(name.as_str())?;
+            Some(choice_of(court, case, asked, met, Some(judge)))
+        }
+        None => Some(choice_of(court, case, asked, met, None)),
+    }
+}
+
+/// The days that are asked for, and that case and that judge, or any.
+fn choice_of(
+    court: &Court,
+    case: Option<u32>,
+    asked: &Asked,
+    met: bool,
+    judge: Option<u8>,
+) -> Choice
+    ensures { result ≡ choice_of court.now case asked.now met judge }
+{
+    Choice {
+        judge,
+        case,
+        from: asked.from.unwrap_or(court.days().from()),
+        to: asked.to.unwrap_or(court.days().to()),
+        met,
+    }
+}
+
+/// The number of the judge, whose name has to be given.
+fn judge_given(court: &Court, name: &Option<String>) -> Option<u8>
+    ensures { result ≡ judge_given court.now (option_map string_bytes name.now) }
+{
+    match name {
+        Some(name) => court.judge(name.as_str()),
+        None => None,
+    }
+}

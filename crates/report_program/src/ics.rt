@@ -1,0 +1,66 @@
+//! The text of a calendar for calendar programs.
+
+ghost use Rattle.std.specs.Prelude.{◌≡◌, IfOk, IsSome};
+ghost use Rattle.docket_rows.specs.Words.{Rows, setup_of};
+ghost use Rattle.docket_selection.specs.Words.{IsDue};
+ghost use Rattle.office_texts.specs.Run.Words.{Holds};
+ghost use Rattle.report_program.specs.Calendar.{IsIcsText, of_any_judge};
+
+use crate::appointments::numbered_appointments;
+use case_numbers::Cases;
+use court_clock::Instant;
+use court_days::Court;
+use desk_numbers::MovedNumbers;
+use docket_core::Docket;
+use docket_selection::{Choice, DueItem, DueTypes, HearingHistories, RowChange, due_of};
+use report_ics::icalendar;
+use std::alloc::{AllocError, Global};
+
+/// The calendar of what is chosen of the docket, after these changes, written at an instant. `Err` says that memory ran out.
+pub(crate) fn ics_text(
+    alloc: Global,
+    court: &Court,
+    cases: &Cases,
+    moved: &MovedNumbers,
+    docket: &Docket,
+    changes: Vec<RowChange>,
+    choice: &Choice,
+    stamp: Instant,
+) -> Result<Vec<u8>, AllocError>
+    requires court { docket.now.setup ≡ setup_of court.now }
+    ensures { (docketed : Rows) → Holds (setup_of court.now) docket.now docketed → IfOk result (λ text. IsIcsText court.now cases.now.named moved.now docketed changes.items choice.now stamp text.items) }
+{
+    let _types: DueTypes = None;
+    let items = due_of(alloc, court, docket, choice)?;
+    let histories = HearingHistories::of_changes(alloc, choice.judge, changes)?;
+    let others = due_of_any(alloc, court, docket, choice)?;
+    let appointments = numbered_appointments(alloc, moved, choice, &histories, &items, &others)?;
+    let text = icalendar(alloc, court, cases, stamp, &appointments)?;
+    Ok(text.into_bytes())
+}
+
+/// What is due before any judge, where a judge is chosen; without one it isn't asked for.
+fn due_of_any(
+    alloc: Global,
+    court: &Court,
+    docket: &Docket,
+    choice: &Choice,
+) -> Result<Vec<DueItem>, AllocError>
+    requires court { docket.now.setup ≡ setup_of court.now }
+    ensures { (docketed : Rows) → Holds (setup_of court.now) docket.now docketed → IfOk result (λ list. IsSome choice.now.judge → IsDue (setup_of court.now) docketed (of_any_judge choice.now) list.items) }
+{
+    let _types: DueTypes = None;
+    match choice.judge {
+        Some(_) => due_of(alloc, court, docket, &of_any_judge(choice)),
+        None => Ok(Vec::new(alloc)),
+    }
+}
+
+/// The same choice, of any judge.
+fn of_any_judge(choice: &Choice) -> Choice
+    ensures { result ≡ of_any_judge choice.now }
+{
+    let mut any = *choice;
+    any.judge = None;
+    any
+}

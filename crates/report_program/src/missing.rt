@@ -1,0 +1,117 @@
+//! The line that says what isn't there of what is asked for.
+
+ghost use Rattle.std.specs.Prelude.{◌≡◌, string_bytes, IfOk, OnOk};
+ghost use Rattle.office_texts.specs.Words.{AddsText};
+ghost use Rattle.report_program.specs.Calendar.{called_given, closed_line, from_words, missing_line, no_case, no_judge, not_covered, to_words, uncovered_words, word_given};
+
+use crate::asked::Asked;
+use crate::chosen::Missing;
+use case_numbers::{Cases, push_case_text};
+use court_clock::Day;
+use court_days::Court;
+use office_texts::{CaseCalled, push_called};
+use std::alloc::{AllocError, Global};
+use std::fmt::Write;
+
+/// The line of what isn't there, ended by LF. `Err` says that memory ran out.
+pub(crate) fn missing_line(
+    alloc: Global,
+    court: &Court,
+    cases: &Cases,
+    asked: &Asked,
+    missing: &Missing,
+) -> Result<String, AllocError>
+    ensures { IfOk result (λ line. string_bytes line ≡ missing_line court.now cases.now.named asked.now missing.now) }
+{
+    match missing {
+        Missing::Case => no_case(alloc, &asked.case),
+        Missing::Judge => no_judge(alloc, &asked.judge),
+        Missing::Day(day) => not_covered(alloc, *day, court.days().from(), court.days().to()),
+        Missing::Closed(case) => closed_line(alloc, cases, *case),
+    }
+}
+
+/// The line of a case that the court's file doesn't name.
+fn no_case(alloc: Global, called: &Option<CaseCalled>) -> Result<String, AllocError>
+    ensures { IfOk result (λ line. string_bytes line ≡ no_case called.now) }
+{
+    let mut line = String::new(alloc);
+    line.push_str("court_calendar: no case is named '")?;
+    push_called_given(&mut line, called)?;
+    line.push_str("' in the court's file\n")?;
+    Ok(line)
+}
+
+/// Adds what a case was called, where one was given.
+fn push_called_given(line: &mut String, called: &Option<CaseCalled>) -> Result<(), AllocError>
+    ensures { OnOk result (AddsText line.old line.new (called_given called.now)) }
+{
+    match called {
+        Some(called) => push_called(line, called),
+        None => Ok(()),
+    }
+}
+
+/// The line of a judge that the court's file doesn't name.
+fn no_judge(alloc: Global, word: &Option<String>) -> Result<String, AllocError>
+    ensures { IfOk result (λ line. string_bytes line ≡ no_judge word.now) }
+{
+    let word = word_given(word);
+    format!(in alloc; "court_calendar: no judge is named '{word}' in the court's file\n")
+}
+
+/// The text of a word, where it was given.
+fn word_given(word: &Option<String>) -> &str
+    ensures { result.now ≡ word_given word.now }
+{
+    match word {
+        Some(word) => word.as_str(),
+        None => "",
+    }
+}
+
+/// The line of a day that the court's file doesn't cover.
+fn not_covered(alloc: Global, day: Day, from: Day, to: Day) -> Result<String, AllocError>
+    ensures { IfOk result (λ line. string_bytes line ≡ not_covered day from to) }
+{
+    let mut line = String::new(alloc);
+    push_uncovered(&mut line, day)?;
+    push_from(&mut line, from)?;
+    push_to(&mut line, to)?;
+    Ok(line)
+}
+
+/// Adds that the court's file doesn't cover a day.
+#[tactic(auto, unfolding(crate::specs::Calendar::uncovered_words))]
+fn push_uncovered(line: &mut String, day: Day) -> Result<(), AllocError>
+    ensures { OnOk result (AddsText line.old line.new (uncovered_words day)) }
+{
+    write!(line, "court_calendar: {day} isn't covered")
+}
+
+/// Adds from which day on it covers days.
+#[tactic(auto, unfolding(crate::specs::Calendar::from_words))]
+fn push_from(line: &mut String, from: Day) -> Result<(), AllocError>
+    ensures { OnOk result (AddsText line.old line.new (from_words from)) }
+{
+    write!(line, ": the court's file covers {from}")
+}
+
+/// Adds up to which day it covers days, and the end of the line.
+#[tactic(auto, unfolding(crate::specs::Calendar::to_words))]
+fn push_to(line: &mut String, to: Day) -> Result<(), AllocError>
+    ensures { OnOk result (AddsText line.old line.new (to_words to)) }
+{
+    write!(line, " to {to}\n")
+}
+
+/// The line of a case that isn't open.
+fn closed_line(alloc: Global, cases: &Cases, case: u32) -> Result<String, AllocError>
+    ensures { IfOk result (λ line. string_bytes line ≡ closed_line cases.now.named case) }
+{
+    let mut line = String::new(alloc);
+    line.push_str("court_calendar: case ")?;
+    push_case_text(&mut line, cases, case)?;
+    line.push_str(" isn't open: no row has opened it\n")?;
+    Ok(line)
+}

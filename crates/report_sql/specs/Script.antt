@@ -1,0 +1,56 @@
+-- The whole: one transaction that makes the tables and puts each row into them.
+use Rattle.std.specs.Prelude.{ℕ, ◌==◌, List, [], ◌∷◌, ◌++◌, codes, length, map, if◌then◌else◌}
+use Rattle.std.specs.List.{flat_map}
+use Rattle.case_numbers.specs.Words.{name_of}
+use Rattle.case_numbers.specs.declared.names.NamedCase.{NamedCase}
+use Rattle.court_days.specs.Words.{CourtView, OutageView}
+use Rattle.docket_rows.specs.declared.sheet.Sheet.{Sheet}
+use Rattle.docket_rows.specs.Words.{Rows, opening_rows, setup_of}
+use Rattle.docket_selection.specs.Words.{open_sheets}
+use Rattle.row_forms.specs.declared.row.Row.{Row}
+use Rattle.office_texts.specs.Run.Words.{docketed_after}
+use Rattle.desk_numbers.specs.declared.moved.Moved.{Moved}
+use Rattle.desk_numbers.specs.Words.{numbered_sheet}
+use Rattle.report_sql.specs.Answers.{answer_rows}
+use Rattle.report_sql.specs.Deadlines.{deadline_rows}
+use Rattle.report_sql.specs.Hearings.{motion_rows}
+use Rattle.report_sql.specs.Rows.{SqlValue, numbered, or_null, row_of, text}
+use Rattle.report_sql.specs.Schema.{tables}
+use Rattle.report_sql.specs.Times.{day_value, minute_value}
+
+-- the name of a case, where the court's file has names: NULL where the case has none
+abbrev pub name_values : List NamedCase → (case : ℕ) → List SqlValue
+name_values named case = if length named == 0 then [] else or_null text (name_of named case) ∷ []
+
+-- a case, by its number, with each of its deadlines and each of its motions, in order
+unfoldable pub case_row : List NamedCase → Sheet → List ℕ
+case_row named s = row_of (codes "cases") s.case (day_value s.filed ∷ name_values named s.case)
+
+unfoldable pub sheet_rows : CourtView → List NamedCase → Sheet → List ℕ
+sheet_rows court named s = case_row named s ++ flat_map (deadline_rows court.clock s.case) s.deadlines ++ flat_map (motion_rows court s.case) s.motions
+
+-- an outage, by its number, counted from 1 in the order in which they were entered
+unfoldable pub outage_row : (place : ℕ) → OutageView → List ℕ
+outage_row place o = row_of (codes "outages") place (day_value o.day ∷ minute_value o.from ∷ minute_value o.to ∷ [])
+
+-- what is docketed: each outage, and each open case by its number, with the numbers of its deadlines and motions
+abbrev pub docketed_text : CourtView → List NamedCase → List Moved → (docketed : Rows) → List ℕ
+docketed_text court named moved docketed =
+    numbered outage_row 1 docketed.days.outages ++ flat_map (sheet_rows court named) (map (numbered_sheet moved) (open_sheets (setup_of court) docketed))
+
+unfoldable pub transaction_front : List ℕ
+transaction_front = codes "BEGIN TRANSACTION;\n"
+
+unfoldable pub transaction_end : List ℕ
+transaction_end = codes "COMMIT;\n"
+
+-- of a court, the names of cases, what isn't at the place that its number says, and all rows: the tables, what each row was
+-- answered, and what is docketed after the last
+unfoldable pub script_text : CourtView → List NamedCase → List Moved → List Row → List ℕ
+script_text court named moved rows =
+    let opening = opening_rows (setup_of court) in
+    transaction_front
+    ++ tables named
+    ++ answer_rows court named moved opening 1 rows
+    ++ docketed_text court named moved (docketed_after (setup_of court) opening rows)
+    ++ transaction_end

@@ -1,0 +1,53 @@
+//! The whole script.
+
+ghost use Rattle.std.specs.Prelude.{◌≡◌, ◌++◌, IfOk, OnOk};
+ghost use Rattle.report_sql.specs.Script.{script_text, transaction_end, transaction_front};
+
+use crate::answers::push_answers;
+use crate::schema::push_tables;
+use crate::script::Script;
+use crate::sheets::push_docketed;
+use case_numbers::Cases;
+use court_days::Court;
+use desk_numbers::MovedNumbers;
+use docket_core::Docket;
+use row_forms::Row;
+use std::alloc::{AllocError, Global};
+
+/// One transaction of SQL: it makes the tables, and puts into them what each row was answered and what is docketed after
+/// the last. `cases` has the names of cases, which answers have in place of numbers: the table of cases has a column for them where
+/// there are any. Deadlines and
+/// motions have the numbers that `moved` says, while rows name them by their places. `Err` says that memory ran out.
+#[tactic(auto, unfolding(crate::specs::Script::script_text))]
+pub fn sql_text(
+    alloc: Global,
+    court: &Court,
+    cases: &Cases,
+    moved: &MovedNumbers,
+    rows: &[Row],
+) -> Result<Vec<u8>, AllocError>
+    ensures { IfOk result (λ text. text.items ≡ script_text court.now cases.now.named moved.now rows.now) }
+{
+    let mut out = Script::new(alloc);
+    let mut docket = Docket::new(alloc, court)?;
+    push_front(&mut out)?;
+    push_tables(&mut out, cases)?;
+    push_answers(alloc, &mut out, court, cases, moved, &mut docket, rows)?;
+    push_docketed(alloc, &mut out, court, cases, moved, &docket)?;
+    push_end(&mut out)?;
+    Ok(out.into_bytes())
+}
+
+#[tactic(auto, unfolding(crate::specs::Script::transaction_front))]
+fn push_front(out: &mut Script) -> Result<(), AllocError>
+    ensures { OnOk result (out.new ≡ out.old ++ transaction_front) }
+{
+    out.statement("BEGIN TRANSACTION;\n")
+}
+
+#[tactic(auto, unfolding(crate::specs::Script::transaction_end))]
+fn push_end(out: &mut Script) -> Result<(), AllocError>
+    ensures { OnOk result (out.new ≡ out.old ++ transaction_end) }
+{
+    out.statement("COMMIT;\n")
+}

@@ -1,0 +1,162 @@
+//! What is docketed: outages, and cases with all that is on their sheets.
+
+ghost use Rattle.std.specs.Prelude.{◌≡◌, ◌++◌, map, IfOk, OnOk};
+ghost use Rattle.std.specs.List.{flat_map};
+ghost use Rattle.docket_rows.specs.Words.{Rows, setup_of};
+ghost use Rattle.docket_core.specs.Words.{StandsFor};
+ghost use Rattle.docket_selection.specs.Words.{open_sheets};
+ghost use Rattle.desk_numbers.specs.Words.{numbered_sheet};
+ghost use Rattle.report_sql.specs.Deadlines.{deadline_rows};
+ghost use Rattle.report_sql.specs.Hearings.{motion_rows};
+ghost use Rattle.report_sql.specs.Rows.{AddsValues, numbered};
+ghost use Rattle.report_sql.specs.Script.{case_row, docketed_text, name_values, outage_row, sheet_rows};
+
+use crate::deadlines::push_deadline;
+use crate::hearings::push_motion;
+use crate::script::Script;
+use case_numbers::Cases;
+use court_clock::Clock;
+use court_days::{Court, Outage};
+use desk_numbers::MovedNumbers;
+use docket_core::Docket;
+use docket_rows::{Sheet, SheetDeadline, SheetMotion};
+use docket_selection::sheets_of;
+use report_numbers::number_sheets;
+use std::alloc::{AllocError, Global};
+
+/// Adds each outage, and each open case with all that is on its sheet, where deadlines and motions have their numbers. `Err`
+/// says that memory ran out.
+pub(crate) fn push_docketed(
+    alloc: Global,
+    out: &mut Script,
+    court: &Court,
+    cases: &Cases,
+    moved: &MovedNumbers,
+    docket: &Docket,
+) -> Result<(), AllocError>
+    requires court { docket.now.setup ≡ setup_of court.now }
+    ensures { (docketed : Rows) → StandsFor docket.now docketed → OnOk result (out.new ≡ out.old ++ docketed_text court.now cases.now.named moved.now docketed) }
+{
+    push_outages(out, docket.days().outages())?;
+    let sheets = numbered_sheets(alloc, docket, moved)?;
+    push_sheets(out, court, cases, &sheets)?;
+    Ok(())
+}
+
+/// The sheets of all open cases, with the numbers of deadlines and motions.
+fn numbered_sheets(
+    alloc: Global,
+    docket: &Docket,
+    moved: &MovedNumbers,
+) -> Result<Vec<Sheet>, AllocError>
+    ensures { (docketed : Rows) → StandsFor docket.now docketed → IfOk result (λ sheets. sheets.items ≡ map (numbered_sheet moved.now) (open_sheets docket.now.setup docketed)) }
+{
+    let mut sheets = sheets_of(alloc, docket)?;
+    number_sheets(alloc, moved, &mut sheets);
+    Ok(sheets)
+}
+
+/// Adds the outages, each with its number.
+fn push_outages(out: &mut Script, outages: &[Outage]) -> Result<(), AllocError>
+    ensures { OnOk result (out.new ≡ out.old ++ numbered outage_row 1 outages.now) }
+{
+    let mut place = 1u64;
+    for outage in outages {
+        push_outage(out, place, *outage)?;
+        place += 1;
+    }
+    Ok(())
+}
+
+#[tactic(auto, unfolding(crate::specs::Script::outage_row))]
+fn push_outage(out: &mut Script, place: u64, outage: Outage) -> Result<(), AllocError>
+    ensures { OnOk result (out.new ≡ out.old ++ outage_row place outage) }
+{
+    out.begin_row("outages", place)?;
+    out.day(outage.day())?;
+    out.minute(u32::from(outage.from()))?;
+    out.minute(u32::from(outage.to()))?;
+    out.end_row()
+}
+
+/// Adds each case with all that is on its sheet.
+fn push_sheets(
+    out: &mut Script,
+    court: &Court,
+    cases: &Cases,
+    sheets: &[Sheet],
+) -> Result<(), AllocError>
+    ensures { OnOk result (out.new ≡ out.old ++ flat_map (sheet_rows court.now cases.now.named) sheets.now) }
+{
+    for sheet in sheets {
+        push_sheet(out, court, cases, sheet)?;
+    }
+    Ok(())
+}
+
+#[tactic(auto, unfolding(crate::specs::Script::sheet_rows))]
+fn push_sheet(
+    out: &mut Script,
+    court: &Court,
+    cases: &Cases,
+    sheet: &Sheet,
+) -> Result<(), AllocError>
+    ensures { OnOk result (out.new ≡ out.old ++ sheet_rows court.now cases.now.named sheet.now) }
+{
+    push_case(out, cases, sheet)?;
+    push_deadlines(out, court.clock(), sheet.case, sheet.deadlines.as_slice())?;
+    push_motions(out, court, sheet.case, sheet.motions.as_slice())
+}
+
+#[tactic(auto, unfolding(crate::specs::Script::case_row))]
+fn push_case(out: &mut Script, cases: &Cases, sheet: &Sheet) -> Result<(), AllocError>
+    ensures { OnOk result (out.new ≡ out.old ++ case_row cases.now.named sheet.now) }
+{
+    out.begin_row("cases", u64::from(sheet.case))?;
+    out.day(sheet.filed)?;
+    push_name(out, cases, sheet.case)?;
+    out.end_row()
+}
+
+/// Adds the name of a case, where the court's file has names.
+fn push_name(out: &mut Script, cases: &Cases, case: u32) -> Result<(), AllocError>
+    ensures { OnOk result (AddsValues out.old out.new (name_values cases.now.named case)) }
+{
+    if cases.named().is_empty() {
+        return Ok(());
+    }
+    match cases.name_of(case) {
+        Some(name) => out.text(name),
+        None => out.null(),
+    }
+}
+
+/// Adds each deadline of a case.
+fn push_deadlines(
+    out: &mut Script,
+    clock: &Clock,
+    case: u32,
+    deadlines: &[SheetDeadline],
+) -> Result<(), AllocError>
+    ensures { OnOk result (out.new ≡ out.old ++ flat_map (deadline_rows clock.now case) deadlines.now) }
+{
+    for deadline in deadlines {
+        push_deadline(out, clock, case, deadline)?;
+    }
+    Ok(())
+}
+
+/// Adds each motion of a case.
+fn push_motions(
+    out: &mut Script,
+    court: &Court,
+    case: u32,
+    motions: &[SheetMotion],
+) -> Result<(), AllocError>
+    ensures { OnOk result (out.new ≡ out.old ++ flat_map (motion_rows court.now case) motions.now) }
+{
+    for motion in motions {
+        push_motion(out, court, case, motion)?;
+    }
+    Ok(())
+}

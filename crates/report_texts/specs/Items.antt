@@ -1,0 +1,63 @@
+-- The line of a deadline or a hearing.
+use Rattle.std.specs.Prelude.{ℕ, ◌+◌, ◌*◌, List, [], ◌∷◌, ◌++◌, codes}
+use Rattle.std.specs.Fmt.{decimal}
+use Rattle.case_numbers.specs.Words.{case_text}
+use Rattle.case_numbers.specs.declared.names.NamedCase.{NamedCase}
+use Rattle.court_days.specs.Words.{CourtView}
+use Rattle.rule6.specs.declared.timeliness.Shown.{Shown}
+use Rattle.rule6.specs.declared.timeliness.Shown.TheVariants as shown
+use Rattle.docket_rows.specs.declared.hearing.Hearing.{Hearing as HearingSet}
+use Rattle.docket_rows.specs.declared.sheet.State.{State}
+use Rattle.docket_rows.specs.declared.sheet.State.TheVariants.{Late}
+use Rattle.docket_selection.specs.declared.item.DueDeadline.{DueDeadline}
+use Rattle.docket_selection.specs.declared.item.DueItem.{DueItem}
+use Rattle.docket_selection.specs.declared.item.Matter.{Matter}
+use Rattle.docket_selection.specs.declared.item.Matter.TheVariants.{Deadline, Hearing}
+use Rattle.office_texts.specs.Words.{name_of}
+use Rattle.report_texts.specs.Names.{panel_names}
+use Rattle.report_texts.specs.Other.{other_words}
+use Rattle.report_texts.specs.Periods.{period_words}
+use Rattle.report_texts.specs.Times.{minute_time, second_time}
+
+-- when a deadline ends: at a second of its day, or with its last day
+abbrev pub end_words : (second : ℕ) → Shown → List ℕ
+end_words second (shown.Until end) = codes "to " ++ second_time second
+end_words second (shown.Last day act) = codes "to midnight"
+end_words second shown.Beyond = codes "to midnight"
+
+-- `09:30-10:15`: slot s begins at minute 15·s of the day
+unfoldable pub span_words : (first count : ℕ) → List ℕ
+span_words first count = minute_time (15 * first) ++ codes "-" ++ minute_time (15 * (first + count))
+
+abbrev pub time_words : (second : ℕ) → Matter → List ℕ
+time_words second (Deadline d) = end_words second d.shown
+time_words second (Hearing h) = span_words h.hearing.first h.hearing.count
+
+abbrev pub late_words : State → List ℕ
+late_words Late = codes ", filed late"
+late_words state = []
+
+-- ` deadline 3: 59e, filed late`
+unfoldable pub deadline_words : (number : ℕ) → DueDeadline → List ℕ
+deadline_words number d = codes " deadline " ++ decimal number ++ codes ": " ++ period_words d.period ++ late_words d.state
+
+abbrev pub room_words : CourtView → (room : ℕ) → List ℕ
+room_words court room = codes ", room " ++ name_of court.rooms room
+
+unfoldable pub hearing_front : List ℕ
+hearing_front = codes ": hearing before "
+
+-- ` motion 1: hearing before Ames+Brandt, room R1`
+unfoldable pub hearing_words : CourtView → (number : ℕ) → HearingSet → List ℕ
+hearing_words court number h =
+    codes " motion " ++ decimal number ++ hearing_front ++ panel_names court h.judges ++ room_words court h.room
+
+-- a deadline, and its end by another reading, or a hearing
+abbrev pub matter_words : CourtView → (number : ℕ) → Matter → List ℕ
+matter_words court number (Deadline d) = deadline_words number d ++ other_words court.clock d.other
+matter_words court number (Hearing h) = hearing_words court number h.hearing
+
+-- `  to midnight  case 1 deadline 3: 59e`; a case that has a name is called by it
+unfoldable pub item_line : CourtView → List NamedCase → DueItem → List ℕ
+item_line court named item =
+    codes "  " ++ time_words item.second item.matter ++ codes "  case " ++ case_text named item.case ++ matter_words court item.number item.matter ++ 10 ∷ []

@@ -1,0 +1,12 @@
+-- The words of clauses and definitions, for the crates above, from one place.
+unfoldable pub use Rattle.report_texts.specs.Days.{whole_day}
+pub use Rattle.report_texts.specs.Due.{case_words, is_day_of}
+unfoldable pub use Rattle.report_texts.specs.Due.{chosen_words, closing_line, lines_after, due_text}
+pub use Rattle.report_texts.specs.Items.{time_words, matter_words, room_words}
+unfoldable pub use Rattle.report_texts.specs.Items.{item_line, span_words}
+unfoldable pub use Rattle.report_texts.specs.Names.{panel_names}
+unfoldable pub use Rattle.report_texts.specs.Other.{reading_words}
+unfoldable pub use Rattle.report_texts.specs.Periods.{period_words}
+pub use Rattle.report_texts.specs.Periods.{unit_words}
+unfoldable pub use Rattle.report_texts.specs.Times.{minute_time, second_time}
+unfoldable pub use Rattle.report_texts.specs.Week.{week_text}

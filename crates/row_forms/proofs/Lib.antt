@@ -1,0 +1,13 @@
+pub mod NumberLemmas
+pub mod EndLemmas
+pub mod CutLemmas
+pub mod PanelLemmas
+pub mod PeriodLemmas
+pub mod FormLemmas
+pub mod RecordsLemmas
+pub mod ReadingLemmas
+pub mod RowsLemmas
+pub mod FaultLemmas
+pub mod BoundLemmas
+pub mod CallerLemmas
+pub mod LineLemmas

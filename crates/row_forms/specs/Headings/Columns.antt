@@ -1,0 +1,89 @@
+-- The command words of rows, their columns, and what these are called.
+use Rattle.std.specs.Prelude.{ℕ, ◌||◌, List, [], ◌∷◌, codes, slice_get, unwrap_or, Option, Some, None, if◌then◌else◌}
+use Rattle.std.specs.Str.{bytes_eq}
+use Rattle.row_forms.specs.declared.headings.columns.Column.{Column}
+use Rattle.row_forms.specs.declared.headings.columns.Column.TheVariants.{Clerk, Command, Case, Deadline, Motion, Period, Date, Time, Start, TimeOrNone, SecondOrNone, ServiceOrNone, Means, Grant, ByMotion, Cause, Neglect, Need, Holidays, From, To, Judge, Judges, Room, Slots, Notice}
+
+-- the command words, as they are listed in a sentence
+abbrev pub commands_listed : List ℕ
+commands_listed = codes "open, start, file, extend, motion, book, move, cancel, holiday, inaccessible, compute, sheet or calendar"
+
+-- the columns of the rows with this command word, from the first on
+unfoldable pub columns_of : List ℕ → Option (List Column)
+columns_of word =
+    if bytes_eq word (codes "open") then Some (Clerk ∷ Command ∷ Case ∷ Date ∷ [])
+    else if bytes_eq word (codes "start") then Some (Clerk ∷ Command ∷ Case ∷ Period ∷ Date ∷ TimeOrNone ∷ SecondOrNone ∷ ServiceOrNone ∷ [])
+    else if bytes_eq word (codes "file") then Some (Clerk ∷ Command ∷ Case ∷ Deadline ∷ Date ∷ Time ∷ Means ∷ [])
+    else if bytes_eq word (codes "extend") then Some (Clerk ∷ Command ∷ Case ∷ Deadline ∷ Grant ∷ Date ∷ Time ∷ ByMotion ∷ Cause ∷ Neglect ∷ [])
+    else if bytes_eq word (codes "motion") then Some (Clerk ∷ Command ∷ Case ∷ Date ∷ Need ∷ [])
+    else if bytes_eq word (codes "book") || bytes_eq word (codes "move") then Some (Clerk ∷ Command ∷ Case ∷ Motion ∷ Judges ∷ Room ∷ Date ∷ Start ∷ Slots ∷ Notice ∷ [])
+    else if bytes_eq word (codes "cancel") then Some (Clerk ∷ Command ∷ Case ∷ Motion ∷ [])
+    else if bytes_eq word (codes "holiday") then Some (Clerk ∷ Command ∷ Date ∷ Holidays ∷ [])
+    else if bytes_eq word (codes "inaccessible") then Some (Clerk ∷ Command ∷ Date ∷ From ∷ To ∷ [])
+    else if bytes_eq word (codes "compute") then Some (Clerk ∷ Command ∷ Period ∷ Date ∷ TimeOrNone ∷ SecondOrNone ∷ ServiceOrNone ∷ [])
+    else if bytes_eq word (codes "sheet") then Some (Clerk ∷ Command ∷ Case ∷ [])
+    else if bytes_eq word (codes "calendar") then Some (Clerk ∷ Command ∷ Judge ∷ Date ∷ [])
+    else None
+
+-- the column of that number, counted from 0
+abbrev pub column_at : List Column → ℕ → Column
+column_at columns number = unwrap_or (slice_get columns number) Command
+
+-- the heading of a column
+abbrev pub name_of : Column → List ℕ
+name_of Clerk = codes "clerk"
+name_of Command = codes "command"
+name_of Case = codes "case"
+name_of Deadline = codes "deadline"
+name_of Motion = codes "motion"
+name_of Period = codes "period"
+name_of Date = codes "date"
+name_of Time = codes "time"
+name_of Start = codes "time"
+name_of TimeOrNone = codes "time"
+name_of SecondOrNone = codes "second"
+name_of ServiceOrNone = codes "kind"
+name_of Means = codes "means"
+name_of Grant = codes "grant"
+name_of ByMotion = codes "motion"
+name_of Cause = codes "cause"
+name_of Neglect = codes "neglect"
+name_of Need = codes "need"
+name_of Holidays = codes "list"
+name_of From = codes "from"
+name_of To = codes "to"
+name_of Judge = codes "judge"
+name_of Judges = codes "judge"
+name_of Room = codes "room"
+name_of Slots = codes "slots"
+name_of Notice = codes "notice"
+
+-- What stands for a column where the form of a row is shown. What may be left empty is in brackets. The command word stands
+-- for itself.
+abbrev pub mark_of : (word : List ℕ) → Column → List ℕ
+mark_of word Clerk = codes "CLERK"
+mark_of word Command = word
+mark_of word Case = codes "CASE"
+mark_of word Deadline = codes "DEADLINE"
+mark_of word Motion = codes "MOTION"
+mark_of word Period = codes "PERIOD"
+mark_of word Date = codes "DATE"
+mark_of word Time = codes "TIME"
+mark_of word Start = codes "START"
+mark_of word TimeOrNone = codes "[TIME]"
+mark_of word SecondOrNone = codes "[SECOND]"
+mark_of word ServiceOrNone = codes "[KIND]"
+mark_of word Means = codes "MEANS"
+mark_of word Grant = codes "GRANT"
+mark_of word ByMotion = codes "MOTION?"
+mark_of word Cause = codes "CAUSE?"
+mark_of word Neglect = codes "NEGLECT?"
+mark_of word Need = codes "NEED"
+mark_of word Holidays = codes "LIST"
+mark_of word From = codes "FROM"
+mark_of word To = codes "TO"
+mark_of word Judge = codes "JUDGE"
+mark_of word Judges = codes "JUDGE"
+mark_of word Room = codes "ROOM"
+mark_of word Slots = codes "SLOTS"
+mark_of word Notice = codes "NOTICE"

@@ -1,0 +1,12 @@
+pub mod CourtNames
+pub mod Fields
+pub mod Fault
+pub mod Columns
+pub mod Forms
+pub mod Rows
+pub mod Records
+pub mod FirstFault
+pub mod Bounds
+pub mod Words
+pub mod Headings
+pub mod Line

@@ -1,0 +1,21 @@
+-- The words of clauses and definitions, for the crates above, from one place.
+pub use Rattle.row_forms.specs.CourtNames.{CourtNames, names_of}
+unfoldable pub use Rattle.row_forms.specs.CourtNames.{number_named}
+pub use Rattle.row_forms.specs.Fields.Numbers.{is_number}
+unfoldable pub use Rattle.row_forms.specs.Fields.Numbers.{count_of, number_of}
+unfoldable pub use Rattle.row_forms.specs.Fields.Period.{length_of, entered_of, period_of}
+pub use Rattle.row_forms.specs.Fields.Period.{CodesAreReadBack}
+unfoldable pub use Rattle.row_forms.specs.Fields.Times.{day_if_given, ending_minute, minute_or_midnight, slot_at}
+unfoldable pub use Rattle.row_forms.specs.Fields.Choices.{is_so, kind_if_given, kind_of, list_of, means_of}
+unfoldable pub use Rattle.row_forms.specs.Fields.Grants.{grant_of, need_of}
+pub use Rattle.row_forms.specs.Fields.Hearings.{joined_names}
+unfoldable pub use Rattle.row_forms.specs.Fields.Hearings.{panel_named, slots_of}
+pub use Rattle.row_forms.specs.Columns.{column, in_column}
+pub use Rattle.row_forms.specs.Forms.{CommandWordsNameForms, RowsAskByTheirWords, command_word, form_asking, forms, read_as}
+unfoldable pub use Rattle.row_forms.specs.Forms.{form_of, work_of}
+pub use Rattle.row_forms.specs.Rows.{AnswersRows, in_row, most_rows, numbered_row}
+unfoldable pub use Rattle.row_forms.specs.Rows.{clerk_of, row_of, rows_read_from, rows_read}
+pub use Rattle.row_forms.specs.Records.{MeetsNoText, TakesAnyRow, TakesText, records_left}
+pub use Rattle.row_forms.specs.FirstFault.{AreSpelled, FirstFaultIsTold, IsFirstFault}
+pub use Rattle.row_forms.specs.Fault.{cause_text}
+pub use Rattle.row_forms.specs.Bounds.{IsClerk, IsOfClerk, RowsAreBounded}

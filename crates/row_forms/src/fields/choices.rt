@@ -1,0 +1,70 @@
+//! Fields that say one of a few words.
+
+ghost use Rattle.std.specs.Prelude.{◌≡◌};
+ghost use Rattle.row_forms.specs.Fields.Choices.{is_so, kind_if_given, kind_of, list_of, means_of};
+
+use court_days::HolidayList;
+use rule6::{Means, ServiceKind};
+
+/// The kind of service that a field says; an empty field says none.
+#[tactic(auto, unfolding(crate::specs::Fields::Choices::kind_if_given))]
+pub fn kind_if_given(field: &str) -> Option<Option<ServiceKind>>
+    ensures { result ≡ kind_if_given field.now }
+{
+    if field.is_empty() {
+        return Some(None);
+    }
+    Some(Some(kind_of(field)?))
+}
+
+// The kind of service, by its letter in Rule 5(b)(2).
+#[tactic(auto, unfolding(crate::specs::Fields::Choices::kind_of))]
+fn kind_of(letter: &str) -> Option<ServiceKind>
+    ensures { result ≡ kind_of letter.now }
+{
+    match letter {
+        "A" => Some(ServiceKind::HandA),
+        "B" => Some(ServiceKind::LeftB),
+        "C" => Some(ServiceKind::MailC),
+        "D" => Some(ServiceKind::ClerkD),
+        "E" => Some(ServiceKind::ElectronicE),
+        "F" => Some(ServiceKind::OtherF),
+        _ => None,
+    }
+}
+
+/// How a paper reached the clerk.
+#[tactic(auto, unfolding(crate::specs::Fields::Choices::means_of))]
+pub fn means_of(text: &str) -> Option<Means>
+    ensures { result ≡ means_of text.now }
+{
+    match text {
+        "electronic" => Some(Means::Electronic),
+        "paper" => Some(Means::Paper),
+        _ => None,
+    }
+}
+
+/// The list of holidays.
+#[tactic(auto, unfolding(crate::specs::Fields::Choices::list_of))]
+pub fn list_of(text: &str) -> Option<HolidayList>
+    ensures { result ≡ list_of text.now }
+{
+    match text {
+        "federal" => Some(HolidayList::Federal),
+        "state" => Some(HolidayList::State),
+        _ => None,
+    }
+}
+
+/// Whether something is so: `yes` or `no`.
+#[tactic(auto, unfolding(crate::specs::Fields::Choices::is_so))]
+pub fn is_so(text: &str) -> Option<bool>
+    ensures { result ≡ is_so text.now }
+{
+    match text {
+        "yes" => Some(true),
+        "no" => Some(false),
+        _ => None,
+    }
+}

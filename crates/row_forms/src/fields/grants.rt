@@ -1,0 +1,42 @@
+//! Extensions, and the notice that a motion needs.
+
+ghost use Rattle.std.specs.Prelude.{◌≡◌};
+ghost use Rattle.row_forms.specs.Fields.Grants.{grant_of, more_time, need_of};
+
+use crate::fields::numbers::number_of;
+use crate::fields::period::length_of;
+use court_clock::Day;
+use hearing_slots::Need;
+use rule_periods::{Grant, Length};
+
+/// An extension: `+` and a number of days or hours, as `+14d`, or a date.
+#[tactic(auto, unfolding(crate::specs::Fields::Grants::grant_of))]
+pub fn grant_of(text: &str) -> Option<Grant>
+    ensures { result ≡ grant_of text.now }
+{
+    match text.strip_prefix('+') {
+        Some(length) => Some(more_time(length_of(length)?)),
+        None => Some(Grant::Until(Day::from_text(text)?)),
+    }
+}
+
+// So much more time.
+fn more_time(length: Length) -> Grant
+    ensures { result ≡ more_time length }
+{
+    match length {
+        Length::Days(n) => Grant::ByDays(n),
+        Length::Hours(n) => Grant::ByHours(n),
+    }
+}
+
+/// The notice that a motion needs: a number of days, or `exparte`.
+#[tactic(auto, unfolding(crate::specs::Fields::Grants::need_of))]
+pub fn need_of(text: &str) -> Option<Need>
+    ensures { result ≡ need_of text.now }
+{
+    if text == "exparte" {
+        return Some(Need::ExParte);
+    }
+    Some(Need::Days(number_of(text)?))
+}

@@ -1,0 +1,242 @@
+//! The command words of rows, their columns, and what these are called.
+
+ghost use Rattle.std.specs.Prelude.{◌≡◌, option_map};
+ghost use Rattle.row_forms.specs.Headings.Columns.{column_at, columns_of, commands_listed, mark_of, name_of};
+
+/// What a column of a row holds.
+#[derive(Clone, Copy, Debug, PartialEq, Eq)]
+pub enum Column {
+    /// The clerk's number.
+    Clerk,
+    /// The command word.
+    Command,
+    /// A case: its number, or its number as the court writes it.
+    Case,
+    /// A deadline's number.
+    Deadline,
+    /// A motion's number.
+    Motion,
+    /// A period.
+    Period,
+    /// A date.
+    Date,
+    /// A time of day.
+    Time,
+    /// The time of day at which a hearing begins.
+    Start,
+    /// A time of day, or nothing.
+    TimeOrNone,
+    /// A second date, or nothing.
+    SecondOrNone,
+    /// A kind of service, or nothing.
+    ServiceOrNone,
+    /// How a paper reached the clerk.
+    Means,
+    /// An extension.
+    Grant,
+    /// Whether it was asked by a motion.
+    ByMotion,
+    /// Whether there was good cause.
+    Cause,
+    /// Whether there was excusable neglect.
+    Neglect,
+    /// The notice that a motion needs.
+    Need,
+    /// A list of holidays.
+    Holidays,
+    /// The time of day at which an outage begins.
+    From,
+    /// The time of day at which it ends, or the end of the day.
+    To,
+    /// A judge.
+    Judge,
+    /// One to three judges.
+    Judges,
+    /// A room.
+    Room,
+    /// How many slots.
+    Slots,
+    /// The day on which notice was served.
+    Notice,
+}
+
+/// The command words.
+pub const COMMANDS: [&str; 13] = [
+    "open",
+    "start",
+    "file",
+    "extend",
+    "motion",
+    "book",
+    "move",
+    "cancel",
+    "holiday",
+    "inaccessible",
+    "compute",
+    "sheet",
+    "calendar",
+];
+
+/// The command words, as they are listed in a sentence.
+pub fn commands_listed() -> &'static str
+    ensures { result.now ≡ commands_listed }
+{
+    "open, start, file, extend, motion, book, move, cancel, holiday, inaccessible, compute, sheet or calendar"
+}
+
+/// The columns of the rows with this command word, from the first on.
+#[tactic(auto, unfolding(crate::specs::Headings::Columns::columns_of))]
+pub fn columns_of(word: &str) -> Option<&'static [Column]>
+    ensures { option_map (λ columns. columns.now) result ≡ columns_of word.now }
+{
+    match word {
+        "open" => Some(&[Column::Clerk, Column::Command, Column::Case, Column::Date]),
+        "start" => Some(&[
+            Column::Clerk,
+            Column::Command,
+            Column::Case,
+            Column::Period,
+            Column::Date,
+            Column::TimeOrNone,
+            Column::SecondOrNone,
+            Column::ServiceOrNone,
+        ]),
+        "file" => Some(&[
+            Column::Clerk,
+            Column::Command,
+            Column::Case,
+            Column::Deadline,
+            Column::Date,
+            Column::Time,
+            Column::Means,
+        ]),
+        "extend" => Some(&[
+            Column::Clerk,
+            Column::Command,
+            Column::Case,
+            Column::Deadline,
+            Column::Grant,
+            Column::Date,
+            Column::Time,
+            Column::ByMotion,
+            Column::Cause,
+            Column::Neglect,
+        ]),
+        "motion" => Some(&[
+            Column::Clerk,
+            Column::Command,
+            Column::Case,
+            Column::Date,
+            Column::Need,
+        ]),
+        "book" | "move" => Some(&[
+            Column::Clerk,
+            Column::Command,
+            Column::Case,
+            Column::Motion,
+            Column::Judges,
+            Column::Room,
+            Column::Date,
+            Column::Start,
+            Column::Slots,
+            Column::Notice,
+        ]),
+        "cancel" => Some(&[Column::Clerk, Column::Command, Column::Case, Column::Motion]),
+        "holiday" => Some(&[
+            Column::Clerk,
+            Column::Command,
+            Column::Date,
+            Column::Holidays,
+        ]),
+        "inaccessible" => Some(&[
+            Column::Clerk,
+            Column::Command,
+            Column::Date,
+            Column::From,
+            Column::To,
+        ]),
+        "compute" => Some(&[
+            Column::Clerk,
+            Column::Command,
+            Column::Period,
+            Column::Date,
+            Column::TimeOrNone,
+            Column::SecondOrNone,
+            Column::ServiceOrNone,
+        ]),
+        "sheet" => Some(&[Column::Clerk, Column::Command, Column::Case]),
+        "calendar" => Some(&[Column::Clerk, Column::Command, Column::Judge, Column::Date]),
+        _ => None,
+    }
+}
+
+/// The column of that number, counted from 0.
+pub fn column_at(columns: &[Column], number: usize) -> Column
+    ensures { result ≡ column_at columns.now number }
+{
+    columns.get(number).copied().unwrap_or(Column::Command)
+}
+
+/// The heading of a column.
+pub fn name_of(column: Column) -> &'static str
+    ensures { result.now ≡ name_of column }
+{
+    match column {
+        Column::Clerk => "clerk",
+        Column::Command => "command",
+        Column::Case => "case",
+        Column::Deadline => "deadline",
+        Column::Motion | Column::ByMotion => "motion",
+        Column::Period => "period",
+        Column::Date => "date",
+        Column::Time | Column::Start | Column::TimeOrNone => "time",
+        Column::SecondOrNone => "second",
+        Column::ServiceOrNone => "kind",
+        Column::Means => "means",
+        Column::Grant => "grant",
+        Column::Cause => "cause",
+        Column::Neglect => "neglect",
+        Column::Need => "need",
+        Column::Holidays => "list",
+        Column::From => "from",
+        Column::To => "to",
+        Column::Judge | Column::Judges => "judge",
+        Column::Room => "room",
+        Column::Slots => "slots",
+        Column::Notice => "notice",
+    }
+}
+
+/// What stands for a column where the form of a row is shown. What may be left empty is in brackets. The command word
+/// stands for itself.
+pub fn mark_of(word: &str, column: Column) -> &str
+    ensures { result.now ≡ mark_of word.now column }
+{
+    match column {
+        Column::Clerk => "CLERK",
+        Column::Command => word,
+        Column::Case => "CASE",
+        Column::Deadline => "DEADLINE",
+        Column::Motion => "MOTION",
+        Column::Period => "PERIOD",
+        Column::Date => "DATE",
+        Column::Time => "TIME",
+        Column::Start => "START",
+        Column::TimeOrNone => "[TIME]",
+        Column::SecondOrNone => "[SECOND]",
+        Column::ServiceOrNone => "[KIND]",
+        Column::Means => "MEANS",
+        Column::Grant => "GRANT",
+        Column::ByMotion => "MOTION?",
+        Column::Cause => "CAUSE?",
+        Column::Neglect => "NEGLECT?",
+        Column::Need => "NEED",
+        Column::Holidays => "LIST",
+        Column::From => "FROM",
+        Column::To => "TO",
+        Column::Judge | Column::Judges => "JUDGE",
+        Column::Room => "ROOM",
+        Column::Slots => "SLOTS",
+        Column::Notice => "NOTICE",
+    }
+}

@@ -1,0 +1,9 @@
+//! A line by itself, read as a row, and a row written as a line.
+
+mod first;
+mod line;
+mod plain;
+mod row_text;
+
+pub use line::{Line, read_line};
+pub use row_text::push_row_text;

@@ -1,0 +1,77 @@
+-- Inputs as people write them, read as plain rows.
+use Rattle.std.specs.Prelude.{ℕ, ◌-◌, nat_eq, List, [], ◌∷◌, ◌++◌, codes, length, map, take, Option, Some, if◌then◌else◌}
+use Rattle.std.specs.List.{ends_with}
+use Rattle.desk_session.specs.Lines.{ends_line}
+use Rattle.row_forms.specs.Words.{CourtNames}
+use Rattle.row_fields.specs.declared.dates.DateOrder.{DateOrder}
+use Rattle.row_written.specs.declared.rows.Written.{Written}
+use Rattle.row_written.specs.declared.rows.Written.TheVariants.{Nothing, Header, Plain, Faulty}
+use Rattle.row_written.specs.Words.{FieldFault, fault_in, read_as}
+use Rattle.row_input.specs.declared.reading.FaultyLine.{FaultyLine}
+
+-- a line that has faults: its number, the line, and what is wrong with its fields
+pub record FaultyText : Type 0 where
+  pub number : ℕ
+  pub line : List ℕ
+  pub faults : List FieldFault
+
+abbrev pub faulty_in : FaultyLine → FaultyText
+faulty_in line = record { number = line.number; line = line.line.items; faults = map fault_in line.faults.items }
+
+-- the headings of the columns after a line that is read as this
+abbrev pub header_after : Option (List (List ℕ)) → Written (List (List ℕ)) (List ℕ) (List FieldFault) → Option (List (List ℕ))
+header_after header Nothing = header
+header_after header (Header headings) = Some headings
+header_after header (Plain text) = header
+header_after header (Faulty faults) = header
+
+-- a text with an end of its line
+abbrev pub ended : List ℕ → List ℕ
+ended text = if ends_with nat_eq text (codes "\n") then text else text ++ codes "\n"
+
+-- the plain row that a line is read as, as a line
+abbrev pub row_of : Written (List (List ℕ)) (List ℕ) (List FieldFault) → List ℕ
+row_of Nothing = []
+row_of (Header headings) = []
+row_of (Plain text) = ended text
+row_of (Faulty faults) = []
+
+-- a text without an end of its line
+abbrev pub unended : List ℕ → List ℕ
+unended text = if ends_with nat_eq text (codes "\n") then take (length text - 1) text else text
+
+-- what is in the place of a line that is read as this: its plain row, or nothing
+abbrev pub in_place : Written (List (List ℕ)) (List ℕ) (List FieldFault) → List ℕ
+in_place Nothing = []
+in_place (Header headings) = []
+in_place (Plain text) = unended text
+in_place (Faulty faults) = []
+
+-- the faults of the line of that number
+abbrev pub faulty_as : (number : ℕ) → (line : List ℕ) → Written (List (List ℕ)) (List ℕ) (List FieldFault) → List FaultyText
+faulty_as number line Nothing = []
+faulty_as number line (Header headings) = []
+faulty_as number line (Plain text) = []
+faulty_as number line (Faulty faults) = record { number = number; line = line; faults = faults } ∷ []
+
+-- lines with their numbers, read for that court after a line that names columns, or after none
+module _ (clerks : ℕ) (names : CourtNames) (order : Option DateOrder) where
+  -- the plain rows, a line each
+  unfoldable pub rows_of : Option (List (List ℕ)) → List (ℕ × List ℕ) → List ℕ
+  rows_of header [] = []
+  rows_of header (line ∷ lines) =
+      row_of (read_as clerks names order header line.1) ++ rows_of (header_after header (read_as clerks names order header line.1)) lines
+
+  -- the lines that have faults
+  unfoldable pub faulty_of : Option (List (List ℕ)) → List (ℕ × List ℕ) → List FaultyText
+  faulty_of header [] = []
+  faulty_of header (line ∷ lines) =
+      faulty_as line.0 line.1 (read_as clerks names order header line.1) ++ faulty_of (header_after header (read_as clerks names order header line.1)) lines
+
+  -- Bytes, of which the first line has begun with these, with plain rows in place of their lines: each line has its end as before,
+  -- so a row is on the line that says it.
+  unfoldable pub placed_from : Option (List (List ℕ)) → (begun : List ℕ) → List ℕ → List ℕ
+  placed_from header begun [] = []
+  placed_from header begun (byte ∷ bytes) =
+      if ends_line byte then in_place (read_as clerks names order header begun) ++ byte ∷ placed_from (header_after header (read_as clerks names order header begun)) [] bytes
+      else placed_from header (begun ++ byte ∷ []) bytes

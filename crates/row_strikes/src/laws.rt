@@ -1,7 +1,0 @@
-//! Laws of the definitions, the contracts of functions that do nothing.
-ghost use Rattle.row_strikes.specs.Laws.{StrikesAreReadBack};
-
-/// A strike of a row whose number has nine digits at most is read as it is written, with its remark.
-pub fn strikes_are_read_back()
-    ensures { StrikesAreReadBack }
-{}

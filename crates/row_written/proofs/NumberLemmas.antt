@@ -1,0 +1,134 @@
+-- Numbers that are read have the digits of their fields.
+use Rattle.std.proofs.Common.{◌≡◌, ◌∙◌, ◌==◌, ◌&&◌, ℕ, Bool, true, false, List, [], ◌∷◌, length, refl, sym, ap, arith}
+use Rattle.std.specs.Prelude.{Option, Some, None, codes, nat_eq, if◌then◌else◌}
+use Rattle.std.specs.Char.{is_ascii_alphabetic, is_ascii_digit}
+use Rattle.std.specs.List.{list_all, list_any, starts_with}
+use Rattle.std.specs.Str.{bytes_eq}
+use Rattle.std.proofs.lemmas.Bool.Decides.{nat_tests}
+use Rattle.std.proofs.lemmas.Slice.Eq.{bytes_eq-Decides}
+use Rattle.case_numbers.specs.Number.{NameView, case_read, is_year, year_read}
+use Rattle.case_numbers.proofs.NumberLemmas.{shown_is_read_back_lem}
+use Rattle.court_clock.specs.Words.{day_text}
+use Rattle.row_forms.specs.Words.{is_number}
+use Rattle.row_fields.specs.declared.said.Said.{Said}
+use Rattle.row_fields.specs.declared.said.Said.TheVariants.{Clear}
+use Rattle.row_fields.specs.Words.{bare, date_said, folded, numbers_in, said_map}
+use Rattle.row_fields.proofs.CallerLemmas.{numbers_stay_whole_lem}
+use Rattle.row_forms.specs.declared.headings.columns.Column.TheVariants.{Case, Period, Need}
+use Rattle.row_written.specs.Fields.{clear_if, field_said, filled_said, grant_said, is_quarters, number_said, period_said, shown_said, slots_said, word_said}
+use Rattle.row_written.specs.Laws.{LengthsKeepTheirNumbers, NumbersAreTheirFields}
+
+same_text : (a b : List ℕ) → ◌≡◌ {A = Said (List ℕ)} (Clear a) (Clear b) → a ≡ b
+same_text a b e = cc e
+
+-- one of two things that are said
+abbrev either : Bool → Said (List ℕ) → Said (List ℕ) → Said (List ℕ)
+either so a b = if so then a else b
+
+-- a column that may not be empty says what its filled field says
+not_empty : (empty : Bool) (said all : Said (List ℕ)) → either (empty && false) (Clear []) said ≡ all → said ≡ all
+not_empty true said all is = is
+not_empty false said all is = is
+
+-- a text that is said, where it is said
+said_if : (so : Bool) (text plain : List ℕ) → clear_if so text ≡ Clear plain → plain ≡ text
+said_if true text plain is = sym (same_text text plain is)
+said_if false text plain is = cc is
+
+-- a test of two has both
+first_of : (a b : Bool) → (a && b) ≡ true → a ≡ true
+first_of true b is = refl
+first_of false b is = cc is
+
+second_of : (a b : Bool) → (a && b) ≡ true → b ≡ true
+second_of true b is = is
+second_of false b is = cc is
+
+-- a number has digits alone
+are_digits : (text : List ℕ) → is_number text ≡ true → list_all is_ascii_digit text ≡ true
+are_digits text is = second_of _ _ (second_of _ _ is)
+
+-- and no case number is one
+no_colon : (b : ℕ) → is_ascii_digit b ≡ true → (b == 58) ≡ false
+no_colon b is = grind (arith, nat_tests)
+
+no_dash : (b : ℕ) → is_ascii_digit b ≡ true → (b == 45) ≡ false
+no_dash b is = grind (arith, nat_tests)
+
+no_year : (y1 y2 dash k1 k2 last : ℕ) → is_ascii_digit dash ≡ true → is_year y1 y2 dash k1 k2 last ≡ false
+no_year y1 y2 dash k1 k2 last digit = by (is_ascii_digit y1) (is_ascii_digit y2) (dash == 45) (no_dash dash digit)
+  where
+    by : (a b c : Bool) → c ≡ false → (a && b && c && is_ascii_alphabetic k1 && is_ascii_alphabetic k2 && (last == 45)) ≡ false
+    by false b c none = refl
+    by true false c none = refl
+    by true true c none = rw none refl
+
+no_year_read : (y1 y2 : ℕ) (rest : List ℕ) → list_all is_ascii_digit rest ≡ true → year_read [] (y1 ∷ y2 ∷ rest) ≡ None
+unfolding year_read
+no_year_read y1 y2 [] all = refl
+no_year_read y1 y2 (dash ∷ []) all = refl
+no_year_read y1 y2 (dash ∷ k1 ∷ []) all = refl
+no_year_read y1 y2 (dash ∷ k1 ∷ k2 ∷ []) all = refl
+no_year_read y1 y2 (dash ∷ k1 ∷ k2 ∷ last ∷ rest) all = rw (no_year y1 y2 dash k1 k2 last (first_of (is_ascii_digit dash) _ all)) refl
+
+no_office : (a b : ℕ) → is_ascii_digit b ≡ true → (is_ascii_digit a && (b == 58)) ≡ false
+no_office a b digit = by (is_ascii_digit a)
+  where
+    by : (x : Bool) → (x && (b == 58)) ≡ false
+    by true = no_colon b digit
+    by false = refl
+
+no_case : (text : List ℕ) → list_all is_ascii_digit text ≡ true → case_read text ≡ None
+unfolding case_read
+no_case [] all = refl
+no_case (a ∷ []) all = refl
+no_case (a ∷ b ∷ rest) all =
+    let more = second_of (is_ascii_digit a) _ all in
+    rw (no_office a b (first_of (is_ascii_digit b) _ more)) (no_year_read a b rest (second_of (is_ascii_digit b) _ more))
+
+-- so what is read as a case number is no number
+shown_is_none : (text number : List ℕ) (read : Option NameView) → case_read text ≡ read → shown_said read ≡ Clear number → is_number number ≡ true → ⊥
+shown_is_none text number None is said digits = cc said
+shown_is_none text number (Some name) is said digits =
+    let again : case_read number ≡ Some name = ap case_read (sym (same_text name.shown number said)) ∙ shown_is_read_back_lem text name is in
+    let none = no_case number (are_digits number digits) in
+    cc (sym again ∙ none)
+
+case_is : (text number : List ℕ) (so : Bool) → either so (Clear text) (shown_said (case_read (bare text))) ≡ Clear number → is_number number ≡ true → number ≡ text
+case_is text number true said digits = sym (same_text text number said)
+case_is text number false said digits = absurd (shown_is_none (bare text) number (case_read (bare text)) refl said digits)
+
+need_is : (text number : List ℕ) (so : Bool) → bytes_eq (folded text) (codes "exparte") ≡ so → either so (Clear (folded text)) (number_said text) ≡ Clear number → is_number number ≡ true → number ≡ text
+need_is text number true is said digits =
+    let word : number ≡ codes "exparte" = sym (same_text (folded text) number said) ∙ (bytes_eq-Decides (folded text) (codes "exparte")).0 is in
+    let none : is_number (codes "exparte") ≡ true = ap is_number (sym word) ∙ digits in
+    cc none
+need_is text number false is said digits = said_if (is_number text) text number said
+
+pub numbers_are_their_fields_lem : NumbersAreTheirFields
+unfolding field_said
+numbers_are_their_fields_lem names order text number digits = record {
+  of_clerks = λ said. said_if (is_number text) text number (not_empty (length text == 0) (number_said text) (Clear number) said);
+  of_cases = λ said. case_is text number (is_number text) (not_empty (length text == 0) (filled_said names order Case text) (Clear number) said) digits;
+  of_deadlines = λ said. said_if (is_number text) text number (not_empty (length text == 0) (number_said text) (Clear number) said);
+  of_motions = λ said. said_if (is_number text) text number (not_empty (length text == 0) (number_said text) (Clear number) said);
+  of_notice = λ said. need_is text number (bytes_eq (folded text) (codes "exparte")) refl (not_empty (length text == 0) (filled_said names order Need text) (Clear number) said) digits;
+}
+
+-- the law of lengths
+slots_are : (text plain : List ℕ) (so : Bool) → either so (Clear text) (clear_if (is_quarters (bare text)) (bare text)) ≡ Clear plain → numbers_in plain ≡ numbers_in text
+slots_are text plain true said = ap numbers_in (sym (same_text text plain said))
+slots_are text plain false said = ap numbers_in (said_if (is_quarters (bare text)) (bare text) plain said) ∙ (numbers_stay_whole_lem text).0
+
+-- a field that is said bare, where it is so
+bare_is : (text plain : List ℕ) (so : Bool) (other : Said (List ℕ)) → so ≡ true → either so (Clear (bare text)) other ≡ Clear plain → numbers_in plain ≡ numbers_in text
+bare_is text plain true other is said = ap numbers_in (sym (same_text (bare text) plain said)) ∙ (numbers_stay_whole_lem text).0
+bare_is text plain false other is said = cc is
+
+pub lengths_keep_their_numbers_lem : LengthsKeepTheirNumbers
+unfolding field_said
+lengths_keep_their_numbers_lem names order text plain = record {
+  slots = λ said. slots_are text plain (is_number text) (not_empty (length text == 0) (slots_said text) (Clear plain) said);
+  entered = λ so said. bare_is text plain (list_any (λ b. nat_eq b 47) text) (word_said Period text) so (not_empty (length text == 0) (period_said text) (Clear plain) said);
+  extended = λ so said. bare_is text plain (starts_with nat_eq (bare text) (codes "+")) (said_map day_text (date_said order text)) so (not_empty (length text == 0) (grant_said order text) (Clear plain) said);
+}

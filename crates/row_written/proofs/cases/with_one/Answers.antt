@@ -1,0 +1,16 @@
+use Rattle.std.proofs.Common.{◌∙◌, ◌+◌, ◌++◌, ◌∷◌, ◌<◌, [], ℕ, List, drop, length, ap, arith}
+use Rattle.csv.specs.Records.{fields_of}
+use Rattle.row_written.specs.Cases.{with_one}
+use Rattle.row_written.specs.Headings.{word_at}
+use Rattle.row_written.proofs.RowLemmas.{found_more, next_word}
+use Rattle.row_written.proofs.cases.with_one.Goals as goal
+
+pub loop-place-preserved : goal.loop-place-preserved
+loop-place-preserved c =
+    let fields = fields_of c.args.fields.now in
+    let place = c.loop-place.place in
+    let there : place < length fields = omega arith in
+    let before = fields_of c.loop-place.row in
+    found_more before (word_at fields place ∷ []) (fields_of c.push_field-in-loop-place.new.self) (drop place fields) (drop (place + 1) fields) (with_one fields)
+    c.loop-place.invariant (next_word fields place there)
+    (c.in_ok-push_field-2.ensures.fields ∙ ap (λ (w : List ℕ). before ++ w ∷ []) c.word_at.ensures)

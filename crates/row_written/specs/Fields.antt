@@ -1,0 +1,115 @@
+-- What a field says, by what its column holds, as a plain row writes it.
+use Rattle.std.specs.Prelude.{ℕ, ◌-◌, ◌==◌, ◌&&◌, nat_eq, Bool, true, false, List, [], codes, length, take, Option, Some, None, if◌then◌else◌}
+use Rattle.std.specs.List.{ends_with, list_any, starts_with}
+use Rattle.std.specs.Str.{bytes_eq}
+use Rattle.case_numbers.specs.Words.{NameView, case_read}
+use Rattle.court_clock.specs.Words.{day_text, minute_text}
+use Rattle.row_forms.specs.Words.{CourtNames, is_number}
+use Rattle.row_fields.specs.declared.said.Said.{Said}
+use Rattle.row_fields.specs.declared.said.Said.TheVariants.{Unknown, Clear}
+use Rattle.row_fields.specs.declared.dates.DateOrder.{DateOrder}
+use Rattle.row_fields.specs.Words.{answer_said, bare, date_said, folded, list_said, means_said, rule_said, said_map, service_said, time_said}
+use Rattle.row_forms.specs.declared.headings.columns.Column.{Column}
+use Rattle.row_forms.specs.declared.headings.columns.Column.TheVariants.{Clerk, Command, Case, Deadline, Motion, Period, Date, Time, Start, TimeOrNone, SecondOrNone, ServiceOrNone, Means, Grant, ByMotion, Cause, Neglect, Need, Holidays, From, To, Judge, Judges, Room, Slots, Notice}
+use Rattle.row_written.specs.Names.{name_said, panel_said}
+
+-- this, where it is so, and else nothing that is known
+abbrev pub clear_if : Bool → List ℕ → Said (List ℕ)
+clear_if so text = if so then Clear text else Unknown
+
+-- a number: the field as it is
+abbrev pub number_said : List ℕ → Said (List ℕ)
+number_said text = clear_if (is_number text) text
+
+-- a case number as it is shown
+abbrev pub shown_said : Option NameView → Said (List ℕ)
+shown_said None = Unknown
+shown_said (Some name) = Clear name.shown
+
+-- a case: its number, or its case number as the court writes it
+abbrev pub case_said : List ℕ → Said (List ℕ)
+case_said text = if is_number text then Clear text else shown_said (case_read (bare text))
+
+-- a number of quarter hours, before a `q`
+abbrev pub is_quarters : List ℕ → Bool
+is_quarters text = ends_with nat_eq text (codes "q") && is_number (take (length text - 1) text)
+
+-- how many slots: half hours, or quarter hours
+abbrev pub slots_said : List ℕ → Said (List ℕ)
+slots_said text = if is_number text then Clear text else clear_if (is_quarters (bare text)) (bare text)
+
+-- the text of a time of day
+abbrev pub time_if : Option ℕ → Said (List ℕ)
+time_if None = Unknown
+time_if (Some minute) = Clear (minute_text minute)
+
+-- a time of day, or the end of the day
+abbrev pub ending_said : List ℕ → Said (List ℕ)
+ending_said text = if bytes_eq (bare text) (codes "24:00") then Clear (bare text) else time_if (time_said text)
+
+-- the words for a column
+abbrev pub word_in : Column → List ℕ → Said (List ℕ)
+word_in Means word = means_said word
+word_in ByMotion word = answer_said word
+word_in Cause word = answer_said word
+word_in Neglect word = answer_said word
+word_in Holidays word = list_said word
+word_in ServiceOrNone word = service_said word
+word_in _ word = rule_said word
+
+abbrev pub word_said : Column → List ℕ → Said (List ℕ)
+word_said column text = word_in column (folded text)
+
+-- a period: a Rule's number, or one with slashes, which a court enters
+abbrev pub period_said : List ℕ → Said (List ℕ)
+period_said text = if list_any (λ b. nat_eq b 47) text then Clear (bare text) else word_said Period text
+
+-- an extension: a plus and a length, or a date
+abbrev pub grant_said : Option DateOrder → List ℕ → Said (List ℕ)
+grant_said order text =
+    if starts_with nat_eq (bare text) (codes "+") then Clear (bare text) else said_map day_text (date_said order text)
+
+-- the notice that a motion needs: a number of days, or none
+abbrev pub need_said : List ℕ → Said (List ℕ)
+need_said text = if bytes_eq (folded text) (codes "exparte") then Clear (folded text) else number_said text
+
+-- a column may be empty
+abbrev pub may_be_empty : Column → Bool
+may_be_empty TimeOrNone = true
+may_be_empty SecondOrNone = true
+may_be_empty ServiceOrNone = true
+may_be_empty _ = false
+
+-- what a field says that isn't left empty
+abbrev pub filled_said : CourtNames → Option DateOrder → Column → List ℕ → Said (List ℕ)
+filled_said names order Clerk text = number_said text
+filled_said names order Command text = Clear (folded text)
+filled_said names order Case text = case_said text
+filled_said names order Deadline text = number_said text
+filled_said names order Motion text = number_said text
+filled_said names order Period text = period_said text
+filled_said names order Date text = said_map day_text (date_said order text)
+filled_said names order Time text = time_if (time_said text)
+filled_said names order Start text = time_if (time_said text)
+filled_said names order TimeOrNone text = time_if (time_said text)
+filled_said names order SecondOrNone text = said_map day_text (date_said order text)
+filled_said names order ServiceOrNone text = word_said ServiceOrNone text
+filled_said names order Means text = word_said Means text
+filled_said names order Grant text = grant_said order text
+filled_said names order ByMotion text = word_said ByMotion text
+filled_said names order Cause text = word_said Cause text
+filled_said names order Neglect text = word_said Neglect text
+filled_said names order Need text = need_said text
+filled_said names order Holidays text = word_said Holidays text
+filled_said names order From text = time_if (time_said text)
+filled_said names order To text = ending_said text
+filled_said names order Judge text = name_said names.judges text
+filled_said names order Judges text = panel_said names.judges text
+filled_said names order Room text = name_said names.rooms text
+filled_said names order Slots text = slots_said text
+filled_said names order Notice text = said_map day_text (date_said order text)
+
+-- what a field of a column says, as a plain row writes it
+unfoldable pub field_said : CourtNames → Option DateOrder → Column → List ℕ → Said (List ℕ)
+field_said names order column text =
+    if (length text == 0) && may_be_empty column then Clear [] else filled_said names order column text

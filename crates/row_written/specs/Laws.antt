@@ -1,0 +1,76 @@
+-- What the definitions come to.
+use Rattle.std.specs.Prelude.{◌≡◌, ◌⊎◌, ℕ, nat_eq, true, List, codes, Option, Some, None}
+use Rattle.std.specs.List.{list_any, starts_with}
+use Rattle.csv.specs.Writing.{default_writer, row_text}
+use Rattle.case_numbers.specs.Words.{NameView, case_read}
+use Rattle.row_forms.specs.declared.row.Row.{Row}
+use Rattle.row_forms.specs.Words.{CourtNames, is_number}
+use Rattle.row_forms.specs.declared.line.line.Line.TheVariants as line
+use Rattle.row_forms.specs.Line.Words.{line_read}
+use Rattle.row_fields.specs.declared.dates.DateOrder.{DateOrder}
+use Rattle.row_fields.specs.declared.said.Said.TheVariants.{Clear}
+use Rattle.row_fields.specs.Words.{bare, numbers_in}
+use Rattle.row_forms.specs.declared.headings.columns.Column.{Column}
+use Rattle.row_forms.specs.declared.headings.columns.Column.TheVariants.{Clerk, Case, Deadline, Motion, Period, Grant, Need, Slots}
+use Rattle.row_written.specs.declared.rows.Written.TheVariants.{Plain}
+use Rattle.row_written.specs.Cases.{with_one}
+use Rattle.row_written.specs.Fields.{field_said}
+use Rattle.row_written.specs.Headings.{word_at}
+use Rattle.row_written.specs.Known.{names_known}
+use Rattle.row_written.specs.Rows.{read_as}
+
+-- a text is a plain row as the office reads it, whose judges and room the court has
+pub record IsPlainRow (clerks : ℕ) (names : CourtNames) (text : List ℕ) (row : Row) : Type 0 where
+  pub read : line_read clerks names text ≡ line.Row row
+  pub known : names_known names row.work ≡ true
+
+-- a text is a plain row with a case number in place of its case's number: with the number 1 there it is a plain row
+pub record IsNamedRow (clerks : ℕ) (names : CourtNames) (text : List ℕ) (row : Row) : Type 0 where
+  pub fields : List (List ℕ)
+  pub name : NameView
+  pub text_is : text ≡ row_text default_writer fields
+  pub case : case_read (word_at fields 2) ≡ Some name
+  pub row_is : IsPlainRow clerks names (row_text default_writer (with_one fields)) row
+
+-- a text is a plain row, or one with a case number
+abbrev pub IsRow : (clerks : ℕ) → CourtNames → (text : List ℕ) → Row → Type 0
+IsRow clerks names text row = IsPlainRow clerks names text row ⊎ IsNamedRow clerks names text row
+
+-- A plain row stays as it is, where columns have no headings.
+abbrev pub PlainRowsStay : Type 0
+PlainRowsStay = (clerks : ℕ) (names : CourtNames) (order : Option DateOrder) (text : List ℕ) (row : Row) → IsPlainRow clerks names text row → read_as clerks names order None text ≡ Plain text
+
+-- What a line is read as, if it is read as a row, is a plain row, or one with a case number in place of its case's number.
+abbrev pub RowsArePlain : Type 0
+RowsArePlain = (clerks : ℕ) (names : CourtNames) (order : Option DateOrder) (header : Option (List (List ℕ))) (line text : List ℕ) → read_as clerks names order header line ≡ Plain text
+    → (row : Row) × IsRow clerks names text row
+
+-- fields of that court, with dates in that order
+module _ (names : CourtNames) (order : Option DateOrder) where
+  -- if the field of a column says a number, then it is that number
+  abbrev pub IsItsField : Column → (text number : List ℕ) → Type 0
+  IsItsField column text number = field_said names order column text ≡ Clear number → number ≡ text
+
+  pub record AreTheirFields (text number : List ℕ) : Type 0 where
+    pub of_clerks : IsItsField Clerk text number
+    pub of_cases : IsItsField Case text number
+    pub of_deadlines : IsItsField Deadline text number
+    pub of_motions : IsItsField Motion text number
+    pub of_notice : IsItsField Need text number
+
+  -- what the field of a column says has the numbers of the field, each with the same digits
+  abbrev pub HasItsNumbers : Column → (text plain : List ℕ) → Type 0
+  HasItsNumbers column text plain = field_said names order column text ≡ Clear plain → numbers_in plain ≡ numbers_in text
+
+  pub record HaveTheirNumbers (text plain : List ℕ) : Type 0 where
+    pub slots : HasItsNumbers Slots text plain
+    pub entered : list_any (λ b. nat_eq b 47) text ≡ true → HasItsNumbers Period text plain
+    pub extended : starts_with nat_eq (bare text) (codes "+") ≡ true → HasItsNumbers Grant text plain
+
+-- A number that is read is its field, digit for digit. (A case may also be read as a case number, which is none.)
+abbrev pub NumbersAreTheirFields : Type 0
+NumbersAreTheirFields = (names : CourtNames) (order : Option DateOrder) (text number : List ℕ) → is_number number ≡ true → AreTheirFields names order text number
+
+-- A number of slots, an entered period and the length of an extension have the numbers of their fields, each with the same digits.
+abbrev pub LengthsKeepTheirNumbers : Type 0
+LengthsKeepTheirNumbers = (names : CourtNames) (order : Option DateOrder) (text plain : List ℕ) → HaveTheirNumbers names order text plain

@@ -1,5 +1,0 @@
-use Rattle.state_holidays.proofs.EasterLemmas.{easter_is_a_sunday}
-use Rattle.state_holidays.proofs.laws.easter_is_a_sunday.Goals as goal
-
-pub returns : goal.returns
-returns c = easter_is_a_sunday

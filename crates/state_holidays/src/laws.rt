@@ -1,8 +1,0 @@
-//! Laws of the definitions.
-
-ghost use Rattle.state_holidays.specs.Easter.{EasterIsASunday};
-
-/// Easter is the first Sunday after the paschal full moon, and Good Friday the Friday before it.
-pub fn easter_is_a_sunday()
-    ensures { EasterIsASunday }
-{}

@@ -1,2 +1,0 @@
--- The lemmas for the crates above, from one place.
-pub use Rattle.written_fields.proofs.NumberLemmas.{numbers_stay_whole_lem}

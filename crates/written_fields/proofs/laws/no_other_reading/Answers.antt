@@ -1,5 +1,0 @@
-use Rattle.written_fields.proofs.LawLemmas.{no_other_reading_lem}
-use Rattle.written_fields.proofs.laws.no_other_reading.Goals as goal
-
-pub returns : goal.returns
-returns c = no_other_reading_lem

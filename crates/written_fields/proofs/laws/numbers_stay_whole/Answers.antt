@@ -1,5 +1,0 @@
-use Rattle.written_fields.proofs.NumberLemmas.{numbers_stay_whole_lem}
-use Rattle.written_fields.proofs.laws.numbers_stay_whole.Goals as goal
-
-pub returns : goal.returns
-returns c = numbers_stay_whole_lem

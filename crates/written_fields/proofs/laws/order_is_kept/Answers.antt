@@ -1,5 +1,0 @@
-use Rattle.written_fields.proofs.LawLemmas.{order_is_kept_lem}
-use Rattle.written_fields.proofs.laws.order_is_kept.Goals as goal
-
-pub returns : goal.returns
-returns c = order_is_kept_lem

@@ -1,2 +1,0 @@
--- The lemmas for the crates above.
-pub use Rattle.written_rows.proofs.RowLemmas.{found_all, found_more}

@@ -1,7 +1,0 @@
-use Rattle.std.proofs.Common.{◌≡◌, ◌+◌, drop}
-use Rattle.csv.specs.Records.{fields_of}
-use Rattle.written_rows.specs.Headings.{index_of}
-use Rattle.written_rows.proofs.headings.index_of.Given as goal
-
-abbrev pub invariant-loop-i : goal.invariant-loop-i
-invariant-loop-i l = l.i + index_of l.name (drop l.i (fields_of l.names)) ≡ index_of l.name (fields_of l.names)
