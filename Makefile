@@ -1,10 +1,12 @@
 # How to build, run, test and measure the clerk's office. It needs `rt`, the command of the Rattle kit, on the PATH,
 # and Python 3.8 or later. `make help` lists what there is.
 
-CRATE    := crates/clerk_office
-PROGRAM  := $(CRATE)/out/clerk_office
-MEMO     := crates/deadline_memo/out/deadline_memo
+DOCKET   := crates/docket/out/docket
+OFFICE   := crates/clerk_office/out/clerk_office
 EXAMPLE  := examples/smallest.txt
+# Below which folder `make install` puts the programs, and before which folder that is where a package is made.
+PREFIX   := /usr/local
+DESTDIR  :=
 
 # The checks beside the gate, each named as its script. checks/run.py has the list: what each shows and needs.
 CHECKS   := $(shell python3 checks/run.py --names)
@@ -12,9 +14,9 @@ CHECKS   := $(shell python3 checks/run.py --names)
 SEED     :=
 COUNT    :=
 
-.PHONY: build try run memo desk court_file calendar test times bench bench-desk check check-long help $(CHECKS)
+.PHONY: build try run docket install dist manual test times bench bench-desk check check-long help $(CHECKS)
 
-# Proves the program and the libraries below it, and builds it at $(PROGRAM), with a line for each crate that is proved.
+# Proves the clerk's program and the libraries below it, and builds it at $(OFFICE), with a line for each crate that is proved.
 # Where nothing has changed it proves nothing anew.
 build:
 	@python3 tools/prove.py clerk_office
@@ -24,23 +26,29 @@ try:
 	@python3 tools/try.py clerk_office $(EXAMPLE)
 
 run: build
-	@$(PROGRAM) < $(EXAMPLE)
+	@$(OFFICE) < $(EXAMPLE)
 
-# The program that gives reasons, proved and built at $(MEMO).
-memo:
-	@python3 tools/prove.py deadline_memo
+# The program for people, proved and built at $(DOCKET): it keeps a docket in a folder, and writes what is due, and why.
+docket:
+	@python3 tools/prove.py docket
 
-# The program that keeps rows in a folder, proved and built at crates/docket_desk/out/docket_desk.
-desk:
-	@python3 tools/prove.py docket_desk
+# Puts both programs, proved, their man pages and their completions below $(PREFIX). The two are proved side by side as far as
+# they can be.
+install:
+	@python3 tools/prove.py docket clerk_office
+	@install -Dm755 -t $(DESTDIR)$(PREFIX)/bin $(DOCKET) $(OFFICE)
+	@find share -type f -exec install -Dm644 {} $(DESTDIR)$(PREFIX)/{} \;
+	@echo "docket and clerk_office are in $(DESTDIR)$(PREFIX)/bin"
 
-# The program that checks and writes courts' files, proved and built at crates/court_file/out/court_file.
-court_file:
-	@python3 tools/prove.py court_file
+# An archive of both programs, proved, for a Linux without the kit: out/docket-VERSION-MACHINE-linux.tar.gz.
+dist:
+	@python3 tools/prove.py docket clerk_office
+	@python3 tools/dist.py
 
-# The program that writes what is due, a judge's week, a page, iCalendar, JSON or SQL, proved and built at crates/court_calendar/out/court_calendar.
-calendar:
-	@python3 tools/prove.py court_calendar
+# Writes the man pages and completions of share/ anew, as both programs say them, after a change of a help.
+manual:
+	@python3 tools/prove.py docket clerk_office
+	@python3 tools/manual.py $(DOCKET) $(OFFICE)
 
 # The gate, rt ci: proofs, edits that the prover must refuse, tests, and the programs' stored runs; and before its last
 # line a table of the processor seconds that each crate took. Some kits leave out what an earlier run on this machine has
@@ -53,11 +61,11 @@ times:
 	@python3 tools/gate_times.py --anew
 
 bench: build
-	@python3 bench/bench.py $(PROGRAM)
+	@python3 bench/bench.py $(OFFICE)
 
 # The desk, on the disk of this folder, beside a bare write and sync and beside SQLite.
-bench-desk: desk
-	@python3 bench/desk_bench.py crates/docket_desk/out/docket_desk
+bench-desk: docket
+	@python3 bench/desk_bench.py $(DOCKET)
 
 check:
 	@python3 checks/run.py --quick
@@ -69,13 +77,13 @@ $(CHECKS):
 	@python3 checks/run.py $@ $(if $(COUNT),$(or $(SEED),1) $(COUNT),$(SEED))
 
 help:
-	@echo "make             proves and builds the program, which is then $(PROGRAM)"
+	@echo "make             proves and builds the clerk's program, which is then $(OFFICE)"
 	@echo "make try         runs $(EXAMPLE) from the sources in a minute or two, and proves nothing"
-	@echo "make memo        the same for the one that gives reasons, $(MEMO)"
-	@echo "make desk        the same for the one that keeps rows in a folder, crates/docket_desk/out/docket_desk"
-	@echo "make court_file  the same for the one for courts' files, crates/court_file/out/court_file"
-	@echo "make calendar    the same for the calendar, crates/court_calendar/out/court_calendar"
-	@echo "make run         proves and builds the program, and runs it on $(EXAMPLE)"
+	@echo "make docket      proves and builds the program for people, which is then $(DOCKET)"
+	@echo "make install     both, with man pages and completions, below PREFIX (/usr/local): make install PREFIX=\$$HOME/.local"
+	@echo "make dist        an archive of both for a Linux without the kit, with the record of proof, in out/"
+	@echo "make manual      writes man pages and completions anew, after a change of a help"
+	@echo "make run         proves and builds the clerk's program, and runs it on $(EXAMPLE)"
 	@echo "make test        the gate (rt ci): proves and tests everything, with a table of the seconds of each crate"
 	@echo "make times       the gate from nothing, whatever an earlier run has passed"
 	@echo "make bench       prints the program's rows per second and peak memory; it needs Linux"

@@ -1,7 +1,7 @@
 #!/usr/bin/env python3
 """Measures the desk: rows that wait, a row alone, and how long a full journal takes to open; and SQLite beside it.
 
-    desk_bench.py DESK [FOLDER [ENTRIES]]
+    desk_bench.py DOCKET [FOLDER [ENTRIES]]
 
 All files are made in a new folder inside FOLDER (the folder of this repository without it), since what a sync costs is
 the disk's business; say on which kind of disk you measured. Each figure is the median of several turns, with the least and
@@ -49,21 +49,21 @@ def timed(call):
 
 
 class Bench:
-    """The built desk, and a folder for its files."""
+    """The built program, and a folder for its files."""
 
-    def __init__(self, desk, parent):
-        self.desk, self.parent, self.made = desk, pathlib.Path(parent), 0
+    def __init__(self, docket, parent):
+        self.docket, self.parent, self.made = docket, pathlib.Path(parent), 0
 
     def opened(self):
         """A new folder with the example's court."""
         self.made += 1
         folder = self.parent / "desk{}".format(self.made)
-        subprocess.run([self.desk, "open", folder, "--court", EXAMPLE], check=True)
+        subprocess.run([self.docket, "init", folder, "--court", EXAMPLE], check=True)
         return folder
 
     def enter(self, folder, path):
         with open(path, "rb") as rows:
-            subprocess.run([self.desk, "enter", folder], stdin=rows, stdout=subprocess.DEVNULL, check=True)
+            subprocess.run([self.docket, "enter", folder], stdin=rows, stdout=subprocess.DEVNULL, check=True)
 
     def waiting(self, rows):
         """Rows per second of rows that wait, without the start of the program."""
@@ -76,7 +76,7 @@ class Bench:
 
     def alone(self, rows):
         """The microseconds that each row takes when each waits for the answer to the one before."""
-        with subprocess.Popen([self.desk, "enter", self.opened()], stdin=subprocess.PIPE, stdout=subprocess.PIPE,
+        with subprocess.Popen([self.docket, "enter", self.opened()], stdin=subprocess.PIPE, stdout=subprocess.PIPE,
                               bufsize=0) as session:
             answers, taken = os.fdopen(os.dup(session.stdout.fileno()), "rb"), []
             for row in rows:
@@ -127,7 +127,7 @@ class Bench:
         path.write_text("".join(rows[at % len(rows)] + "\n" for at in range(count - 1)))
         folder = self.opened()
         self.enter(folder, path)
-        call = [self.desk, "check", folder]
+        call = [self.docket, "check", folder]
         return [timed(lambda: subprocess.run(call, stdout=subprocess.DEVNULL, check=True)) for _ in range(TURNS)]
 
 
@@ -160,5 +160,5 @@ def main(words):
 
 if __name__ == "__main__":
     if not 2 <= len(sys.argv) <= 4:
-        sys.exit("usage: desk_bench.py DESK [FOLDER [ENTRIES]]")
+        sys.exit("usage: desk_bench.py DOCKET [FOLDER [ENTRIES]]")
     main(sys.argv[1:])

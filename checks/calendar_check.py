@@ -1,32 +1,32 @@
 #!/usr/bin/env python3
-"""Compares what court_calendar writes with what clerk_office and deadline_memo say of the same docket.
+"""Compares what docket writes of what is due, of a week and as a page with what clerk_office says of the same docket.
 
-    calendar_check.py CALENDAR CLERK MEMO [SEED [COUNT]]
+    calendar_check.py DOCKET CLERK_OFFICE [SEED [COUNT]]
 
 Inputs are made at random. clerk_office answers each; from the sheets and calendars at the end of its text this script
-makes the list of what is due, a judge's week and what a page says by itself, and court_calendar must write just that: for
-any days, any judge, any case, and words that say nothing of the court. In half of the inputs the court's file names cases
-(lib/case_names.py), and each is called by its name. A page is read by Python's own reader of HTML; its markup is looked at
-too (lib/pages.py). What it says of the reasons of a deadline must be the lines of deadline_memo. In half of the inputs rows
-are given to several clerks (lib/several_clerks.py), which changes nothing. A faulty input must end both programs alike, and so
-must names that no court's file may have, such as `<b>`. Words that write no day, no instant or no case must be refused. A judge,
-a case or the day of a week that isn't there must end the program with status 6 and one line on standard error, in each format.
-It needs Python 3.8 or later; the status is 0 where all is alike.
+makes the list of what is due, a judge's week and what a page says by itself, and docket must write just that: for
+any days, any judge, any case, and words that say nothing of the court. Half of the inputs are entered into a folder, in which
+cases have names (lib/given_docket.py), and each is called by its name. A page is read by Python's own reader of HTML; its
+markup is looked at too (lib/pages.py). What it says of the reasons of a deadline must be the lines of `docket memo`. In half of
+the inputs rows are given to several clerks (lib/several_clerks.py), which changes nothing. A faulty input must end both
+programs alike, and so must names that no court's file may have, such as `<b>`. Words that write no day, no instant or no case
+must be refused. A judge, a case or the day of a week that isn't there must end the program with status 6 and one line on
+standard error, in each format. It needs Python 3.8 or later; the status is 0 where all is alike.
 """
 import datetime
 import random
 import re
-import subprocess
 import sys
+import tempfile
 from collections import namedtuple
 
-from lib.case_names import asked, called, made_name, read, with_names
+from lib.case_names import asked, called, made_name, read
+from lib.given_docket import LAST_ROW, given_docket
 from lib.made_inputs import INPUTS, made_input
+from lib.memo_lines import closing_of, other_of, reasons_of
 from lib.pages import faults_of, parts_of
-from lib.several_clerks import with_clerks
+from lib.programs import programs_of, seed_and_count
 
-# A row at the end that is answered by one line: what follows it are the sheets and the calendars.
-LAST_ROW = b"1,compute,59e,2025-08-04,,,\n"
 UNITS = {"d": ("day", "days"), "h": ("hour", "hours")}
 ACTS = {"filing": "to file", "service": "to serve"}
 # Names that no court's file may have, and that a page would have to escape.
@@ -84,15 +84,6 @@ def period_words(code):
     words = "{} {} {} {}, {}".format(count, UNITS[length[-1]][count != 1], side,
                                      "service" if start == "served" else "the event", ACTS[act])
     return words if mark == "plain" else "{} ({})".format(words, mark)
-
-
-def other_of(reasons):
-    """The first other reading among the reasons of a deadline, as what is due marks it, or none."""
-    found = re.search(r"^  (?:... (\S+)| {14})  other reading: .*?(, beyond|, [0-9:]+)? +ours$", reasons, re.MULTILINE)
-    if not found:
-        return None
-    time = (found[2] or "").replace(",", "")
-    return "other reading" + (time if found[1] is None else " " + found[1] + time)
 
 
 def deadline_item(names, case, words, other):
@@ -206,21 +197,6 @@ def deadline_cells(words):
     return [words[1], period_words(words[2]), end, state[0] + done]
 
 
-def reasons_of(lines):
-    """The lines of reasons that deadline_memo writes below each deadline of a sheet, by case and number."""
-    reasons, case, number = {}, None, None
-    for line in lines:
-        words = line.split(" ")
-        if words[0] == "case":
-            case = int(words[1])
-        elif words[0] == "deadline":
-            number = int(words[1])
-            reasons[case, number] = ""
-        elif line.startswith("  ") and case is not None:
-            reasons[case, number] += line + "\n"
-    return reasons
-
-
 def motion_cells(words, hearing):
     need = "ex parte" if words[5] == "exparte" else "{} {}".format(words[5], UNITS["d"][words[5] != "1"])
     lines = ["not set"]
@@ -285,36 +261,31 @@ def page_fault(names, page, text, docket, sheets, reasons, first, last, judge, c
     return None
 
 
-def refuses_hostile_names(calendar, clerk):
+def refuses_hostile_names(programs):
     """What is wrong with names that no court's file may have, or with the longest, or none."""
     court = 'zone = "-05:00"\nopens = "09:00"\ncloses = "17:00"\nfrom = "2025-01-01"\nto = "2025-12-31"\nfederal = []\n' \
             'state = []\njudges = ["{}"]\nrooms = ["{}"]\n%%\n1,open,1,2025-08-01\n1,motion,1,2025-08-01,exparte\n' \
             '1,book,1,1,{},{},2025-09-15,10:00,2,2025-08-01\n'
     for name in HOSTILE:
         data = court.format(name, "R1", name, "R1").encode()
-        found, other = ran(calendar, ["page"], data), ran(clerk, [], data)
-        if found != other or found[0] != 2 or found[1]:
+        found, other = programs.report(["page"], data), programs.office(data)
+        if found != other or found.status != 2 or found.output:
             return "the name {} isn't refused".format(name)
     for name in LONG:
-        found = ran(calendar, ["page", "--judge=" + name], court.format(name, name, name, name).encode())
-        if found[0] != 0 or faults_of(found[1]) or parts_of(found[1]).judges[0][1][0][1][3].text() != name:
+        status, page, _ = programs.report(["page", "--judge=" + name], court.format(name, name, name, name).encode()).texts()
+        if status != 0 or faults_of(page) or parts_of(page).judges[0][1][0][1][3].text() != name:
             return "the name {} isn't shown".format(name)
     return None
 
 
-def refuses_no_times(calendar):
+def refuses_no_times(programs):
     """What is wrong with words that write no day, no instant or no case: the first is named, and nothing is read."""
     for words, option, wanted in NO_TIMES:
-        found = ran(calendar, words, b"")
+        found = programs.report(words, b"").texts()
         said = "error: invalid value '{}' for '--{}': {}\n\nFor more information, try '--help'.\n".format(words[-1], option, wanted)
         if found != (1, "", said):
             return "{}: {}".format(" ".join(words), found)
     return None
-
-
-def ran(program, words, data):
-    done = subprocess.run([program, *words], input=data, stdout=subprocess.PIPE, stderr=subprocess.PIPE, check=False)
-    return done.returncode, done.stdout.decode(), done.stderr.decode()
 
 
 def made_words(chance, names, court, docket, sheets, reasons):
@@ -324,7 +295,7 @@ def made_words(chance, names, court, docket, sheets, reasons):
         return lambda found: None if found == (0, wanted, "") else "wanted\n" + wanted
 
     def is_missing(line):
-        wanted = (6, "", "court_calendar: {}\n".format(line))
+        wanted = (6, "", "docket: {}\n".format(line))
         return lambda found: None if found == wanted else "wanted {}".format(wanted)
     judges = sorted(docket.calendars)
     days = [item.day for item in docket.items] or [day_of(court["from"])]
@@ -343,7 +314,7 @@ def made_words(chance, names, court, docket, sheets, reasons):
         name = made_name(chance)
         key, shown = read(name)
         if key not in [read(other)[0] for other in names.values()]:
-            return [chance.choice(CHOOSING), "--case", name], is_missing("no case is named '{}' in the court's file".format(shown))
+            return [chance.choice(CHOOSING), "--case", name], is_missing("no case is named '{}'".format(shown))
     words, first, last, judge, case = [chance.choice(["due", "page"])], day_of(court["from"]), day_of(court["to"]), None, None
     if chance.random() < 0.6:
         first = chance.choice(days)
@@ -366,54 +337,39 @@ def made_words(chance, names, court, docket, sheets, reasons):
     return words, is_text(text)
 
 
-def closing_of(text):
-    """The lines after the last answer: sheets and calendars."""
-    lines = text.splitlines()
-    return lines[max(at for at, line in enumerate(lines) if re.match(r"[0-9]+ 1 ", line)) + 1:]
-
-
-def differs(chance, calendar, clerk, memo, data):
-    """How the programs differ on an input, and how often they were compared."""
-    status, text, errors = ran(clerk, [], data + LAST_ROW)
+def differs(chance, given):
+    """How the programs differ on a docket, and how often they were compared."""
+    status, text, _ = given.office(LAST_ROW).texts()
     if status != 0:
-        given = with_clerks(chance, data)[0]
-        alone = ran(clerk, ["--clerks", "64"], given)
-        other = ran(calendar, ["due"], given)
-        return (None if alone[0] == 0 or other == alone else "a fault told otherwise"), 1
-    court = dict(re.findall(r'^\s*(opens|closes|from|to)\s*=\s*"([^"]*)"', data.decode().split("%%")[0], re.MULTILINE))
-    lines = closing_of(text)
-    named_data, names = with_names(chance, data)
-    given = with_clerks(chance, named_data)[0]
-    reasons = reasons_of(closing_of(ran(memo, [], data + LAST_ROW)[1]))
-    docket, sheets = docket_of(names, lines, reasons), sheets_of(lines)
+        alone = given.as_several()
+        return (None if alone.status == 0 or given.report(["due"]) == alone else "a fault told otherwise"), 1
+    court = dict(re.findall(r'^\s*(opens|closes|from|to)\s*=\s*"([^"]*)"', given.plain.decode().split("%%")[0], re.MULTILINE))
+    lines, reasons = closing_of(text), reasons_of(closing_of(given.memo(LAST_ROW).output.decode()))
+    docket, sheets = docket_of(given.names, lines, reasons), sheets_of(lines)
     for _ in range(5):
-        words, fault_in = made_words(chance, names, court, docket, sheets, reasons)
-        found = ran(calendar, words, given)
+        words, fault_in = made_words(chance, given.names, court, docket, sheets, reasons)
+        found = given.report(words).texts()
         fault = fault_in(found)
         if fault is not None:
             return "{}: {}\n{}".format(" ".join(words), found, fault), 5
     return None, 5
 
 
-def main():
-    calendar, clerk, memo = sys.argv[1:4]
-    seed = int(sys.argv[4]) if len(sys.argv) > 4 else 1
-    count = int(sys.argv[5]) if len(sys.argv) > 5 else 200
+def main(words):
+    programs, (seed, count) = programs_of(words[:2]), seed_and_count(words[2:], 200)
     compared = 0
-    wrong = refuses_hostile_names(calendar, clerk) or refuses_no_times(calendar)
+    wrong = refuses_hostile_names(programs) or refuses_no_times(programs)
     if wrong:
-        print(wrong)
-        sys.exit(1)
+        sys.exit(wrong)
     for number in range(count):
         chance = random.Random("calendar {} {}".format(seed, number))
-        data = made_input(chance, chance.choice(INPUTS))
-        wrong, times = differs(chance, calendar, clerk, memo, data)
+        with tempfile.TemporaryDirectory() as parent:
+            wrong, times = differs(chance, given_docket(programs, chance, made_input(chance, chance.choice(INPUTS)), parent))
         compared += times
         if wrong:
-            print("seed {} input {}: {}".format(seed, number, wrong))
-            sys.exit(1)
-    print("{} texts of {} inputs are what clerk_office and deadline_memo say".format(compared, count))
+            sys.exit("seed {} input {}: {}".format(seed, number, wrong))
+    print("{} texts of {} inputs are what clerk_office and `docket memo` say".format(compared, count))
 
 
 if __name__ == "__main__":
-    main()
+    main(sys.argv[1:])

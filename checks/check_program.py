@@ -3,11 +3,12 @@
 
     check_program.py PROGRAM
 
-PROGRAM is a clerk_office or a deadline_memo, as its file is called. The gate sees one run of each, which ends with 0. Here
-each status is met, from 0 to 5 of clerk_office and to 6 of deadline_memo: with what stands on standard input, on the command line and behind the two outputs, the
-status, standard output and standard error must be what is written below; of the long texts that tell of the command line
-a part must be. It needs Python 3.8 and Linux (/dev/full, a limit of memory), and nothing else. The last line counts the
-runs as 'N passed, M failed'; the status is 0 where none failed.
+PROGRAM is a clerk_office or a docket, as its file is called; of docket it is called with `memo --input -`, and statuses_check.py
+looks at its other commands. The gate sees one run of each. Here each status is met, from 0 to 5 of clerk_office and to 6 of the
+memo: with what stands on standard input, on the command line and behind the two outputs, the status, standard output and standard
+error must be what is written below; of the long texts that tell of the command line a part must be. It needs Python 3.8 and Linux
+(/dev/full, a limit of memory), and nothing else. The last line counts the runs as 'N passed, M failed'; the status is 0 where none
+failed.
 """
 import datetime
 import os
@@ -75,7 +76,7 @@ def reasons(cause):
 # Each run: what it is, the words of the command line, standard input, and then the status, standard output and standard
 # error that are wanted. Behind the answer to a row some programs write why it is that.
 def common_runs(name, why, refused):
-    """The runs that every program has, where it is called so, and gives these reasons of the row, and of one that is refused."""
+    """The runs that both have, where it is called so, and gives these reasons of the row, and of one that is refused."""
     line = LINE + why
     return [
         ("a row", [], ROWS, 0, line + JUDGE, b""),
@@ -87,10 +88,6 @@ def common_runs(name, why, refused):
         ("as many bytes as are taken", [], ROWS + b"\n" * (MOST_BYTES - len(ROWS)), 0, line + JUDGE, b""),
         ("a request for help", ["--help"], b"", 0, Has(b"Usage: " + name), b""),
         ("a request for help before a mistake", ["-h", "x"], ROWS, 0, Has(b"Usage: " + name), b""),
-        ("a request for the version", ["--version"], ROWS, 0, name + b" 0.1.0\n", b""),
-        ("an argument", ["x"], ROWS, 1, b"", usage(b"unexpected argument 'x' found\n")),
-        ("an argument before a request for help", ["x", "--help"], ROWS, 1, b"", usage(b"unexpected argument 'x' found\n")),
-        ("an empty argument", [""], ROWS, 1, b"", usage(b"unexpected argument ''")),
         ("another option", ["--rooms", "2"], ROWS, 1, b"", usage(b"unexpected argument '--rooms' found\n")),
         ("an argument that is no text", [b"\xff"], ROWS, 1, b"", NO_TEXT),
         ("nothing", [], b"", 2, b"", b"court fault 2 Missing zone\n"),
@@ -108,6 +105,10 @@ def common_runs(name, why, refused):
 
 
 OFFICE_RUNS = [
+    ("an argument", ["x"], ROWS, 1, b"", usage(b"unexpected argument 'x' found\n")),
+    ("an argument before a request for help", ["x", "--help"], ROWS, 1, b"", usage(b"unexpected argument 'x' found\n")),
+    ("an empty argument", [""], ROWS, 1, b"", usage(b"unexpected argument ''")),
+    ("a request for the version", ["--version"], ROWS, 0, b"clerk_office 0.1.0\n", b""),
     ("a clerk too many", [], ROWS + b"2" + ROW[1:], 3, b"", b"row 2 fault 1 BadClerk\n"),
     ("the clerk 64", [], COURT + b"%%\n64" + ROW[1:], 3, b"", b"row 1 fault 1 BadClerk\n"),
     ("one clerk and a journal", ["--clerks", "1", "--journal=0"], ROWS, 0, LINE + JUDGE, b""),
@@ -161,9 +162,7 @@ NAMES = [
 BAD_LENGTH = reason(b" " * 14, b"a period is 1 to 3650 days, or 1 to 8760 hours", b"ours")
 OPEN_CASE = COURT + OPEN.replace(b"64", b"1")
 CASE = b"case 1 filed 2025-03-03\n"
-NAMED_CASE = OPEN_CASE.replace(b"%%\n", b'[case_names]\n1 = "1:25-cv-12-abc"\n2 = "1:25-cv-00012"\n%%\n')
-NAMED = b"case 1:25-cv-00012-ABC filed 2025-03-03\n"
-TOLD = b"deadline_memo: "
+TOLD = b"docket: "
 TRY_HELP = b"\n\nFor more information, try '--help'.\n"
 NO_DAY = b"error: invalid value 'X' for '--today <DAY>': write a day as 2025-09-15" + TRY_HELP
 NO_CASE = b"error: '--today <DAY>' counts for one case: name it by '--case <N>'" + TRY_HELP
@@ -172,8 +171,7 @@ MEMO_RUNS = [(name, [], named(entries), 0, LINE + reasons(cause) + JUDGE, b"") f
     ("names that are no table", [], b"holiday_names = 3\n" + ROWS, 0, LINE + reasons(b"Labor Day") + JUDGE, b""),
     ("a day that is named twice", [], named(LABOR + LABOR), 2, b"", b"court fault 1 NotToml\n"),
     ("an option of the office", ["--clerks", "1"], ROWS, 1, b"", usage(b"unexpected argument '--clerks' found\n")),
-    ("help with the names of holidays", ["--help"], b"", 0, Has(b"[holiday_names]"), b""),
-    ("help with an example of one case", ["--help"], b"", 0, Has(b"deadline_memo --case 1 --today 2025-08-21 < day.txt"), b""),
+    ("help with its option", ["--help"], b"", 0, Has(b"--today <DAY>"), b""),
     ("a case", ["--case", "1"], OPEN_CASE, 0, CASE, b""),
     ("a case and a day", ["--today=2025-03-03", "--case=1"], OPEN_CASE, 0, CASE, b""),
     ("rows of three clerks", [], COURT + b"%%\n64" + ROW[1:] + b"2" + ROW[1:] + ROW, 0,
@@ -191,19 +189,17 @@ MEMO_RUNS = [(name, [], named(entries), 0, LINE + reasons(cause) + JUDGE, b"") f
     ("a case too many", ["--case", "4097"], OPEN_CASE, 1, b"", usage(b"invalid value '4097' for '--case <N>'")),
     ("no case", ["--case", "0"], OPEN_CASE, 1, b"", usage(b"invalid value '0' for '--case <N>'")),
     ("a case that is no number", ["--case", "one"], OPEN_CASE, 1, b"", usage(b"invalid value 'one' for '--case <N>'")),
-    ("a case that has a name", ["--case", "1"], NAMED_CASE, 0, NAMED, b""),
-    ("a case by its name", ["--case", "1:25-CV-12-XYZ"], NAMED_CASE, 0, NAMED, b""),
-    ("a sheet of a case that has a name", [], NAMED_CASE + b"1,sheet,1\n", 0, Has(b"sheet\n" + NAMED), b""),
-    ("a name that no case has", ["--case", "25-cv-12"], NAMED_CASE, 6, b"",
-     TOLD + b"no case is named '25-cv-00012' in the court's file\n"),
-    ("a name that isn't whole", ["--case", "1:25-cv"], NAMED_CASE, 1, b"", usage(b"invalid value '1:25-cv' for '--case <N>'")),
+    ("a name that no case has", ["--case", "25-cv-12"], OPEN_CASE, 6, b"",
+     TOLD + b"no case is named '25-cv-00012'\n"),
+    ("a name that isn't whole", ["--case", "1:25-cv"], OPEN_CASE, 1, b"", usage(b"invalid value '1:25-cv' for '--case <N>'")),
     ("a case twice", ["--case=1", "--case=1"], OPEN_CASE, 1, b"", Has(b"cannot be used multiple times")),
     ("a day without its text", ["--case=1", "--today"], OPEN_CASE, 1, b"", usage(b"a value is required for '--today <DAY>'")),
 ]
 
+# Of each program the words with which it is called, and its runs.
 PROGRAMS = {
-    "clerk_office": common_runs(b"clerk_office", b"", b"") + OFFICE_RUNS,
-    "deadline_memo": common_runs(b"deadline_memo", reasons(b"Labor Day"), BAD_LENGTH) + MEMO_RUNS,
+    "clerk_office": ([], common_runs(b"clerk_office", b"", b"") + OFFICE_RUNS),
+    "docket": (["memo", "--input", "-"], common_runs(b"docket memo", reasons(b"Labor Day"), BAD_LENGTH) + MEMO_RUNS),
 }
 
 
@@ -223,17 +219,19 @@ def ended(command, text, **more):
 
 def runs(program):
     """Each run by its name, how it ended, and how it had to."""
-    for name, words, text, status, output, error in PROGRAMS[os.path.basename(program)]:
-        yield name, ended([program] + words, text), (status, output, error)
+    front, all_runs = PROGRAMS[os.path.basename(program)]
+    program = [program] + front
+    for name, words, text, status, output, error in all_runs:
+        yield name, ended(program + words, text), (status, output, error)
     folder = os.open("/", os.O_RDONLY)
-    yield "a folder for input", ended([program], None, stdin=folder), (4, b"", b"read fault\n")
+    yield "a folder for input", ended(program, None, stdin=folder), (4, b"", b"read fault\n")
     os.close(folder)
     with open("/dev/full", "wb") as full:
-        yield "a full disk", ended([program], ROWS, stdout=full), (4, None, b"write fault\n")
-        yield "a full disk and no judge", ended([program], COURT.replace(b'"Ames"', b""), stdout=full), (0, None, b"")
-        yield "a full disk and a request for help", ended([program, "--help"], b"", stdout=full), (4, None, b"write fault\n")
-        yield "no room for a fault", ended([program], b"", stderr=full), (2, b"", None)
-    little = ended([program], ROWS + b"\n" * (MOST_BYTES - len(ROWS)), preexec_fn=with_little_memory)
+        yield "a full disk", ended(program, ROWS, stdout=full), (4, None, b"write fault\n")
+        yield "a full disk and no judge", ended(program, COURT.replace(b'"Ames"', b""), stdout=full), (0, None, b"")
+        yield "a full disk and a request for help", ended(program + ["--help"], b"", stdout=full), (4, None, b"write fault\n")
+        yield "no room for a fault", ended(program, b"", stderr=full), (2, b"", None)
+    little = ended(program, ROWS + b"\n" * (MOST_BYTES - len(ROWS)), preexec_fn=with_little_memory)
     yield "little memory", little, (5, b"", b"out of memory\n")
 
 

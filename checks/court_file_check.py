@@ -1,8 +1,8 @@
 #!/usr/bin/env python3
-"""Checks what the built program court_file says of courts' files.
+"""Checks what `docket court check` says of courts' files.
 
-    court_file_check.py COURT_FILE CLERK_OFFICE [SEED [COUNT]]
-    court_file_check.py COURT_FILE --write
+    court_file_check.py DOCKET CLERK_OFFICE [SEED [COUNT]]
+    court_file_check.py DOCKET --write
 
 runs/court_file/court.toml is a file in which nothing is found. It is spoiled in some hundred ways, as people spoil such
 files; what is said of each must be what runs/court_file/said.txt has. --write writes that file anew: read it as someone who
@@ -10,22 +10,24 @@ made the mistake. Then one character of the file, and of examples/district.toml,
 without it). Each change must give a fault, of which one is at the line that was changed or at one beside it (a list that isn't
 closed: at a later one, where that shows), or a warning, or
 the same court; only hours, names, the state's holidays and the ends of the span may be other ones unseen. In all of them
-clerk_office must refuse a file exactly where court_file finds faults, with the fault that it names. It needs Python 3.11 or
+clerk_office must refuse a file exactly where docket finds faults, with the fault that it names. It needs Python 3.11 or
 later.
 """
 import pathlib
 import random
 import re
-import subprocess
 import sys
 import tempfile
 import tomllib
 
-TOP = pathlib.Path(__file__).resolve().parent.parent
+from lib.programs import TOP, programs_of, run, seed_and_count
+
 FOLDER = TOP / "runs" / "court_file"
 COURT = (FOLDER / "court.toml").read_text()
 SAID = FOLDER / "said.txt"
 KEYS = ["zone", "opens", "closes", "from", "to", "federal", "state", "judges", "rooms"]
+# The status where nothing is at fault, but something may be wrong.
+DOUBT = 9
 # What may differ unseen: nothing says which hours, names and holidays of the state are right.
 FREE = {"opens", "closes", "from", "to", "state", "judges", "rooms"}
 
@@ -180,45 +182,43 @@ def spoiled():
     return ways
 
 
-class Programs:
-    """Both programs, over a file in a folder."""
+class Checked:
+    """A court's file in a folder, which is checked; and clerk_office, where it is compared."""
 
-    def __init__(self, court_file, clerk_office, folder):
-        self.court_file, self.clerk_office = court_file, clerk_office
-        self.folder, self.path = folder, pathlib.Path(folder) / "court.toml"
+    def __init__(self, programs, folder):
+        self.programs, self.folder, self.path = programs, folder, pathlib.Path(folder) / "court.toml"
 
     def check(self, data, *words):
         """The status of a check, and what is said."""
         self.path.write_bytes(data)
-        ended = subprocess.run([str(self.court_file), "check", "court.toml", *words], cwd=self.folder, stdout=subprocess.PIPE,
-                               stderr=subprocess.PIPE, check=False)
-        assert not ended.stderr, ended.stderr
-        said = ended.stdout.decode("utf-8", "replace")
+        ended = run([self.programs.docket, "court", "check", "court.toml", *words], cwd=self.folder)
+        assert not ended.errors, ended.errors
+        said = ended.output.decode("utf-8", "replace")
         lines = said.split("\n")
         assert lines[-1] == "" and all(line.startswith("court.toml:") or line.startswith("Mend ") for line in lines[:-1]), said
-        assert ended.returncode in (0, 2, 3), (ended.returncode, said)
-        if self.clerk_office:
-            self.compare(data, ended.returncode, said)
-        return ended.returncode, said
+        assert ended.status in (0, 2, DOUBT), (ended.status, said)
+        if self.programs.clerk_office:
+            self.compare(data, ended.status, said)
+        return ended.status, said
 
     def compare(self, data, status, said):
         """clerk_office refuses the file exactly where it has faults, with the fault that is named."""
         if b"\n%%" in data:
             return
-        office = subprocess.run([str(self.clerk_office)], input=data + b"\n%%\n", stdout=subprocess.PIPE, stderr=subprocess.PIPE, check=False)
-        assert (office.returncode == 2) == (status == 2), (office, said)
+        office = self.programs.office(data + b"\n%%\n")
+        assert (office.status == 2) == (status == 2), (office, said)
         if status == 2:
             named = re.search(r"refuses the file with: (court fault .*)", said).group(1)
-            assert office.stderr.decode("utf-8", "replace").startswith(named), (office.stderr, said)
+            assert office.errors.decode("utf-8", "replace").startswith(named), (office, said)
 
 
-def all_said(programs):
+def all_said(checked):
     """What is said of each spoiled file."""
     parts = []
     for name, data in spoiled():
-        status, said = programs.check(data)
+        status, said = checked.check(data)
         parts.append("== {}: {}\n{}".format(name, status, said))
-    status, said = programs.check(COURT.encode(), "--today", "2026-03-02")
+    status, said = checked.check(COURT.encode(), "--today", "2026-03-02")
     parts.append("== the file is used from 2026-03-02: {}\n{}".format(status, said))
     return "".join(parts)
 
@@ -229,13 +229,13 @@ def keys_of(text):
     return {key: document.get(key) for key in KEYS}
 
 
-def check_change(programs, text, place, change):
+def check_change(checked, text, place, change):
     """One character of the text is changed; what came of it."""
     kind, character = change
     rest = text[place + (kind != "insert"):]
     changed = text[:place] + ("" if kind == "delete" else character) + rest
     line = text.count("\n", 0, place) + 1
-    status, said = programs.check(changed.encode())
+    status, said = checked.check(changed.encode())
     if status == 2:
         lines = [int(found) for found in re.findall(r"^court\.toml:(\d+):", said, flags=re.M)]
         missing = "has no key" in said
@@ -247,39 +247,38 @@ def check_change(programs, text, place, change):
     if before == after:
         return "same"
     differs = {key for key in KEYS if before[key] != after[key]}
-    if status == 3 and said != programs.check(text.encode())[1]:
+    if status == DOUBT and said != checked.check(text.encode())[1]:
         return "warning"
     assert differs <= FREE, (place, change, differs, said)
     return "unseen"
 
 
 def main(words):
-    court_file = pathlib.Path(words[0]).resolve()
     write = words[1:] == ["--write"]
     with tempfile.TemporaryDirectory() as folder:
-        programs = Programs(court_file, None if write else pathlib.Path(words[1]).resolve(), folder)
-        status, said = programs.check(COURT.encode())
+        checked = Checked(programs_of(words[:1 if write else 2]), folder)
+        status, said = checked.check(COURT.encode())
         assert (status, said) == (0, "court.toml: nothing found\n"), said
-        said = all_said(programs)
+        said = all_said(checked)
         if write:
             SAID.write_text(said)
             return
         stored = SAID.read_text()
         assert said == stored, "\n".join(
             "is: {}\nwas: {}".format(a, b) for a, b in zip(said.split("\n"), stored.split("\n")) if a != b)[:2000]
-        draw = random.Random(int(words[2]) if len(words) > 2 else 1)
-        count = int(words[3]) if len(words) > 3 else 300
+        seed, count = seed_and_count(words[2:], 300)
+        draw = random.Random(seed)
         texts = [COURT, COURT, (TOP / "examples" / "district.toml").read_text()]
         came = {"fault": 0, "warning": 0, "same": 0, "unseen": 0}
         for _ in range(count):
             text = draw.choice(texts)
             change = (draw.choice(["delete", "replace", "insert"]), draw.choice("\"',[]=#-:. \t\n0123456789abzEMZ/"))
-            came[check_change(programs, text, draw.randrange(len(text)), change)] += 1
+            came[check_change(checked, text, draw.randrange(len(text)), change)] += 1
     print("{} spoiled files; of {} changes of a character {} were faults, {} were warned of, {} left the same court, and {} other hours, names, days of the state or ends of the span"
           .format(len(spoiled()), count, came["fault"], came["warning"], came["same"], came["unseen"]))
 
 
 if __name__ == "__main__":
     if len(sys.argv) < 3:
-        sys.exit("usage: court_file_check.py COURT_FILE CLERK_OFFICE [SEED [COUNT]] | COURT_FILE --write")
+        sys.exit("usage: court_file_check.py DOCKET CLERK_OFFICE [SEED [COUNT]] | DOCKET --write")
     main(sys.argv[1:])

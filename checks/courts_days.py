@@ -1,9 +1,9 @@
 #!/usr/bin/env python3
-"""Compares courts' files, as court_file writes them, with rules of observance that were written apart from the program.
+"""Compares courts' files, as `docket court write` writes them, with rules of observance that were written apart from the program.
 
-    courts_days.py COURT_FILE FOLDER
+    courts_days.py DOCKET FOLDER
 
-COURT_FILE writes the file of each court that checks/lib/holiday_rules.py has, for the years 2016 to 2045, and must name just
+DOCKET writes the file of each court that checks/lib/holiday_rules.py has, for the years 2016 to 2045, and must name just
 these courts in its help. In each file the title and the zone must be the court's, the hours 08:30 to 17:00, and the two
 lists, for each day of those years, those of the rules for its state, each day once and in order, with its name, the day that
 is set and a mark where it is in doubt. The table of names must name just these days, each with the law that makes it a
@@ -88,21 +88,21 @@ def differences(court, text):
 
 def written(program, court, first, last):
     """The file that the program writes for a court."""
-    words = [program, "write", "--court", court, "--from", str(first), "--to", str(last)]
+    words = [program, "court", "write", "--court", court, "--from", str(first), "--to", str(last)]
     return subprocess.run(words, capture_output=True, text=True, check=True).stdout
 
 
 def of_program(program, folder):
     """A line for each difference of a file that is written, or that stands in the folder."""
-    told = subprocess.run([program, "write", "--help"], capture_output=True, text=True, check=True).stdout
+    told = subprocess.run([program, "court", "write", "--help"], capture_output=True, text=True, check=True).stdout
     named = dict(re.findall(r"^  ([a-z_]+) +(.*District of .*)$", told, re.MULTILINE))
     if named != {court: title for court, (title, _) in COURTS.items()}:
-        yield "court_file write --help doesn't name just the courts of the rules"
+        yield "docket court write --help doesn't name just the courts of the rules"
     for court in COURTS:
         text, stored = written(program, court, FIRST, LAST), folder / f"{court}.toml"
         yield from (f"{court}: {line}" for line in differences(court, text))
         if stored.exists() and stored.read_text() != text:
-            yield f"{stored} isn't what court_file writes for {court} from {FIRST} to {LAST}"
+            yield f"{stored} isn't what docket writes for {court} from {FIRST} to {LAST}"
 
 
 def main():

@@ -1,7 +1,7 @@
 #!/usr/bin/env python3
-"""Checks what deadline_memo prints under answers: reasons each by the line before it, and the other lines by themselves.
+"""Checks what `docket memo` prints under answers: reasons each by the line before it, and the other lines by themselves.
 
-    derivations_check.py PROGRAM [SEED] [COUNT]
+    derivations_check.py DOCKET [SEED [COUNT]]
 
 Rows are made at random from SEED (by default 1) until COUNT deadlines (by default 10000) were shown: ends that are
 computed, and deadlines that are started and extended, with acts and hearings, and with holidays and outages that are
@@ -14,10 +14,8 @@ the second program writes, each with the rows that made it what it is, its reaso
 day, and what a reader is warned of. Then lines of every shape are spoiled in every way below and must be refused. The status
 is 0 where all of this is so. It needs Python 3.8 or later.
 """
-import pathlib
 import random
 import re
-import subprocess
 import sys
 from collections import Counter
 
@@ -25,14 +23,13 @@ from lib import note_lines, other_readings
 from lib.derivation_steps import AFTER, COLUMN, WEEKDAYS, Calendar, Deadline, Line, Wrong, checked, expect, line_of
 from lib.made_inputs import CODES, HOLIDAYS, ZONES, listed, quoted
 from lib.period_words import COUNTING, SUMMONS, heading
+from lib.programs import TOP, programs_of, seed_and_count
 from reference import periods
 from reference.civil import day_of_text, day_text, minute_of_text, minute_text, weekday
 from reference.court_file import court_of, split, table_of
 from reference.docket import STEPS, case_of, deadlines_of, hearing_of, motions_of, opening, step, view
 from reference.rows_in import grant as grant_of, rows_of
 from reference.text_out import sheet_lines, shown_text
-
-TOP = pathlib.Path(__file__).resolve().parent.parent
 
 # Of the periods of the Rules the number of days, the act, whether they run from service under Rule 5(b)(2), and the day
 # from which they are so.
@@ -165,7 +162,7 @@ def whole_case(ended, output, case, today):
     file, court, docket, sources = ended
     lines = output.decode().split("\n")[:-1]
     if case_of(docket, case) is None:
-        expect(lines == ["status 6", "deadline_memo: case {} isn't open: no row has opened it".format(case)], "a case that isn't open is shown")
+        expect(lines == ["status 6", "docket: case {} isn't open: no row has opened it".format(case)], "a case that isn't open is shown")
         return
     filed, days = case_of(docket, case).filed, docket.days
     calendar = Calendar(court.clock, days.first, days.last, list(days.federal), list(days.state),
@@ -211,6 +208,9 @@ def follow(calendar, deadline, texts, shown, more, first):
     expect(lines[:len(wanted)] == wanted, "the period is another")
     left = checked(calendar, deadline, lines[len(wanted):], shown)
     readings = [Line(*line) for line in other_readings.lines(calendar, asked(deadline))]
+    # (what becomes of a time in hours by the reading that a day is no holiday isn't looked at)
+    if (deadline.grants[-1][-1] if deadline.grants else deadline.length[0]) == "h":
+        left = [line for line in left if line.what != "other reading: " + other_readings.DOUBTFUL_DAY]
     expect(left[:len(readings)] == readings, "other readings give other ends")
     expect(left[len(readings):] == [Line(*line) for line in more], "other lines follow the reasons")
 
@@ -372,9 +372,9 @@ def an_input(chance):
              "federal = " + listed(federal), "state = " + listed(state), "judges = [\"Ames\", \"Brandt\"]",
              "rooms = [\"R1\", \"R2\"]"]
     if chance.random() < 0.5:
-        names = ["Labor Day", "Independence Day", "Christmas Day", "Columbus Day"]
-        court += ["[holiday_names]"] + ["{} = {}".format(date, quoted(chance.choice(names)))
-                                        for date in chance.sample(HOLIDAYS, 5)]
+        names = {date: chance.choice(["Labor Day", "Independence Day", "Christmas Day", "Columbus Day"]) for date in chance.sample(HOLIDAYS, 5)}
+        names.update((date, "Good Friday (doubtful)") for date in state if chance.random() < 0.5)
+        court += ["[holiday_names]"] + ["{} = {}".format(date, quoted(name)) for date, name in names.items()]
     rows = ["1,open,1," + chance.choice(["2007-01-02", a_date(chance)])] + [a_row(chance) for _ in range(400)]
     # Outages on days of hearings, once they are set
     rows += ["1,inaccessible,{},09:00,12:00".format(row.split(",")[6]) for row in rows
@@ -493,26 +493,26 @@ def shape(texts):
     return tuple(re.sub(r"\d+", "", text[18:]) for text in texts)
 
 
-def run_of(program, data, *words):
-    """What the program writes, or the status and the line where what is asked for isn't there."""
-    ran = subprocess.run([program, *words], input=data, stdout=subprocess.PIPE, stderr=subprocess.PIPE)
-    if ran.returncode == 6 and not ran.stdout:
-        return b"status 6\n" + ran.stderr
-    if ran.returncode:
-        sys.exit("status {}: {}".format(ran.returncode, ran.stderr.decode()))
-    return ran.stdout
+def memo_of(programs, data, *words):
+    """What the memo says, or the status and the line where what is asked for isn't there."""
+    ended = programs.report(["memo", *words], data)
+    if ended.status == 6 and not ended.output:
+        return b"status 6\n" + ended.errors
+    if ended.status:
+        sys.exit("status {}: {}".format(ended.status, ended.errors.decode()))
+    return ended.output
 
 
-def all_derivations(program, data, chance):
+def all_derivations(programs, data, chance):
     """Those of all rows, and of the sheets of each case that is open, of one that isn't, and of one at random from a day."""
-    yield from derivations(data, run_of(program, data))
+    yield from derivations(data, memo_of(programs, data))
     ended = docket_after(data)
     opened = [case.number for case in ended[2].cases]
     for case in opened + [max(opened, default=0) % 4096 + 1]:
-        yield from whole_case(ended, run_of(program, data, "--case", str(case)), case, None)
+        yield from whole_case(ended, memo_of(programs, data, "--case", str(case)), case, None)
     for case in opened:
         for day in [a_date(chance)] + ends_near(ended, case, chance):
-            output = run_of(program, data, "--case", str(case), "--today", day)
+            output = memo_of(programs, data, "--case", str(case), "--today", day)
             yield from whole_case(ended, output, case, day_of_text(day))
 
 
@@ -525,24 +525,16 @@ def ends_near(ended, case, chance):
     return [day_text(chance.choice(ends) + chance.randrange(-1, 2))] if ends else []
 
 
-def by_places(data):
-    """The input without its table of numbers that aren't places: here a deadline is looked for by its place."""
-    return re.sub(rb"\[kept_numbers\]\n(?:\w+ = .*\n)*", b"", data)
-
-
 def main(words):
-    program = words[0]
-    seed, count = (int(word) for word in (words[1:] + ["1", "10000"][len(words) - 1:]))
+    programs, (seed, count) = programs_of(words[:1]), seed_and_count(words[1:], 10000)
     chance = random.Random(seed)
     shown, said, wrong, shapes = 0, 0, 0, {}
-    # (deadline_memo serves one clerk, so it can't read the examples of several, whose words are beside them; here cases are
-    # looked for by their numbers, so the example in which they have names is left out)
-    inputs = [path.read_bytes() for path in sorted((TOP / "examples").glob("*.txt"))
-              if not path.with_suffix(".words").exists() and b"[case_names]" not in path.read_bytes()]
-    inputs += [by_places((TOP / "crates" / "deadline_memo" / "stdin").read_bytes()), AT_THE_END, AT_A_FRIDAY]
+    # (the example of several clerks, whose words are beside it, may be answered otherwise)
+    inputs = [path.read_bytes() for path in sorted((TOP / "examples").glob("*.txt")) if not path.with_suffix(".words").exists()]
+    inputs += [path.read_bytes() for path in sorted((TOP / "crates" / "docket").glob("stdin"))] + [AT_THE_END, AT_A_FRIDAY]
     while shown < count or inputs:
         data = inputs.pop() if inputs else an_input(chance)
-        for derivation in all_derivations(program, data, chance):
+        for derivation in all_derivations(programs, data, chance):
             why = wrong_with(*derivation)
             if derivation[0] is None:
                 said += bool(derivation[2])

@@ -1,24 +1,29 @@
 #!/usr/bin/env python3
 """Checks the built desk against clerk_office, and that nothing it answered is lost.
 
-    desk_check.py DESK CLERK_OFFICE [SEED [COUNT]]
+    desk_check.py DOCKET CLERK_OFFICE [SEED [COUNT]]
 
 The examples of examples/ of one clerk are entered in two sessions, and answered as by clerk_office. What is said of an
 empty folder, of one that has a journal, and of a second program is looked at. A question is asked and rows are tried beside
-a program that enters rows, rows that draw warnings are held back, rows are kept together or not at all, rows with faults are
-counted, a folder is filled with cases, cases have their numbers as courts write them, and a court is given another file. Then COUNT times (300 without it) a session is ended at a random moment, most of them killed, and COUNT / 3
-times one that keeps its rows together, as desk_kill.py does it; COUNT / 10 inputs at random are compared, as desk_compare.py
-does it; and a short journal is damaged in its last COUNT / 2 bytes, as desk_damage.py does it. It needs Python 3.8 or later.
+a program that enters rows, rows that draw warnings are held back, plain, as written and kept together, rows are kept together
+or not at all, rows with faults are counted, a folder is filled with cases, cases have their numbers as courts write them, and a
+court is given another file. Then COUNT times (300 without it) a session is ended at a random moment, most of them killed, and
+COUNT / 3 times one that keeps its rows together, as desk_kill.py does it; COUNT / 10 inputs at random are compared, as
+desk_compare.py does it; and a short journal is damaged in its last COUNT / 2 bytes, as desk_damage.py does it. It needs Python
+3.8 or later.
 """
 import random
+import re
 import sys
 import tempfile
 
 from desk_compare import check_rows, compared
 from desk_damage import damaged
 from desk_kill import killed, killed_together
-from lib.desk import Desk, FAULTS, FAULTY, KEEP_REFUSED, REFUSED, SHORT_COURT, TOGETHER, TOP, divided, drawn_rows, programs_of, run
+from lib.desk import Desk, FAULTS, FAULTY, KEEP_REFUSED, REFUSED, SHORT_COURT, TOGETHER, divided, drawn_rows, told_of
 from lib.journal import courts_of, names_of, read_journal, rows_of
+from lib.programs import TOP, programs_of, run, seed_and_count
+from strike_check import drawn_row, opened
 
 EXAMPLES = ["smallest", "days", "deadlines", "a_day"]
 DIFFERS = 7
@@ -40,16 +45,16 @@ def check_examples(programs, draw):
 
 
 def check_folder(programs):
-    """What is said of folders: the second `open`, one with no journal, and a last line that has no end."""
+    """What is said of folders: the second `init`, one with no journal, and a last line that has no end."""
     with tempfile.TemporaryDirectory() as parent:
         desk = Desk(programs, parent, SHORT_COURT)
         whole = desk.journal.read_bytes()
-        ended = desk.call("open", "--court", parent + "/court.toml")
+        ended = desk.call("init", "--court", parent + "/court.toml")
         assert ended.status == REFUSED and b"journal already" in ended.errors, ended
         ended = desk.call("enter", given=b"1,open,1,2025-03-03\n1,open,2,2025-03-03")
         assert ended.status == REFUSED and ended.output == b"1 1 opened\n" and b"no end" in ended.errors, ended
         assert desk.journal.read_bytes().startswith(whole[:-1])
-        ended = run([programs.desk, "check", parent + "/nowhere"])
+        ended = run([programs.docket, "check", parent + "/nowhere"])
         assert ended.status != 0 and not ended.output and ended.errors.count(b"\n") == 1, ended
     return "folders that are opened twice, aren't there, or get half a line"
 
@@ -180,11 +185,68 @@ def check_warnings(programs):
             b"  Tue 2025-03-04  the event lies a year or more before 2026-04-01     note\n" + HELD_LAST), ended
         ended = desk.call("enter", given=b"!1,sheet,7\n")
         assert ended.status == FAULTY and ended.output == b"row 11 fault 1 BadClerk\n", ended
-        for words in (("enter", "--today", "2025-03-03"), ("ask", "--warn"), ("enter", "--warn", TOGETHER),
-                      ("try", "--warn", "--today", "3/3/2025")):
+        for words in (("enter", "--today", "2025-03-03"), ("ask", "--warn"), ("try", "--warn", "--today", "3/3/2025")):
             ended = desk.call(*words)
             assert ended.status == 1 and not ended.output and ended.errors.startswith(b"error: "), (words, ended)
     return "{} rows with --warn, answered as by hand".format(len(CAREFUL))
+
+
+# With what the answer to a line begins, and how a line is answered that is held back.
+ANSWER, HELD = re.compile(rb"\d+ \d+ |row \d+ "), re.compile(rb"row \d+ not kept:")
+
+
+def answers_in(text):
+    """The answer to each line."""
+    answers = []
+    for line in text.splitlines(True):
+        if ANSWER.match(line):
+            answers.append(b"")
+        answers[-1] += line
+    return answers
+
+
+def as_written(draw, line):
+    """A line as people write it: its command in other letters, blanks after commas."""
+    mark, row = (b"!", line[1:]) if line.startswith(b"!") else (b"", line)
+    fields = row.split(b",")
+    fields[1] = draw.choice([bytes.title, bytes.upper, bytes.lower])(fields[1])
+    return mark + draw.choice([b",", b", "]).join(fields)
+
+
+def is_kept_together(desk, lines, written, tried, keep, stops):
+    """Whether lines are kept together, plain or as written: unless one of them stops the list, which is then said of the first."""
+    whole, answers = desk.journal.read_bytes(), answers_in(tried.output)
+    for way, given in (([], b"".join(lines)), (["--as-written"], written)):
+        ended = desk.call("enter", "--warn", TOGETHER, *keep, *way, given=given)
+        if not stops:
+            assert ended == tried, (lines, ended, tried)
+            return True
+        said = b"line %d would be answered: " % (min(stops) + 1) + answers[min(stops)]
+        assert (ended.status, ended.output, told_of(ended)[0]) == (FAULTS, b"", said), (lines, ended, said)
+        assert desk.journal.read_bytes() == whole, lines
+    return False
+
+
+def check_choices(programs, draw):
+    """How lines are read, what is held back and what is kept are three choices: each goes with each of the others."""
+    count = 0
+    for _ in range(20):
+        lines = [draw.choice([b"", b"", b"!"]) + row for row in opened(draw) + [drawn_row(draw) for _ in range(draw.randint(1, 8))]]
+        written = b"".join(as_written(draw, line) for line in lines)
+        with tempfile.TemporaryDirectory() as parent:
+            desk = Desk(programs, parent, SHORT_COURT)
+            tried = desk.call("try", "--warn", given=b"".join(lines))
+            assert tried.status == 0 and desk.call("try", "--warn", "--as-written", given=written) == tried, (lines, tried)
+            answers = answers_in(tried.output)
+            held = [at for at, answer in enumerate(answers) if HELD.match(answer)]
+            refused = [at for at, (line, answer) in enumerate(zip(lines, answers)) if b" refused " in answer.splitlines()[0] and b",sheet," not in line]
+            if is_kept_together(desk, lines, written, tried, [], held + refused) or \
+                    is_kept_together(desk, lines, written, tried, [KEEP_REFUSED], held):
+                count += 1
+                continue
+            way, given = draw.choice([([], b"".join(lines)), (["--as-written"], written)])
+            assert desk.call("enter", "--warn", *way, given=given) == tried, (lines, tried)
+    return "20 lists with --warn, plain and as written, of which {} are kept together".format(count)
 
 
 def check_together(programs, draw):
@@ -193,7 +255,7 @@ def check_together(programs, draw):
         desk = Desk(programs, parent, SHORT_COURT)
         desk.enter([b"1,open,3,2025-03-03\n"])
         whole = desk.journal.read_bytes()
-        for given, output, error, status in (
+        for given, told, error, status in (
                 (b"1,open,1,2025-03-03\r\n\r\n1,open,2,2025-02-30\r\n1,no,row\r\n",
                  b'line 3 fault 4 BadField 4: found "2025-02-30", expected a date, as 2025-09-02\n'
                  b'line 4 fault 2 UnknownCommand: found "no", expected ' + COMMANDS, b"2 lines have faults", FAULTS),
@@ -209,8 +271,8 @@ def check_together(programs, draw):
                 (b"1,open,1,2025-03-03\n1,sheet,1", b"", b"no end", REFUSED),
                 (b"\n" * (LONGEST_INPUT + 1), b"", b"more than 16777216 bytes", UNREAD)):
             ended = desk.call("enter", TOGETHER, given=given)
-            assert (ended.status, ended.output) == (status, output) and error in ended.errors, (given[:100], ended)
-            assert b"nothing is kept" in ended.errors and ended.errors.count(b"\n") == 1, ended
+            lines, last = told_of(ended)
+            assert (ended.status, ended.output, lines) == (status, b"", told) and error in last and b"nothing is kept" in last, (given[:100], ended)
             assert desk.journal.read_bytes() == whole
         # The second row is refused, which is an answer and no fault, and is kept where that is asked for.
         rows = [b"1,open,1,2025-03-03\n", b"1,open,1,2025-03-03\n"] + drawn_rows(draw, 200)
@@ -236,11 +298,12 @@ def check_refused(programs):
         desk.enter([b"1,open,3,2025-03-03\n"])
         whole = desk.journal.read_bytes()
         ended = desk.call("enter", TOGETHER, given=REFUSED_LIST)
-        assert (ended.status, ended.output) == (FAULTS, b"line 4 would be answered: 4 1 refused 7 WrongService\n"), ended
-        assert b"line 4" in ended.errors and b"nothing is kept" in ended.errors and ended.errors.count(b"\n") == 1, ended
+        lines, last = told_of(ended)
+        assert (ended.status, ended.output, lines) == (FAULTS, b"", b"line 4 would be answered: 4 1 refused 7 WrongService\n"), ended
+        assert b"line 4" in last and b"nothing is kept" in last, ended
         assert desk.journal.read_bytes() == whole
         written = desk.call("enter", TOGETHER, "--as-written", given=REFUSED_LIST)
-        assert written.status == FAULTS and b" would be answered: 4 1 refused 7 WrongService\n" in written.output, written
+        assert written.status == FAULTS and not written.output and b" would be answered: 4 1 refused 7 WrongService\n" in told_of(written)[0], written
         assert desk.journal.read_bytes() == whole
         kept = desk.call("enter", TOGETHER, KEEP_REFUSED, given=REFUSED_LIST)
         assert kept.status == 0 and not kept.errors and kept.output == (
@@ -249,12 +312,12 @@ def check_refused(programs):
         assert len(rows_of(desk.read())) == 7
         # What has a fault is said before what would be refused, and nothing else stops a list.
         ended = desk.call("enter", TOGETHER, given=b"1,open,1,2025-03-03\n1,no,row\n")
-        assert ended.status == FAULTS and ended.output.startswith(b"line 2 fault 2 ") and b"would be" not in ended.output, ended
+        assert ended.status == FAULTS and ended.errors.startswith(b"line 2 fault 2 ") and b"would be" not in ended.errors, ended
         ended = desk.call("enter", TOGETHER, given=b"1,sheet,9\n1,start,1,59b,2025-03-03,,,\n1,file,1,3,2025-03-24,10:00,electronic\n")
         assert ended.status == 0 and ended.output.endswith(b"10 1 filed timely\n"), ended
         for words in (("enter", KEEP_REFUSED), ("try", KEEP_REFUSED), ("ask", KEEP_REFUSED), ("enter", "--warn", KEEP_REFUSED)):
             ended = desk.call(*words)
-            assert ended.status == 1 and not ended.output and ended.errors.startswith(b"error: --keep-refused"), (words, ended)
+            assert ended.status == 1 and not ended.output and ended.errors.startswith(b"error: ") and b"--keep-refused" in ended.errors, (words, ended)
     return "a list that is kept together stops at a command that is refused"
 
 
@@ -296,7 +359,7 @@ def check_cases(programs):
             ended = desk.call(*words, given=more)
             assert (ended.status, ended.output) == (FAULTY, b"row 4097 " + TOO_MANY), (words, ended)
         ended = desk.call("enter", TOGETHER, given=b"1,sheet,1\n" + more)
-        assert (ended.status, ended.output) == (FAULTS, b"line 2 " + TOO_MANY), ended
+        assert (ended.status, ended.output, told_of(ended)[0]) == (FAULTS, b"", b"line 2 " + TOO_MANY), ended
         # No other row gets these words.
         others = [(b"1,sheet,25-cv-05000\n", b"row 4097 fault 4 BadField 3\n"), (b"1,open,25-cv-1x,2025-03-03\n", b"row 4097 fault 4 BadField 3\n"),
                   (b"1,open,25-cv-09999\n", b"row 4097 fault 3 WrongCount\n")]
@@ -325,14 +388,8 @@ def check_numbers(programs):
             b"1,open,2,2025-03-05\n", b"1,sheet,3\n", b"1,sheet,2\n", b"1,sheet,1\n"], rows_of(journal)
         assert b"rows kept: 8" in desk.call("check").output
         assert desk.call("cases").output == b"2 1:25-cv-01234-ABC\n3 25-cv-01234\n", desk.call("cases")
-        # The names come after the court's file, unless that has a table of its own.
-        table = b'[case_names]\n2 = "1:25-cv-01234-ABC"\n3 = "25-cv-01234"\n'
-        front, _, _ = desk.input_of([]).partition(b"%%\n")
-        assert desk.rows().startswith(front + table + b"%%\n1,open,1,2025-03-03\n"), desk.rows()
-        with tempfile.TemporaryDirectory() as other:
-            own = Desk(programs, other, SHORT_COURT + b'\n[case_names]\n1 = "9:99-cv-1"\n')
-            own.enter([b"1,open,1:25-cv-1234,2025-03-03\n"])
-            assert own.rows() == own.input_of([b"1,open,1,2025-03-03\n"]), own.rows()
+        # The rows that are written have numbers alone.
+        assert desk.rows() == desk.input_of(row for row, _ in rows_of(journal)), desk.rows()
         # Warnings call a case by its name too.
         rows = [b"1,motion,2,2025-04-01,14\n", b"1,book,1:25-cv-01234,1,Ames,R1,2025-05-05,10:00,1,2025-04-01\n",
                 b"1,motion,3,2025-04-01,14\n", b"1,book,25-cv-01234,1,Ames,R1,2025-05-05,10:00,1,2025-04-01\n", b"1,holiday,2025-05-05,federal\n"]
@@ -350,10 +407,10 @@ def check_court(programs):
             it.write(OTHER_COURT)
         first = desk.enter([b"1,compute,59e,2025-08-05,,,\n", b"1,compute,59b,2025-08-05,,,\n", b"1,compute,59e,2025-03-03,,,\n"])
         whole = desk.journal.read_bytes()
-        ended = desk.call("court", file)
+        ended = desk.call("court change", file)
         assert ended.status == DIFFERS and b"row 1 is kept as\n" in ended.output and b"row 3" not in ended.output, ended
         assert desk.journal.read_bytes() == whole
-        assert desk.call("court", file, "--accept").status == 0
+        assert desk.call("court change", file, "--accept").status == 0
         second = desk.enter([b"1,compute,59e,2025-08-05,,,\n"])
         assert second.startswith(b"4 1 last ") and second[4:] != first.splitlines(True)[0][4:], (first, second)
         assert desk.call("check").output.startswith(b"rows kept: 4,")
@@ -364,10 +421,10 @@ def check_court(programs):
 
 
 def main(words):
-    programs, draw = programs_of(words[:2]), random.Random(int(words[2]) if len(words) > 2 else 1)
-    count = int(words[3]) if len(words) > 3 else 300
+    programs, (seed, count) = programs_of(words[:2]), seed_and_count(words[2:], 300)
+    draw = random.Random(seed)
     for check in (lambda: check_examples(programs, draw), lambda: check_folder(programs), lambda: check_second(programs),
-                  lambda: check_trial(programs, draw), lambda: check_warnings(programs), lambda: check_together(programs, draw),
+                  lambda: check_trial(programs, draw), lambda: check_warnings(programs), lambda: check_choices(programs, draw), lambda: check_together(programs, draw),
                   lambda: check_refused(programs), lambda: check_faulty(programs), lambda: check_cases(programs),
                   lambda: check_numbers(programs), lambda: check_court(programs),
                   lambda: compared(programs, draw, count // 10), lambda: damaged(programs, draw, 12, count // 2),
@@ -377,5 +434,5 @@ def main(words):
 
 if __name__ == "__main__":
     if not 3 <= len(sys.argv) <= 5:
-        sys.exit("usage: desk_check.py DESK CLERK_OFFICE [SEED [COUNT]]")
+        sys.exit("usage: desk_check.py DOCKET CLERK_OFFICE [SEED [COUNT]]")
     main(sys.argv[1:])

@@ -1,7 +1,7 @@
 #!/usr/bin/env python3
 """Compares the desk, row by row, with clerk_office, which takes all rows at once.
 
-    desk_compare.py DESK CLERK_OFFICE [SEED [COUNT]]
+    desk_compare.py DOCKET CLERK_OFFICE [SEED [COUNT]]
 
 COUNT inputs (5,000 without it) are made from SEED, as office_compare.py makes them; those whose court's file has a fault
 must be refused by both. The rows are entered in one session or two. A row that can't be read is answered with its fault,
@@ -16,9 +16,10 @@ import sys
 import tempfile
 from collections import Counter
 
-from lib.desk import Desk, divided, programs_of, run
+from lib.desk import Desk, divided
 from lib.journal import rows_of
 from lib.made_inputs import INPUTS, made_input
+from lib.programs import programs_of, run, seed_and_count
 
 FAULT = b"row "
 # The number of another clerk than the first, at the beginning of a row, and after the number of the row in its answer.
@@ -47,8 +48,8 @@ def is_refused(programs, parent, court):
     file = parent + "/bad.toml"
     with open(file, "wb") as it:
         it.write(court)
-    desk = run([programs.desk, "open", parent + "/bad", "--court", file])
-    whole = programs.whole(court + b"%%\n")
+    desk = run([programs.docket, "init", parent + "/bad", "--court", file])
+    whole = programs.office(court + b"%%\n")
     if whole.status == 0:
         return False
     assert (desk.status, desk.output, desk.errors) == (whole.status, whole.output, whole.errors), (desk, whole)
@@ -63,7 +64,7 @@ def check_rows(desk, rows, draw):
     kept = rows_of(desk.read())
     assert answers == b"".join(answer for _, answer in kept), (answers, kept)
     assert desk.rows() == desk.input_of(row for row, _ in kept)
-    together = desk.programs.whole(desk.input_of(of_first_clerk(row) for row, _ in kept))
+    together = desk.programs.office(desk.input_of(of_first_clerk(row) for row, _ in kept))
     assert together.status == 0 and together.output.startswith(to_first_clerk(kept)), (answers, together)
     return any(is_fault(line) for line in lines)
 
@@ -78,7 +79,7 @@ def check_input(programs, data, draw):
         desk = Desk(programs, parent, court)
         if check_rows(desk, rows, draw):
             return FAULTS
-        alone = programs.whole(court + b"%%\n" + b"".join(of_first_clerk(row) for row in rows))
+        alone = programs.office(court + b"%%\n" + b"".join(of_first_clerk(row) for row in rows))
         assert alone.status == 0 and alone.output.startswith(to_first_clerk(rows_of(desk.read()))), alone
         return SAME
 
@@ -90,11 +91,11 @@ def compared(programs, draw, count):
 
 
 def main(words):
-    draw = random.Random(int(words[2]) if len(words) > 2 else 1)
-    print(compared(programs_of(words[:2]), draw, int(words[3]) if len(words) > 3 else 5000))
+    seed, count = seed_and_count(words[2:], 5000)
+    print(compared(programs_of(words[:2]), random.Random(seed), count))
 
 
 if __name__ == "__main__":
     if not 3 <= len(sys.argv) <= 5:
-        sys.exit("usage: desk_compare.py DESK CLERK_OFFICE [SEED [COUNT]]")
+        sys.exit("usage: desk_compare.py DOCKET CLERK_OFFICE [SEED [COUNT]]")
     main(sys.argv[1:])

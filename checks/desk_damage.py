@@ -1,7 +1,7 @@
 #!/usr/bin/env python3
 """Cuts a desk's journal at every byte, and changes each of its bytes.
 
-    desk_damage.py DESK CLERK_OFFICE [SEED [COUNT]]
+    desk_damage.py DOCKET [SEED [COUNT]]
 
 A journal of COUNT entries (200 without it), drawn from SEED, is cut after each of its bytes, and each byte is changed to
 another, each latch also to the shut one. The desk must then say what the reader in lib/journal.py finds: the number of
@@ -16,8 +16,9 @@ import sys
 import tempfile
 from collections import Counter
 
-from lib.desk import Desk, REFUSED, SHORT_COURT, drawn_rows, programs_of
+from lib.desk import Desk, REFUSED, SHORT_COURT, drawn_rows
 from lib.journal import OPEN, SHUT, Damaged, read_journal, rows_of
+from lib.programs import programs_of, seed_and_count
 
 # How many desks are asked at the same time.
 WORKERS = max(2, os.cpu_count() or 2)
@@ -107,11 +108,11 @@ def last_latch(journal):
 
 
 def main(words):
-    draw = random.Random(int(words[2]) if len(words) > 2 else 1)
-    print(damaged(programs_of(words[:2]), draw, int(words[3]) if len(words) > 3 else 200))
+    seed, count = seed_and_count(words[1:], 200)
+    print(damaged(programs_of(words[:1]), random.Random(seed), count))
 
 
 if __name__ == "__main__":
-    if not 3 <= len(sys.argv) <= 5:
-        sys.exit("usage: desk_damage.py DESK CLERK_OFFICE [SEED [COUNT]]")
+    if not 2 <= len(sys.argv) <= 4:
+        sys.exit("usage: desk_damage.py DOCKET [SEED [COUNT]]")
     main(sys.argv[1:])

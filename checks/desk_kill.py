@@ -1,7 +1,7 @@
 #!/usr/bin/env python3
 """Ends the desk at random moments while rows come in, and looks for every row that it answered.
 
-    desk_kill.py DESK CLERK_OFFICE [SEED [COUNT]]
+    desk_kill.py DOCKET CLERK_OFFICE [SEED [COUNT]]
 
 COUNT sessions (2,000 without it), drawn from SEED, are given rows in bursts and end in one of four ways: killed (most of
 them), stopped by SIGTERM, by a reader that closes the pipe of the answers, or by the end of the input. After each one
@@ -14,15 +14,15 @@ their rows together are killed: each must have kept all of them or none, and all
 """
 import random
 import signal
-import subprocess
 import sys
 import tempfile
 import threading
 import time
 from collections import Counter
 
-from lib.desk import Desk, KEEP_REFUSED, SHORT_COURT, TOGETHER, drawn_rows, programs_of
+from lib.desk import Desk, KEEP_REFUSED, SHORT_COURT, TOGETHER, drawn_rows
 from lib.journal import rows_of
+from lib.programs import programs_of, seed_and_count
 
 # How many sessions go on with the same folder, and of how many cases their rows are.
 SESSIONS, CASES = 50, 200
@@ -122,7 +122,7 @@ def check_folder(programs, draw, count):
             kept, answered = check_session(desk, rows, way, draw, pace)
             counts.update({way: 1, "kept": kept, "answered": answered})
         answers = b"".join(answer for _, answer in rows_of(desk.read()))
-        whole = programs.whole(desk.rows())
+        whole = programs.office(desk.rows())
         assert whole.status == 0 and whole.output.startswith(answers), "clerk_office answers otherwise"
     return counts
 
@@ -174,13 +174,13 @@ def killed_together(programs, draw, count):
 
 
 def main(words):
-    programs, draw = programs_of(words[:2]), random.Random(int(words[2]) if len(words) > 2 else 1)
-    count = int(words[3]) if len(words) > 3 else 2000
+    programs, (seed, count) = programs_of(words[:2]), seed_and_count(words[2:], 2000)
+    draw = random.Random(seed)
     print(killed(programs, draw, count), flush=True)
     print(killed_together(programs, draw, count // 4))
 
 
 if __name__ == "__main__":
     if not 3 <= len(sys.argv) <= 5:
-        sys.exit("usage: desk_kill.py DESK CLERK_OFFICE [SEED [COUNT]]")
+        sys.exit("usage: desk_kill.py DOCKET CLERK_OFFICE [SEED [COUNT]]")
     main(sys.argv[1:])

@@ -1,19 +1,22 @@
 #!/usr/bin/env python3
 """Takes the desk to its limits: a full disk, a folder that can't be written to, and very many rows.
 
-    desk_limits.py DESK CLERK_OFFICE [ROWS [ENTRIES]]
+    desk_limits.py DOCKET CLERK_OFFICE [ROWS [ENTRIES]]
 
 A file that may grow no further, and a small disk that is full (a tmpfs, which needs root): the session ends with status 6,
 every row that it answered is kept, and with room again it goes on. A folder that can't be written to, and another program
 that has the journal: the desk is refused, and the journal is as it was. A day of ROWS rows (100,000 without it), which
 are written one after another to a pipe while the answers are read from another: the memory of the desk grows by less than
-4 MB after its first 10,000 rows. A journal of ENTRIES entries (1,000,000 without it) is filled to its end, the row after
+4 MB after its first 10,000 rows. A folder with twice as many rows, more than an input may have: each report must say of it what
+it says of those rows alone that change the docket, and the answers must be there, each once. A journal of ENTRIES entries (1,000,000 without it) is filled to its end, the row after
 the last is refused, and it is opened again. It needs Linux and Python 3.8 or later.
 """
 import contextlib
+import json
 import os
 import pathlib
 import random
+import re
 import resource
 import signal
 import subprocess
@@ -22,8 +25,9 @@ import tempfile
 import threading
 import time
 
-from lib.desk import Desk, FAULTY, REFUSED, SHORT_COURT, drawn_rows, programs_of
+from lib.desk import Desk, FAULTY, REFUSED, SHORT_COURT, drawn_rows
 from lib.journal import rows_of
+from lib.programs import programs_of
 
 NOBODY = 65534
 GROWTH_KB = 4000
@@ -45,7 +49,7 @@ def check_goes_on(desk, rows):
     """Once there is room, the other rows are entered."""
     desk.enter(rows)
     answers = b"".join(answer for _, answer in rows_of(desk.read()))
-    whole = desk.programs.whole(desk.rows())
+    whole = desk.programs.office(desk.rows())
     assert whole.status == 0 and whole.output.startswith(answers)
 
 
@@ -186,10 +190,33 @@ def check_day(programs, draw, count):
         assert session.wait() == 0 and not session.stdout.read()
         first, last = peaks.values()
         assert last < first + GROWTH_KB, peaks
-        whole = programs.whole(SHORT_COURT + b"%%\n" + b"".join(rows))
+        whole = programs.office(SHORT_COURT + b"%%\n" + b"".join(rows))
         assert whole.output.startswith(b"".join(answers))
     return "{:,} rows over a pipe in {:.1f} s: memory {:,} kB after {:,} rows and {:,} kB at the end".format(
         count, seconds, first, min(BEGUN, count // 2), last)
+
+
+# The reports that say nothing of rows which only ask.
+OF_DOCKET = (["due"], ["week", "--judge", "Ames", "--of", "2025-04-07"], ["page"], ["ics", "--stamp", "20250901T120000Z"], ["memo", "--case", "7"])
+
+
+def check_many(programs, draw, count):
+    """Reports of a folder with very many rows, of which most ask for periods."""
+    with tempfile.TemporaryDirectory() as parent:
+        desk = Desk(programs, parent, SHORT_COURT)
+        changing, asking = drawn_rows(draw, 2000, 100), day_of(draw, count - 2000 + 100)[100:]
+        desk.enter(changing + asking)
+        few, began = desk.input_of(changing), time.monotonic()
+        for words in OF_DOCKET:
+            assert desk.call(*words) == programs.report(words, few), words
+        answers = desk.call("json", "--lines").output.splitlines()
+        assert [json.loads(answer)["row"] for answer in answers] == list(range(1, count + 1)), "other answers"
+        assert len(json.loads(desk.call("json").output)["answers"]) == count
+        assert desk.call("sql").output.count(b"\nINSERT INTO answers ") == count
+        memo = desk.call("memo").output
+        assert [int(found) for found in re.findall(rb"(?m)^(\d+) 1 ", memo)] == list(range(1, count + 1))
+        seconds = time.monotonic() - began
+    return "a folder of {:,} rows: each report says of it what it says of the rows, in {:.1f} s".format(count, seconds)
 
 
 def check_full_journal(programs, count):
@@ -214,11 +241,11 @@ def main(words):
     entries = int(words[3]) if len(words) > 3 else 1_000_000
     for check in (lambda: check_second(programs), lambda: check_read_only(programs, draw),
                   lambda: check_short_file(programs, draw), lambda: check_full_disk(programs, draw),
-                  lambda: check_day(programs, draw, rows), lambda: check_full_journal(programs, entries)):
+                  lambda: check_day(programs, draw, rows), lambda: check_many(programs, draw, 2 * rows), lambda: check_full_journal(programs, entries)):
         print(check(), flush=True)
 
 
 if __name__ == "__main__":
     if not 3 <= len(sys.argv) <= 5:
-        sys.exit("usage: desk_limits.py DESK CLERK_OFFICE [ROWS [ENTRIES]]")
+        sys.exit("usage: desk_limits.py DOCKET CLERK_OFFICE [ROWS [ENTRIES]]")
     main(sys.argv[1:])

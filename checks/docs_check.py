@@ -1,37 +1,64 @@
 #!/usr/bin/env python3
 """Runs the examples and the commands that the documents show, and compares what they print.
 
-    docs_check.py
+    docs_check.py DOCKET CLERK_OFFICE
 
-Each examples/NAME.txt must be answered as examples/NAME.out, and with reasons as examples/NAME.memo. Where there is a
-NAME.words, the clerk's program alone answers it, called with the words of that line, and NAME.other is another text that it
-may come to.
+Each examples/NAME.txt must be answered as examples/NAME.out, and where there is a file NAME.memo, NAME.due and so on, docket must
+write that with the words of REPORTS. Where there is a NAME.words, the clerk's program alone answers it, called with the words of
+that line, and NAME.other is another text that it may come to.
 
-In README.md, docs/, examples/ and runs/ a line of an indented block that begins with `$ ` is a command, run in a shell
-at the top of the repository; the lines below it, up to the next command or the end of the block, are what it must
-print. There the programs are on the PATH, and FOLDER is a new folder for each document. The rows and answers in
-docs/A_DAY.md must be those of examples/a_day.txt and examples/a_day.out, each once and in their order. The rows in the table
-of docs/A_WEEK.md, one after another in the court of examples/district.toml, must have the answers beside them. All
-programs must be built. It needs Python 3.8 or later; the status is 0 where all is as it is written.
+In README.md, CONTRIBUTING.md, docs/, examples/, runs/ and the README.md of each crate a line of an indented block that begins
+with `$ ` is a command, run in a shell at the top of the repository; the lines below it, up to the next command or the end of
+the block, are what it must print. There the programs are on the PATH, and FOLDER is a new folder for each document. A link to a
+file of the repository must lead to one, and to a heading in it that there is. The rows in the table
+of docs/clerk/WEEK.md, one after another in the court of examples/district.toml, must have the answers beside them. It needs
+Python 3.8 or later; the status is 0 where all is as it is written.
 """
 import os
-import pathlib
 import re
 import subprocess
 import sys
 import tempfile
 
-TOP = pathlib.Path(__file__).resolve().parent.parent
-PROGRAMS = {".out": "crates/clerk_office/out/clerk_office", ".memo": "crates/deadline_memo/out/deadline_memo"}
-ON_PATH = [str(TOP / "crates" / name / "out")
-           for name in ("clerk_office", "deadline_memo", "docket_desk", "court_calendar", "court_file")]
+from lib.programs import TOP, programs_of
+
 DIVIDER = "%%\n"
+# With which words docket writes an example of each kind.
+REPORTS = {".memo": ["memo"], ".case": ["memo", "--case", "1", "--today", "2025-09-18"], ".due": ["due", "--from", "2025-09-15", "--to", "2025-09-19"],
+           ".week": ["week", "--judge", "Calloway", "--of", "2025-09-16"], ".html": ["page"], ".ics": ["ics", "--stamp", "20250915T120000Z"],
+           ".json": ["json"], ".sql": ["sql"]}
+# The page about a clerk's week.
+WEEK = TOP / "docs" / "clerk" / "WEEK.md"
+MERGE = re.compile("^(<<<<<<<|>>>>>>>) ", re.MULTILINE)
+LINK, HEADING = re.compile(r"\[(?:[^\[\]]|\[[^\]]*\])*\]\(([^()\s]+)\)"), re.compile(r"^#+ +(.*?) *$", re.MULTILINE)
 
 
 def documents():
-    yield TOP / "README.md"
+    yield from sorted(TOP.glob("*.md"))
     for folder in ("docs", "examples", "runs"):
         yield from sorted((TOP / folder).rglob("*.md"))
+    yield from sorted((TOP / "crates").glob("*/README.md"))
+
+
+def anchors_of(path):
+    """The headings of a document as links name them: in small letters, with dashes for blanks, and without marks."""
+    headings = HEADING.findall(path.read_text())
+    return {re.sub(r"[^\w\- ]", "", re.sub(r"\[([^\]]*)\]\([^)]*\)", r"\1", heading)).lower().replace(" ", "-") for heading in headings}
+
+
+def leads_somewhere(path, link):
+    """Whether a link of a document to the repository leads to a file, and to a heading of it. Any other is passed over."""
+    if re.match("[a-z]+:", link):
+        return True
+    file, _, anchor = link.partition("#")
+    found = (path.parent / file).resolve() if file else path
+    return found.exists() and (not anchor or found.suffix != ".md" or anchor in anchors_of(found))
+
+
+def links_of(path):
+    """The links of a document, each with whether it leads somewhere. What is in a block of code is none."""
+    text = re.sub(r"^(    |\t).*$|`[^`\n]*`", "", path.read_text(), flags=re.MULTILINE)
+    return [(link, leads_somewhere(path, link)) for link in LINK.findall(text)]
 
 
 def commands_in(text):
@@ -54,11 +81,12 @@ def prints(command, wanted, surroundings):
     return ran.stdout.decode() == wanted
 
 
-def commands_that_differ(path):
+def commands_that_differ(programs, path):
     """How many commands a document has, and those that print something else."""
     shown = list(commands_in(path.read_text()))
     with tempfile.TemporaryDirectory() as folder:
-        surroundings = dict(os.environ, FOLDER=folder, PATH=os.pathsep.join([*ON_PATH, os.environ["PATH"]]))
+        on_path = [str(program.parent) for program in programs]
+        surroundings = dict(os.environ, FOLDER=folder, PATH=os.pathsep.join([*on_path, os.environ["PATH"]]))
         return len(shown), [command for command, wanted in shown if not prints(command, wanted, surroundings)]
 
 
@@ -68,58 +96,49 @@ def words_of(example):
     return line.read_text().split() if line.exists() else []
 
 
-def is_answered(example, kind):
+def is_answered(programs, example, kind):
     """Whether the program writes what stands beside the example, or one of two texts where two stand there."""
-    with open(example, "rb") as rows:
-        ran = subprocess.run([TOP / PROGRAMS[kind], *words_of(example)], stdin=rows, stdout=subprocess.PIPE,
-                             stderr=subprocess.STDOUT, check=False)
+    data = example.read_bytes()
+    ended = programs.office(data, *words_of(example)) if kind == ".out" else programs.report(REPORTS[kind], data)
     texts = [path.read_bytes() for path in (example.with_suffix(kind), example.with_suffix(".other")) if path.exists()]
-    return ran.returncode == 0 and ran.stdout in texts
+    return ended.status == 0 and not ended.errors and ended.output in texts
 
 
-def is_told(page, example):
-    """Whether the page has each row of the example with its answer, and all lines after the answers."""
-    pairs = re.findall(r"^\| `([^`]*)` \| `([^`]*)` \|", page, re.MULTILINE)
-    rows = example.with_suffix(".txt").read_text().split(DIVIDER, 1)[1].splitlines()
-    lines = example.with_suffix(".out").read_text().splitlines()
-    answers = [line for line in lines if re.match(r"[0-9]+ [0-9]+ ", line)]
-    blocks = "".join(line[4:] + "\n" for line in page.splitlines() if line.startswith("    "))
-    closing = lines[max(at for at, line in enumerate(lines) if line.startswith("case 1 filed ")):]
-    return pairs == list(zip(rows, answers)) and "".join(line + "\n" for line in closing) in blocks
-
-
-def rows_that_differ(page):
+def rows_that_differ(programs, page):
     """The rows of the page's table whose answer isn't the one beside it, or that have none there."""
     pairs = re.findall(r"^\| [^|]* \| `(1,[^`]*)` \| `([^`]*)`", page, re.MULTILINE)
     court = (TOP / "examples" / "district.toml").read_text()
-    rows = court + "\n" + DIVIDER + "".join(row + "\n" for row, _ in pairs)
-    ran = subprocess.run([TOP / PROGRAMS[".out"]], input=rows.encode(), stdout=subprocess.PIPE, stderr=subprocess.STDOUT,
-                         check=False)
-    answers = re.findall(r"^[0-9]+ 1 (.*)$", ran.stdout.decode(), re.MULTILINE)
+    ended = programs.office((court + "\n" + DIVIDER + "".join(row + "\n" for row, _ in pairs)).encode())
+    answers = re.findall(r"^[0-9]+ 1 (.*)$", ended.output.decode(), re.MULTILINE)
     answers += [None] * (len(pairs) - len(answers))
     return ["no rows"] * (not pairs) + [row for (row, wanted), answer in zip(pairs, answers) if answer != wanted]
 
 
-def main():
-    of_documents = [(path, *commands_that_differ(path)) for path in documents()]
-    shown = sum(count for _, count, _ in of_documents)
-    wrong = [(path, command) for path, _, commands in of_documents for command in commands]
-    for path, command in wrong:
-        print("{}: prints something else: {}".format(path.relative_to(TOP), command))
-    told = is_told((TOP / "docs" / "A_DAY.md").read_text(), TOP / "examples" / "a_day")
-    if not told:
-        print("docs/A_DAY.md: not the rows and answers of examples/a_day")
-    otherwise = rows_that_differ((TOP / "docs" / "A_WEEK.md").read_text())
-    for row in otherwise:
-        print("docs/A_WEEK.md: answered otherwise: {}".format(row))
-    examples = [(path, kind) for path in sorted((TOP / "examples").glob("*.txt")) for kind in PROGRAMS
-                if kind == ".out" or not words_of(path)]
-    unanswered = [(path, kind) for path, kind in examples if not is_answered(path, kind)]
-    for path, kind in unanswered:
-        print("{}: answered otherwise".format(path.with_suffix(kind).relative_to(TOP)))
-    failed = len(wrong) + len(unanswered) + (0 if told else 1) + (1 if otherwise else 0)
-    print("{} passed, {} failed".format(shown + len(examples) + 2 - failed, failed))
-    sys.exit(0 if shown and examples and failed == 0 else 1)
+def looked_at(programs):
+    """All that is looked at: each as a line that says what is wrong where it is, and whether it is."""
+    for path in documents():
+        count, wrong = commands_that_differ(programs, path)
+        yield from (("{}: prints something else: {}".format(path.relative_to(TOP), command), True) for command in wrong)
+        yield from (("", False) for _ in range(count - len(wrong)))
+        yield "{}: has the marks of a merge that isn't done".format(path.relative_to(TOP)), MERGE.search(path.read_text()) is not None
+        yield from (("{}: leads nowhere: {}".format(path.relative_to(TOP), link), not leads) for link, leads in links_of(path))
+    for row in rows_that_differ(programs, WEEK.read_text()):
+        yield "{}: answered otherwise: {}".format(WEEK.relative_to(TOP), row), True
+    for path in sorted((TOP / "examples").glob("*.txt")):
+        for kind in [".out"] + [kind for kind in REPORTS if path.with_suffix(kind).exists()]:
+            yield "{}: answered otherwise".format(path.with_suffix(kind).relative_to(TOP)), not is_answered(programs, path, kind)
 
 
-main()
+def main(words):
+    all_of_it = list(looked_at(programs_of(words)))
+    wrong = [line for line, is_wrong in all_of_it if is_wrong]
+    for line in wrong:
+        print(line)
+    print("{} passed, {} failed".format(len(all_of_it) - len(wrong), len(wrong)))
+    sys.exit(0 if all_of_it and not wrong else 1)
+
+
+if __name__ == "__main__":
+    if len(sys.argv) != 3:
+        sys.exit("usage: docs_check.py DOCKET CLERK_OFFICE")
+    main(sys.argv[1:])

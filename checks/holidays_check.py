@@ -1,16 +1,16 @@
 #!/usr/bin/env python3
-"""Compares the holidays that court_file knows with two libraries of holidays, day by day.
+"""Compares the holidays that docket knows with two libraries of holidays, day by day.
 
-    holidays_check.py PROGRAM
+    holidays_check.py DOCKET
 
-PROGRAM is court_file. The libraries are Debian's python3-holidays (compared: 0.10.1) and python3-workalendar (compared:
+The libraries are Debian's python3-holidays (compared: 0.10.1) and python3-workalendar (compared:
 17.0.0); where the first isn't there, only the rules are compared, and a line says so. Compared are the days from Monday to
 Friday:
 
-- those of the United States, from 1970 to 2069: what `check` says that an empty list lacks, and what python3-holidays has;
-- those of each state and of the United States, from 2016 to 2069: what `write` writes for a court of the state, and what
+- those of the United States, from 1970 to 2069: what `court check` says that an empty list lacks, and what python3-holidays has;
+- those of each state and of the United States, from 2016 to 2069: what `court write` writes for a court of the state, and what
   each library has;
-- those that `write` writes for each court and a hundred years, and the rules of checks/lib/holiday_rules.py.
+- those that `court write` writes for each court and a hundred years, and the rules of checks/lib/holiday_rules.py.
 
 Each difference must be one that is explained below. A line for each comparison says how many days agree. The status is
 0 where nothing is left unexplained.
@@ -135,7 +135,7 @@ ONLY_LIBRARY = [
 def days_of(text):
     """The days that a court's file lists, with their names."""
     names = names_of(text)
-    return {day: names[day][0].replace(", observed", "") for key in ("federal", "state") for day in list_of(text, key)}
+    return {day: names[day][0].replace(", observed", "").replace(" (doubtful)", "") for key in ("federal", "state") for day in list_of(text, key)}
 
 
 def lacking(program, first, last):
@@ -145,7 +145,7 @@ def lacking(program, first, last):
     with tempfile.TemporaryDirectory() as folder:
         path = pathlib.Path(folder) / "court.toml"
         path.write_text(text)
-        told = subprocess.run([program, "check", str(path)], capture_output=True, text=True, check=False).stdout
+        told = subprocess.run([program, "court", "check", str(path)], capture_output=True, text=True, check=False).stdout
     found = re.findall(r"the list lacks (\d{4}-\d\d-\d\d), (?:which the law sets for|on which) (.*?)(?:; | is observed)", told)
     days = {date.fromisoformat(day): name for day, name in found}
     return {day: name for day, name in days.items() if day.weekday() < 5}

@@ -1,10 +1,10 @@
 #!/usr/bin/env python3
-"""Compares the calendars that court_calendar ics writes with what clerk_office says of the same docket.
+"""Compares the calendars that `docket ics` writes with what clerk_office says of the same docket.
 
-    ics_check.py CALENDAR CLERK [SEED [COUNT]]
+    ics_check.py DOCKET CLERK_OFFICE [SEED [COUNT]]
 
 Inputs are made at random, half of them in the zones of examples/courts, with hearings around both changes of the clocks.
-In half of them the court's file names cases (lib/case_names.py), and each is called by its name.
+Half of them are entered into a folder, in which cases have names (lib/given_docket.py), and each is called by its name.
 clerk_office answers each; from its answers to the rows and the sheets at its end this script makes the list of events
 that a calendar must have: the deadlines and hearings that are chosen, in order, and then what was taken off the calendar.
 The calendar is read by Debian's python3-icalendar, and each event must be the wanted one, property by property. The times
@@ -25,6 +25,7 @@ import random
 import re
 import shutil
 import sys
+import tempfile
 from collections import Counter
 from pathlib import Path
 
@@ -37,11 +38,13 @@ except ImportError:
 if icalendar is None or shutil.which("khal") is None:
     sys.exit("ics_check.py: nothing was checked: install Debian's python3-icalendar and khal")
 
-from lib.case_names import asked, with_names
+from lib.case_names import asked
+from lib.given_docket import given_docket, input_of
 from lib.ics_inputs import ZONES, cut, zoned_input
-from lib.ics_wanted import Clock, answered, day_of, entries_wanted, event_wanted, ran, revisions_of
+from lib.ics_wanted import Clock, answered, day_of, entries_wanted, event_wanted, revisions_of
 from lib.khal import khal_line, khal_lines
 from lib.made_inputs import INPUTS, made_input
+from lib.programs import programs_of, seed_and_count
 
 
 # What a calendar has
@@ -75,18 +78,22 @@ def faults_of_bytes(data):
 # Comparing
 
 
-def differs(seen, chance, calendar, clerk, data):
+def revision(given, revisions, case):
+    """The SEQUENCE of the events of a case. A strike counts as a row does, and as a change of all days by the last row before it."""
+    last = max(revisions.get(0, 0), revisions.get(case, 0))
+    return last if given.numbers is None else max(last, given.numbers.rows_before) + given.numbers.strikes
+
+
+def differs(seen, chance, given):
     """How a calendar differs from what clerk_office says, if it does. What was compared is counted."""
-    plain = data
-    data, names = with_names(chance, plain)
-    given = answered(clerk, names, plain)
-    if given is None:
+    office = answered(given)
+    if office is None:
         return None
-    clock, revisions = Clock(given.court["zone"]), revisions_of(given.rows, given.answers)
+    clock, revisions = Clock(office.court["zone"]), revisions_of(office.rows, office.answers)
     for _ in range(2):
-        words, choice, stamp = made_words(chance, names, given.court, given.docket)
+        words, choice, stamp = made_words(chance, given.names, office.court, office.docket)
         began = datetime.datetime.now(datetime.timezone.utc).replace(microsecond=0)
-        status, found, errors = ran(calendar, words, data)
+        status, found, errors = given.report(words)
         fault = faults_of_bytes(found) if (status, errors) == (0, b"") else errors.decode()
         if fault:
             return "{}: {}".format(" ".join(words), fault)
@@ -95,24 +102,25 @@ def differs(seen, chance, calendar, clerk, data):
             stamp = read[0]["DTSTAMP"]
             if not began <= stamp <= datetime.datetime.now(datetime.timezone.utc):
                 return "{}: the stamp isn't the clock's time: {}".format(" ".join(words), stamp)
-        wanted = [event_wanted(clock, item, max(revisions.get(0, 0), revisions.get(item.case, 0)), off, stamp)
-                  for item, off in entries_wanted(names, given.docket, given.rows, given.answers, choice)]
+        wanted = [event_wanted(clock, item, revision(given, revisions, item.case), off, stamp)
+                  for item, off in entries_wanted(given.names, office.docket, office.rows, office.answers, choice)]
         for at in range(max(len(wanted), len(read))):
             if wanted[at:at + 1] != read[at:at + 1]:
                 return "{}: event {}\nwanted {}\nfound  {}".format(" ".join(words), at, wanted[at:at + 1], read[at:at + 1])
         seen["events"] += len(read)
-    return rewritten_differs(seen, chance, calendar, data, given)
+    plain = input_of(given.programs, given.plain)
+    return rewritten_differs(seen, chance, plain, answered(plain))
 
 
-def rewritten_differs(seen, chance, calendar, data, given):
-    """What is wrong with a calendar that is written after some rows and then after all, if something is."""
-    earlier = cut(chance, data)
-    for judge in [None, *given.judges[:3]]:
+def rewritten_differs(seen, chance, given, office):
+    """What is wrong with a calendar that is written after some rows of an input and then after all, if something is."""
+    earlier = cut(chance, given.data)
+    for judge in [None, *office.judges[:3]]:
         words = ["ics"] + (["--judge", judge] if judge else [])
-        old, new = ({event["UID"]: event for event in events_read(ran(calendar, words, rows)[1])} for rows in (earlier, data))
+        old, new = ({event["UID"]: event for event in events_read(given.programs.report(words, rows).output)} for rows in (earlier, given.data))
         for name, event in old.items():
             if name not in new:
-                if name not in given.docket.beyond:
+                if name not in office.docket.beyond:
                     return "{}: {} vanished".format(" ".join(words), name)
                 continue
             before, after = (says(events[name]) for events in (old, new))
@@ -154,17 +162,17 @@ def made_words(chance, names, court, docket):
     return words, (first, last, judge, case), stamp
 
 
-def khal_differs(seen, chance, calendar, clerk):
+def khal_differs(seen, chance, programs):
     """How khal shows two calendars of each zone, imported one after another, otherwise than clerk_office says of the second, if
     it does."""
     for zone, name in ZONES.items():
-        data = zoned_input(chance, zone)
-        given = answered(clerk, {}, data)
+        given = input_of(programs, zoned_input(chance, zone))
+        office = answered(given)
         for judge in (None, "Ames"):
             words = ["ics"] + (["--judge", judge] if judge else [])
-            choice = day_of(given.court["from"]), day_of(given.court["to"]), judge, None
-            wanted = sorted(khal_line(item) for item, _ in entries_wanted({}, given.docket, given.rows, given.answers, choice))
-            read = khal_lines([ran(calendar, words, rows)[1] for rows in (cut(chance, data), data)], name)
+            choice = day_of(office.court["from"]), day_of(office.court["to"]), judge, None
+            wanted = sorted(khal_line(item) for item, _ in entries_wanted({}, office.docket, office.rows, office.answers, choice))
+            read = khal_lines([programs.report(words, rows).output for rows in (cut(chance, given.data), given.data)], name)
             if wanted != read:
                 return "khal in {} of {}: {}".format(name, judge, next((w, r) for w, r in zip(wanted + [""], read + [""])
                                                                        if w != r))
@@ -172,18 +180,17 @@ def khal_differs(seen, chance, calendar, clerk):
     return None
 
 
-def main():
-    calendar, clerk = (str(Path(program).resolve()) for program in sys.argv[1:3])
-    seed = int(sys.argv[3]) if len(sys.argv) > 3 else 1
-    count = int(sys.argv[4]) if len(sys.argv) > 4 else 300
+def main(words):
+    programs, (seed, count) = programs_of(words[:2]), seed_and_count(words[2:], 300)
     seen = Counter()
     for number in range(count):
         chance = random.Random("ics {} {}".format(seed, number))
         data = zoned_input(chance, chance.choice(list(ZONES))) if number % 2 else made_input(chance, chance.choice(INPUTS))
-        wrong = differs(seen, chance, calendar, clerk, data)
+        with tempfile.TemporaryDirectory() as parent:
+            wrong = differs(seen, chance, given_docket(programs, chance, data, parent))
         if wrong:
             sys.exit("seed {} input {}: {}".format(seed, number, wrong))
-    wrong = khal_differs(seen, random.Random("khal {}".format(seed)), calendar, clerk)
+    wrong = khal_differs(seen, random.Random("khal {}".format(seed)), programs)
     if wrong:
         sys.exit(wrong)
     print("{} events of {} inputs are what clerk_office says; {} were written otherwise later, each with a higher SEQUENCE; "
@@ -191,4 +198,4 @@ def main():
 
 
 if __name__ == "__main__":
-    main()
+    main(sys.argv[1:])

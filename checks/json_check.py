@@ -1,35 +1,38 @@
 #!/usr/bin/env python3
-"""Compares the JSON that court_calendar writes with what clerk_office and deadline_memo say of the same docket.
+"""Compares the JSON that docket writes with what clerk_office and `docket memo` say of the same docket.
 
-    json_check.py CALENDAR CLERK MEMO [SEED [COUNT]]
-    json_check.py --schema CALENDAR CLERK MEMO [SEED [COUNT]]
+    json_check.py DOCKET CLERK_OFFICE [SEED [COUNT]]
+    json_check.py --schema DOCKET CLERK_OFFICE [SEED [COUNT]]
 
 Inputs are made at random. From the JSON alone this script writes the text of clerk_office again: each answer, each sheet and
 each calendar, and the two texts must be the same. Each instant must be that of the day and the time beside it, by a reading
-of the court's zone of its own (reference/civil.py). Each reason of a deadline must be a line of deadline_memo below it, in
-the same order. In half of the inputs the court's file names cases (lib/case_names.py): then a name must be beside the number
-of each case that has one, and nowhere else. With a judge, a case or days the JSON must be that part of the whole, and with
+of the court's zone of its own (reference/civil.py). Each reason of a deadline must be a line of `docket memo` below it, in
+the same order. Half of the inputs are entered into a folder, in which cases have names (lib/given_docket.py): a name must be
+beside the number of each case that has one, and nowhere else; and without its reasons `docket memo` must say of the folder
+what clerk_office says. With a judge, a case or days the JSON must be that part of the whole, and with
 --lines its answers, a line each. In half of the inputs rows are given to several clerks (lib/several_clerks.py), whose numbers
 the answers must have. A faulty input must end both programs alike. It needs Python 3.8 or later; the status is
 0 where all is alike.
 
-With --schema each text is also held to docs/court_calendar.schema.json, which needs Debian's python3-jsonschema.
+With --schema each text is also held to docs/code/docket.schema.json, which needs Debian's python3-jsonschema.
 """
 import datetime
 import json
-import pathlib
 import random
 import re
-import subprocess
 import sys
+import tempfile
 
-from lib.case_names import asked, called, with_names
+from lib.case_names import asked, called, named_text
+from lib.given_docket import given_docket
 from lib.json_text import office_text
 from lib.made_inputs import INPUTS, made_input
-from lib.several_clerks import renumbered, with_clerks
+from lib.memo_lines import other_of
+from lib.programs import TOP, programs_of, seed_and_count
+from lib.several_clerks import renumbered
 from reference.civil import day_of_text, instant_at, offset_at, zone_of_text
 
-SCHEMA = pathlib.Path(__file__).resolve().parent.parent / "docs" / "court_calendar.schema.json"
+SCHEMA = TOP / "docs" / "code" / "docket.schema.json"
 EPOCH = datetime.datetime(1970, 1, 1)
 
 
@@ -41,13 +44,21 @@ def once(pairs):
 
 
 def reason_line(reason):
-    """A reason as deadline_memo writes it."""
+    """A reason as `docket memo` writes it."""
     day = " " * 14 if reason["day"] is None else datetime.date.fromisoformat(reason["day"]).strftime("%a %Y-%m-%d")
     return "  {}  {:<50}  {}".format(day, reason["text"], reason["section"])
 
 
+def reading_text(o):
+    """The end by another reading, as what is due marks it, or none."""
+    if o is None:
+        return None
+    return "other reading " + (o["last_day"] or ("beyond" if o["end"] is None else "{} {}".format(o["end"][:10], o["end"][11:19])))
+
+
 def reasons_fault(whole, memo):
-    """A deadline whose reasons aren't among the lines of deadline_memo, one after another, or none."""
+    """A deadline whose reasons aren't among the lines of `docket memo`, one after another, or that has another reading than these
+    lines, or none."""
     lines, case, number, below = memo.splitlines(), None, None, {}
     for line in lines[max([at for at, line in enumerate(lines) if re.match("[0-9]+ 1 ", line)] or [0]):]:
         words = line.split(" ")
@@ -63,6 +74,8 @@ def reasons_fault(whole, memo):
             left = iter(below[sheet["case"], deadline["number"]])
             if not all(any(line == wanted for line in left) for wanted in map(reason_line, deadline["reasons"])):
                 return "case {} deadline {}: other reasons".format(sheet["case"], deadline["number"])
+            if reading_text(deadline["other_reading"]) != other_of("\n".join(below[sheet["case"], deadline["number"]])):
+                return "case {} deadline {}: another reading".format(sheet["case"], deadline["number"])
     return None
 
 
@@ -166,41 +179,41 @@ def read(text):
     return value if line == short else None
 
 
-def ran(program, words, data):
-    done = subprocess.run([program, *words], input=data, stdout=subprocess.PIPE, stderr=subprocess.PIPE, check=False)
-    return done.returncode, done.stdout, done.stderr.decode()
+def memo_fault(given, text):
+    """Whether `docket memo` says of a folder otherwise than clerk_office, but for the lines of reasons, or none."""
+    ended = given.report(["memo"])
+    bare = "".join(line for line in ended.output.decode().splitlines(keepends=True) if not line.startswith(" "))
+    wanted = named_text(given.names, renumbered(text, given.clerks))
+    return None if ended.status == 0 and bare == wanted else "the memo says something else"
 
 
-def differs(chance, calendar, clerk, memo, data, valid):
-    """How the JSON of an input differs from the texts of clerk_office and deadline_memo, or none."""
-    plain, (data, names) = data, with_names(chance, data)
-    data, clerks = with_clerks(chance, data)
-    status, text, errors = ran(clerk, [], plain)
-    found = ran(calendar, ["json"], data)
-    if status != 0 or found[0] != 0:
-        several = ran(clerk, ["--clerks", "64"], data)
-        return None if status != 0 and (found[0], found[2]) == (several[0], several[2]) and (found[0] == 0 or not found[1]) \
-            else "a fault told otherwise"
-    whole = read(found[1])
+def differs(chance, given, valid):
+    """How the JSON of a docket differs from what clerk_office and `docket memo` say, or none."""
+    status, text, _ = given.office().texts()
+    found = given.report(["json"])
+    if status != 0 or found.status != 0:
+        several = given.as_several()
+        return None if status != 0 and (found.status, found.errors) == (several.status, several.errors) and \
+            (found.status == 0 or not found.output) else "a fault told otherwise"
+    whole = read(found.output)
     if whole is None:
         return "another text of the same value"
-    if office_text(whole) != renumbered(text.decode(), clerks):
+    if office_text(whole) != renumbered(text, given.clerks):
         return "another docket"
-    lines = ran(calendar, ["json", "--lines"], data)[1].splitlines(keepends=True)
+    lines = given.report(["json", "--lines"]).output.splitlines(keepends=True)
     if [read(line) for line in lines] != whole["answers"]:
         return "other answers line by line"
-    zone = re.search(r'^\s*zone\s*=\s*"([^"]*)"', data.decode(), re.MULTILINE)
+    zone = re.search(r'^\s*zone\s*=\s*"([^"]*)"', given.plain.decode(), re.MULTILINE)
     fault = times_fault(zone_of_text(zone.group(1)), whole) if zone else None
-    fault = fault or names_fault(names, whole) or reasons_fault(whole, ran(memo, [], plain)[1].decode())
+    fault = fault or names_fault(given.names, whole) or reasons_fault(whole, given.memo().output.decode()) or memo_fault(given, text)
     if fault or not valid(whole):
         return fault or "not of the schema"
-    words, chosen = made_words(chance, names, whole)
-    found = ran(calendar, words, data)
+    words, chosen = made_words(chance, given.names, whole)
+    found = given.report(words)
     if chosen[3] not in [None] + [sheet["case"] for sheet in whole["cases"]]:
-        wanted = "court_calendar: case {} isn't open: no row has opened it\n".format(called(names, chosen[3]))
+        wanted = "docket: case {} isn't open: no row has opened it\n".format(called(given.names, chosen[3])).encode()
         return None if found == (6, b"", wanted) else "a case that isn't open is shown"
-    part = read(found[1])
-    return None if part == part_of(whole, *chosen) else " ".join(words)
+    return None if read(found.output) == part_of(whole, *chosen) else " ".join(words)
 
 
 def validator():
@@ -211,19 +224,19 @@ def validator():
     return Draft202012Validator(schema, format_checker=FormatChecker()).is_valid
 
 
-def main():
-    words = sys.argv[1:]
-    valid = validator() if words[0] == "--schema" else lambda whole: True
-    calendar, clerk, memo, *numbers = words[words[0] == "--schema":]
-    seed, count = [int(number) for number in numbers] + [1, 200][len(numbers):]
+def main(words):
+    is_held = words[:1] == ["--schema"]
+    words = words[is_held:]
+    valid = validator() if is_held else lambda whole: True
+    programs, (seed, count) = programs_of(words[:2]), seed_and_count(words[2:], 200)
     for number in range(count):
         chance = random.Random("json {} {}".format(seed, number))
-        data = made_input(chance, chance.choice(INPUTS))
-        fault = differs(chance, calendar, clerk, memo, data, valid)
+        with tempfile.TemporaryDirectory() as parent:
+            fault = differs(chance, given_docket(programs, chance, made_input(chance, chance.choice(INPUTS)), parent), valid)
         if fault:
             sys.exit("input {} of seed {}: {}".format(number, seed, fault))
-    print("{} inputs of seed {}: the JSON says what clerk_office and deadline_memo say".format(count, seed))
+    print("{} inputs of seed {}: the JSON says what clerk_office and `docket memo` say".format(count, seed))
 
 
 if __name__ == "__main__":
-    main()
+    main(sys.argv[1:])

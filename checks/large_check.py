@@ -1,29 +1,30 @@
 #!/usr/bin/env python3
-"""Sends one large docket through the desk and through every format of the calendar.
+"""Sends one large docket through the desk and through every report of the folder.
 
-    large_check.py DESK CALENDAR MEMO [SEED [COUNT]]
+    large_check.py DOCKET [SEED [COUNT]]
 
 lib/large_docket.py makes it, of a seed, and COUNT of them (1 without it). Its rows are entered at the desk, with the names of
 their cases, and 200 of the first are struck before the others come, one of them for a reason of 5,000 bytes. The answers must
 be those of the reference in plain Python, since a number that was given isn't given again. The journal must have all its
-entries, and the rows that the desk writes must be the others, with a table of names and one of each number that isn't the
-place. These rows go through what is due, a week, a page, iCalendar, JSON and SQL, and each must say what the reference and
-deadline_memo say (lib/calendar_faults.py). It needs Python 3.8 or later, sqlite3 and python3-icalendar; the status is 0 where
-all is alike.
+entries, and the rows that the desk writes must be the others, in which deadlines and motions are named by their places. Of the
+folder what is due, a week, a page, iCalendar, JSON and SQL must say what the reference and `docket memo` say of these rows
+(lib/calendar_faults.py), with the numbers and names that the desk answered. It needs Python 3.8 or later, sqlite3 and
+python3-icalendar; the status is 0 where all is alike.
 """
-import pathlib
 import re
 import sys
 import tempfile
 
-from kept_reference import kept_numbers
 from lib.calendar_faults import fault_of
-from lib.desk import Desk, Programs
+from lib.desk import Desk
+from lib.given_docket import Given, names_in
+from lib.kept_numbers import Numbers
 from lib.large_docket import large_docket
-from lib.stored_calendars import named
+from lib.programs import CHECKS, Programs, programs_of, seed_and_count
 from office_reference import answers_of
 
-REFERENCE = pathlib.Path(__file__).resolve().parent / "kept_reference.py"
+# The reference, which answers as clerk_office does.
+REFERENCE = CHECKS / "office_reference.py"
 STRIKE = ["--by", "R. Ames", "--today", "2025-09-02", "--accept"]
 REASONS = ["entered twice", "x" * 5000]
 # What a row names by its number, and what one gives a number to.
@@ -77,8 +78,9 @@ def place_of(moved, case, number):
 
 
 def standing(rows, strikes, table):
-    """The rows that aren't struck, with places in place of numbers. A row that names a number that nothing has is left out."""
-    found = []
+    """The rows that aren't struck, by their numbers, with places in place of numbers. A row that names a number that nothing has is
+    left out."""
+    found = {}
     for at, row in enumerate(rows, 1):
         fields = row.split(",")
         if at in strikes:
@@ -88,44 +90,47 @@ def standing(rows, strikes, table):
             if place is None:
                 continue
             fields[3] = str(place)
-        found.append(",".join(fields))
+        found[at] = ",".join(fields)
     return found
 
 
-def check(seed, programs, calendar, memo):
+def entered(programs, parent, docket, answers):
+    """A folder with the rows, of which some are struck once the first were entered."""
+    desk, rows = Desk(programs, parent, docket.court), [row.encode() + b"\n" for row in with_names(docket.names, docket.rows)]
+    told = desk.enter(rows[:docket.before])
+    for at, row in enumerate(docket.strikes):
+        struck = desk.call("strike", str(row), "--reason", REASONS[at == 0], *STRIKE)
+        assert struck.status == 0, (row, struck)
+    told += desk.enter(rows[docket.before:])
+    assert told.decode() == named_text(docket.names, answers), "other answers"
+    kept = desk.call("check")
+    assert kept.output == "rows kept: {}, and each is answered as it was\n".format(len(docket.rows)).encode(), kept
+    assert len(desk.call("struck").output.splitlines()) == len(docket.strikes)
+    assert names_in(desk) == docket.names, "other names of cases"
+    return desk
+
+
+def check(seed, programs):
     docket = large_docket(seed)
     answers = answers_of(docket.court + b"%%\n" + "".join(row + "\n" for row in docket.rows).encode())
-    with tempfile.TemporaryDirectory() as parent:
-        desk = Desk(programs, parent, docket.court)
-        rows = [row.encode() + b"\n" for row in with_names(docket.names, docket.rows)]
-        told = desk.enter(rows[:docket.before])
-        for at, row in enumerate(docket.strikes):
-            struck = desk.call("strike", str(row), "--reason", REASONS[at == 0], *STRIKE)
-            assert struck.status == 0, (row, struck)
-        told += desk.enter(rows[docket.before:])
-        assert told.decode() == named_text(docket.names, answers), "other answers"
-        kept = desk.call("check")
-        assert kept.output == "rows kept: {}, and each is answered as it was\n".format(len(docket.rows)).encode(), kept
-        assert len(desk.call("struck").output.splitlines()) == len(docket.strikes)
-        written = desk.rows()
-    found = named(written)
     table = numbers_that_moved(docket.rows, answers, docket.strikes)
     rows = standing(docket.rows, docket.strikes, table)
-    assert found.names == docket.names, "other names of cases"
-    assert kept_numbers(written.decode()) == table, "other numbers"
-    for got, wanted in zip(written.decode().split("%%\n")[1].splitlines() + [None], rows + [None]):
-        assert got == wanted, ("another row", got, wanted)
-    fault = fault_of(found, calendar, str(REFERENCE), memo, range(3 * seed, 3 * seed + 3))
+    with tempfile.TemporaryDirectory() as parent:
+        desk = entered(programs, parent, docket, answers)
+        plain = docket.court + b"%%\n" + "".join(row + "\n" for row in rows.values()).encode()
+        for got, wanted in zip(desk.rows().splitlines() + [None], plain.splitlines() + [None]):
+            assert got == wanted, ("another row", got, wanted)
+        given = Given(Programs(programs.docket, REFERENCE), [str(desk.folder)], b"", plain, docket.names, None,
+                      Numbers(list(rows), table, docket.before, len(docket.strikes)))
+        fault = fault_of(given, range(3 * seed, 3 * seed + 3))
     assert fault is None, fault
     return len(docket.rows) + len(docket.strikes) + 1, sum(map(len, table.values()))
 
 
 def main(words):
-    desk, calendar, memo, *numbers = words
-    seed, count = [int(number) for number in numbers] + [1, 1][len(numbers):]
+    programs, (seed, count) = programs_of(words[:1]), seed_and_count(words[1:], 1)
     for number in range(seed, seed + count):
-        entries, moved = check(number, Programs(pathlib.Path(desk).resolve(), None), str(pathlib.Path(calendar).resolve()),
-                               str(pathlib.Path(memo).resolve()))
+        entries, moved = check(number, programs)
         print("seed {}: {} entries, {} numbers that aren't places, and each format says what the reference says".format(
             number, entries, moved), flush=True)
 

@@ -19,32 +19,29 @@ sys.path.insert(0, str(TOP / "tools"))
 from crates import uses_of_all  # noqa: E402
 from functions import Calls, all_functions, is_fallible, memory_faults  # noqa: E402
 
-DOCUMENT = TOP / "docs" / "PROMISES.md"
+DOCUMENT = TOP / "docs" / "code" / "PROMISES.md"
 HEAD = "| What refuses it | Of which crates |\n|---|---|\n"
 
 # What the merge gate runs with ample memory, in the order in which the table has it: the crate, how it is called in the table,
 # and functions of its own to which its run doesn't come.
 RUNS = [
-    ("stored_runs", "whole runs of the office, the calendar and the desk: [stored_runs](../crates/stored_runs/stdin)", ()),
-    ("deadline_memo", "the run of [deadline_memo](../crates/deadline_memo/stdin)", ()),
-    ("stored_steps", "schedules of steps: [stored_steps](../crates/stored_steps/stdin)", ()),
-    ("stored_office", "offices of several clerks: [stored_office](../crates/stored_office/stdin)", ()),
-    ("stored_desk", "sessions over disks that crash: [stored_desk](../crates/stored_desk/stdin)", ()),
-    ("court_file", "the run of [court_file](../crates/court_file/stdout)", ("write",)),
-    ("clerk_office", "the run of [clerk_office](../crates/clerk_office/stdin)", ()),
-    ("", "[tests](../crates/sample_tests/src/tests.rt)", ()),
+    ("stored_runs", "whole runs of the office, the reports and the desk: [stored_runs](../../crates/stored_runs/stdin)", ()),
+    ("stored_steps", "schedules of steps: [stored_steps](../../crates/stored_steps/stdin)", ()),
+    ("stored_office", "offices of several clerks: [stored_office](../../crates/stored_office/stdin)", ()),
+    ("stored_desk", "sessions over disks that crash: [stored_desk](../../crates/stored_desk/stdin)", ()),
+    ("docket", "the run of [docket](../../crates/docket/stdout)", ("done_in_folder", "write_file", "report", "memo", "text")),
+    ("clerk_office", "the run of [clerk_office](../../crates/clerk_office/stdin)", ()),
+    ("", "[tests](../../crates/sample_tests/src/tests.rt)", ()),
 ]
 # The checks beside the gate that refuse it of functions to which no run of the gate comes; none where no program calls them.
 DESK_CHECKS, WRITTEN_CHECKS = ("desk_check", "strike_check"), ("written_check",)
 BESIDE = {
     "court_holidays": (),
     "court_writing": ("holidays_check",),
-    "docket_core": DESK_CHECKS,
     "case_numbers": DESK_CHECKS,
     "desk_numbers": DESK_CHECKS,
     "desk_session": DESK_CHECKS,
     "desk_entries": DESK_CHECKS,
-    "desk_warnings": DESK_CHECKS,
     "desk_program": DESK_CHECKS,
     "row_fields": WRITTEN_CHECKS,
     "row_written": WRITTEN_CHECKS,
@@ -102,7 +99,7 @@ def table():
         sys.exit("no run of the merge gate calls all of {}: let one call it, or say in BESIDE which check does".format(", ".join(missing)))
     lines = ["| {} | {} |\n".format(told, cell(entries)) for (_, told, _), entries in zip(RUNS, rows) if entries]
     for checks in sorted({BESIDE[crate] for crate, _ in last}, reverse=True):
-        links = ", ".join("[{0}](../checks/{0}.py)".format(check) for check in checks)
+        links = ", ".join("[{0}](../../checks/{0}.py)".format(check) for check in checks)
         told = "beside the gate: " + links if checks else "nothing, since no program calls it"
         lines.append("| {} | {} |\n".format(told, cell([entry for entry in last if BESIDE[entry[0]] == checks])))
     return HEAD + "".join(lines)
@@ -134,7 +131,7 @@ def main(words):
     if words == ["--write"]:
         DOCUMENT.write_text(before + wanted + after)
     elif found != wanted:
-        sys.exit("docs/PROMISES.md: the table of want of memory isn't what the sources give; memory_table.py --write writes it")
+        sys.exit("docs/code/PROMISES.md: the table of want of memory isn't what the sources give; memory_table.py --write writes it")
 
 
 if __name__ == "__main__":

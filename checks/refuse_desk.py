@@ -1,12 +1,12 @@
 #!/usr/bin/env python3
 """Runs the desk with each growth of its memory refused in turn.
 
-    refuse_desk.py DESK [STORED_DESK INPUT]
+    refuse_desk.py DOCKET [STORED_DESK INPUT]
 
-DESK opens a folder, enters rows, one after another and together, tries some, asks, writes the rows out, and takes another
-court's file, each again and again until a run ends without a refusal. A run in which a growth is refused must end with
+DOCKET opens a folder, enters rows, one after another and together, tries some, asks, reports, writes the rows out, and takes
+another court's file, each again and again until a run ends without a refusal. A run in which a growth is refused must end with
 status 5 and `out of memory` on standard error, or could do without that growth. What it wrote before is a beginning of what
-it writes with ample memory, the rows that it answered are kept, and the journal has all that it was to get or nothing of
+it writes with ample memory to each of the two, the rows that it answered are kept, and the journal has all that it was to get or nothing of
 it. Where it is named, STORED_DESK fills the journals of INPUT with a growth refused, for growths at random: all is as it
 must be, or it ends with status 1 and says that there was no memory. The status is 0 where all of that is so. It needs
 Linux, Python 3.8 or later and a C compiler, `cc` or the one that CC names.
@@ -18,14 +18,19 @@ import subprocess
 import sys
 import tempfile
 
-from lib.desk import Desk, KEEP_REFUSED, Programs, SHORT_COURT, TOGETHER
+from lib.desk import Desk, KEEP_REFUSED, SHORT_COURT, TOGETHER
 from lib.journal import read_journal
+from lib.programs import programs_of
 from lib.refusals import PROGRAM_ENDED, lacking, library_that_refuses, run, swept
 
-REFUSED = (5, b"out of memory\n")
+REFUSED, NO_MEMORY = 5, b"out of memory\n"
+# How a call ends whose rows are kept, and whose answers the system can't write for want of memory.
+UNWRITTEN = (4, b"the answers can't be written; the rows that were read are kept, and 'rows' shows them\n")
 ENDED, DONE_WITHOUT = "ended the run", "the run could do without"
 ROWS = b"1,open,1,2025-03-03\n1,start,1,59e,2025-03-03,,,\n1,sheet,1\n1,nothing\n2,compute,59b,2025-08-04,,,\n"
 OTHER_COURT = SHORT_COURT.replace(b'"2025-03-28"', b'"2025-03-28", "2025-03-31"')
+REPORTS = (["due"], ["week", "--judge", "Ames", "--of", "2025-03-03"], ["page"], ["ics", "--stamp", "20250901T120000Z"], ["json"], ["sql"],
+           ["memo"], ["memo", "--case", "1", "--today", "2025-03-10"])
 # How many growths are refused to the driver, and of how many the first it is.
 DRIVER_RUNS, DRIVER_GROWTHS = 300, 200_000
 # How the driver ends where it has no memory.
@@ -66,7 +71,10 @@ class Task:
             self.restore()
             if ended == wanted and entries == last:
                 return DONE_WITHOUT
-            if (status, errors) != REFUSED or not whole.output.startswith(output) or entries not in (first, last):
+            if (status, errors) == UNWRITTEN and entries == last and whole.output.startswith(output):
+                return ENDED
+            if status != REFUSED or not errors.endswith(NO_MEMORY) or not whole.errors.startswith(errors[:-len(NO_MEMORY)]) or \
+                    not whole.output.startswith(output) or entries not in (first, last):
                 return None
             return None if output and entries != last and self.words[0] == "enter" else ENDED
 
@@ -86,11 +94,11 @@ def refuse_tasks(programs, library):
         sound = ROWS.replace(b"1,nothing\n", b"")
         for words, given in ((["enter"], ROWS), (["enter", TOGETHER], ROWS), (["enter", TOGETHER], sound),
                              (["enter", TOGETHER, KEEP_REFUSED], sound), (["try"], ROWS),
-                             (["ask"], ROWS), (["rows"], b""), (["check"], b""),
-                             (["court", other], b""), (["court", other, "--accept"], b"")):
+                             (["ask"], ROWS), *((words, b"") for words in REPORTS), (["rows"], b""), (["check"], b""),
+                             (["court change", other], b""), (["court change", other, "--accept"], b"")):
             ended.append(Task(desk, words, given).sweep(library))
         shutil.rmtree(desk.folder)
-        ended.append(Task(desk, ["open", "--court", pathlib.Path(parent, "court.toml")], b"").sweep(library))
+        ended.append(Task(desk, ["init", "--court", pathlib.Path(parent, "court.toml")], b"").sweep(library))
     return all(ended)
 
 
@@ -115,7 +123,7 @@ def refuse_driver(program, path, library):
 
 
 def main(words):
-    programs = Programs(pathlib.Path(words[0]).resolve(), None)
+    programs = programs_of(words[:1])
     with library_that_refuses() as library:
         ended = [refuse_tasks(programs, library)]
         if len(words) == 3:
@@ -125,5 +133,5 @@ def main(words):
 
 if __name__ == "__main__":
     if len(sys.argv) not in (2, 4):
-        sys.exit("usage: refuse_desk.py DESK [STORED_DESK INPUT]")
+        sys.exit("usage: refuse_desk.py DOCKET [STORED_DESK INPUT]")
     main(sys.argv[1:])

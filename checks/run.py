@@ -16,23 +16,14 @@ import sys
 import time
 from typing import NamedTuple
 
-CHECKS_FOLDER = pathlib.Path(__file__).resolve().parent
-TOP = CHECKS_FOLDER.parent
+from lib.programs import CHECKS, TOP, built
 
-
-def built(crate):
-    """Where a program stands once it is built, seen from the top of the repository."""
-    return "crates/{0}/out/{0}".format(crate)
-
-
-CLERK, MEMO, DESK, FILE = "clerk_office", "deadline_memo", "docket_desk", "court_file"
-CALENDAR, STEPS, OFFICE = "court_calendar", "stored_steps", "stored_office"
+DOCKET, CLERK, STEPS, OFFICE = PROGRAMS = [built(crate) for crate in ("docket", "clerk_office", "stored_steps", "stored_office")]
 
 
 class Check(NamedTuple):
-    """A check: the programs it needs, its scripts with their words, what it shows and about how long it takes."""
+    """A check: its scripts with their words, among them the programs that it needs; what it shows and about how long it takes."""
     name: str
-    needs: list
     scripts: list
     shows: str
     takes: str
@@ -42,83 +33,91 @@ class Check(NamedTuple):
     seeded: bool = False
     seeds: tuple = ()
 
+    def needs(self):
+        """The crates of the programs that must be built."""
+        return {pathlib.Path(word).name for script in self.scripts for word in script if word in PROGRAMS}
+
 
 ALL = [
-    Check("build_check", [], [["build_check.py"]],
+    Check("build_check", [["build_check.py"]],
           "a small program is proved and built, once", "1 min", quick=True),
-    Check("docs_check", [CLERK, MEMO, DESK, FILE, CALENDAR], [["docs_check.py"]],
+    Check("docs_check", [["docs_check.py", DOCKET, CLERK]],
           "the examples, and commands that documents show", "5 s", quick=True),
-    Check("runs_check", [CLERK], [["runs_join.py", "--check"], ["runs_check.py", built(CLERK)]],
+    Check("manual_check", [["../tools/manual.py", "--check", DOCKET, CLERK]],
+          "man pages and completions are as the help", "2 s", quick=True),
+    Check("install_check", [["install_check.py", DOCKET, CLERK]],
+          "both programs, installed and in an archive", "5 s", quick=True),
+    Check("runs_check", [["runs_join.py", "--check"], ["runs_check.py", CLERK]],
           "all whole runs of runs/, byte by byte", "10 s", quick=True),
-    Check("check_program", [CLERK, MEMO], [["check_program.py", built(CLERK)], ["check_program.py", built(MEMO)]],
-          "each status that both programs end with", "10 s", quick=True),
-    Check("courts_check", [FILE, CLERK], [["courts_days.py", built(FILE), "examples/courts"],
-                                          ["courts_check.py", built(CLERK), "examples/courts"]],
+    Check("check_program", [["check_program.py", CLERK], ["check_program.py", DOCKET]],
+          "each status of clerk_office, and of the memo", "10 s", quick=True),
+    Check("courts_check", [["courts_days.py", DOCKET, "examples/courts"], ["courts_check.py", CLERK, "examples/courts"]],
           "the file that is written for each court", "5 s", quick=True),
-    Check("court_file_check", [FILE, CLERK], [["court_file_check.py", built(FILE), built(CLERK)]],
+    Check("court_file_check", [["court_file_check.py", DOCKET, CLERK]],
           "courts' files spoiled as people spoil them", "10 s", quick=True, seeded=True, seeds=(2, 3)),
-    Check("office_compare", [CLERK], [["office_compare.py", built(CLERK)]],
+    Check("office_compare", [["office_compare.py", CLERK]],
           "the program and a reference in Python agree", "20 s", quick=True, seeded=True, seeds=(2, 3, 4, 5, 6)),
-    Check("readers_check", [CLERK], [["readers_check.py", built(CLERK)]],
+    Check("readers_check", [["readers_check.py", CLERK]],
           "long inputs, read by one thread and by more", "10 s", quick=True, seeded=True, seeds=(2, 3)),
-    Check("desk_check", [DESK, CLERK], [["desk_check.py", built(DESK), built(CLERK)]],
+    Check("desk_check", [["desk_check.py", DOCKET, CLERK]],
           "the desk and clerk_office agree; it is killed", "1 min", quick=True, seeded=True, seeds=(2, 3)),
-    Check("strike_check", [DESK, CLERK, MEMO, CALENDAR],
-          [["strike_check.py", built(DESK), built(CLERK), built(MEMO), built(CALENDAR)]],
+    Check("strike_check", [["strike_check.py", DOCKET, CLERK]],
           "rows that are struck, and a replay of the others", "30 s", quick=True, seeded=True, seeds=(2, 3)),
-    Check("written_check", [DESK], [["written_check.py", built(DESK)]],
+    Check("written_check", [["written_check.py", DOCKET]],
           "rows as people write them, and their faults", "20 s", quick=True, seeded=True, seeds=(2, 3)),
-    Check("desk_kill", [DESK, CLERK], [["desk_kill.py", built(DESK), built(CLERK)]],
+    Check("desk_kill", [["desk_kill.py", DOCKET, CLERK]],
           "sessions that are killed lose no answer", "5 min", seeded=True),
-    Check("desk_compare", [DESK, CLERK], [["desk_compare.py", built(DESK), built(CLERK)]],
+    Check("desk_compare", [["desk_compare.py", DOCKET, CLERK]],
           "the desk and clerk_office, on 5,000 inputs", "5 min", seeded=True),
-    Check("desk_damage", [DESK, CLERK], [["desk_damage.py", built(DESK), built(CLERK)]],
+    Check("desk_damage", [["desk_damage.py", DOCKET]],
           "each byte of a journal cut off and changed", "5 min", seeded=True),
-    Check("desk_limits", [DESK, CLERK], [["desk_limits.py", built(DESK), built(CLERK)]],
-          "a full disk, a long day, 1,000,000 entries", "2 min"),
-    Check("refuse_desk", [DESK], [["refuse_desk.py", built(DESK)]],
+    Check("desk_limits", [["desk_limits.py", DOCKET, CLERK]],
+          "a full disk, 200,000 rows, 1,000,000 entries", "3 min"),
+    Check("refuse_desk", [["refuse_desk.py", DOCKET]],
           "each growth refused to the desk (needs cc)", "2 min"),
-    Check("calendar_check", [CALENDAR, CLERK, MEMO], [["calendar_check.py", built(CALENDAR), built(CLERK), built(MEMO)]],
-          "the calendar is what the others say", "20 s", quick=True, seeded=True, seeds=(2, 3)),
-    Check("calendar_runs", [CALENDAR], [["calendar_runs.py", built(CALENDAR)]],
-          "the runs of runs/calendar, each format", "5 s", quick=True),
-    Check("large_check", [DESK, CALENDAR, MEMO], [["large_check.py", built(DESK), built(CALENDAR), built(MEMO)]],
+    Check("folder_check", [["folder_check.py", DOCKET]],
+          "reports of a folder, beside a session", "20 s", quick=True, seeded=True, seeds=(2, 3)),
+    Check("statuses_check", [["statuses_check.py", DOCKET]],
+          "each status of each command of docket", "10 s", quick=True),
+    Check("calendar_check", [["calendar_check.py", DOCKET, CLERK]],
+          "what is due, weeks and pages, by the others", "20 s", quick=True, seeded=True, seeds=(2, 3)),
+    Check("calendar_runs", [["calendar_runs.py", DOCKET]],
+          "the runs of runs/calendar, each report", "5 s", quick=True),
+    Check("large_check", [["large_check.py", DOCKET]],
           "a large docket: the desk and each format", "5 min", seeded=True),
-    Check("page_check", [CALENDAR], [["page_check.py", built(CALENDAR)]],
+    Check("page_check", [["page_check.py", DOCKET, CLERK]],
           "pages in a browser (chromium, tidy)", "2 min", seeded=True),
-    Check("ics_check", [CALENDAR, CLERK], [["ics_check.py", built(CALENDAR), built(CLERK)]],
+    Check("ics_check", [["ics_check.py", DOCKET, CLERK]],
           "iCalendar, read by two programs of Debian's", "1 min", seeded=True, seeds=(2, 3)),
-    Check("json_check", [CALENDAR, CLERK, MEMO], [["json_check.py", built(CALENDAR), built(CLERK), built(MEMO)]],
+    Check("json_check", [["json_check.py", DOCKET, CLERK]],
           "the JSON is what the others say", "20 s", quick=True, seeded=True, seeds=(2, 3)),
-    Check("json_schema_check", [CALENDAR, CLERK, MEMO],
-          [["json_check.py", "--schema", built(CALENDAR), built(CLERK), built(MEMO)]],
+    Check("json_schema_check", [["json_check.py", "--schema", DOCKET, CLERK]],
           "the JSON and its schema (python3-jsonschema)", "2 min", seeded=True),
-    Check("sql_check", [CALENDAR, CLERK], [["sql_check.py", built(CALENDAR), built(CLERK)]],
+    Check("sql_check", [["sql_check.py", DOCKET, CLERK]],
           "the SQL in sqlite3 and PostgreSQL", "2 min", seeded=True, seeds=(2, 3)),
-    Check("races_check", [CLERK], [["races_check.py", built(CLERK)]],
+    Check("races_check", [["races_check.py", CLERK]],
           "some order explains each run of clerks", "5 min", seeded=True),
-    Check("derivations_check", [MEMO], [["derivations_check.py", built(MEMO)]],
+    Check("derivations_check", [["derivations_check.py", DOCKET]],
           "the reasons of deadlines, line by line", "2 min", seeded=True),
-    Check("steps_compare", [STEPS], [["steps_compare.py", built(STEPS)]],
+    Check("steps_compare", [["steps_compare.py", STEPS]],
           "short lists of clerks' steps, and a replay", "2 min", seeded=True),
-    Check("refuse_program", [CLERK], [["refuse_program.py", built(CLERK), "examples/smallest.txt", "examples/days.txt",
-                                       "examples/deadlines.txt", "runs/docket/sheets_and_calendars_at_the_end.in",
-                                       "runs/clerks/hearings_side_by_side.in",
-                                       "runs/clerks/rows_for_two_readers.in"]],
+    Check("refuse_program", [["refuse_program.py", CLERK, "examples/smallest.txt", "examples/days.txt", "examples/deadlines.txt",
+                              "runs/docket/sheets_and_calendars_at_the_end.in", "runs/clerks/hearings_side_by_side.in",
+                              "runs/clerks/rows_for_two_readers.in"]],
           "each growth and thread refused (needs cc)", "5 min"),
-    Check("refuse_steps", [STEPS], [["refuse_steps.py", built(STEPS), "checks/refuse_steps.txt"]],
+    Check("refuse_steps", [["refuse_steps.py", STEPS, "checks/refuse_steps.txt"]],
           "each growth refused to clerks' steps (cc)", "30 s", seeded=True),
-    Check("refuse_office", [OFFICE], [["refuse_office.py", built(OFFICE), "checks/refuse_office.txt"]],
+    Check("refuse_office", [["refuse_office.py", OFFICE, "checks/refuse_office.txt"]],
           "each growth refused to an office's seats (cc)", "1 min"),
-    Check("refuse_clerks", [OFFICE], [["refuse_clerks.py", built(OFFICE), "checks/refuse_clerks.txt"]],
+    Check("refuse_clerks", [["refuse_clerks.py", OFFICE, "checks/refuse_clerks.txt"]],
           "each growth refused to clerks at work (cc)", "1 min"),
-    Check("holidays_check", [FILE], [["holidays_check.py", built(FILE)]],
+    Check("holidays_check", [["holidays_check.py", DOCKET]],
           "holidays, and two libraries of Debian's", "1 min"),
-    Check("memory_table", [], [["memory_table.py", "--check"]],
+    Check("memory_table", [["memory_table.py", "--check"]],
           "what refuses a false want of memory", "2 s", quick=True),
-    Check("edits_stand", [], [["edits_stand.py"]],
+    Check("edits_stand", [["edits_stand.py"]],
           "each edit that must fail can be made", "1 s", quick=True),
-    Check("edits_check", [], [["edits_check.py"]],
+    Check("edits_check", [["edits_check.py"]],
           "wrong programs that the gate doesn't try", "1 h"),
 ]
 
@@ -127,7 +126,7 @@ def lines_of(check, words):
     """The command lines of a check; its last script gets the words of a seed and a count."""
     *before, last = check.scripts
     for script, *given in [*before, [*last, *words]]:
-        yield [sys.executable, str(CHECKS_FOLDER / script), *given]
+        yield [sys.executable, str(CHECKS / script), *given]
 
 
 def passes(check, words=()):
@@ -141,7 +140,7 @@ def passes(check, words=()):
 
 def run_all(runs):
     """Runs checks, each with the words of a seed and a count, and says how each ended; whether all passed."""
-    needs = sorted({crate for check, _ in runs for crate in check.needs})
+    needs = sorted({crate for check, _ in runs for crate in check.needs()})
     if needs and subprocess.run([sys.executable, str(TOP / "tools" / "prove.py"), *needs], check=False).returncode != 0:
         return False
     ended = [passes(check, words) for check, words in runs]

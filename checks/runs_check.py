@@ -24,7 +24,7 @@ from reference.civil import CannotTell
 
 FOUR_CLERKS = ["--clerks", "4"]
 RUNS = pathlib.Path(__file__).resolve().parent.parent / "runs"
-# The folder whose runs are those of court_calendar.
+# The folder whose runs are those of the reports.
 CALENDAR = "calendar"
 
 

@@ -1,16 +1,16 @@
 #!/usr/bin/env python3
-"""Loads the SQL that court_calendar writes into sqlite3 and into a PostgreSQL server, and asks both.
+"""Loads the SQL that docket writes into sqlite3 and into a PostgreSQL server, and asks both.
 
-    sql_check.py CALENDAR CLERK [SEED [COUNT]]
+    sql_check.py DOCKET CLERK_OFFICE [SEED [COUNT]]
 
 Inputs are made at random. Each script must load without a complaint, with all keys and constraints held, into both databases;
 the server is one of its own, in a folder that is removed at the end. Both are asked what is due and for the week of a judge,
-and what they say, written as court_calendar writes it, must be the texts of `due` and `week`. The rows of each table must be
+and what they say, written as docket writes it, must be the texts of `due` and `week`. The rows of each table must be
 those of the JSON and of the answers of clerk_office, each once and in order, and each instant that of its day and time, by
-a reading of the court's zone of its own (reference/civil.py). In half of the inputs the court's file names cases
-(lib/case_names.py): then the table of cases and the answers must have their names. In half of them rows are given to several
+a reading of the court's zone of its own (reference/civil.py). Half of the inputs are entered into a folder, in which cases have
+names (lib/given_docket.py): the table of cases and the answers must have their names. In half of them rows are given to several
 clerks (lib/several_clerks.py), whose numbers the answers must have. A faulty input must end both programs alike. The questions in
-docs/CALENDAR.md must be answered as written. It needs Debian's sqlite3 and postgresql, and Python 3.8 or later; the status is
+docs/clerk/REPORTS.md must be answered as written. It needs Debian's sqlite3 and postgresql, and Python 3.8 or later; the status is
 0 where all is alike.
 """
 import datetime
@@ -25,9 +25,10 @@ import subprocess
 import sys
 import tempfile
 
-from lib.case_names import called, named_answer, with_names
+from lib.case_names import called, named_text
+from lib.given_docket import LAST_ROW, given_docket
 from lib.made_inputs import INPUTS, made_input
-from lib.several_clerks import with_clerks
+from lib.programs import TOP, programs_of, seed_and_count
 from reference.civil import day_of_text, instant_at, zone_of_text
 
 DUE = """SELECT due_day, COALESCE(due_time, '00:00:00'), case_number, 0, number, due_time, term, timely, NULL FROM deadlines
@@ -51,8 +52,7 @@ TABLES = {
     "outages": ("number, outage_day, begins, ends", "number"),
     "answers": ("number, clerk, refusal, answer", "number"),
 }
-TOP = pathlib.Path(__file__).resolve().parent.parent
-# Where docs/CALENDAR.md asks sqlite3.
+# Where docs/clerk/REPORTS.md asks sqlite3.
 PROMPT = "    sqlite> "
 # A row is written with these between its values and after it.
 BETWEEN, AFTER = "\x1f", "\x1e"
@@ -148,7 +148,7 @@ def rows_of(database, query):
     return [tuple(TRUTHS.get(value, value) for value in line.split(BETWEEN)) for line in lines]
 
 
-# The texts of court_calendar, written from what a database says
+# The texts of docket, written from what a database says
 
 
 def named(day):
@@ -213,7 +213,7 @@ def event_time(text):
     return "" if text == "00:00" else time_of(text)
 
 
-def wanted_rows(whole, rows, answers, clerks):
+def wanted_rows(whole, rows, answers, given):
     found = {table: [] for table in TABLES}
     for sheet in whole["cases"]:
         case = str(sheet["case"])
@@ -237,8 +237,8 @@ def wanted_rows(whole, rows, answers, clerks):
         if words == "outage entered":
             _, _, day, begins, ends = row.split(",")
             found["outages"].append((str(len(found["outages"]) + 1), day, time_of(begins), time_of(ends)))
-    found["answers"] = [(str(place + 1), str(clerks[place] if clerks else 1), words.split(" ")[1] if words.startswith("refused ") else "", words)
-                        for place, words in enumerate(answers)]
+    found["answers"] = [(str(given.numbers.of_row(place + 1) if given.numbers else place + 1), str(given.clerks[place] if given.clerks else 1),
+                         words.split(" ")[1] if words.startswith("refused ") else "", words) for place, words in enumerate(answers)]
     return found
 
 
@@ -246,23 +246,19 @@ def answers_of(text, closing):
     """What each row was answered, with the lines below it, without the end of the last."""
     answers = []
     for line in text[:len(text) - len(closing)].splitlines():
-        numbered = re.match(r"([0-9]+) 1 (.*)", line)
-        if numbered and int(numbered[1]) == len(answers) + 1:
-            answers.append(numbered[2])
+        numbered = re.match(r"[0-9]+ 1 (.*)", line)
+        if numbered:
+            answers.append(numbered[1])
         else:
             answers[-1] += "\n" + line
     return answers
 
 
-def closing_of(whole_text, rows):
+def closing_of(longer):
     """The sheets and calendars at the end of a text, which come after the answer to a last row of one line."""
-    lines = whole_text.splitlines(keepends=True)
-    last = max(at for at, line in enumerate(lines) if line.startswith("{} 1 ".format(rows + 1)))
+    lines = longer.splitlines(keepends=True)
+    last = max(at for at, line in enumerate(lines) if re.match(r"[0-9]+ 1 ", line))
     return "".join(lines[last + 1:])
-
-
-# A row at the end that is answered by one line: what follows it are the sheets and the calendars.
-LAST_ROW = b"1,compute,59e,2025-08-04,,,\n"
 
 
 def names_fault(database, names, whole):
@@ -309,25 +305,21 @@ def is_in_order(script):
     return True
 
 
-def differs(chance, calendar, clerk, databases, data):
-    plain, (data, names) = data, with_names(chance, data)
-    data, clerks = with_clerks(chance, data)
-    status = ran([clerk], plain)[0]
-    found = ran([calendar, "sql"], data)
-    if status != 0 or found[0] != 0:
-        several = ran([clerk, "--clerks", "64"], data)
-        return None if status != 0 and (found[0], found[2]) == (several[0], several[2]) and (found[0] == 0 or not found[1]) \
-            else "another fault"
-    head, rows = data.decode().split("%%", 1)
-    rows = [row for row in rows.splitlines()[1:] if row]
-    whole_text = ran([clerk], plain if plain.endswith(b"\n") else plain + b"\n")
-    longer = ran([clerk], (plain if plain.endswith(b"\n") else plain + b"\n") + LAST_ROW)
+def differs(chance, given, databases):
+    status, text, _ = given.office().texts()
+    found = given.report(["sql"])
+    if status != 0 or found.status != 0:
+        several = given.as_several()
+        return None if status != 0 and (found.status, found.errors) == (several.status, several.errors) and \
+            (found.status == 0 or not found.output) else "another fault"
+    rows = [row for row in given.plain.decode().split("%%", 1)[1].splitlines()[1:] if row]
+    longer = given.office(LAST_ROW).texts()
     if longer[0] != 0:
         return None
-    answers = [named_answer(names, answer) for answer in answers_of(whole_text[1], closing_of(longer[1], len(rows)))]
-    whole = json.loads(ran([calendar, "json"], data)[1])
-    wanted = wanted_rows(whole, rows, answers, clerks)
-    if not is_in_order(found[1]):
+    answers = [named_text(given.names, answer) for answer in answers_of(text, closing_of(longer[1]))]
+    whole = json.loads(given.report(["json"]).output)
+    wanted, script = wanted_rows(whole, rows, answers, given), found.output.decode()
+    if not is_in_order(script):
         return "a row that isn't in its place"
     first, last, closes = whole["court"]["from"], whole["court"]["to"], whole["court"]["closes"]
     days = [d["last_day"] for s in whole["cases"] for d in s["deadlines"] if d["last_day"]] or [first]
@@ -336,56 +328,56 @@ def differs(chance, calendar, clerk, databases, data):
     judge = chance.choice(whole["court"]["judges"]) if whole["court"]["judges"] else None
     of = chance.choice([b["day"] for c in whole["calendars"] for b in c["bookings"]] or [first])
     # The tables have no other readings, which what is due marks at the end of a line.
-    due = re.sub(r", other reading.*", "", ran([calendar, "due", "--from", first, "--to", last], data)[1])
+    due = re.sub(r", other reading.*", "", given.report(["due", "--from", first, "--to", last]).output.decode())
     for database in databases:
-        fault = database.load(found[1].encode()) or table_fault(database, wanted) or zone_fault(database, data) or \
-            names_fault(database, names, whole)
+        fault = database.load(found.output) or table_fault(database, wanted) or zone_fault(database, given.plain) or \
+            names_fault(database, given.names, whole)
         if fault:
             return "{}: {}".format(database.name, fault)
-        if due_text(database, names, closes, first, last) != due:
+        if due_text(database, given.names, closes, first, last) != due:
             return "{}: something else is due from {} to {}".format(database.name, first, last)
         if judge is not None:
-            week = ran([calendar, "week", "--judge", judge, "--of", of], data)[1].splitlines()
-            if week_lines(database, names, judge, of) != week[week.index("") + 1:][week[week.index("") + 1:].index("") + 1:]:
+            week = given.report(["week", "--judge", judge, "--of", of]).output.decode().splitlines()
+            if week_lines(database, given.names, judge, of) != week[week.index("") + 1:][week[week.index("") + 1:].index("") + 1:]:
                 return "{}: another week of {} with {}".format(database.name, judge, of)
     return None
 
 
-def refuses_hostile_names(calendar, clerk):
+def refuses_hostile_names(programs):
     court = 'zone = "-05:00"\nopens = "09:00"\ncloses = "17:00"\nfrom = "2025-01-01"\nto = "2025-12-31"\nfederal = []\n' \
             'state = []\njudges = ["{}"]\nrooms = ["R1"]\n%%\n'
     for name in HOSTILE:
         data = court.format(name).encode()
-        found, other = ran([calendar, "sql"], data), ran([clerk], data)
-        if (found[0], found[1], found[2].replace("court_calendar", "clerk_office")) != other or found[0] != 2 or found[1]:
+        found, other = programs.report(["sql"], data), programs.office(data)
+        if found != other or found.status != 2 or found.output:
             return "the name {} isn't refused".format(name)
     return None
 
 
 def document_fault(database):
-    """A question of docs/CALENDAR.md that is answered otherwise, or none."""
-    lines = (TOP / "docs" / "CALENDAR.md").read_text().splitlines()
+    """A question of docs/clerk/REPORTS.md that is answered otherwise, or none."""
+    lines = (TOP / "docs" / "clerk" / "REPORTS.md").read_text().splitlines()
     fault = database.load((TOP / "examples" / "a_day.sql").read_bytes())
     asked = [at for at, line in enumerate(lines) if line.startswith(PROMPT)]
     for at in asked:
         wanted = [line[4:] for line in lines[at + 1:lines.index("", at)]]
         found = ["|".join(row) for row in rows_of(database, lines[at][len(PROMPT):])]
-        fault = fault or (None if found == wanted else "docs/CALENDAR.md: {}".format(lines[at].strip()))
-    return fault if asked else "docs/CALENDAR.md asks nothing"
+        fault = fault or (None if found == wanted else "docs/clerk/REPORTS.md: {}".format(lines[at].strip()))
+    return fault if asked else "docs/clerk/REPORTS.md asks nothing"
 
 
-def main():
-    calendar, clerk = (str(pathlib.Path(program).resolve()) for program in sys.argv[1:3])
-    seed = int(sys.argv[3]) if len(sys.argv) > 3 else 1
-    count = int(sys.argv[4]) if len(sys.argv) > 4 else 60
-    fault = refuses_hostile_names(calendar, clerk)
+def main(words):
+    programs, (seed, count) = programs_of(words[:2]), seed_and_count(words[2:], 60)
+    fault = refuses_hostile_names(programs)
     with tempfile.TemporaryDirectory() as folder:
         databases = [Sqlite(pathlib.Path(folder)), Postgres(pathlib.Path(folder))]
         try:
             fault = fault or document_fault(databases[0])
             for number in range(0 if fault else count):
                 chance = random.Random("sql {} {}".format(seed, number))
-                fault = differs(chance, calendar, clerk, databases, made_input(chance, chance.choice(INPUTS)))
+                with tempfile.TemporaryDirectory() as parent:
+                    given = given_docket(programs, chance, made_input(chance, chance.choice(INPUTS)), parent)
+                    fault = differs(chance, given, databases)
                 if fault:
                     fault = "seed {} input {}: {}".format(seed, number, fault)
                     break
@@ -398,4 +390,4 @@ def main():
 
 
 if __name__ == "__main__":
-    main()
+    main(sys.argv[1:])

@@ -1,27 +1,29 @@
 #!/usr/bin/env python3
 """Strikes rows of dockets at random, and compares the desk with a replay in Python of the other rows.
 
-    strike_check.py DESK CLERK_OFFICE MEMO CALENDAR [SEED [COUNT]]
+    strike_check.py DOCKET CLERK_OFFICE [SEED [COUNT]]
 
 COUNT dockets (100 without it) are entered. Then one to three rows of each are struck, one after another, with rows entered in
 between, and sometimes with another court's file. In the replay the number of a deadline or a motion belongs to the row that
 gave it: the row gives the same whenever it is decided again, and a row that gives one for the first time gives the next after
 all that were ever given in its case. After each strike these are compared with it: the answers that the desk lists as changed,
-the sheets of all cases and the calendars of all judges, the answers to later rows, and what other programs make of the rows
-that the desk writes: clerk_office counts deadlines and motions by their places, and deadline_memo and court_calendar show the
-numbers of the desk, also in the answers to rows. Without --accept a strike that changes an answer changes nothing, and a row is
+the sheets of all cases and the calendars of all judges, the answers to later rows, what clerk_office makes of the rows that the
+desk writes, which counts deadlines and motions by their places, and the reports of the folder, which show the numbers of rows,
+deadlines and motions that `enter` answered. Without --accept a strike that changes an answer changes nothing, and a row is
 struck once. It needs Python 3.8 or later.
 """
 import json
 import random
 import re
+import sqlite3
 import sys
 import tempfile
-from typing import NamedTuple
 
-from lib.desk import Desk, SHORT_COURT, programs_of, run
+from lib.desk import Desk, SHORT_COURT
 from lib.journal import rows_of as rows_kept
 from lib.json_text import office_text
+from lib.kept_numbers import Numbers
+from lib.programs import programs_of, seed_and_count
 from reference.court_file import court_of
 from reference.docket import STEPS, opening, step, view
 from reference.rows_in import rows_of
@@ -30,18 +32,13 @@ from reference.text_out import answer_lines, closing_lines
 DIFFERS, FAULT = 7, 3
 WHO = ["--reason", "entered twice", "--by", "R. Ames", "--today", "2025-09-02"]
 CASES = (1, 2, 3)
-# What the desk says where the court's file has numbers of its own.
-OTHER_NUMBERS = (b"note: the court's file has a table [kept_numbers] of its own, so other programs may number deadlines and motions "
-                 b"otherwise than the desk\n")
-# How a row is answered that names what there isn't. Such a row may be left out of the rows that the desk writes.
-NAMES_NOTHING = re.compile("refused (1 NoSuchCase|3 NoSuchDeadline|4 NoSuchMotion)")
+# What a row names by its number.
+NAMED = {"file": "deadline", "extend": "deadline", "book": "motion", "move": "motion", "cancel": "motion"}
+# What of an event says when it was written, and which it is.
+STAMPS = ("DTSTAMP", "LAST-MODIFIED", "SEQUENCE", "UID")
 
-
-class Others(NamedTuple):
-    """The built programs that read the rows which the desk writes."""
-    clerk_office: str
-    memo: str
-    calendar: str
+# How the memo of a case names the row that did something, with the blanks up to the next column.
+BY_ROW = re.compile(r"\bby row (\d+)( *)")
 
 
 def drawn_row(draw):
@@ -116,19 +113,25 @@ class Replay:
         first, *more = answer_lines(self.court, self.docket, answer)
         return "".join(line + "\n" for line in ["{} {} {}".format(self.count, row.clerk, first)] + more).encode()
 
+    def moved(self):
+        """The number of each deadline and motion, by the kind, and then by the case and the place."""
+        table = {"deadline": {}, "motion": {}}
+        for kind, items in (("deadline", self.docket.deadlines), ("motion", self.docket.motions)):
+            for case in CASES:
+                for place, item in enumerate([item for item in items if item.case == case], 1):
+                    table[kind][case, place] = item.number
+        return table
+
     def by_places(self):
-        """The docket with the places of deadlines and motions as their numbers, as other programs count them."""
-        docket, places = self.docket, {}
-        for case in CASES:
-            for number, item in enumerate([item for item in docket.motions if item.case == case], 1):
-                places[case, item.number] = number
-        counted = []
-        for item in docket.deadlines:
-            counted.append(item._replace(number=1 + sum(other.case == item.case for other in counted)))
-        return docket._replace(
-            deadlines=counted,
-            motions=[item._replace(number=places[item.case, item.number]) for item in docket.motions],
-            hearings=[item._replace(motion=places[item.case, item.motion]) for item in docket.hearings])
+        """The docket with the places of deadlines and motions as their numbers, as clerk_office counts them."""
+        places = {kind: {(case, number): place for (case, place), number in of_kind.items()} for kind, of_kind in self.moved().items()}
+
+        def motion(item, number):
+            return places["motion"][item.case, number]
+        return self.docket._replace(
+            deadlines=[item._replace(number=places["deadline"][item.case, item.number]) for item in self.docket.deadlines],
+            motions=[item._replace(number=motion(item, item.number)) for item in self.docket.motions],
+            hearings=[item._replace(motion=motion(item, item.motion)) for item in self.docket.hearings])
 
 
 def changed(kept, replay):
@@ -141,35 +144,89 @@ def changed(kept, replay):
 
 
 def answers_in(text):
-    """The answers of a text to rows that name what there is, each from its clerk on, and the lines after all answers."""
+    """The answers of a text, and the lines after all answers."""
     answers, closing = [], []
     for line in text.splitlines():
         if re.match("[0-9]+ 1 ", line):
-            answers.append([line.split(" ", 1)[1]])
-        elif answers and not closing and (answers[-1] == ["1 sheet"] or not re.match("case|judge", line)):
+            answers.append([line])
+        elif answers and not closing and (answers[-1][-1].endswith(" 1 sheet") or not re.match("case|judge", line)):
             answers[-1].append(line)
         else:
             closing.append(line)
-    return [answer for answer in answers if not NAMES_NOTHING.match(answer[0], 2)], closing
+    return answers, closing
 
 
-def compare_numbers(others, replay, rows, what):
-    """What deadline_memo and court_calendar show of the rows that are written: answers, sheets and calendars with the numbers
-    of the desk."""
-    told = run([others.calendar, "json"], rows)
-    assert told.status == 0, (what, told)
-    text = office_text(json.loads(told.output))
+def sequences(desk):
+    """The SEQUENCE of each event of the folder's calendar by its UID, and all else that the event says, but for its stamps."""
+    events = {}
+    for event in report(desk, "ics").replace("\r\n ", "").split("BEGIN:VEVENT\r\n")[1:]:
+        lines = dict(line.split(":", 1) for line in event.partition("END:VEVENT")[0].splitlines())
+        assert lines["UID"] not in events, lines
+        events[lines["UID"]] = int(lines["SEQUENCE"]), {name: text for name, text in lines.items() if name not in STAMPS}
+    return events
+
+
+def compare_calendars(before, after, what):
+    """What a calendar program takes of the calendar after a strike: no SEQUENCE falls, what an event says otherwise has a higher one,
+    and no hearing vanishes."""
+    for uid, (old, said) in before.items():
+        new, says = after.get(uid, (old, said))
+        assert new > old or new == old and said == says, (what, uid, before[uid], after[uid])
+        assert uid in after or "-deadline-" in uid, (what, uid)
+
+
+def report(desk, *words):
+    """What a report of the folder says."""
+    ended = desk.call(*words)
+    assert ended.status == 0 and not ended.errors, (words, ended)
+    return ended.output.decode()
+
+
+def compare_case(desk, numbers, rows, case):
+    """The memo of one case of the folder, which is that of the rows that are written, whose numbers in the folder these are."""
+    told = desk.call("memo", "--case", case)
+    other = desk.programs.report(["memo", "--case", str(case)], rows)
+    wanted = [numbers.line(case, BY_ROW.sub(lambda found: "by row {}".format(numbers.of_row(int(found[1]))).ljust(len(found[0])), line))
+              for line in other.output.decode().splitlines()]
+    assert (told.status, told.output.decode()) == (other.status, "".join(line + "\n" for line in wanted)), (told, other)
+
+
+def rows_written(desk, replay):
+    """The numbers of the rows that the desk writes: those that aren't struck, but for one that names a number which nothing has where
+    something else is at the place of that number."""
+    moved, found = replay.moved(), []
+    for number, (row, _) in enumerate(rows_kept(desk.read()), 1):
+        fields = row.decode().rstrip("\n").split(",")
+        if number in replay.struck:
+            continue
+        if fields[1] in NAMED:
+            of_kind, case, named = moved[NAMED[fields[1]]], int(fields[2]), int(fields[3])
+            if (case, named) in of_kind and named not in [kept for (of, _), kept in of_kind.items() if of == case]:
+                continue
+        found.append(number)
+    return found
+
+
+def compare_reports(desk, replay, rows, what):
+    """What the reports of the folder show: answers, sheets and calendars, with the numbers of the desk."""
+    text = office_text(json.loads(report(desk, "json")))
     kept = b"".join(answer for answer in replay.answers if answer is not None).decode()
-    closing = closing_lines(replay.court, replay.docket)
-    assert answers_in(text) == (answers_in(kept)[0], closing), (what, text, kept, closing)
-    memo = run([others.memo], rows)
-    assert memo.status == 0, (what, memo)
-    bare = "".join(line + "\n" for line in memo.output.decode().splitlines() if not line.startswith(" "))
+    found, closing = answers_in(text)
+    wanted = answers_in(kept)[0]
+    assert closing == closing_lines(replay.court, replay.docket), (what, closing)
+    assert found == wanted, (what, found, wanted)
+    bare = "".join(line + "\n" for line in report(desk, "memo").splitlines() if not line.startswith(" "))
     assert bare == text, (what, bare, text)
+    base = sqlite3.connect(":memory:")
+    base.executescript(report(desk, "sql"))
+    assert ["{} {} {}".format(*row).split("\n") for row in base.execute("SELECT number, clerk, answer FROM answers ORDER BY number")] == found, what
+    numbers = Numbers(rows_written(desk, replay), replay.moved())
+    for case in CASES:
+        compare_case(desk, numbers, rows, case)
 
 
-def compare(desk, others, replay, what):
-    """The sheets, the calendars, and the rows that are written."""
+def compare(desk, replay, what):
+    """The sheets, the calendars, the rows that are written, and the reports."""
     asked = [b"1,sheet,%d\n" % case for case in CASES] + [b"1,calendar,%s,2025-05-05\n" % judge.encode() for judge in replay.court.judges]
     told = desk.call("ask", given=b"".join(asked))
     assert told.status == 0, told
@@ -180,13 +237,11 @@ def compare(desk, others, replay, what):
         expected += "".join(line + "\n" for line in ["{} {} {}".format(replay.count + 1, row.clerk, first)] + more).encode()
     assert told.output == expected, (what, told.output, expected)
     rows = desk.call("rows")
-    by_places = replay.by_places()
-    assert rows.status == 0 and not rows.errors, (what, rows.errors)
-    assert (b"[kept_numbers]" in rows.output) == (by_places != replay.docket), (what, rows.output)
-    ended = run([others.clerk_office], rows.output)
-    closing = "".join(line + "\n" for line in closing_lines(replay.court, by_places)).encode()
+    assert rows.status == 0 and not rows.errors and rows.output.startswith(desk.input_of([])), (what, rows)
+    ended = desk.programs.office(rows.output)
+    closing = "".join(line + "\n" for line in closing_lines(replay.court, replay.by_places())).encode()
     assert ended.status == 0 and ended.output.endswith(closing), (what, ended, closing)
-    compare_numbers(others, replay, rows.output, what)
+    compare_reports(desk, replay, rows.output, what)
 
 
 def other_court(draw):
@@ -194,7 +249,7 @@ def other_court(draw):
     return SHORT_COURT.replace(b'"2025-07-04"', b'"2025-07-04", "2025-%02d-%02d"' % (draw.randint(3, 9), draw.randint(1, 28)))
 
 
-def check_docket(programs, others, draw):
+def check_docket(programs, draw):
     """One docket, of which one to three rows are struck. Gives how many rows those are, and how many answers changed."""
     with tempfile.TemporaryDirectory() as parent:
         desk, court = Desk(programs, parent, SHORT_COURT), court_of(SHORT_COURT)
@@ -214,6 +269,7 @@ def check_docket(programs, others, draw):
             assert desk.enter(more) == answers, (more, answers)
             given, kept = replay.given, rows_kept(desk.read())
             row = chosen_row(draw, lines)
+            calendar = sequences(desk)
             before, ended = desk.journal.read_bytes(), desk.call("strike", row, *WHO)
             if row in struck:
                 assert ended.status == FAULT and b"struck already" in ended.errors, ended
@@ -231,7 +287,8 @@ def check_docket(programs, others, draw):
                 ended = desk.call("strike", row, "--accept", *WHO)
                 assert ended.status == 0 and ended.output == text, (row, ended, text)
             struck, given = struck | {row}, after.given
-            compare(desk, others, after, (lines, row))
+            compare(desk, after, (lines, row))
+            compare_calendars(calendar, sequences(desk), (lines, row))
             assert b"rows kept: %d," % len(lines) in desk.call("check").output
         numbers = list(given.values())
         assert len(set(numbers)) == len(numbers), "a number was given twice"
@@ -240,24 +297,13 @@ def check_docket(programs, others, draw):
         return len(struck), many
 
 
-def check_own_table(programs):
-    """A court's file with numbers of its own: the desk writes no second table, and says so."""
-    with tempfile.TemporaryDirectory() as parent:
-        desk = Desk(programs, parent, SHORT_COURT + b"\n[kept_numbers]\ndeadlines = [[1, 1, 7]]\n")
-        desk.enter([b"1,open,1,2025-03-03\n", b"1,start,1,4m,2025-03-03,,,\n", b"1,start,1,59b,2025-03-04,,,\n"])
-        assert desk.call("strike", 2, "--accept", *WHO).status == 0
-        rows = desk.call("rows")
-        assert rows.status == 0 and rows.errors == OTHER_NUMBERS and rows.output.count(b"[kept_numbers]") == 1, rows
-
-
 def main(words):
-    if len(words) not in (4, 5, 6):
+    if not 2 <= len(words) <= 4:
         print(__doc__, file=sys.stderr)
         return 1
-    seed, count = [int(word) for word in words[4:] + ["1", "100"][len(words) - 4:]]
-    draw, programs, others = random.Random(seed), programs_of(words[:2]), Others(*words[1:4])
-    check_own_table(programs)
-    counted = [check_docket(programs, others, draw) for _ in range(count)]
+    programs, (seed, count) = programs_of(words[:2]), seed_and_count(words[2:], 100)
+    draw = random.Random(seed)
+    counted = [check_docket(programs, draw) for _ in range(count)]
     print("{} dockets: {} rows were struck, and {} answers changed, each as a replay of the others says".format(
         count, sum(rows for rows, _ in counted), sum(many for _, many in counted)))
     return 0

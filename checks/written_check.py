@@ -1,26 +1,26 @@
 #!/usr/bin/env python3
 """Checks how the built desk reads rows as people write them.
 
-    written_check.py DESK [SEED [COUNT]]
-    written_check.py DESK --write
+    written_check.py DOCKET [SEED [COUNT]]
+    written_check.py DOCKET --write
 
 COUNT plain rows at random (20,000 without it) are written in eleven styles, as people and their programs write them; each must
 be read as the row it was made from. As many fields have blanks and dots in them: each must be read, or be a fault, as
-lib/written_fields.py has it from docs/FORMATS.md, and so must the word that is suggested for a misspelt period. Each section
-of docs/RULES.md whose period is entered must be answered with its text. Some two hundred lines are spoiled as people spoil
+lib/written_fields.py has it from docs/clerk/ROWS.md, and so must the word that is suggested for a misspelt period. Each section
+of docs/law/RULES.md whose period is entered must be answered with its text. Some two hundred lines are spoiled as people spoil
 them; what is said of each must be what runs/written/said.txt has. --write writes that file anew: read it as someone who made
 the mistake. What --json says must be the same faults. It needs Python 3.8 or later.
 """
 import csv
 import datetime
 import json
-import pathlib
 import random
 import re
 import sys
 import tempfile
 
-from lib.desk import Desk, FAULTS, SHORT_COURT, TOP, programs_of
+from lib.desk import Desk, FAULTS, SHORT_COURT, told_of
+from lib.programs import TOP, programs_of, seed_and_count
 from lib.spoiled_lines import spoiled
 from lib.written_trials import check_broken, check_misspelt, check_sections
 
@@ -224,20 +224,20 @@ def said_of(desk):
         text.append("== {}{}\n".format(name, "".join(" " + word for word in words)))
         if ended.status == 0:
             text.append("read as: " + ended.output.decode())
-        else:
-            text.append(ended.output.decode())
-            check_json(desk, name, given, words, ended)
-        if ended.errors and ended.status != FAULTS:
             text.append(ended.errors.decode())
+        else:
+            assert not ended.output, (name, ended)
+            text.append(told_of(ended)[0].decode())
+            check_json(desk, name, given, words, text[-1])
     return "".join(text)
 
 
-def check_json(desk, name, given, words, ended):
+def check_json(desk, name, given, words, said):
     """--json says the same faults, at the same places."""
     other = desk.call("plain", "--json", *words, given=given.encode())
-    faults = json.loads(other.output.decode())
-    lines = [line for line in ended.output.decode().splitlines() if line.startswith("line ")]
-    assert other.status == FAULTS and lines == ["line {line} column {column}: {said}".format(**fault) for fault in faults], (name, other)
+    faults = json.loads(other.errors.decode())
+    lines = [line for line in said.splitlines() if line.startswith("line ")]
+    assert other.status == FAULTS and not other.output and lines == ["line {line} column {column}: {said}".format(**fault) for fault in faults], (name, other)
     for fault in faults:
         line = given.split("\n")[fault["line"] - 1]
         found = line.replace("\u2013", "-").replace("\u2014", "-").replace("\u00a0", " ")[fault["column"] - 1:]
@@ -251,7 +251,7 @@ def check_entering(desk):
     wrong = given + b"1;start;7;9/2/2025;59(e);\n"
     before = desk.journal.read_bytes()
     ended = desk.call("enter", "--all-or-nothing", "--as-written", given=wrong)
-    assert ended.status == FAULTS and b"line 4 column 11" in ended.output and desk.journal.read_bytes() == before, ended
+    assert ended.status == FAULTS and b"line 4 column 11" in told_of(ended)[0] and desk.journal.read_bytes() == before, ended
     tried = desk.call("try", "--as-written", given=given)
     assert tried.status == 0 and desk.journal.read_bytes() == before, tried
     ended = desk.call("enter", "--all-or-nothing", "--as-written", given=given)
@@ -269,19 +269,18 @@ def check_lines(desk):
     for end in ["\n", "\r\n"]:
         given, before = end.join(lines + [""]).encode(), desk.journal.read_bytes()
         ended = desk.call(*entered, given=given)
-        said = [re.fullmatch("line ([0-9]+) (fault .*)", line).groups() for line in ended.output.decode().splitlines()]
+        said = [re.fullmatch("line ([0-9]+) (fault .*)", line).groups() for line in told_of(ended)[0].decode().splitlines()]
         assert ended.status == FAULTS and [(int(line), words[:19]) for line, words in said] == [(5, "fault 4 BadField 3:"), (7, "fault 4 BadField 3:")], ended
         other = desk.call(*entered, "--json", given=given)
-        assert other.status == FAULTS and other.errors == ended.errors, other
-        assert json.loads(other.output.decode()) == [{"line": int(line), "said": words} for line, words in said], (other, said)
+        assert other.status == FAULTS and not other.output and not ended.output, other
+        assert json.loads(other.errors.decode()) == [{"line": int(line), "said": words} for line, words in said], (other, said)
         assert desk.journal.read_bytes() == before
     ended = desk.call(*entered, "--json", given=end.join(lines[:4] + [""]).encode())
     assert ended.status == 0 and b"case 7 filed" in ended.output, ended
 
 
-def main():
-    words = sys.argv[1:]
-    programs = programs_of([words[0], words[0]])
+def main(words):
+    programs = programs_of(words[:1])
     with tempfile.TemporaryDirectory() as parent:
         desk = Desk(programs, parent, COURT)
         said = said_of(desk)
@@ -291,7 +290,7 @@ def main():
             return
         assert said == SAID.read_text(), "what is said of spoiled lines isn't what runs/written/said.txt has"
         print("{} spoiled lines: what is said of them, also as JSON".format(len(spoiled())))
-        seed, count = (int(words[1]) if len(words) > 1 else 1), (int(words[2]) if len(words) > 2 else 20_000)
+        seed, count = seed_and_count(words[1:], 20_000)
         draw = random.Random(seed)
         for style in STYLES:
             for _ in range(4):
@@ -306,4 +305,4 @@ def main():
 
 
 if __name__ == "__main__":
-    main()
+    main(sys.argv[1:])

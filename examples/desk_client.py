@@ -2,7 +2,7 @@
 
     desk_client.py FOLDER
 
-It needs docket_desk on the PATH, and Python 3.8 or later.
+It needs docket on the PATH, and Python 3.8 or later.
 """
 import re
 import subprocess
@@ -14,7 +14,7 @@ BEGINS = re.compile("[0-9]+ [0-9]+ |row [0-9]+ fault ")
 
 def answers(rows, folder):
     """Enters rows, and gives the answer of each as a list of its lines."""
-    with subprocess.Popen(["docket_desk", "enter", folder], stdin=subprocess.PIPE, stdout=subprocess.PIPE, text=True) as desk:
+    with subprocess.Popen(["docket", "enter", folder], stdin=subprocess.PIPE, stdout=subprocess.PIPE, text=True) as desk:
         desk.stdin.writelines(row + "\n" for row in rows)
         desk.stdin.flush()
         lines = [desk.stdout.readline() for _ in rows[:1]]

@@ -1,7 +1,8 @@
 """The functions of the crates' sources: which are public, which may answer that memory ran out, and which call which.
 
 It reads the layout that `rt fmt` gives: a function ends at the brace below its first letter, and its body begins at the first
-brace after its contract. What a call means is told by its name alone, so a function may be taken for called that isn't.
+brace after its contract. What a call means is told by its name and by the crates from which
+the file takes that name, so a function may be taken for called that isn't.
 """
 import re
 from typing import NamedTuple
@@ -13,12 +14,29 @@ ALLOCATION = {"AllocError", "AllocFailed"}
 COMMENT = re.compile(r"//[^\n]*")
 FUNCTION = re.compile(r"^( *)((?:pub(?:\(\w+\))? )?)(?:const )?fn (\w+)", re.MULTILINE)
 IMPL = re.compile(r"^impl(?:<.*?>)? (?:(\w+)(?:<.*?>)? for )?(\w+)")
+USE = re.compile(r"^(?:pub )?use (\w+)::([^;]*);", re.MULTILINE)
 CONTRACT = re.compile(r"^\s*(requires|ensures|ghost|maintains)\b")
 
 
+class Taken:
+    """From which crates of the repository a file takes each name that it takes from any, and what names are where they come from
+    that are others here. What it takes from a module is its own."""
+
+    def __init__(self, crate, code, crates):
+        self.origins, self.renamed = {}, {}
+        for origin, names in USE.findall(code):
+            self.renamed.update((there, here) for here, there in re.findall(r"(\w+) as (\w+)", names))
+            for name in re.findall(r"\w+", names):
+                self.origins.setdefault(name, set()).add(origin if origin in crates else crate)
+
+    def may_be(self, name, crate):
+        """Whether this name may be of that crate."""
+        return crate in self.origins.get(name, {crate})
+
+
 class Function(NamedTuple):
-    """A function: its crate, file, type and trait where it has them, name, what it gives, its body, and whether it is a test
-    and whether other crates can call it."""
+    """A function: its crate, file, type and trait where it has them, name, what it gives, its body, whether it is a test, whether
+    other crates can call it, and from which crates its file takes names."""
     crate: str
     file: str
     type: str
@@ -28,6 +46,7 @@ class Function(NamedTuple):
     body: str
     is_test: bool
     is_public: bool
+    taken: "Taken"
 
     def __str__(self):
         return "{}::{}".format(self.type, self.name) if self.type else self.name
@@ -69,12 +88,13 @@ def gives_of(head):
     return before.rpartition("->")[2].rstrip("{ \n") if "->" in before else ""
 
 
-def functions_of(crate):
-    """All functions of a crate."""
+def functions_of(crate, crates):
+    """All functions of a crate, which is one of these."""
     names, found = exported(crate), []
     for path in files_of(crate):
         of_tests = "tests" in path.parts or path.name == "tests.rt"
-        lines = code_of(path).split("\n")
+        code = code_of(path)
+        lines, taken = code.split("\n"), Taken(crate, code, crates)
         of_type = of_trait = ""
         for at, line in enumerate(lines):
             begins = IMPL.match(line)
@@ -90,12 +110,13 @@ def functions_of(crate):
                 is_public = outside and (of_type or name) in names and not of_tests
                 is_test = any("#[test]" in before for before in lines[max(0, at - 3):at])
                 found.append(Function(crate, path.name, of_type if indent else "", of_trait if indent else "", name,
-                                      gives_of(head), body, is_test, is_public))
+                                      gives_of(head), body, is_test, is_public, taken))
     return found
 
 
 def all_functions():
-    return [function for crate in uses_of_all() for function in functions_of(crate)]
+    crates = uses_of_all()
+    return [function for crate in crates for function in functions_of(crate, crates)]
 
 
 def memory_faults():
@@ -134,7 +155,9 @@ class Calls:
         if function.crate != caller.crate and function.crate not in self.uses[caller.crate]:
             return False
         if not function.type:
-            return function.name in words
+            return function.name in words and caller.taken.may_be(function.name, function.crate)
+        if not caller.taken.may_be(function.type, function.crate):
+            return False
         return "." + function.name in paths or "{}::{}".format(function.type, function.name) in paths or \
             "Self::" + function.name in paths
 
@@ -161,5 +184,5 @@ class Calls:
 
 
 def words_in(function):
-    """The words in a function's body, and the type whose function it is."""
-    return {function.type, *re.findall(r"\w+", function.body)}
+    """The words in a function's body, as they are where they come from, and the type whose function it is."""
+    return {function.type, *(function.taken.renamed.get(word, word) for word in re.findall(r"\w+", function.body))}

@@ -7,7 +7,8 @@
 crate is proved by itself, those first that most other work waits for, with as many jobs as there are processors, but no
 more than memory allows. Crates that have no crate below them in common are proved side by side; `rt` works on no two
 others at the same time. What is proved is kept in the crates' out/ folders. out/proved.json notes from which sources and
-with which toolchain, and of a program which file was built; while that is the same, `rt` isn't asked.
+with which toolchain, and of a program which file was built; while that is the same, `rt` isn't asked. out/verdicts.json has what
+`rt` said of each crate when it proved it.
 Once a program is linked, `rt run` runs it: here with no words and no input, and what the run answers is passed over. What
 counts is that `rt` said that the program is proved, and that it linked it. Where a crate isn't proved, the end of what
 `rt` printed is shown, and no other is begun. On Ctrl-C all stops, and what was proved is kept. A run of more than a
@@ -27,7 +28,7 @@ import time
 from crates import TOP, is_program, needed_by, sources_of, uses_of_all
 
 LOGS = TOP / "out" / "prove"
-NOTES = TOP / "out" / "proved.json"
+NOTES, VERDICTS = TOP / "out" / "proved.json", TOP / "out" / "verdicts.json"
 # How much memory the first proof of a large crate takes with one job, and how many jobs one crate makes use of.
 GIGABYTES_A_JOB = 3
 MOST_JOBS = 4
@@ -82,9 +83,14 @@ def mark_of(crate, prints):
     return prints[crate] + " " + hashlib.sha256(program.read_bytes()).hexdigest() if program.exists() else None
 
 
-def noted():
+def noted(notes=NOTES):
     """What earlier runs noted of crates."""
-    return json.loads(NOTES.read_text()) if NOTES.exists() else {}
+    return json.loads(notes.read_text()) if notes.exists() else {}
+
+
+def add_to(notes, more):
+    """Notes something of crates, for the next time. What an earlier run noted of other crates stays noted."""
+    notes.write_text(json.dumps({**noted(notes), **more}, indent=1, sort_keys=True) + "\n")
 
 
 def weights_of(crates, uses):
@@ -119,8 +125,11 @@ class Run:
         """Whether rt has proved the crate, and linked it if it is a program. Then the status is the program's own."""
         if not is_program(self.crate):
             return self.process.returncode == 0
-        verdicts = [line for line in self.lines() if line.startswith("logic=")]
-        return bool(verdicts) and verdicts[-1].startswith("logic=proved ") and program_of(self.crate).exists()
+        return self.verdict().startswith("logic=proved ") and program_of(self.crate).exists()
+
+    def verdict(self):
+        """What rt said of the crate; an empty text where it was proved before, and rt says nothing."""
+        return ([""] + [line for line in self.lines() if line.startswith("logic=")])[-1]
 
     def lines(self):
         """All that rt printed."""
@@ -172,12 +181,6 @@ class Prover:
             self.waiting.discard(crate)
             self.running.append(Run(crate, max(1, min(free - others, MOST_JOBS))))
 
-    def note(self):
-        """Notes what is proved, for the next time. What an earlier run proved of other crates stays noted."""
-        notes = noted()
-        notes.update((crate, mark_of(crate, self.prints)) for crate in self.done)
-        NOTES.write_text(json.dumps(notes, indent=1, sort_keys=True) + "\n")
-
     def end(self, run):
         self.running.remove(run)
         seconds = run.seconds()
@@ -190,7 +193,9 @@ class Prover:
             return
         self.done.add(run.crate)
         self.times[run.crate] = seconds
-        self.note()
+        add_to(NOTES, {crate: mark_of(crate, self.prints) for crate in self.done})
+        if run.verdict():
+            add_to(VERDICTS, {run.crate: [self.prints[run.crate], run.verdict()]})
         if seconds >= FEW_SECONDS:
             print("{:>3} of {}  {:<20}{:>5.0f} s".format(len(self.times), self.all, run.crate, seconds), flush=True)
 

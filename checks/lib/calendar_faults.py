@@ -1,4 +1,4 @@
-"""What the checks of calendars say of one input."""
+"""What the checks of reports say of one docket."""
 import pathlib
 import random
 import tempfile
@@ -10,21 +10,19 @@ import json_check
 import sql_check
 
 
-def fault_of(input_named, calendar, clerk, memo, seeds):
-    """What a format says of the input otherwise than the references, or none: of each seed with other words."""
-    for check in (calendar_check, ics_check, json_check, sql_check):
-        check.with_names = lambda chance, data: (input_named.data, input_named.names)
+def fault_of(given, seeds):
+    """What a format says of the docket otherwise than the references, or none: of each seed with other words."""
     for seed in seeds:
-        fault = fault_with(random.Random("one input {}".format(seed)), input_named.plain, calendar, clerk, memo)
+        fault = fault_with(random.Random("one input {}".format(seed)), given)
         if fault:
             return fault
     return None
 
 
-def fault_with(chance, data, calendar, clerk, memo):
-    fault = calendar_check.differs(chance, calendar, clerk, memo, data)[0] or ics_check.differs(Counter(), chance, calendar, clerk, data) \
-        or json_check.differs(chance, calendar, clerk, memo, data, lambda whole: True)
+def fault_with(chance, given):
+    fault = calendar_check.differs(chance, given)[0] or ics_check.differs(Counter(), chance, given) \
+        or json_check.differs(chance, given, lambda whole: True)
     if fault:
         return fault
     with tempfile.TemporaryDirectory() as folder:
-        return sql_check.differs(chance, calendar, clerk, [sql_check.Sqlite(pathlib.Path(folder))], data)
+        return sql_check.differs(chance, given, [sql_check.Sqlite(pathlib.Path(folder))])

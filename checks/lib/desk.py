@@ -1,12 +1,11 @@
-"""A desk's folder, and the two programs that its checks call."""
+"""A desk's folder, and what is called with it."""
 import pathlib
 import re
 import subprocess
-from typing import NamedTuple
 
 from lib.journal import read_journal
+from lib.programs import run
 
-TOP = pathlib.Path(__file__).resolve().parent.parent.parent
 # The status with which the desk ends where its journal can't be opened, read or written.
 REFUSED = 6
 # The option with which all rows are kept or none, the one with which commands that are refused are kept too, and the status with
@@ -27,32 +26,10 @@ rooms = ["R1"]
 """
 
 
-class Ended(NamedTuple):
-    """How a program ended: its status, and what it wrote."""
-    status: int
-    output: bytes
-    errors: bytes
-
-
-def run(words, given=b"", **how):
-    """Runs a program with these words and that input."""
-    ended = subprocess.run([str(word) for word in words], input=given, stdout=subprocess.PIPE, stderr=subprocess.PIPE,
-                           check=False, **how)
-    return Ended(ended.returncode, ended.stdout, ended.stderr)
-
-
-class Programs(NamedTuple):
-    """The built desk and the built clerk's program."""
-    desk: pathlib.Path
-    clerk_office: pathlib.Path
-
-    def whole(self, text):
-        """What the clerk's program writes for an input."""
-        return run([self.clerk_office], text)
-
-
-def programs_of(words):
-    return Programs(*[pathlib.Path(word).resolve() for word in words])
+def told_of(ended):
+    """What a call says on standard error of the lines of its input, and then the line that sums up, both as bytes."""
+    *lines, last = ended.errors.splitlines(True)
+    return b"".join(lines), last
 
 
 def divided(text):
@@ -88,7 +65,7 @@ class Desk:
         self.programs, self.folder, self.court = programs, pathlib.Path(parent) / "desk", court
         file = pathlib.Path(parent) / "court.toml"
         file.write_bytes(court)
-        ended = run([programs.desk, "open", self.folder, "--court", file])
+        ended = run([programs.docket, "init", self.folder, "--court", file])
         assert ended.status == 0, ended
 
     @property
@@ -100,9 +77,9 @@ class Desk:
         return read_journal(self.journal.read_bytes())
 
     def words(self, *words):
-        """The words of a call."""
+        """The words of a call: what is to be done, as `enter` or `court change`, then the folder, then the others."""
         task, *others = words
-        return [str(self.programs.desk), task, str(self.folder), *map(str, others)]
+        return [str(self.programs.docket), *task.split(" "), str(self.folder), *map(str, others)]
 
     def call(self, *words, given=b"", **how):
         return run(self.words(*words), given, **how)
@@ -112,7 +89,7 @@ class Desk:
         file = self.folder.parent / "court.toml"
         file.write_bytes(court)
         self.court = court
-        return self.call("court", file, "--accept")
+        return self.call("court change", file, "--accept")
 
     def session(self, *words, **how):
         """A session of its own, which reads rows from a pipe and answers to one."""

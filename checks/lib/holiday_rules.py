@@ -294,8 +294,9 @@ class Listed(NamedTuple):
     doubtful: bool
 
     def named(self, day):
-        """What the day is called: the holiday's name, with a word where it is observed in place of another day."""
-        return self.name if self.own == day else f"{self.name}, observed"
+        """What the day is called: the holiday's name, with words where it is observed in place of another day, and where it is in
+        doubt."""
+        return self.name + ("" if self.own == day else ", observed") + (" (doubtful)" if self.doubtful else "")
 
     def comment(self, day):
         """What stands after the day in its list."""

@@ -2,25 +2,27 @@
 import datetime
 import os
 import re
-import subprocess
 import time
 from collections import namedtuple
 
 from lib.case_names import called
+from lib.given_docket import LAST_ROW
+from lib.memo_lines import closing_of, other_of, reasons_of
 from lib.period_words import RULES
 from reference.periods import period_of_text
 from reference.rule6 import FILING
 
-# A row at the end that is answered by one line: what follows it are the sheets and the calendars.
-LAST_ROW = b"1,compute,59e,2025-08-04,,,\n"
 UNITS = {"d": ("day", "days"), "h": ("hour", "hours")}
 ACTS = {"filing": "to file", "service": "to serve"}
+# With what a reading begins as what is due marks it.
+OTHER = "other reading "
 STATES = {"timely": ", filed in time", "late": ", filed late"}
 
 Item = namedtuple("Item", "day second case kind number summary description begins ends room panel")
 Hearing = namedtuple("Hearing", "day first count panel room notice affidavits")
 Docket = namedtuple("Docket", "items before beyond")
-# An input, as clerk_office answers it: its court's file, its judges, its rows, the answers to them, and its docket.
+# A docket, as clerk_office answers it: its court's file, its judges, its rows and the answers to them by their numbers, and what
+# is on the calendar.
 Answered = namedtuple("Answered", "court judges rows answers docket")
 
 
@@ -80,7 +82,7 @@ def period_in_words(code):
     return words, words
 
 
-def deadline_item(names, case, words, closes):
+def deadline_item(names, case, words, closes, other):
     number, code, end = int(words[1]), words[2], words[3]
     if end == "beyond":
         return None
@@ -94,7 +96,8 @@ def deadline_item(names, case, words, closes):
         ending, second, begins = "The time ends with this day, at midnight", 0, None
         if period_of_text(code).act == FILING:
             ending += "; for filing on paper when the clerk's office closes, at " + closes
-    return Item(day, second, case, 0, number, summary, "Period: {}.\n{}.".format(described, ending), begins, None, None,
+    reading = "" if other is None else "\nBy another reading of the Rules: {}.".format(other[len(OTHER):])
+    return Item(day, second, case, 0, number, summary, "Period: {}.\n{}.{}".format(described, ending, reading), begins, None, None,
                 None)
 
 
@@ -115,8 +118,8 @@ def hearing_of(words):
     return Hearing(day_of(words[0]), seconds(words[1]) // 900, quarters(words[2]), words[3], words[4], words[6], words[8])
 
 
-def docket_of(names, lines, closes):
-    """What the sheets at the end of a text say, where cases have these names: the items, the judges before whom each case has a
+def docket_of(names, lines, closes, reasons):
+    """What the sheets at the end of a text say, where cases have these names and deadlines these reasons: the items, the judges before whom each case has a
     hearing, and the deadlines that end beyond the days covered."""
     items, before, beyond, case, motion = [], {}, set(), None, None
     for line in lines:
@@ -124,7 +127,7 @@ def docket_of(names, lines, closes):
         if words[0] == "case":
             case = int(words[1])
         elif words[0] == "deadline":
-            items.append(deadline_item(names, case, words, closes))
+            items.append(deadline_item(names, case, words, closes, other_of(reasons[case, int(words[1])])))
             if items[-1] is None:
                 beyond.add(uid(case, 0, int(words[1])))
         elif words[0] == "motion":
@@ -142,7 +145,7 @@ def histories_of(rows, answers, judge):
     """What became of the hearing of each motion, as that judge saw it or as all did: as it was set last, and whether it is
     off."""
     known = {}
-    for number, row in enumerate(rows, 1):
+    for number, row in rows.items():
         fields = row.split(",")
         answer = answers.get(number, "")
         if fields[1] not in ("book", "move", "cancel") or answer.startswith("refused"):
@@ -159,7 +162,7 @@ def histories_of(rows, answers, judge):
 def revisions_of(rows, answers):
     """The last row that changed the court's days (at 0), and the last that changed a deadline or a hearing of each case."""
     last = {}
-    for number, row in enumerate(rows, 1):
+    for number, row in rows.items():
         fields = row.split(",")
         if not answers.get(number, "refused").startswith("refused"):
             if fields[1] in ("holiday", "inaccessible"):
@@ -225,11 +228,6 @@ def ended(clock, item):
 # An input
 
 
-def ran(program, words, data):
-    done = subprocess.run([program, *words], input=data, stdout=subprocess.PIPE, stderr=subprocess.PIPE, check=False)
-    return done.returncode, done.stdout, done.stderr
-
-
 def answers_of(lines):
     """The first line of the answer to each row, by the row's number."""
     found = {}
@@ -240,15 +238,27 @@ def answers_of(lines):
     return found
 
 
-def answered(clerk, names, data):
-    """The input as clerk_office answers it, where cases have these names; none where it has a fault."""
-    status, text, _ = ran(clerk, [], data + LAST_ROW)
+def rows_of(given, text):
+    """The rows of an input by their numbers, with the numbers of motions in those that name them."""
+    rows = [row for row in text.splitlines()[1:] if row]
+    if given.numbers is None:
+        return dict(enumerate(rows, 1))
+    found = {}
+    for place, row in enumerate(rows, 1):
+        fields = row.split(",")
+        if fields[1] in ("book", "move", "cancel"):
+            fields[3] = str(given.numbers.of("motion", fields[2], fields[3]))
+        found[given.numbers.of_row(place)] = ",".join(fields)
+    return found
+
+
+def answered(given):
+    """The docket as clerk_office answers it; none where it has a fault."""
+    status, text, _ = given.office(LAST_ROW).texts()
     if status != 0:
         return None
-    head, rows = data.decode().split("%%", 1)
+    head, rows = given.plain.decode().split("%%", 1)
     court = dict(re.findall(r'^\s*(zone|opens|closes|from|to)\s*=\s*["\']([^"\']*)["\']', head, re.MULTILINE))
-    lines = text.decode().splitlines()
-    closing = max(at for at, line in enumerate(lines) if re.match(r"[0-9]+ 1 ", line)) + 1
     judges = re.search(r"^\s*judges\s*=\s*\[([^\]]*)\]", head, re.MULTILINE)
-    return Answered(court, re.findall(r"[^\s\"',]+", judges[1]), [row for row in rows.splitlines()[1:] if row], answers_of(lines[:closing]),
-                    docket_of(names, lines[closing:], court["closes"]))
+    return Answered(court, re.findall(r"[^\s\"',]+", judges[1]), rows_of(given, rows), answers_of(text.splitlines()),
+                    docket_of(given.names, closing_of(text), court["closes"], reasons_of(closing_of(given.memo(LAST_ROW).output.decode()))))

@@ -1,4 +1,4 @@
-"""Reads a desk's journal byte by byte, as docs/FORMATS.md describes it in 'The journal, byte by byte'."""
+"""Reads a desk's journal byte by byte, as docs/code/JOURNAL.md describes it."""
 import hashlib
 from typing import NamedTuple
 

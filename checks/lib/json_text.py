@@ -1,4 +1,4 @@
-"""The text of clerk_office, written from the JSON of court_calendar alone."""
+"""The text of clerk_office, written from the JSON of docket alone."""
 
 WORDS = {"holiday": "holiday entered", "outage": "outage entered"}
 

@@ -6,7 +6,10 @@ from lib.derivation_steps import time_text
 from lib.legal_names import legal_name
 from reference.civil import civil, weekday
 from reference.periods import Deadline, Event, Period, shown
-from reference.rule6 import AFTER, BEYOND, FILING, SERVICE, Days, Outage, Shown, adds_three, covered
+from reference.rule6 import AFTER, BEYOND, FILING, SERVICE, Days, Outage, Shown, adds_three, covered, has_outage, permitted
+
+# What the name of a holiday ends in that may be none, and the reading by which it is none.
+DOUBT, DOUBTFUL_DAY = " (doubtful)", "that day isn't a legal holiday"
 
 
 def days_of(calendar):
@@ -30,7 +33,7 @@ def again(days, clock, so_far, count):
     return shown(days, clock, Deadline(period, Event(so_far.end, 0), None, None, [], None))
 
 
-def readings(days, clock, deadline):
+def readings(days, clock, names, deadline):
     """Each reading's words, and what is shown by it, or None where it doesn't bear on the deadline."""
     files = deadline.period.act == FILING
     other = with_act(deadline, SERVICE if files else FILING, deadline.kind)
@@ -49,6 +52,7 @@ def readings(days, clock, deadline):
     later = deadline._replace(event=Event(event.day + 1, 0))
     yield "from the end of that day", shown(days, clock, later) if at_midnight else None
     yield "that Friday isn't a legal holiday", on_friday(days, clock, deadline)
+    yield DOUBTFUL_DAY, on_doubtful(days, clock, names, deadline)
 
 
 def last_counted(days, clock, deadline):
@@ -79,11 +83,26 @@ def on_friday(days, clock, deadline):
     return Shown("last", day) if kept and not moved else None
 
 
+def on_doubtful(days, clock, names, deadline):
+    """The first doubtful holiday of the state that the last count passes over, where no outage moves the time from it, or None."""
+    day, files = last_counted(days, clock, deadline), deadline.period.act == FILING
+    if day is None or not deadline.grants and deadline.period.direction != AFTER:
+        return None
+    while covered(days, day):
+        met = files and has_outage(days, day)
+        if permitted(days, day, AFTER) and not met:
+            return None
+        if weekday(day) < 5 and day in days.state - days.federal and names.get(day, "").endswith(DOUBT):
+            return None if met else Shown("last", day)
+        day += 1
+    return None
+
+
 def lines(calendar, deadline):
     """The lines of the readings that give another end, as (day, what, section)."""
     days, clock = days_of(calendar), calendar.clock
     end = shown(days, clock, deadline)
-    for words, other in readings(days, clock, deadline):
+    for words, other in readings(days, clock, calendar.names, deadline):
         if other is None or other == end:
             continue
         what, day = "other reading: " + words, other.end

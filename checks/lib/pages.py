@@ -1,4 +1,4 @@
-"""Reads a page that court_calendar writes, and says what is wrong with its markup.
+"""Reads a page that docket writes, and says what is wrong with its markup.
 
 `parts_of` gives the texts of the page, as a person reads them; `faults_of` looks at the markup alone: whether each element is
 closed in its place, whether there is a script or anything that is loaded, whether each link leads somewhere in the page,

@@ -1,23 +1,18 @@
-"""The runs of court_calendar and of the desk that are stored in runs/calendar: their inputs and words, and what they must write.
+"""The runs of the reports and of the desk that are stored in runs/calendar: their inputs and words, and what they must write.
 
 Each line of runs/calendar/words is a run: its name, its input, which is INPUT.in or is made from INPUT.made, and the words
 of the command line; the word `desk` alone enters the rows at a desk. NAME.out is what it writes, and NAME.sum what is kept of
 that where the input is made.
 """
 import pathlib
-import re
 from collections import namedtuple
 
-from lib.case_names import names_of
 from lib.runs_made import made_of
 
 FOLDER = pathlib.Path(__file__).resolve().parent.parent.parent / "runs" / "calendar"
-NAMES = re.compile(rb"^\[case_names\]\n((?:\d+ = .*\n)*)", re.MULTILINE)
 
 # A run: its name, its input, whether that is made from lines, the text in which it is stored, and the words.
 StoredRun = namedtuple("StoredRun", "name input is_made stored words")
-# An input: all of it, and without the names of its cases, which are here by number.
-Named = namedtuple("Named", "data plain names")
 
 
 def runs():
@@ -42,7 +37,7 @@ def title_of(run):
     return ["desk/" + run.name] if is_of_desk(run) else ["calendar/" + run.name, *run.words]
 
 
-def input_of(run):
+def data_of(run):
     """The bytes of a run's input."""
     return made_of(run.stored) if run.is_made else run.stored
 
@@ -50,12 +45,3 @@ def input_of(run):
 def wanted_of(run):
     """Where what the run must write is stored."""
     return FOLDER / (run.name + (".sum" if run.is_made else ".out"))
-
-
-def named(data):
-    """An input whose court's file may name cases."""
-    table = NAMES.search(data)
-    if table is None:
-        return Named(data, data, {})
-    entries = dict(line.split(" = ") for line in table.group(1).decode().splitlines())
-    return Named(data, data.replace(table.group(0), b""), names_of(entries))

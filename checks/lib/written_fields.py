@@ -1,9 +1,9 @@
-"""Fields as people write them, read as docs/FORMATS.md has it under 'Rows as people write them'. It knows nothing of the
+"""Fields as people write them, read as docs/clerk/ROWS.md has it under 'Rows as you write them'. It knows nothing of the
 program's code."""
 import pathlib
 import re
 
-RULES_PAGE = pathlib.Path(__file__).resolve().parent.parent.parent / "docs" / "RULES.md"
+RULES_PAGE = pathlib.Path(__file__).resolve().parent.parent.parent / "docs" / "law" / "RULES.md"
 # The codes of periods, and how each is cited where letters and digits alone count, in small letters.
 CODES = {"4m": "4m", "12a1ai": "12a1Ai", "12a1aiius": "12a1Aii-us", "12a1aiiabroad": "12a1Aii-abroad", "12a1b": "12a1B", "12a1c": "12a1C",
          "12a2": "12a2", "12a3": "12a3", "59b": "59b", "59e": "59e"}
@@ -100,7 +100,7 @@ def nearest_code(word):
 
 
 def entered_periods():
-    """The sections of docs/RULES.md whose periods are entered, of Rules and statutes, each with its texts."""
+    """The sections of docs/law/RULES.md whose periods are entered, of Rules and statutes, each with its texts."""
     entered = {}
     table = RULES_PAGE.read_text().split("## Periods of other Rules", 1)[1].split("\n## ", 1)[0]
     part = r"(?:\([^)| ]*\))+"

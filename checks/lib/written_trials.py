@@ -35,7 +35,7 @@ def broken(draw, text):
 
 def faults_in(desk, lines):
     """The faults of lines, by the numbers of the lines."""
-    faults = json.loads(desk.call("plain", "--json", given="".join(line + "\n" for line in lines).encode()).output.decode() or "[]")
+    faults = json.loads(desk.call("plain", "--json", given="".join(line + "\n" for line in lines).encode()).errors.decode() or "[]")
     return {fault["line"]: fault for fault in faults}
 
 

@@ -1,17 +1,15 @@
 -- What may be wrong with a court's file that has no fault.
 use Rattle.std.specs.Prelude.{◌≡◌, ◌↔◌, ℕ, suc, ◌+◌, nat_lt, ◌&&◌, not, Bool, true, false, ℤ, pos, ◌+ℤ◌, ◌-ℤ◌, ◌<ℤ◌, int_le, int_lt, unsigned_abs, List, [], ◌++◌, filter, Option, Some, None, option_map, if◌then◌else◌}
-use Rattle.std.specs.List.{AllPairs, Contains, filter_map, list_any, range_with_len}
+use Rattle.std.specs.List.{AllPairs, Contains, list_any, range_with_len}
 use Rattle.std.specs.Ordering.{int_eq}
 use Rattle.std.specs.Option.{option_and_then, option_to_list}
 use Rattle.toml.specs.Data.{Data, Items, no_items, item, as_str}
-use Rattle.court_clock.specs.Words.{day_of_text, days_through, is_weekend}
+use Rattle.court_clock.specs.Words.{day_of_text, is_weekend}
 use Rattle.court_days.specs.Words.{DaysView, is_among, is_covered}
 use Rattle.court_holidays.specs.Federal.Words.{set_in}
 use Rattle.court_holidays.specs.declared.federal.statute.FederalHoliday.TheVariants.{NewYearsDay}
 use Rattle.court_file_check.specs.declared.review.review.Due.{Due}
 use Rattle.court_file_check.specs.Review.Words.{days_from, due_on, lacking}
-use Rattle.court_file_check.specs.declared.warnings.days.DayTest.{DayTest}
-use Rattle.court_file_check.specs.declared.warnings.days.DayTest.TheVariants.{FederalAtWeekend, StateAtWeekend, InBoth}
 use Rattle.court_file_check.specs.declared.warnings.slips.Slip.{Slip}
 use Rattle.court_file_check.specs.declared.warnings.slips.Slip.TheVariants.{Outside, Twice, Early}
 
@@ -27,19 +25,6 @@ LackingIsTold = (c : DaysView) (capital : Bool) (d : ℤ) (due : Due) → Contai
 -- each once, in the order of the days
 abbrev pub LackingIsToldOnce : Type 0
 LackingIsToldOnce = (c : DaysView) (capital : Bool) → AllPairs (λ a b. a.0 <ℤ b.0) (lacking_told c capital)
-
--- a holiday on a Saturday or a Sunday, and a date that both lists have
-abbrev pub passes : DaysView → DayTest → ℤ → Bool
-passes c FederalAtWeekend d = is_weekend d && is_among c.federal d
-passes c StateAtWeekend d = is_weekend d && is_among c.state d
-passes c InBoth d = is_among c.federal d && is_among c.state d
-
-abbrev pub if_passes : DaysView → DayTest → ℤ → Option ℤ
-if_passes c test d = if passes c test d then Some d else None
-
--- the days of the span that pass
-unfoldable pub days_that : DaysView → DayTest → List ℤ
-days_that c test = filter_map (if_passes c test) (days_from c.from (days_through c.from c.to))
 
 -- the days from a first up to another, which isn't one of them, lie in the span
 abbrev pub is_within : DaysView → ℤ → ℤ → Bool

@@ -13,7 +13,7 @@ pub use faults::{Fault, What};
 pub use laws::{faults_begin_with_the_courts, lacking_is_told, lacking_is_told_once};
 pub use report::{Report, report_of};
 pub use review::{
-    Due, due_on, lacking_days, lacking_is_exact, review_is_in_order, unknown_days,
+    DayTest, Due, days_that, due_on, lacking_days, lacking_is_exact, review_is_in_order,
     unknowns_are_exact,
 };
 pub use warnings::names::Alike;

@@ -5,14 +5,13 @@ ghost use Rattle.toml.specs.View.{table_view};
 ghost use Rattle.court_days.specs.Words.{file_of};
 ghost use Rattle.court_file_check.specs.AreWarnings.{AreWarnings};
 
-use crate::review::{Due, unknown_days};
+use crate::review::{DayTest, Due, days_that};
 use court_clock::Day;
 use court_days::{Court, Days};
 use court_file_text::Key;
 use std::alloc::{AllocError, Global};
 use toml::Table;
 
-pub(crate) mod days;
 mod hours;
 mod lacking;
 pub(crate) mod names;
@@ -20,7 +19,6 @@ pub(crate) mod slips;
 mod years;
 pub(crate) mod zone;
 
-use days::{DayTest, days_that};
 use hours::{closes_early, ends_soon, is_long_day, is_short_span};
 use lacking::lacking_told;
 use names::{Alike, alike_at};
@@ -91,7 +89,13 @@ pub(crate) fn warnings_of(
         ends_soon: ends_soon(days, asked.today),
         bare_years: bare_years(alloc, days)?,
         lacking: lacking_told(alloc, days, asked.capital)?,
-        unknown: unknown_days(alloc, days, asked.capital)?,
+        unknown: days_that(
+            alloc,
+            days,
+            DayTest::Unknown {
+                capital: asked.capital,
+            },
+        )?,
         federal_at_weekend: days_that(alloc, days, DayTest::FederalAtWeekend)?,
         state_at_weekend: days_that(alloc, days, DayTest::StateAtWeekend)?,
         in_both: days_that(alloc, days, DayTest::InBoth)?,

@@ -18,7 +18,7 @@ pub(crate) fn push_head(
     )?;
     write!(
         text,
-        "# Written by `court_file write --court {code} --from {from} --to {to}`. A court has to check the zone, the hours\n"
+        "# Written by `docket court write --court {code} --from {from} --to {to}`. A court has to check the zone, the hours\n"
     )?;
     text.push_str(
         "# and each holiday against the statutes as they stand and against its own orders before it relies on this file.
@@ -49,7 +49,8 @@ pub(crate) fn push_names_head(text: &mut String) -> Result<(), AllocError> {
 judges = [\"Ames\", \"Brandt\", \"Calloway\"]
 rooms = [\"1\", \"2\", \"3\"]
 
-# What each of these holidays is called, with the law that sets its day. `deadline_memo` prints the names.
+# What each of these holidays is called, with the law that sets its day. `docket memo` prints the names; of a day whose name
+# ends in ' (doubtful)' it also says when the time ends by the reading that the day is no holiday.
 [holiday_names]
 ",
     )

@@ -69,17 +69,38 @@ impl Listed {
         }
     }
 
-    /// What is said where it is in doubt that the state declares the day a holiday in the sense of Rule 6(a)(6)(C),
-    /// though its statute names it: the state's own courts sit on Admission Day (Cal. Civ. Proc. Code section 135), the
-    /// Act that has Good Friday is one of banks (205 ILCS 630/17), and New Jersey's offices are open on Lincoln's
-    /// Birthday.
+    /// Whether it is in doubt that the state declares the day a holiday in the sense of Rule 6(a)(6)(C), though its
+    /// statute names it: the state's own courts sit on Admission Day (Cal. Civ. Proc. Code section 135), the Act that has
+    /// Good Friday is one of banks (205 ILCS 630/17), and New Jersey's offices are open on Lincoln's Birthday.
+    fn is_doubtful(&self, state: State) -> bool {
+        matches!(
+            (state, self.holiday),
+            (
+                State::California,
+                Holiday::OfState(StateHoliday::AdmissionDay)
+            ) | (State::Illinois, Holiday::OfState(StateHoliday::GoodFriday))
+                | (
+                    State::NewJersey,
+                    Holiday::OfState(StateHoliday::LincolnsBirthday)
+                )
+        )
+    }
+
+    /// What is said of a doubtful day in its list.
     pub(crate) fn doubt(&self, state: State) -> &'static str {
-        match (state, self.holiday) {
-            (State::California, Holiday::OfState(StateHoliday::AdmissionDay))
-            | (State::Illinois, Holiday::OfState(StateHoliday::GoodFriday))
-            | (State::NewJersey, Holiday::OfState(StateHoliday::LincolnsBirthday)) =>
-                "; doubtful, for the court to say",
-            _ => "",
+        if self.is_doubtful(state) {
+            "; doubtful, for the court to say"
+        } else {
+            ""
+        }
+    }
+
+    /// What the name of a doubtful day ends with. By it a memo gives the end by the reading that the day is no holiday.
+    pub(crate) fn mark(&self, state: State) -> &'static str {
+        if self.is_doubtful(state) {
+            " (doubtful)"
+        } else {
+            ""
         }
     }
 }

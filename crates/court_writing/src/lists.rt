@@ -115,8 +115,9 @@ fn push_names_of(text: &mut String, state: State, year: u16) -> Result<(), Alloc
 
 /// Adds what a holiday is called, and the law that makes its day one.
 fn push_name(text: &mut String, state: State, listed: &Listed, day: Day) -> Result<(), AllocError> {
-    let (name, observed, law) = (listed.name(), listed.observed(), listed.law(state));
-    write!(text, "{day} = \"{name}{observed}\" # {law}\n")
+    let (name, observed) = (listed.name(), listed.observed());
+    let (mark, law) = (listed.mark(state), listed.law(state));
+    write!(text, "{day} = \"{name}{observed}{mark}\" # {law}\n")
 }
 
 /// The day at a place of the year, counted from 0. None after its end.

@@ -5,6 +5,7 @@ pub mod CaseLemmas
 pub mod DecidedLemmas
 pub mod EntryLemmas
 pub mod ExportLemmas
+pub mod ReportedLemmas
 pub mod FieldLemmas
 pub mod GivenLemmas
 pub mod HistoryLemmas
@@ -12,6 +13,7 @@ pub mod KeepLemmas
 pub mod LineFaultLemmas
 pub mod ListLemmas
 pub mod NoteLemmas
+pub mod PastLemmas
 pub mod PlaceLemmas
 pub mod QuestionLemmas
 pub mod RegisterLemmas

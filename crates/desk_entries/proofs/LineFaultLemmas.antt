@@ -6,7 +6,7 @@ use Rattle.row_forms.specs.Words.{names_of}
 use Rattle.row_forms.specs.declared.line.line.Line.{Line}
 use Rattle.row_forms.specs.declared.line.line.Line.TheVariants as line
 use Rattle.row_forms.specs.Line.Words.{fields_read, line_read}
-use Rattle.desk_session.specs.Words.{HasNoEnd, IsFirstLine, number_after, numbered_from}
+use Rattle.desk_session.specs.Words.{HasNoEnd, IsFirstLine, number_after, numbered_from, unmarked, unmarked_lines}
 use Rattle.desk_session.proofs.CallerLemmas.{numbered_from-first, numbered_from-none}
 use Rattle.desk_entries.specs.LineFaults.{CountsAs, FaultyLine, fault_as, faults_of}
 use Rattle.desk_entries.specs.Laws.{AllSayRows, FaultlessLinesSayRows}
@@ -67,22 +67,23 @@ counts_more under kept bytes row before after cases then is counts one name name
     })
 
 -- the faults of an input are those that were found and those of what is left of it
-pub faults_more : (under : Standing) (kept : List (List ℕ)) (number : ℕ) (rest line : List ℕ) (end : ℕ) (after : List ℕ) (found found_then all : List FaultyLine) → IsFirstLine rest line end after
-    → found ++ faults_of under kept (numbered_from number [] rest) ≡ all
-    → found_then ≡ found ++ fault_as number line (too_many_at under kept line) (within kept (line_read most_clerks (names_of under.court) (reading_at under kept line).text))
-    → found_then ++ faults_of under (kept ++ leaves under kept line) (numbered_from (number_after number end) [] after) ≡ all
+pub faults_more : (under : Standing) (marked : Bool) (kept : List (List ℕ)) (number : ℕ) (rest line : List ℕ) (end : ℕ) (after : List ℕ) (found found_then all : List FaultyLine) → IsFirstLine rest line end after
+    → found ++ faults_of under kept (unmarked_lines marked (numbered_from number [] rest)) ≡ all
+    → found_then ≡ found ++ fault_as number (unmarked marked line) (too_many_at under kept (unmarked marked line)) (within kept (line_read most_clerks (names_of under.court) (reading_at under kept (unmarked marked line)).text))
+    → found_then ++ faults_of under (kept ++ leaves under kept (unmarked marked line)) (unmarked_lines marked (numbered_from (number_after number end) [] after)) ≡ all
 unfolding faults_of
-faults_more under kept number rest line end after found found_then all first so_far more =
-    ap (λ (f : List FaultyLine). f ++ faults_of under (kept ++ leaves under kept line) (numbered_from (number_after number end) [] after)) more
-    ∙ append_assoc found (fault_as number line (too_many_at under kept line) (within kept (line_read most_clerks (names_of under.court) (reading_at under kept line).text))) _
-    ∙ ap (λ (lines : List (ℕ × List ℕ)). found ++ faults_of under kept lines) (sym (numbered_from-first number rest line end after first))
+faults_more under marked kept number rest line end after found found_then all first so_far more =
+    let read = unmarked marked line in
+    ap (λ (f : List FaultyLine). f ++ faults_of under (kept ++ leaves under kept read) (unmarked_lines marked (numbered_from (number_after number end) [] after))) more
+    ∙ append_assoc found (fault_as number read (too_many_at under kept read) (within kept (line_read most_clerks (names_of under.court) (reading_at under kept read).text))) _
+    ∙ ap (λ (lines : List (ℕ × List ℕ)). found ++ faults_of under kept (unmarked_lines marked lines)) (sym (numbered_from-first number rest line end after first))
     ∙ so_far
 
 -- and where no line is left, they are those that were found
-pub faults_all : (under : Standing) (kept : List (List ℕ)) (number : ℕ) (rest : List ℕ) (found all : List FaultyLine) → HasNoEnd rest → found ++ faults_of under kept (numbered_from number [] rest) ≡ all → found ≡ all
+pub faults_all : (under : Standing) (marked : Bool) (kept : List (List ℕ)) (number : ℕ) (rest : List ℕ) (found all : List FaultyLine) → HasNoEnd rest → found ++ faults_of under kept (unmarked_lines marked (numbered_from number [] rest)) ≡ all → found ≡ all
 unfolding faults_of
-faults_all under kept number rest found all none so_far =
-    sym (ap (λ (lines : List (ℕ × List ℕ)). found ++ faults_of under kept lines) (numbered_from-none number rest none) ∙ append-nil found)
+faults_all under marked kept number rest found all none so_far =
+    sym (ap (λ (lines : List (ℕ × List ℕ)). found ++ faults_of under kept (unmarked_lines marked lines)) (numbered_from-none number rest none) ∙ append-nil found)
     ∙ so_far
 
 -- the number of the next line is no more than that of this one and the bytes that are read of it

@@ -5,6 +5,8 @@ pub mod LineCauses
 pub mod Run
 pub mod Rows
 pub mod Export
+pub mod Reported
+pub mod Past
 pub mod History
 pub mod Striking
 pub mod Register

@@ -20,7 +20,7 @@ use Rattle.desk_entries.specs.Rows.{answer_to, reading_at, told_of, too_many_at,
 
 -- the line that tells that a row asks for a change, where the next row has this number
 abbrev pub command_text : (number : ℕ) → List ℕ
-command_text number = codes "row " ++ decimal number ++ codes " is a command: enter it with 'docket_desk enter'\n"
+command_text number = codes "row " ++ decimal number ++ codes " is a command: enter it with 'docket enter'\n"
 
 -- a question is answered as it would be if it were entered next
 abbrev pub shown_for : Standing → (kept : List (List ℕ)) → Row → Work → List ℕ

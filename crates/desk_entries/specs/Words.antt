@@ -21,3 +21,6 @@ pub use Rattle.desk_entries.specs.LineFaults.{FaultyLine, fault_in}
 unfoldable pub use Rattle.desk_entries.specs.LineFaults.{faults_of}
 unfoldable pub use Rattle.desk_entries.specs.Striking.{strike_for}
 unfoldable pub use Rattle.desk_entries.specs.Export.{row_written, rows_written}
+pub use Rattle.desk_entries.specs.Reported.{ReportsAreOfTheDocket, rows_standing}
+unfoldable pub use Rattle.desk_entries.specs.Past.{rows_struck}
+pub use Rattle.desk_entries.specs.Past.{corrections_in}

@@ -1,4 +1,5 @@
 //! Laws of the definitions, the contracts of functions that do nothing.
+ghost use Rattle.desk_entries.specs.Reported.{ReportsAreOfTheDocket};
 ghost use Rattle.desk_entries.specs.Laws.{ACaseNumberIsOneCase, AStruckRowIsLeftOut, AnAnswerShowsItsNumber, AnswersAreTheRuns, FaultlessLinesSayRows, OtherLinesAreReadAsTheyAre, RowsAreWrittenAsTheyAre, RowsKeepTheirNumbers, WhatIsLeftFollows, WhatIsLeftIsHistory};
 
 /// What a line leaves may follow when the journal is opened again, and is no court's file and no strike.
@@ -58,4 +59,10 @@ pub fn rows_keep_their_numbers()
 #[tactic(auto, using(crate::proofs::PlaceLemmas::shows_its_number))]
 pub fn an_answer_shows_its_number()
     ensures { AnAnswerShowsItsNumber }
+{}
+
+/// What the rows that reports are made of docket is the docket that stands.
+#[tactic(auto, using(crate::proofs::ReportedLemmas::of_the_docket))]
+pub fn reports_are_of_the_docket()
+    ensures { ReportsAreOfTheDocket }
 {}

@@ -11,8 +11,10 @@ mod fault;
 mod laws;
 mod line_faults;
 mod outcome;
+mod past;
 mod questions;
 mod register;
+mod reported;
 mod review;
 mod standing;
 mod striking;
@@ -26,11 +28,13 @@ pub use fault::{HistoryFault, StrikeFault};
 pub use laws::{
     a_case_number_is_one_case, a_struck_row_is_left_out, an_answer_shows_its_number,
     answers_are_the_runs, faultless_lines_say_rows, other_lines_are_read_as_they_are,
-    rows_are_written_as_they_are, rows_keep_their_numbers, what_is_left_follows,
-    what_is_left_is_history,
+    reports_are_of_the_docket, rows_are_written_as_they_are, rows_keep_their_numbers,
+    what_is_left_follows, what_is_left_is_history,
 };
 pub use line_faults::LineFault;
+pub use past::{Corrected, corrections_in, struck_rows};
 pub use questions::Questions;
 pub use register::{DocketRegister, MOST_CLERKS, MOST_ENTRIES};
+pub use reported::standing_rows;
 pub use review::{Difference, Review, decided_again};
 pub use standing::Standing;

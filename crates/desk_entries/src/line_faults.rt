@@ -2,7 +2,7 @@
 ghost use Rattle.std.specs.Prelude.{◌≡◌, ◌++◌, ◌∷◌, [], ℕ, List, length, map, IfOk, OnOk};
 ghost use Rattle.row_forms.specs.Words.{names_of};
 ghost use Rattle.row_forms.specs.Line.Words.{line_read};
-ghost use Rattle.desk_session.specs.Words.{numbered_lines};
+ghost use Rattle.desk_session.specs.Words.{numbered_lines, unmarked_lines};
 ghost use Rattle.desk_entries.specs.Entries.{most_clerks};
 ghost use Rattle.desk_entries.specs.LineFaults.{CountsAs, fault_as, fault_in, faults_of};
 ghost use Rattle.desk_entries.specs.Rows.{leaves, reading_at, too_many_at, within};
@@ -14,7 +14,7 @@ use crate::register::{DocketRegister, RowTypes};
 use crate::standing::Standing;
 use case_numbers::Cases;
 use csv::StringRecord;
-use desk_session::{number_after, split_line};
+use desk_session::{number_after, split_line, unmarked};
 use row_forms::Line;
 use std::alloc::{AllocError, Global};
 
@@ -95,14 +95,16 @@ impl Reading {
 impl DocketRegister {
     ghost use Rattle.desk_entries.specs.Register.{IsReadyAt};
 
-    /// What is wrong with the lines of an input, if they come next. `Err` says that memory ran out.
+    /// What is wrong with the lines of an input, if they come next. Where lines may be marked, one that begins with a '!' is read
+    /// without it. `Err` says that memory ran out.
     pub fn line_faults(
         &self,
         alloc: Global,
         under: &Standing,
+        marked: bool,
         input: &[u8],
     ) -> Result<Vec<LineFault>, AllocError>
-        ensures { (kept : List (List ℕ)) → IsReadyAt under.now self.now kept → IfOk result (λ faults. map fault_in faults.items ≡ faults_of under.now kept (numbered_lines input.now)) }
+        ensures { (kept : List (List ℕ)) → IsReadyAt under.now self.now kept → IfOk result (λ faults. map fault_in faults.items ≡ faults_of under.now kept (unmarked_lines marked (numbered_lines input.now))) }
     {
         let mut reading = Reading {
             fields: StringRecord::new(alloc),
@@ -113,7 +115,7 @@ impl DocketRegister {
         let mut number = 1usize;
         let mut rest = input;
         while let Some(split) = split_line(rest) {
-            reading.read(alloc, under, number, split.line)?;
+            reading.read(alloc, under, number, unmarked(marked, split.line))?;
             number = number_after(number, split.end);
             rest = split.rest;
         }

@@ -22,7 +22,7 @@ pub struct Questions {
 fn push_command(alloc: Global, text: &mut Vec<u8>, number: u32) -> Result<(), AllocError>
     ensures { OnOk result (text.new.items ≡ text.old.items ++ command_text number) }
 {
-    let line = format!(in alloc; "row {number} is a command: enter it with 'docket_desk enter'\n")?;
+    let line = format!(in alloc; "row {number} is a command: enter it with 'docket enter'\n")?;
     text.extend_from_slice(line.as_bytes())
 }
 

@@ -5,4 +5,3 @@ pub mod PlainLemmas
 pub mod MapLemmas
 pub mod CallerLemmas
 pub mod StrikesLemmas
-pub mod TableLemmas

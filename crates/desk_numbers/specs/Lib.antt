@@ -7,4 +7,3 @@ pub mod Numbered
 pub mod Laws
 pub mod Words
 pub mod Strikes
-pub mod Table

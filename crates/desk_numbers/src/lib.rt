@@ -10,7 +10,6 @@ mod numbers;
 mod placed;
 mod shown;
 mod strikes;
-mod table;
 mod tops;
 
 pub use given::{Given, given_by};
@@ -22,4 +21,3 @@ pub use laws::{
 pub use moved::{Moved, MovedNumbers};
 pub use numbers::RowNumbers;
 pub use strikes::{Corrections, Strike, remark_in, strike_entry, strike_in, strikes_are_read_back};
-pub use table::{has_key, has_numbers, moved_numbers, push_numbers};

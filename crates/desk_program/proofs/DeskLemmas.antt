@@ -5,68 +5,80 @@ use Rattle.std.specs.declared.alloc.Global.{Global}
 use Rattle.desk_journal.specs.Words.{IsKept, StandsFor, batch_of}
 use Rattle.desk_journal.proofs.CallerLemmas.{one_list, rest_kept}
 use Rattle.desk_session.proofs.CallerLemmas.{unanswered}
-use Rattle.desk_session.specs.Words.{IsAllOrNone, IsPromised, IsServed, left_by, lines_of, numbered_lines, unfinished_of}
+use Rattle.desk_session.specs.Words.{IsAllOrNone, IsPromised, IsServed, left_by, lines_of, unfinished_of}
 use Rattle.desk_numbers.specs.declared.strikes.strike.Strike.{Strike}
 use Rattle.desk_numbers.specs.Strikes.Words.{strike_entry}
 use Rattle.desk_entries.specs.declared.standing.Standing.{Standing}
-use Rattle.desk_entries.specs.Words.{IsHistory, IsReadyAt, StandsAfter, answers, faults_of, later_file, leaves, strike_for}
-use Rattle.desk_entries.proofs.CallerLemmas.{left_docketed, left_history}
+use Rattle.desk_entries.specs.Words.{IsDocketed, IsHistory, IsReadyAt, StandsAfter, later_file, strike_for}
+use Rattle.desk_entries.proofs.CallerLemmas.{left_docketed}
+use Rattle.desk_warnings.specs.Words.{lines_taken}
+use Rattle.desk_warnings.proofs.CallerLemmas.{careful_history, keep_nothing}
 use Rattle.desk_program.specs.declared.desk.Desk.{Desk}
-use Rattle.desk_program.specs.Desk.{IsPromisedDocket, KeepsDocket, disk_under, docketed_at, standing_at}
-use Rattle.desk_program.specs.Together.{IsDocketAllOrNone, KeepsTogether, stop_of}
+use Rattle.desk_program.specs.Desk.{IsPromisedDocket, KeepsDocket, answers_at, disk_under, docketed_at, held_at, leaves_at, standing_at}
+use Rattle.desk_program.specs.Together.{IsDocketAllOrNone, KeepsTogether, faults_in, stop_of}
 
 module _ {D : Type 0} (seen : D → List ℕ) (may_leave : D → List ℕ → Type 0) (is_usable : D → Bool) (before after : Desk D) (kept : List (List ℕ)) where
+  -- what a docket comes to after lines
+  docketed_after : KeepsDocket seen may_leave is_usable kept before → standing_at after ≡ standing_at before → (lines : List (List ℕ))
+      → IsReadyAt (standing_at before) after.careful.register (kept ++ left_by (leaves_at before) kept lines)
+      → IsDocketed (docketed_at after) (kept ++ left_by (leaves_at before) kept lines)
+  docketed_after keeps same lines stands =
+      let is = keep_nothing (standing_at before) (held_at before) kept lines in
+      subst (λ (l : List (List ℕ)). IsDocketed (docketed_at after) (kept ++ l)) (sym is)
+      (left_docketed (docketed_at before) (docketed_at after) kept (lines_taken (standing_at before) (held_at before) kept lines) keeps.docketed same
+      (subst (λ (l : List (List ℕ)). IsReadyAt (standing_at before) after.careful.register (kept ++ l)) is stands))
+
   -- lines that are served, of a docket
   pub served_docket : KeepsDocket seen may_leave is_usable kept before → standing_at after ≡ standing_at before → (lines : List (List ℕ)) (old new : Option (List ℕ))
-      → IsServed (leaves (standing_at before)) (answers (standing_at before)) (λ entries. IsKept seen may_leave is_usable entries after.journal) (IsReadyAt (standing_at before) after.register) kept lines old new
-      → IsServed (leaves (standing_at before)) (answers (standing_at before)) (λ entries. KeepsDocket seen may_leave is_usable entries after) (λ entries. standing_at after ≡ standing_at before) kept lines old new
+      → IsServed (leaves_at before) (answers_at before) (λ entries. IsKept seen may_leave is_usable entries after.journal) (IsReadyAt (standing_at before) after.careful.register) kept lines old new
+      → IsServed (leaves_at before) (answers_at before) (λ entries. KeepsDocket seen may_leave is_usable entries after) (λ entries. standing_at after ≡ standing_at before) kept lines old new
   served_docket keeps same lines old new served = record {
-    keeps = record { kept = served.keeps; docketed = left_docketed (docketed_at before) (docketed_at after) kept lines keeps.docketed same served.stands };
+    keeps = record { kept = served.keeps; docketed = docketed_after keeps same lines served.stands };
     stands = same;
     told = served.told;
   }
 
   -- the same of an input that is kept together
   pub kept_together : KeepsDocket seen may_leave is_usable kept before → standing_at after ≡ standing_at before → (keep_refused : Bool) (input : List ℕ) (old new : Option (List ℕ))
-      → faults_of (standing_at before) kept (numbered_lines input) ≡ [] → unfinished_of input ≡ [] → stop_of (standing_at before) keep_refused kept input ≡ None
-      → IsServed (leaves (standing_at before)) (answers (standing_at before)) (λ entries. IsKept seen may_leave is_usable entries after.journal) (IsReadyAt (standing_at before) after.register) kept (lines_of input) old new
-      → KeepsTogether (standing_at before) keep_refused kept input old new (λ entries. KeepsDocket seen may_leave is_usable entries after)
-  kept_together keeps same keep_refused input old new faultless finished unrefused served =
+      → faults_in (standing_at before) (held_at before) kept input ≡ [] → unfinished_of input ≡ [] → stop_of (standing_at before) (held_at before) keep_refused kept input ≡ None
+      → IsServed (leaves_at before) (answers_at before) (λ entries. IsKept seen may_leave is_usable entries after.journal) (IsReadyAt (standing_at before) after.careful.register) kept (lines_of input) old new
+      → KeepsTogether (standing_at before) (held_at before) keep_refused kept input old new (λ entries. KeepsDocket seen may_leave is_usable entries after)
+  kept_together keeps same keep_refused input old new faultless finished unstopped served =
       let all = served_docket keeps same (lines_of input) old new served in
-      record { faultless = faultless; finished = finished; unrefused = unrefused; keeps = all.keeps; told = all.told }
+      record { faultless = faultless; finished = finished; unstopped = unstopped; keeps = all.keeps; told = all.told }
 
   -- lines that are promised, of a docket
   pub promised_docket : KeepsDocket seen may_leave is_usable kept before → (lines : List (List ℕ)) (old new : Option (List ℕ)) (HasWritten : Type 0) (MayLeave : List ℕ → Type 0)
-      → IsPromised (leaves (standing_at before)) (answers (standing_at before)) kept lines old new HasWritten MayLeave
-      → IsPromisedDocket (standing_at before) kept lines old new HasWritten MayLeave
+      → IsPromised (leaves_at before) (answers_at before) kept lines old new HasWritten MayLeave
+      → IsPromisedDocket (standing_at before) (held_at before) kept lines old new HasWritten MayLeave
   promised_docket keeps lines old new HasWritten MayLeave promised = record {
     promised = promised;
     opens = λ file may.
         let (n, later, stands) = promised.lasts file may in
-        let both = left_history (standing_at before) kept (take n lines) keeps.docketed.history keeps.docketed.standing in
-        (kept ++ left_by (leaves (standing_at before)) kept (take n lines), stands, both.0, both.1);
+        let both = careful_history (standing_at before) (held_at before) kept (take n lines) keeps.docketed.history keeps.docketed.standing in
+        (kept ++ left_by (leaves_at before) kept (take n lines), stands, both.0, both.1);
   }
 
   -- and where nothing was done
   pub none_promised : KeepsDocket seen may_leave is_usable kept before → (lines : List (List ℕ)) (old : Option (List ℕ)) (HasWritten : Type 0)
-      → IsPromisedDocket (standing_at before) kept lines old old HasWritten (may_leave (disk_under before))
+      → IsPromisedDocket (standing_at before) (held_at before) kept lines old old HasWritten (may_leave (disk_under before))
   none_promised keeps lines old HasWritten =
       promised_docket keeps lines old old HasWritten (may_leave (disk_under before))
-      (unanswered (leaves (standing_at before)) (answers (standing_at before)) kept lines old HasWritten (may_leave (disk_under before)) (λ file may. inl (rest_kept seen may_leave is_usable before.journal kept keeps.kept file may)))
+      (unanswered (leaves_at before) (answers_at before) kept lines old HasWritten (may_leave (disk_under before)) (λ file may. inl (rest_kept seen may_leave is_usable before.journal kept keeps.kept file may)))
 
   -- lines that are kept together, of a docket
   pub all_or_none_docket : KeepsDocket seen may_leave is_usable kept before → (lines : List (List ℕ)) (MayLeave : List ℕ → Type 0)
-      → IsAllOrNone (leaves (standing_at before)) kept lines MayLeave → IsDocketAllOrNone (standing_at before) kept lines MayLeave
+      → IsAllOrNone (leaves_at before) kept lines MayLeave → IsDocketAllOrNone (standing_at before) (held_at before) kept lines MayLeave
   all_or_none_docket keeps lines MayLeave either = record { all_or_none = either; opens = λ file may. by file (either file may) }
     where
-      by : (file : List ℕ) → StandsFor file kept ⊎ StandsFor file (kept ++ left_by (leaves (standing_at before)) kept lines) → (entries : List (List ℕ)) × StandsFor file entries × IsHistory entries × StandsAfter entries (standing_at before)
+      by : (file : List ℕ) → StandsFor file kept ⊎ StandsFor file (kept ++ left_by (leaves_at before) kept lines) → (entries : List (List ℕ)) × StandsFor file entries × IsHistory entries × StandsAfter entries (standing_at before)
       by file (inl stands) = (kept, stands, keeps.docketed.history, keeps.docketed.standing)
       by file (inr stands) =
-          let both = left_history (standing_at before) kept lines keeps.docketed.history keeps.docketed.standing in
-          (kept ++ left_by (leaves (standing_at before)) kept lines, stands, both.0, both.1)
+          let both = careful_history (standing_at before) (held_at before) kept lines keeps.docketed.history keeps.docketed.standing in
+          (kept ++ left_by (leaves_at before) kept lines, stands, both.0, both.1)
 
   -- and where nothing was done
-  pub none_docket : KeepsDocket seen may_leave is_usable kept before → (lines : List (List ℕ)) → IsDocketAllOrNone (standing_at before) kept lines (may_leave (disk_under before))
+  pub none_docket : KeepsDocket seen may_leave is_usable kept before → (lines : List (List ℕ)) → IsDocketAllOrNone (standing_at before) (held_at before) kept lines (may_leave (disk_under before))
   none_docket keeps lines =
       all_or_none_docket keeps lines (may_leave (disk_under before)) (λ file may. inl (rest_kept seen may_leave is_usable before.journal kept keeps.kept file may))
 

@@ -1,4 +1,3 @@
-pub mod CarefulLemmas
 pub mod DeskLemmas
 pub mod FaultLemmas
 pub mod FaultWordLemmas

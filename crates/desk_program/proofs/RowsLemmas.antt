@@ -36,11 +36,6 @@ rows_more under moved written text then front left head kept entry number begun 
     ∙ ap (λ (l : List ℕ). head ++ l)
     (ap (λ (n : ℕ). rows_written under moved 1 (row_entries kept) ++ rows_written under moved n one) (sym here) ∙ sym (rows_written-append under moved 1 (row_entries kept) one) ∙ ap (rows_written under moved 1) (sym (row_entries-more kept entry begun)))
 
--- and the number of the row after it
-pub number_more : (kept : List (List ℕ)) (entry : List ℕ) (number then : ℕ) → 0 < length kept → number ≡ next_number kept → then ≡ number + length (row_only (note_in entry) entry) → then ≡ next_number (kept ++ entry ∷ [])
-number_more kept entry number then begun next is =
-    omega (arith, next, is, ap length (row_entries-more kept entry begun), length-append (row_entries kept) (row_only (note_in entry) entry))
-
 -- the text of changes, after one more
 pub changes_text-more : (differences : List Difference) (i : ℕ) (difference : Difference) → i < length differences → difference ≡ get_or differences i difference
     → changes_text (map change_in (take (i + 1) differences)) ≡ changes_text (map change_in (take i differences)) ++ change_text (change_in difference)
@@ -81,19 +76,4 @@ one_row_written under moved number entry row = by (note_in entry) row
   where
     by : (n : Option Note) → is_none n ≡ true → rows_written under moved number (row_only n entry) ≡ row_written under moved number entry
     by None h = append-nil (row_written under moved number entry)
-    by (Some note) h = cc h
-
--- and how many rows it is
-pub none_counted : (entry : List ℕ) (number : ℕ) → is_none (note_in entry) ≡ false → number ≡ number + length (row_only (note_in entry) entry)
-none_counted entry number noted = by (note_in entry) noted
-  where
-    by : (n : Option Note) → is_none n ≡ false → number ≡ number + length (row_only n entry)
-    by None h = cc h
-    by (Some note) h = omega arith
-
-pub one_counted : (entry : List ℕ) (number : ℕ) → is_none (note_in entry) ≡ true → number + 1 ≡ number + length (row_only (note_in entry) entry)
-one_counted entry number row = by (note_in entry) row
-  where
-    by : (n : Option Note) → is_none n ≡ true → number + 1 ≡ number + length (row_only n entry)
-    by None h = omega arith
     by (Some note) h = cc h

@@ -5,11 +5,14 @@ use Rattle.desk_journal.specs.Words.{IsKept, StandsFor, disk_of}
 use Rattle.desk_session.specs.Words.{IsPromised}
 use Rattle.desk_entries.specs.declared.docketed.Docketed.{Docketed}
 use Rattle.desk_entries.specs.declared.standing.Standing.{Standing}
-use Rattle.desk_entries.specs.Words.{IsDocketed, IsHistory, StandsAfter, answers, leaves}
+use Rattle.desk_session.specs.declared.outcome.Outcome.{Outcome}
+use Rattle.desk_entries.specs.Words.{IsDocketed, IsHistory, StandsAfter}
+use Rattle.desk_warnings.specs.declared.register.HeldBack.{HeldBack}
+use Rattle.desk_warnings.specs.Words.{careful_answers, careful_leaves, careful_outcome}
 use Rattle.program_streams.specs.Words.{court_part}
 use Rattle.desk_program.specs.declared.desk.Desk.{Desk}
 use Rattle.desk_program.specs.declared.fault.DeskFault.{DeskFault}
-use Rattle.desk_program.specs.declared.fault.DeskFault.TheVariants.{BadStrike, Busy, Court, Differs, Divided, Faults, Faulty, File, Foreign, Journal, KeptCourt, LongInput, NoJournal, Other, OutOfMemory, Refused, Session, Taken, Unkept, Unstruck, Write}
+use Rattle.desk_program.specs.declared.fault.DeskFault.TheVariants.{BadStrike, Busy, Court, Differs, Divided, Faults, Faulty, File, Foreign, Held, Journal, KeptCourt, LongInput, NoJournal, Other, OutOfMemory, Refused, Session, Taken, Unkept, Unstruck, Write}
 
 -- the disk under a desk
 abbrev pub disk_under : {D : Type 0} → Desk D → D
@@ -17,11 +20,25 @@ disk_under desk = disk_of desk.journal
 
 -- what stands there: the court by which it goes, and what strikes come to
 abbrev pub standing_at : {D : Type 0} → Desk D → Standing
-standing_at desk = desk.standing
+standing_at desk = desk.setup.standing
+
+-- what is held back of the rows that are entered there
+abbrev pub held_at : {D : Type 0} → Desk D → HeldBack
+held_at desk = desk.setup.held_back
+
+-- what a line leaves there, what it is answered, and what comes of it
+abbrev pub leaves_at : {D : Type 0} → Desk D → (kept : List (List ℕ)) → (line : List ℕ) → List (List ℕ)
+leaves_at desk = careful_leaves (standing_at desk) (held_at desk)
+
+abbrev pub answers_at : {D : Type 0} → Desk D → (kept : List (List ℕ)) → (line : List ℕ) → List ℕ
+answers_at desk = careful_answers (standing_at desk) (held_at desk)
+
+abbrev pub outcome_at : {D : Type 0} → Desk D → (kept : List (List ℕ)) → (line : List ℕ) → Outcome
+outcome_at desk = careful_outcome (standing_at desk) (held_at desk)
 
 -- what stands, and the docket
 abbrev pub docketed_at : {D : Type 0} → Desk D → Docketed
-docketed_at desk = record { standing = desk.standing; register = desk.register }
+docketed_at desk = record { standing = desk.setup.standing; register = desk.careful.register }
 
 -- The entries are kept on the disk, they are a history, and its docket is the one to which they come.
 pub record KeepsDocket {D : Type 0} (seen : D → List ℕ) (may_leave : D → List ℕ → Type 0) (is_usable : D → Bool) (entries : List (List ℕ)) (desk : Desk D) : Type 0 where
@@ -29,9 +46,10 @@ pub record KeepsDocket {D : Type 0} (seen : D → List ℕ) (may_leave : D → L
   pub docketed : IsDocketed (docketed_at desk) entries
 
 -- What a session promises of a docket, however it ends: what `IsPromised` says of its lines, each of which leaves its row
--- with its answer; and whatever a crash leaves is a history after which the same stands, so that the next opening takes it.
-pub record IsPromisedDocket (under : Standing) (kept lines : List (List ℕ)) (before after : Option (List ℕ)) (HasWritten : Type 0) (MayLeave : List ℕ → Type 0) : Type 0 where
-  pub promised : IsPromised (leaves under) (answers under) kept lines before after HasWritten MayLeave
+-- with its answer, or is held back; and whatever a crash leaves is a history after which the same stands, so that the next
+-- opening takes it.
+pub record IsPromisedDocket (under : Standing) (held : HeldBack) (kept lines : List (List ℕ)) (before after : Option (List ℕ)) (HasWritten : Type 0) (MayLeave : List ℕ → Type 0) : Type 0 where
+  pub promised : IsPromised (careful_leaves under held) (careful_answers under held) kept lines before after HasWritten MayLeave
   pub opens : (file : List ℕ) → MayLeave file → (entries : List (List ℕ)) × StandsFor file entries × IsHistory entries × StandsAfter entries under
 
 -- why a file isn't taken as a court's
@@ -51,6 +69,7 @@ HasCourtFault file (Session fault) = ⊥
 HasCourtFault file (Unkept fault) = ⊥
 HasCourtFault file (Faults count) = ⊥
 HasCourtFault file (Refused line) = ⊥
+HasCourtFault file (Held line) = ⊥
 HasCourtFault file (Faulty tally) = ⊥
 HasCourtFault file LongInput = ⊥
 HasCourtFault file Busy = ⊥

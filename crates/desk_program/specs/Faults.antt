@@ -9,7 +9,7 @@ use Rattle.desk_session.specs.declared.fault.SessionFault.TheVariants as session
 use Rattle.desk_entries.specs.declared.fault.HistoryFault.{HistoryFault}
 use Rattle.desk_entries.specs.declared.fault.HistoryFault.TheVariants as history
 use Rattle.desk_program.specs.declared.fault.DeskFault.{DeskFault}
-use Rattle.desk_program.specs.declared.fault.DeskFault.TheVariants.{BadStrike, Busy, Court, Differs, Divided, Faults, Faulty, File, Foreign, Journal, KeptCourt, LongInput, NoJournal, Other, OutOfMemory, Refused, Session, Taken, Unkept, Unstruck, Write}
+use Rattle.desk_program.specs.declared.fault.DeskFault.TheVariants.{BadStrike, Busy, Court, Differs, Divided, Faults, Faulty, File, Foreign, Held, Journal, KeptCourt, LongInput, NoJournal, Other, OutOfMemory, Refused, Session, Taken, Unkept, Unstruck, Write}
 
 abbrev pub journal_fault : JournalFault → DeskFault
 journal_fault (journal.Damaged number) = Journal (journal.Damaged number)
@@ -55,6 +55,7 @@ desk_status (Unkept session.OutOfMemory) = 5
 desk_status (Unkept _) = 6
 desk_status (Faults count) = 3
 desk_status (Refused line) = 3
+desk_status (Held line) = 3
 desk_status (Faulty tally) = 8
 desk_status LongInput = 4
 desk_status Busy = 6

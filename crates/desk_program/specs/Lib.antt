@@ -1,12 +1,10 @@
 pub mod Ask
-pub mod Careful
 pub mod Cases
 pub mod Change
 pub mod Desk
 pub mod FaultWords
 pub mod Faults
 pub mod File
-pub mod NamesTable
 pub mod Note
 pub mod Rows
 pub mod Strike

@@ -2,25 +2,21 @@
 use Rattle.std.specs.Prelude.{ℕ, List, [], ◌∷◌, ◌++◌, codes, if◌then◌else◌, nat_eq}
 use Rattle.std.specs.Fmt.{decimal}
 use Rattle.std.specs.List.{ends_with, flat_map}
-use Rattle.case_numbers.specs.declared.names.NamedCase.{NamedCase}
 use Rattle.desk_numbers.specs.declared.moved.Moved.{Moved}
 use Rattle.desk_entries.specs.declared.standing.Standing.{Standing}
 use Rattle.desk_entries.specs.Words.{Change, row_entries, rows_written, standing_file}
-use Rattle.desk_numbers.specs.Table.Words.{numbers_table}
-use Rattle.desk_program.specs.NamesTable.{names_table}
 
 -- a court's file, with an end of its last line
 abbrev pub ended : List ℕ → List ℕ
 ended file = if ends_with nat_eq file (10 ∷ []) then file else file ++ 10 ∷ []
 
--- what comes before the rows: a court's file, the names of cases, the numbers that aren't places, and a line `%%`
-abbrev pub head_of : (file : List ℕ) → List NamedCase → List Moved → List ℕ
-head_of file named moved = ended file ++ names_table file named ++ numbers_table file moved ++ codes "%%\n"
+-- what comes before the rows: a court's file, and a line `%%`
+abbrev pub head_of : (file : List ℕ) → List ℕ
+head_of file = ended file ++ codes "%%\n"
 
--- what clerk_office reads: the court's file that stands with the names of cases and the numbers that aren't places, a line `%%`
--- and the rows that stand
-abbrev pub written_rows : Standing → List Moved → List NamedCase → (entries : List (List ℕ)) → List ℕ
-written_rows under moved named entries = head_of (standing_file entries) named moved ++ rows_written under moved 1 (row_entries entries)
+-- what clerk_office reads: the court's file that stands, a line `%%` and the rows that stand
+abbrev pub written_rows : Standing → List Moved → (entries : List (List ℕ)) → List ℕ
+written_rows under moved entries = head_of (standing_file entries) ++ rows_written under moved 1 (row_entries entries)
 
 -- a row that would be answered otherwise: its entry, which ends with the answer that it was given, and then the other one
 abbrev pub change_text : Change → List ℕ

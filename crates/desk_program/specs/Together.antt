@@ -1,14 +1,16 @@
 -- Rows that are kept together, or not at all.
-use Rattle.std.specs.Prelude.{◌≡◌, ◌≢◌, ◌⊎◌, ℕ, Bool, List, [], ◌∷◌, ◌++◌, codes, length, None, Option, Some}
+use Rattle.std.specs.Prelude.{◌≡◌, ◌≢◌, ◌⊎◌, ℕ, Bool, List, [], ◌∷◌, ◌++◌, codes, length, None, Option, Some, if◌then◌else◌}
 use Rattle.std.specs.Fmt.{decimal}
 use Rattle.std.specs.List.{flat_map}
 use Rattle.std.specs.Io.KnownBytes.{Appends}
 use Rattle.desk_journal.specs.Words.{StandsFor}
 use Rattle.desk_session.specs.declared.fault.SessionFault.{SessionFault}
 use Rattle.desk_session.specs.declared.fault.SessionFault.TheVariants as session
-use Rattle.desk_session.specs.Words.{IsAllOrNone, Refused, first_refused, left_by, lines_of, numbered_lines, stopped_by, told_to, unfinished_of}
+use Rattle.desk_session.specs.Words.{IsAllOrNone, Stopped, first_stopped, left_by, lines_of, numbered_lines, told_to, unfinished_of, unmarked_lines}
 use Rattle.desk_entries.specs.declared.standing.Standing.{Standing}
-use Rattle.desk_entries.specs.Words.{FaultyLine, IsHistory, StandsAfter, answers, faults_of, leaves, line_cause_text, outcome}
+use Rattle.desk_entries.specs.Words.{FaultyLine, IsHistory, StandsAfter, faults_of, line_cause_text}
+use Rattle.desk_warnings.specs.declared.register.HeldBack.{HeldBack}
+use Rattle.desk_warnings.specs.Words.{are_marked, careful_answers, careful_leaves, careful_outcome}
 use Rattle.desk_program.specs.declared.fault.DeskFault.{DeskFault}
 use Rattle.desk_program.specs.declared.fault.DeskFault.TheVariants as desk
 use Rattle.desk_program.specs.FaultWords.{cause_words}
@@ -20,45 +22,56 @@ line_fault_text fault = codes "line " ++ decimal fault.number ++ codes " fault "
 abbrev pub line_faults_text : List FaultyLine → List ℕ
 line_faults_text faults = flat_map line_fault_text faults
 
--- what is written of a command that would be refused: the number of its line, and the answer that it would have
-abbrev pub refused_text : Refused → List ℕ
-refused_text line = codes "line " ++ decimal line.number ++ codes " would be answered: " ++ line.answer
+-- what is written of a line at which the list stops: its number, and the answer that it would have
+abbrev pub stopped_text : Stopped → List ℕ
+stopped_text line = codes "line " ++ decimal line.number ++ codes " would be answered: " ++ line.answer
 
--- the command at which the lines of an input stop, each decided after what those before it leave: the first that is refused, unless
--- commands that are refused are kept too
-abbrev pub stop_of : Standing → (keep_refused : Bool) → (kept : List (List ℕ)) → (input : List ℕ) → Option Refused
-stop_of under keep_refused kept input = stopped_by keep_refused (first_refused (λ before line. leaves under before line) (λ before line. answers under before line) (λ before line. outcome under before line) kept (numbered_lines input))
+-- why the list stops at a line, as the desk says it
+abbrev pub stopped_fault : Stopped → DeskFault
+stopped_fault line = if line.held then desk.Held line.number else desk.Refused line.number
 
--- No line of the input has a fault, the last has an end, and no command stops the list. All rows are kept after the entries,
+-- the faults of an input's lines, each without its mark where lines may be marked
+abbrev pub faults_in : Standing → HeldBack → (kept : List (List ℕ)) → (input : List ℕ) → List FaultyLine
+faults_in under held kept input = faults_of under kept (unmarked_lines (are_marked held) (numbered_lines input))
+
+-- the line at which the lines of an input stop, each decided after what those before it leave: the first that is held back, or that
+-- asks for a command that is refused, unless commands that are refused are kept too
+abbrev pub stop_of : Standing → HeldBack → (keep_refused : Bool) → (kept : List (List ℕ)) → (input : List ℕ) → Option Stopped
+stop_of under held keep_refused kept input =
+    first_stopped (λ before line. careful_leaves under held before line) (λ before line. careful_answers under held before line) (λ before line. careful_outcome under held before line) keep_refused kept (numbered_lines input)
+
+-- No line of the input has a fault, the last has an end, and the list stops at no line. All rows are kept after the entries,
 -- and all are answered.
-pub record KeepsTogether (under : Standing) (keep_refused : Bool) (kept : List (List ℕ)) (input : List ℕ) (before after : Option (List ℕ)) (Keeps : List (List ℕ) → Type 0) : Type 0 where
-  pub faultless : faults_of under kept (numbered_lines input) ≡ []
+pub record KeepsTogether (under : Standing) (held : HeldBack) (keep_refused : Bool) (kept : List (List ℕ)) (input : List ℕ) (before after : Option (List ℕ)) (Keeps : List (List ℕ) → Type 0) : Type 0 where
+  pub faultless : faults_in under held kept input ≡ []
   pub finished : unfinished_of input ≡ []
-  pub unrefused : stop_of under keep_refused kept input ≡ None
-  pub keeps : Keeps (kept ++ left_by (leaves under) kept (lines_of input))
-  pub told : Appends before after (told_to (leaves under) (answers under) kept (lines_of input))
+  pub unstopped : stop_of under held keep_refused kept input ≡ None
+  pub keeps : Keeps (kept ++ left_by (careful_leaves under held) kept (lines_of input))
+  pub told : Appends before after (told_to (careful_leaves under held) (careful_answers under held) kept (lines_of input))
 
--- Nothing is kept, since the command in the line of this number would be refused: it is the first, and its answer is written.
-pub record RefusesCommand (under : Standing) (keep_refused : Bool) (kept : List (List ℕ)) (input : List ℕ) (number : ℕ) (before after : Option (List ℕ)) : Type 0 where
-  pub line : Refused
-  pub first : stop_of under keep_refused kept input ≡ Some line
+-- Nothing is kept, since the list stops at the line of this number, which is held back, or else refused: it is the first, and its
+-- answer is written.
+pub record StopsList (under : Standing) (held : HeldBack) (keep_refused : Bool) (kept : List (List ℕ)) (input : List ℕ) (number : ℕ) (is_held : Bool) (before after : Option (List ℕ)) : Type 0 where
+  pub line : Stopped
+  pub first : stop_of under held keep_refused kept input ≡ Some line
   pub number_is : number ≡ line.number
-  pub written : Appends before after (refused_text line)
+  pub held_is : is_held ≡ line.held
+  pub written : Appends before after (stopped_text line)
 
 -- Nothing is kept, since this many lines have a fault, which are written.
-pub record RefusesLines (under : Standing) (kept : List (List ℕ)) (input : List ℕ) (count : ℕ) (before after : Option (List ℕ)) : Type 0 where
-  pub listed : Appends before after (line_faults_text (faults_of under kept (numbered_lines input)))
-  pub count_is : count ≡ length (faults_of under kept (numbered_lines input))
-  pub some : faults_of under kept (numbered_lines input) ≢ []
+pub record RefusesLines (under : Standing) (held : HeldBack) (kept : List (List ℕ)) (input : List ℕ) (count : ℕ) (before after : Option (List ℕ)) : Type 0 where
+  pub listed : Appends before after (line_faults_text (faults_in under held kept input))
+  pub count_is : count ≡ length (faults_in under held kept input)
+  pub some : faults_in under held kept input ≢ []
 
 -- a line of the input has a fault, or the last has no end
-abbrev pub IsAtFault : Standing → (kept : List (List ℕ)) → (input : List ℕ) → Type 0
-IsAtFault under kept input = (faults_of under kept (numbered_lines input) ≢ []) ⊎ (unfinished_of input ≢ [])
+abbrev pub IsAtFault : Standing → HeldBack → (kept : List (List ℕ)) → (input : List ℕ) → Type 0
+IsAtFault under held kept input = (faults_in under held kept input ≢ []) ⊎ (unfinished_of input ≢ [])
 
 -- Whatever a crash leaves stands for the entries before, or for these and all rows. Either is a history under the court, so
 -- the next opening takes it.
-pub record IsDocketAllOrNone (under : Standing) (kept lines : List (List ℕ)) (MayLeave : List ℕ → Type 0) : Type 0 where
-  pub all_or_none : IsAllOrNone (leaves under) kept lines MayLeave
+pub record IsDocketAllOrNone (under : Standing) (held : HeldBack) (kept lines : List (List ℕ)) (MayLeave : List ℕ → Type 0) : Type 0 where
+  pub all_or_none : IsAllOrNone (careful_leaves under held) kept lines MayLeave
   pub opens : (file : List ℕ) → MayLeave file → (entries : List (List ℕ)) × StandsFor file entries × IsHistory entries × StandsAfter entries under
 
 -- why rows that came together aren't served, as the desk says it: of a line that is too long it is said that nothing is kept
@@ -85,6 +98,7 @@ SaysWhatIsKept IsAsItWas AreAllKept (desk.Session ended) = SaysOfSession IsAsItW
 SaysWhatIsKept IsAsItWas AreAllKept desk.OutOfMemory = Unit {0}
 SaysWhatIsKept IsAsItWas AreAllKept (desk.Faults count) = IsAsItWas
 SaysWhatIsKept IsAsItWas AreAllKept (desk.Refused line) = IsAsItWas
+SaysWhatIsKept IsAsItWas AreAllKept (desk.Held line) = IsAsItWas
 SaysWhatIsKept IsAsItWas AreAllKept (desk.Unkept ended) = IsAsItWas
 SaysWhatIsKept IsAsItWas AreAllKept (desk.Faulty tally) = IsAsItWas
 SaysWhatIsKept IsAsItWas AreAllKept desk.LongInput = IsAsItWas

@@ -1,12 +1,11 @@
 -- The words for the crates above, from one place.
 pub use Rattle.desk_program.specs.Ask.{AnswersQuestions}
-pub use Rattle.desk_program.specs.Careful.{IsPromisedCarefully, IsTriedCarefully, IsTriedCarefullyInPart}
 pub use Rattle.desk_program.specs.Cases.{cases_text}
 pub use Rattle.desk_program.specs.Change.{RefusesFile, TakesFile}
-pub use Rattle.desk_program.specs.Desk.{IsPromisedDocket, KeepsDocket, disk_under, standing_at}
+pub use Rattle.desk_program.specs.Desk.{IsPromisedDocket, KeepsDocket, answers_at, disk_under, held_at, leaves_at, outcome_at, standing_at}
 pub use Rattle.desk_program.specs.Faults.{desk_status}
 pub use Rattle.desk_program.specs.Rows.{changes_text, written_rows}
 pub use Rattle.desk_program.specs.Strike.{IsStruck, RefusesStrike, StrikesRow}
 pub use Rattle.desk_program.specs.Struck.{struck_text}
-pub use Rattle.desk_program.specs.Together.{IsAtFault, IsDocketAllOrNone, KeepsTogether, RefusesCommand, RefusesLines, SaysWhatIsKept, line_faults_text, refused_text, stop_of}
+pub use Rattle.desk_program.specs.Together.{IsAtFault, IsDocketAllOrNone, KeepsTogether, RefusesLines, SaysWhatIsKept, StopsList, faults_in, line_faults_text, stop_of, stopped_text}
 pub use Rattle.desk_program.specs.Trial.{IsTried, IsTriedInPart}

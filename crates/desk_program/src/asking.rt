@@ -1,8 +1,7 @@
 //! Questions on a docket that is only read.
-ghost use Rattle.std.specs.Prelude.{◌≡◌, ◌≤◌, length, false, IfOk, IfSome};
-ghost use Rattle.desk_journal.specs.Words.{batch_of};
+ghost use Rattle.std.specs.Prelude.{ℕ, List, ◌≡◌, false, IfOk, IfSome};
 ghost use Rattle.desk_session.specs.Words.{lines_of};
-ghost use Rattle.desk_entries.specs.Words.{most_entries};
+ghost use Rattle.desk_entries.specs.Words.{IsDocketed};
 ghost use Rattle.program_streams.specs.Words.{has_failed, watched};
 ghost use Rattle.desk_program.specs.Ask.{AnswersQuestions};
 
@@ -13,20 +12,19 @@ use program_streams::Watched;
 use std::alloc::Global;
 use std::io::{Read, Write};
 
-/// Answers questions on the docket to which entries come, one in a line, until the input ends. Nothing is kept: a command is
-/// answered with a line that says where to enter it. At the end it says how many lines there were, and how many had faults.
+/// Answers questions on a docket, one in a line, until the input ends. Nothing is kept: a command is answered with a line that
+/// says where to enter it. At the end it says how many lines there were, and how many had faults.
 pub fn ask<R: Read, W: Write>(
     alloc: Global,
-    entries: &[Vec<u8>],
+    docketed: Docketed,
     reader: &mut Watched<R>,
     writer: &mut Watched<W>,
 ) -> Result<Tally, DeskFault>
-    requires few { length entries.now ≤ most_entries }
     requires writer_works { has_failed writer.old ≡ false }
-    ensures { IfOk result (λ tally. IfSome (R.remaining (watched reader.old)) (λ input.
-        AnswersQuestions (batch_of entries.now) (lines_of input) tally (W.contents (watched writer.old)) (W.contents (watched writer.new)))) }
+    ensures { (entries : List (List ℕ)) → IsDocketed docketed entries → IfOk result (λ tally. IfSome (R.remaining (watched reader.old)) (λ input.
+        AnswersQuestions entries (lines_of input) tally (W.contents (watched writer.old)) (W.contents (watched writer.new)))) }
 {
-    let Docketed { standing, register } = Docketed::of(alloc, entries)?;
+    let Docketed { standing, register } = docketed;
     let mut questions = Questions { register };
     match answer(&standing, alloc, &mut questions, reader, writer) {
         Ok(tally) => Ok(tally),

@@ -129,7 +129,10 @@ impl<D: Disk> Desk<D> {
         ensures fault { (count : ℕ) → result ≢ Err (DeskFault.Differs count) }
         ensures unstruck { (fault : StrikeFaultOf) → result ≢ Err (DeskFault.Unstruck fault) }
     {
-        let corrections = self.register.corrections(alloc, &self.standing)?;
+        let corrections = self
+            .careful
+            .register
+            .corrections(alloc, &self.setup.standing)?;
         let court = court_of(alloc, file)?;
         Ok(Standing { court, corrections })
     }

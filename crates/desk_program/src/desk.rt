@@ -2,17 +2,19 @@
 ghost use Rattle.std.specs.Prelude.{◌≡◌, ◌⊎◌, ◌<◌, ◌≤◌, ◌∷◌, [], ℕ, List, length, false, IsTrue, IfErr, IfOk, IfSome, OnOk};
 ghost use Rattle.desk_journal.specs.Words.{IsDurable, IsKept, StandsFor, batch_of, disk_of};
 ghost use Rattle.desk_session.specs.Words.{AfterBytes, EndsSession, IsServed, lines_of, tally_of, unfinished_of};
-ghost use Rattle.desk_entries.specs.Words.{IsHistory, answers, cases_of, leaves, outcome, row_entries, run_by};
+ghost use Rattle.desk_entries.specs.Words.{IsHistory, cases_of, row_entries, run_by};
+ghost use Rattle.desk_warnings.specs.declared.register.HeldBack.TheVariants.{Nothing};
 ghost use Rattle.program_streams.specs.Words.{has_failed, watched};
 
 use crate::court::check_court;
 use crate::fault::DeskFault;
 use case_numbers::Cases;
 use court_days::Court;
-use desk_entries::{DocketRegister, Docketed, Standing};
+use desk_entries::{Docketed, Standing};
 use desk_journal::Journal;
 use desk_numbers::MovedNumbers;
 use desk_session::{SessionFault, Tally, serve};
+use desk_warnings::{CarefulRegister, CarefulStanding, HeldBack};
 use program_streams::Watched;
 use sqlite_disk::Disk;
 use std::alloc::{AllocError, Global};
@@ -22,8 +24,8 @@ use std::io::{Read, Write};
 #[derive(Drop)]
 pub struct Desk<D: Disk> {
     pub(crate) journal: Journal<D>,
-    pub(crate) standing: Standing,
-    pub(crate) register: DocketRegister,
+    pub(crate) setup: CarefulStanding,
+    pub(crate) careful: CarefulRegister,
 }
 
 // A batch of one entry.
@@ -36,14 +38,15 @@ pub(crate) fn batch_with(alloc: Global, entry: Vec<u8>) -> Result<Vec<Vec<u8>>, 
 }
 
 impl<D: Disk> Desk<D> {
-    ghost use Rattle.desk_program.specs.Desk.{IsPromisedDocket, KeepsDocket, disk_under, standing_at};
+    ghost use Rattle.desk_program.specs.Desk.{IsPromisedDocket, KeepsDocket, answers_at, disk_under, docketed_at, held_at, leaves_at, outcome_at, standing_at};
 
     /// Opens the docket of a disk that a crash may have left, and gives the entries of its journal. Each row must have the
-    /// answer that it gets under the court's file of its time. At an `Err` the disk is given back, and a crash leaves what
+    /// answer that it gets under the court's file of its time. Nothing is held back at first. At an `Err` the disk is given back, and a crash leaves what
     /// stands for the same entries.
     pub fn open(alloc: Global, disk: D) -> Result<(Desk<D>, Vec<Vec<u8>>), (DeskFault, D)>
         ensures opened { (file : List ℕ) → IsDurable D.Disk.seen D.Disk.may_leave D.Disk.is_usable file disk → IfOk result (λ opened. IsTrue (D.Disk.is_clean (disk_under opened.0))
             → StandsFor file (batch_of opened.1.items) × KeepsDocket D.Disk.seen D.Disk.may_leave D.Disk.is_usable (batch_of opened.1.items) opened.0) }
+        ensures held { IfOk result (λ opened. held_at opened.0 ≡ Nothing) }
         ensures some { IfOk result (λ opened. 0 < length opened.1.items) }
         ensures few { IfOk result (λ opened. length opened.1.items ≤ 1000000) }
         ensures crash { (file : List ℕ) (entries : List (List ℕ)) → IsDurable D.Disk.seen D.Disk.may_leave D.Disk.is_usable file disk → StandsFor file entries
@@ -57,8 +60,11 @@ impl<D: Disk> Desk<D> {
             Ok(Docketed { standing, register }) => Ok((
                 Desk {
                     journal,
-                    standing,
-                    register,
+                    setup: CarefulStanding {
+                        standing,
+                        held_back: HeldBack::Nothing,
+                    },
+                    careful: CarefulRegister { register },
                 },
                 entries,
             )),
@@ -123,38 +129,48 @@ impl<D: Disk> Desk<D> {
     pub fn court(&self) -> &Court
         ensures { result.now ≡ (standing_at self.now).court }
     {
-        &self.standing.court
+        &self.setup.standing.court
     }
 
     /// What stands: the court, and what strikes come to.
     pub fn standing(&self) -> &Standing
         ensures { result.now ≡ standing_at self.now }
     {
-        &self.standing
+        &self.setup.standing
     }
 
     /// The cases that were opened, with their names.
     pub fn cases(&self) -> &Cases
         ensures { (kept : List (List ℕ)) → KeepsDocket D.Disk.seen D.Disk.may_leave D.Disk.is_usable kept self.now → result.now ≡ cases_of (standing_at self.now) kept }
     {
-        self.register.cases()
+        self.careful.register.cases()
     }
 
     /// What has another number than its place in its case, by which other programs count it.
     pub fn moved(&self) -> &MovedNumbers
         ensures { (kept : List (List ℕ)) → KeepsDocket D.Disk.seen D.Disk.may_leave D.Disk.is_usable kept self.now → result.now ≡ (run_by (standing_at self.now) kept).numbers.moved }
     {
-        self.register.numbers().moved()
+        self.careful.register.numbers().moved()
     }
 
     /// How many rows are kept.
     pub fn rows(&self) -> u32
         ensures { (kept : List (List ℕ)) → KeepsDocket D.Disk.seen D.Disk.may_leave D.Disk.is_usable kept self.now → result ≡ length (row_entries kept) }
     {
-        self.register.next_number().saturating_sub(1)
+        self.careful.register.next_number().saturating_sub(1)
     }
 
-    /// Serves rows, one in a line, until the input ends: each is kept, and then it is answered. However it ends, and
+    /// Says what is held back of the rows that are entered or tried from here on.
+    pub fn hold_back(&mut self, held_back: HeldBack)
+        ensures held { held_at self.new ≡ held_back }
+        ensures docketed { docketed_at self.new ≡ docketed_at self.old }
+        ensures journal { self.new.journal ≡ self.old.journal }
+    {
+        self.setup.held_back = held_back;
+    }
+
+    /// Serves rows, one in a line, until the input ends: each is kept, and then it is answered. One that is held back is
+    /// answered with its warnings, and not kept. However it ends, and
     /// wherever a crash comes, no answered row is lost. So it is where the program is killed, by a signal or otherwise:
     /// then a crash leaves what the disk holds at that moment. At the end it says how many rows there were, and how many of
     /// them had faults.
@@ -167,20 +183,20 @@ impl<D: Disk> Desk<D> {
         requires writer_works { has_failed writer.old ≡ false }
         ensures promised { (kept : List (List ℕ)) → KeepsDocket D.Disk.seen D.Disk.may_leave D.Disk.is_usable kept self.old →
             AfterBytes (R.remaining (watched reader.old)) (R.remaining (watched reader.new)) (λ bytes.
-            IsPromisedDocket (standing_at self.old) kept (lines_of bytes) (W.contents (watched writer.old)) (W.contents (watched writer.new)) (has_failed writer.new ≡ false) (D.Disk.may_leave (disk_under self.new))) }
+            IsPromisedDocket (standing_at self.old) (held_at self.old) kept (lines_of bytes) (W.contents (watched writer.old)) (W.contents (watched writer.new)) (has_failed writer.new ≡ false) (D.Disk.may_leave (disk_under self.new))) }
         ensures served { (kept : List (List ℕ)) → KeepsDocket D.Disk.seen D.Disk.may_leave D.Disk.is_usable kept self.old → OnOk result
             (IfSome (R.remaining (watched reader.old)) (λ input.
-            IsServed (leaves (standing_at self.old)) (answers (standing_at self.old)) (λ entries. KeepsDocket D.Disk.seen D.Disk.may_leave D.Disk.is_usable entries self.new) (λ entries. standing_at self.new ≡ standing_at self.old) kept (lines_of input) (W.contents (watched writer.old)) (W.contents (watched writer.new)))) }
+            IsServed (leaves_at self.old) (answers_at self.old) (λ entries. KeepsDocket D.Disk.seen D.Disk.may_leave D.Disk.is_usable entries self.new) (λ entries. standing_at self.new ≡ standing_at self.old) kept (lines_of input) (W.contents (watched writer.old)) (W.contents (watched writer.new)))) }
         ensures finished { OnOk result (IfSome (R.remaining (watched reader.old)) (λ input. unfinished_of input ≡ [])) }
         ensures tally { (kept : List (List ℕ)) → KeepsDocket D.Disk.seen D.Disk.may_leave D.Disk.is_usable kept self.old → IfOk result (λ tally.
-            IfSome (R.remaining (watched reader.old)) (λ input. tally ≡ tally_of (leaves (standing_at self.old)) (outcome (standing_at self.old)) kept (lines_of input))) }
+            IfSome (R.remaining (watched reader.old)) (λ input. tally ≡ tally_of (leaves_at self.old) (outcome_at self.old) kept (lines_of input))) }
         ensures fault { IfErr result (λ fault. AfterBytes (R.remaining (watched reader.old)) (R.remaining (watched reader.new)) (λ bytes. EndsSession reader.new writer.new bytes fault)) }
     {
         serve(
-            &self.standing,
+            &self.setup,
             alloc,
             &mut self.journal,
-            &mut self.register,
+            &mut self.careful,
             reader,
             writer,
         )

@@ -40,6 +40,8 @@ pub enum DeskFault {
     Faults(usize),
     /// The command in this line would be refused, and none of the rows that were to be kept together is kept.
     Refused(usize),
+    /// The row in this line draws a warning, and none of the rows that were to be kept together is kept.
+    Held(usize),
     /// Some of so many rows had faults, and weren't taken. The others were.
     Faulty(Tally),
     /// There is more than can be kept together.

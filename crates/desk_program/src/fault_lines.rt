@@ -23,7 +23,8 @@ pub fn status_of(fault: &DeskFault) -> u8
         DeskFault::Unkept(SessionFault::Read | SessionFault::Write) | DeskFault::LongInput => 4,
         DeskFault::Session(SessionFault::OutOfMemory) => 5,
         DeskFault::Unkept(SessionFault::OutOfMemory) => 5,
-        DeskFault::Faults(_) | DeskFault::Refused(_) | DeskFault::Unstruck(_) => 3,
+        DeskFault::Faults(_) | DeskFault::Refused(_) | DeskFault::Held(_) => 3,
+        DeskFault::Unstruck(_) => 3,
         DeskFault::Journal(JournalFault::OutOfMemory) | DeskFault::OutOfMemory => 5,
         DeskFault::Differs(_) => 7,
         DeskFault::Faulty(_) => 8,
@@ -90,6 +91,10 @@ fn write_row_fault<W: fmt::Write>(fault: &DeskFault, f: &mut fmt::Formatter<W>) 
             f,
             "the command in line {line} would be refused, so nothing is kept: mend the list and enter all of it again, or give --keep-refused"
         ),
+        DeskFault::Held(line) => write!(
+            f,
+            "the row in line {line} draws a warning, so nothing is kept: mend it, or put a '!' before it, and enter all lines again"
+        ),
         DeskFault::Faulty(Tally { rows, faults: 1 }) => write!(
             f,
             "1 of {rows} rows had a fault and wasn't taken: mend it and enter it again"
@@ -114,7 +119,7 @@ impl<'a> fmt::Display for DeskFaultLine<'a> {
             DeskFault::Taken => f.write_str(
                 "the folder has a journal already: 'enter' goes on with it",
             ),
-            DeskFault::NoJournal => f.write_str("the folder has no journal: make one with 'open'"),
+            DeskFault::NoJournal => f.write_str("the folder has no journal: make one with 'init'"),
             DeskFault::Other(number) => write!(
                 f,
                 "row {number} has another answer than this program gives: open the folder with the program that wrote it"
@@ -136,6 +141,7 @@ impl<'a> fmt::Display for DeskFaultLine<'a> {
             DeskFault::Unkept(fault) => write_unkept(fault, f),
             DeskFault::Faults(_)
             | DeskFault::Refused(_)
+            | DeskFault::Held(_)
             | DeskFault::Faulty(_)
             | DeskFault::LongInput => write_row_fault(self.fault, f),
             DeskFault::Busy => f.write_str(

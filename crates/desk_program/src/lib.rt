@@ -3,7 +3,6 @@
 #![tactic(auto)]
 
 mod asking;
-mod careful;
 mod cases;
 mod change;
 mod copy;
@@ -13,7 +12,6 @@ mod fault;
 mod fault_lines;
 mod fault_words;
 mod file;
-mod names_table;
 mod note;
 mod rows;
 mod strike;

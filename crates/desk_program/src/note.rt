@@ -36,8 +36,8 @@ impl<D: Disk> Desk<D> {
             Err(fault) => Err(DeskFault::from(fault)),
             Ok(()) => {
                 register.pass_note();
-                drop(mem::replace(&mut self.standing, standing));
-                drop(mem::replace(&mut self.register, register));
+                drop(mem::replace(&mut self.setup.standing, standing));
+                drop(mem::replace(&mut self.careful.register, register));
                 Ok(())
             }
         }

@@ -7,11 +7,9 @@ ghost use Rattle.desk_entries.specs.Words.{most_entries, note_in, row_only, rows
 ghost use Rattle.desk_program.specs.Rows.{count_text, ended, head_of, written_rows};
 
 use crate::fault::DeskFault;
-use crate::names_table::push_names;
-use case_numbers::Cases;
 use csv::StringRecord;
 use desk_entries::{Standing, is_row, push_row, standing_file};
-use desk_numbers::{MovedNumbers, push_numbers};
+use desk_numbers::MovedNumbers;
 use program_streams::{Watched, write_all};
 use std::alloc::{AllocError, Global};
 use std::io::Write;
@@ -57,19 +55,11 @@ fn push_ended(text: &mut Vec<u8>, file: &[u8]) -> Result<(), AllocError>
     Ok(())
 }
 
-// Adds a court's file, the names of cases, the numbers that aren't places, and a line `%%`.
-fn push_file(
-    alloc: Global,
-    text: &mut Vec<u8>,
-    file: &[u8],
-    cases: &Cases,
-    moved: &MovedNumbers,
-) -> Result<(), AllocError>
-    ensures { OnOk result (text.new.items ≡ text.old.items ++ head_of file.now cases.now.named moved.now) }
+// Adds a court's file, and a line `%%`.
+fn push_file(text: &mut Vec<u8>, file: &[u8]) -> Result<(), AllocError>
+    ensures { OnOk result (text.new.items ≡ text.old.items ++ head_of file.now) }
 {
     push_ended(text, file)?;
-    push_names(alloc, text, file, cases)?;
-    push_numbers(alloc, text, file, moved)?;
     text.extend_from_slice(b"%%\n")
 }
 
@@ -95,24 +85,22 @@ fn push_entry(
 }
 
 /// Writes a docket's entries as clerk_office reads them: the court's file that stands, a line `%%` and the rows that stand as
-/// CSV. A row that is struck is left out, and rows name deadlines and motions by their places among those that stand, as other
-/// programs count them. After the court's file come a table of the names that cases have and one of the numbers that aren't
-/// places, for programs that show these; a court's file that has such a table of its own gets none. Where it has had one court's
-/// file only and nothing is struck, clerk_office gives the answers that were given, with numbers in place of names.
+/// CSV. A row that is struck is left out, and rows name deadlines and motions by their places among those that stand, as
+/// clerk_office counts them. Where the docket has had one court's file only and nothing is struck, clerk_office gives the
+/// answers that were given, with numbers in place of names.
 pub fn write_rows<W: Write>(
     alloc: Global,
     under: &Standing,
     moved: &MovedNumbers,
-    cases: &Cases,
     entries: &[Vec<u8>],
     writer: &mut Watched<W>,
 ) -> Result<(), DeskFault>
     requires few { length entries.now ≤ most_entries }
     requires works { has_failed writer.old ≡ false }
-    ensures written { OnOk result (Appends (W.contents (watched writer.old)) (W.contents (watched writer.new)) (written_rows under.now moved.now cases.now.named (batch_of entries.now))) }
+    ensures written { OnOk result (Appends (W.contents (watched writer.old)) (W.contents (watched writer.new)) (written_rows under.now moved.now (batch_of entries.now))) }
 {
     let mut text = Vec::new(alloc);
-    push_file(alloc, &mut text, standing_file(entries), cases, moved)?;
+    push_file(&mut text, standing_file(entries))?;
     let mut fields = StringRecord::new(alloc);
     let mut number = 1;
     for place in 1..entries.len() {

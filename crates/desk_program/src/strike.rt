@@ -31,8 +31,9 @@ impl<D: Disk> Desk<D> {
         ensures unstruck { (fault : StrikeFaultOf) → KeepsDocket D.Disk.seen D.Disk.may_leave D.Disk.is_usable (batch_of entries.now) self.now → result ≡ Err (DeskFault.Unstruck fault) → strike_for (standing_at self.now) (batch_of entries.now) row ≡ Err fault }
     {
         match self
+            .careful
             .register
-            .struck_by(alloc, &self.standing, entries, row)?
+            .struck_by(alloc, &self.setup.standing, entries, row)?
         {
             Ok(strike) => Ok(strike),
             Err(fault) => Err(DeskFault::Unstruck(fault)),

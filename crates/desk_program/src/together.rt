@@ -1,17 +1,17 @@
 //! Rows that are kept together, or not at all.
-ghost use Rattle.std.specs.Prelude.{◌≡◌, ◌≢◌, ◌⊎◌, ◌++◌, [], ℕ, List, None, Ok, length, map, false, Err, IfErr, IfOk, OnOk};
+ghost use Rattle.std.specs.Prelude.{◌≡◌, ◌≢◌, ◌⊎◌, ◌++◌, [], ℕ, List, None, Ok, length, map, false, true, Err, IfErr, IfOk, OnOk};
 ghost use Rattle.std.specs.Io.KnownBytes.{Appends};
 ghost use Rattle.desk_journal.specs.Words.{StandsFor};
-ghost use Rattle.desk_session.specs.Words.{left_by, lines_of, numbered_lines, refused_in};
-ghost use Rattle.desk_entries.specs.Words.{fault_in, faults_of, leaves};
+ghost use Rattle.desk_session.specs.Words.{left_by, lines_of, stopped_in};
+ghost use Rattle.desk_entries.specs.Words.{fault_in};
 ghost use Rattle.program_streams.specs.Words.{has_failed, watched};
-ghost use Rattle.desk_program.specs.Together.{line_fault_text, line_faults_text, refused_text, together_fault};
+ghost use Rattle.desk_program.specs.Together.{line_fault_text, line_faults_text, stopped_fault, stopped_text, together_fault};
 
 use crate::desk::Desk;
 use crate::fault::DeskFault;
 use crate::fault_words::push_cause_words;
 use desk_entries::LineFault;
-use desk_session::{RefusedLine, SessionFault, is_finished, serve_together};
+use desk_session::{SessionFault, StoppedLine, is_finished, serve_together};
 use program_streams::{Watched, write_all};
 use sqlite_disk::Disk;
 use std::alloc::{AllocError, Global};
@@ -66,9 +66,9 @@ fn list_faults<W: Write>(
     Err(DeskFault::Faults(faults.len()))
 }
 
-// What is written of a command that would be refused.
-fn refused_said(alloc: Global, line: &RefusedLine) -> Result<Vec<u8>, AllocError>
-    ensures { IfOk result (λ text. text.items ≡ refused_text (refused_in line.now)) }
+// What is written of a line at which the list stops.
+fn stopped_said(alloc: Global, line: &StoppedLine) -> Result<Vec<u8>, AllocError>
+    ensures { IfOk result (λ text. text.items ≡ stopped_text (stopped_in line.now)) }
 {
     let number = line.number;
     let said = format!(in alloc; "line {number} would be answered: ")?;
@@ -77,19 +77,30 @@ fn refused_said(alloc: Global, line: &RefusedLine) -> Result<Vec<u8>, AllocError
     Ok(text)
 }
 
-// Writes the answer that a command would have that would be refused, and gives the fault that says so.
-fn tell_refused<W: Write>(alloc: Global, line: &RefusedLine, writer: &mut Watched<W>) -> DeskFault
-    requires { has_failed writer.old ≡ false }
-    ensures told { (number : ℕ) → result ≡ DeskFault.Refused number → (number ≡ (refused_in line.now).number)
-        × Appends (W.contents (watched writer.old)) (W.contents (watched writer.new)) (refused_text (refused_in line.now)) }
-    ensures fault { (result ≡ DeskFault.OutOfMemory) ⊎ ((result ≡ DeskFault.Unkept SessionFault.Write) ⊎ (result ≡ DeskFault.Refused (refused_in line.now).number)) }
+// The fault that says at which line the list stops, and why.
+fn stopped_fault(line: &StoppedLine) -> DeskFault
+    ensures { result ≡ stopped_fault (stopped_in line.now) }
 {
-    match refused_said(alloc, line) {
+    if line.held {
+        DeskFault::Held(line.number)
+    } else {
+        DeskFault::Refused(line.number)
+    }
+}
+
+// Writes the answer that a line would have at which the list stops, and gives the fault that says so.
+fn tell_stopped<W: Write>(alloc: Global, line: &StoppedLine, writer: &mut Watched<W>) -> DeskFault
+    requires { has_failed writer.old ≡ false }
+    ensures told { result ≡ stopped_fault (stopped_in line.now)
+        → Appends (W.contents (watched writer.old)) (W.contents (watched writer.new)) (stopped_text (stopped_in line.now)) }
+    ensures fault { (result ≡ DeskFault.OutOfMemory) ⊎ ((result ≡ DeskFault.Unkept SessionFault.Write) ⊎ (result ≡ stopped_fault (stopped_in line.now))) }
+{
+    match stopped_said(alloc, line) {
         Ok(text) => {
             if write_all(writer, &text).is_err() {
                 DeskFault::Unkept(SessionFault::Write)
             } else {
-                DeskFault::Refused(line.number)
+                stopped_fault(line)
             }
         }
         Err(_) => DeskFault::OutOfMemory,
@@ -107,13 +118,13 @@ fn together_fault(fault: SessionFault) -> DeskFault
 }
 
 impl<D: Disk> Desk<D> {
-    ghost use Rattle.desk_program.specs.Desk.{IsPromisedDocket, KeepsDocket, disk_under, standing_at};
-    ghost use Rattle.desk_program.specs.Together.{IsAtFault, IsDocketAllOrNone, KeepsTogether, RefusesCommand, RefusesLines, SaysWhatIsKept, stop_of};
+    ghost use Rattle.desk_program.specs.Desk.{IsPromisedDocket, KeepsDocket, disk_under, held_at, leaves_at, standing_at};
+    ghost use Rattle.desk_program.specs.Together.{IsAtFault, IsDocketAllOrNone, KeepsTogether, RefusesLines, SaysWhatIsKept, StopsList, faults_in, stop_of};
 
     /// Keeps the rows of an input together, one in a line, and then answers them. If a line has a fault, each fault is written;
-    /// then, and where the last line has no end, nothing is kept and the docket is as it was. Unless commands that are refused
-    /// are to be kept too, the list stops at the first: its answer is written, and nothing is kept. The desk is then to be
-    /// opened anew, since it has decided the rows before it.
+    /// then, and where the last line has no end, nothing is kept and the docket is as it was. The list stops at the first row that
+    /// is held back and, unless commands that are refused are to be kept too, at the first command that is refused: its answer is
+    /// written, and nothing is kept. The desk is then to be opened anew, since it has decided the rows before it.
     pub fn enter_together<W: Write>(
         &mut self,
         alloc: Global,
@@ -123,21 +134,28 @@ impl<D: Disk> Desk<D> {
     ) -> Result<(), DeskFault>
         requires writer_works { has_failed writer.old ≡ false }
         ensures kept { (kept : List (List ℕ)) → KeepsDocket D.Disk.seen D.Disk.may_leave D.Disk.is_usable kept self.old → OnOk result
-            (KeepsTogether (standing_at self.old) keep_refused kept input.now (W.contents (watched writer.old)) (W.contents (watched writer.new)) (λ entries. KeepsDocket D.Disk.seen D.Disk.may_leave D.Disk.is_usable entries self.new)) }
+            (KeepsTogether (standing_at self.old) (held_at self.old) keep_refused kept input.now (W.contents (watched writer.old)) (W.contents (watched writer.new)) (λ entries. KeepsDocket D.Disk.seen D.Disk.may_leave D.Disk.is_usable entries self.new)) }
         ensures refused { (kept : List (List ℕ)) (count : ℕ) → KeepsDocket D.Disk.seen D.Disk.may_leave D.Disk.is_usable kept self.old → result ≡ Err (DeskFault.Faults count)
-            → RefusesLines (standing_at self.old) kept input.now count (W.contents (watched writer.old)) (W.contents (watched writer.new)) }
+            → RefusesLines (standing_at self.old) (held_at self.old) kept input.now count (W.contents (watched writer.old)) (W.contents (watched writer.new)) }
         ensures stopped { (kept : List (List ℕ)) (number : ℕ) → KeepsDocket D.Disk.seen D.Disk.may_leave D.Disk.is_usable kept self.old → result ≡ Err (DeskFault.Refused number)
-            → RefusesCommand (standing_at self.old) keep_refused kept input.now number (W.contents (watched writer.old)) (W.contents (watched writer.new)) }
-        ensures untouched { (kept : List (List ℕ)) → KeepsDocket D.Disk.seen D.Disk.may_leave D.Disk.is_usable kept self.old → IsAtFault (standing_at self.old) kept input.now → self.new ≡ self.old }
-        ensures unwritten { (kept : List (List ℕ)) → KeepsDocket D.Disk.seen D.Disk.may_leave D.Disk.is_usable kept self.old → stop_of (standing_at self.old) keep_refused kept input.now ≢ None → disk_under self.new ≡ disk_under self.old }
+            → StopsList (standing_at self.old) (held_at self.old) keep_refused kept input.now number false (W.contents (watched writer.old)) (W.contents (watched writer.new)) }
+        ensures held { (kept : List (List ℕ)) (number : ℕ) → KeepsDocket D.Disk.seen D.Disk.may_leave D.Disk.is_usable kept self.old → result ≡ Err (DeskFault.Held number)
+            → StopsList (standing_at self.old) (held_at self.old) keep_refused kept input.now number true (W.contents (watched writer.old)) (W.contents (watched writer.new)) }
+        ensures untouched { (kept : List (List ℕ)) → KeepsDocket D.Disk.seen D.Disk.may_leave D.Disk.is_usable kept self.old → IsAtFault (standing_at self.old) (held_at self.old) kept input.now → self.new ≡ self.old }
+        ensures unwritten { (kept : List (List ℕ)) → KeepsDocket D.Disk.seen D.Disk.may_leave D.Disk.is_usable kept self.old → stop_of (standing_at self.old) (held_at self.old) keep_refused kept input.now ≢ None → disk_under self.new ≡ disk_under self.old }
         ensures says { (kept : List (List ℕ)) → KeepsDocket D.Disk.seen D.Disk.may_leave D.Disk.is_usable kept self.old → IfErr result (SaysWhatIsKept (disk_under self.new ≡ disk_under self.old)
-            ((file : List ℕ) → D.Disk.may_leave (disk_under self.new) file → StandsFor file (kept ++ left_by (leaves (standing_at self.old)) kept (lines_of input.now)))) }
-        ensures promised { (kept : List (List ℕ)) → KeepsDocket D.Disk.seen D.Disk.may_leave D.Disk.is_usable kept self.old → faults_of (standing_at self.old) kept (numbered_lines input.now) ≡ [] → stop_of (standing_at self.old) keep_refused kept input.now ≡ None
-            → IsPromisedDocket (standing_at self.old) kept (lines_of input.now) (W.contents (watched writer.old)) (W.contents (watched writer.new)) (has_failed writer.new ≡ false) (D.Disk.may_leave (disk_under self.new)) }
+            ((file : List ℕ) → D.Disk.may_leave (disk_under self.new) file → StandsFor file (kept ++ left_by (leaves_at self.old) kept (lines_of input.now)))) }
+        ensures promised { (kept : List (List ℕ)) → KeepsDocket D.Disk.seen D.Disk.may_leave D.Disk.is_usable kept self.old → faults_in (standing_at self.old) (held_at self.old) kept input.now ≡ [] → stop_of (standing_at self.old) (held_at self.old) keep_refused kept input.now ≡ None
+            → IsPromisedDocket (standing_at self.old) (held_at self.old) kept (lines_of input.now) (W.contents (watched writer.old)) (W.contents (watched writer.new)) (has_failed writer.new ≡ false) (D.Disk.may_leave (disk_under self.new)) }
         ensures crash { (kept : List (List ℕ)) → KeepsDocket D.Disk.seen D.Disk.may_leave D.Disk.is_usable kept self.old
-            → IsDocketAllOrNone (standing_at self.old) kept (lines_of input.now) (D.Disk.may_leave (disk_under self.new)) }
+            → IsDocketAllOrNone (standing_at self.old) (held_at self.old) kept (lines_of input.now) (D.Disk.may_leave (disk_under self.new)) }
     {
-        let faults = match self.register.line_faults(alloc, &self.standing, input) {
+        let marked = self.setup.held_back.are_marked();
+        let faults = match self
+            .careful
+            .register
+            .line_faults(alloc, &self.setup.standing, marked, input)
+        {
             Ok(faults) => faults,
             Err(_) => return Err(DeskFault::OutOfMemory),
         };
@@ -149,16 +167,16 @@ impl<D: Disk> Desk<D> {
             return Err(DeskFault::Unkept(SessionFault::Unfinished));
         }
         match serve_together(
-            &self.standing,
+            &self.setup,
             alloc,
             &mut self.journal,
-            &mut self.register,
+            &mut self.careful,
             writer,
             input,
             keep_refused,
         ) {
             Ok(None) => Ok(()),
-            Ok(Some(line)) => Err(tell_refused(alloc, &line, writer)),
+            Ok(Some(line)) => Err(tell_stopped(alloc, &line, writer)),
             Err(fault) => Err(together_fault(fault)),
         }
     }

@@ -4,10 +4,10 @@ use Rattle.std.proofs.lemmas.List.{length-append}
 use Rattle.desk_session.specs.declared.outcome.Outcome.{Outcome}
 use Rattle.desk_session.specs.Faults.{HasLongLine}
 use Rattle.desk_session.specs.Lines.{HasNoEnd, IsFirstLine, lines_from, lines_of, number_after, numbered_from, unfinished_from, unfinished_of}
-use Rattle.desk_session.specs.Refused.{Refused, first_refused, refused_as, stopped_by}
+use Rattle.desk_session.specs.Stopped.{Stopped, first_stopped, or_later, stopped_as}
 use Rattle.desk_session.specs.Taken.{TakesLine, TakesLines, left_by}
 use Rattle.desk_session.proofs.LineLemmas.{finished_by, lines_from-append, lines_of_first, lines_of_none, numbered_from-first, numbered_from-none, unfinished_from-append, unfinished_within}
-use Rattle.desk_session.proofs.OutcomeLemmas.{first_refused-none, first_refused-one, never_stopped, stopped_here, stopped_later}
+use Rattle.desk_session.proofs.OutcomeLemmas.{first_stopped-none, first_stopped-one}
 use Rattle.desk_session.proofs.TakenLemmas.{all_left, more_taken, one_taken}
 
 -- the front of an input with one line more
@@ -52,28 +52,27 @@ number_within number rest line end after most first within = by (end == 10)
 
 module _ (leaves : List (List ℕ) → List ℕ → List (List ℕ)) (answers : List (List ℕ) → List ℕ → List ℕ) (outcome : List (List ℕ) → List ℕ → Outcome) (keep : Bool) (number : ℕ) (rest line : List ℕ) (end : ℕ) (after : List ℕ) where
   -- what the lines of the rest come to, by the first of them
-  by_first : (kept : List (List ℕ)) → IsFirstLine rest line end after → first_refused leaves answers outcome kept (numbered_from number [] rest) ≡ first_refused leaves answers outcome kept ((number, line) ∷ numbered_from (number_after number end) [] after)
-  by_first kept first = ap (first_refused leaves answers outcome kept) (numbered_from-first number rest line end after first)
+  by_first : (kept : List (List ℕ)) → IsFirstLine rest line end after
+      → first_stopped leaves answers outcome keep kept (numbered_from number [] rest) ≡ or_later (stopped_as keep (outcome kept line) number (answers kept line)) (first_stopped leaves answers outcome keep (kept ++ leaves kept line) (numbered_from (number_after number end) [] after))
+  by_first kept first = ap (first_stopped leaves answers outcome keep kept) (numbered_from-first number rest line end after first) ∙ first_stopped-one leaves answers outcome keep kept number line (numbered_from (number_after number end) [] after)
 
   -- a list that stops at this line
-  pub stops : (kept : List (List ℕ)) (all : Option Refused) (refused : Refused) → IsFirstLine rest line end after → stopped_by keep (first_refused leaves answers outcome kept (numbered_from number [] rest)) ≡ all
-      → stopped_by keep (refused_as (outcome kept line) number (answers kept line)) ≡ Some refused → Some refused ≡ all
-  stops kept all refused first so_far here =
-      sym (stopped_here keep _ (first_refused leaves answers outcome (kept ++ leaves kept line) (numbered_from (number_after number end) [] after)) refused here)
-      ∙ ap (stopped_by keep) (sym (by_first kept first ∙ first_refused-one leaves answers outcome kept number line (numbered_from (number_after number end) [] after)))
+  pub stops_here : (kept : List (List ℕ)) (all : Option Stopped) (stopped : Stopped) → IsFirstLine rest line end after → first_stopped leaves answers outcome keep kept (numbered_from number [] rest) ≡ all
+      → stopped_as keep (outcome kept line) number (answers kept line) ≡ Some stopped → Some stopped ≡ all
+  stops_here kept all stopped first so_far here =
+      sym (by_first kept first ∙ ap (λ (s : Option Stopped). or_later s (first_stopped leaves answers outcome keep (kept ++ leaves kept line) (numbered_from (number_after number end) [] after))) here)
       ∙ so_far
 
   -- one that goes on after it
-  pub goes_on : (kept then : List (List ℕ)) (all : Option Refused) → then ≡ kept ++ leaves kept line → IsFirstLine rest line end after → stopped_by keep (first_refused leaves answers outcome kept (numbered_from number [] rest)) ≡ all
-      → stopped_by keep (refused_as (outcome kept line) number (answers kept line)) ≡ None
-      → stopped_by keep (first_refused leaves answers outcome then (numbered_from (number_after number end) [] after)) ≡ all
+  pub goes_on : (kept then : List (List ℕ)) (all : Option Stopped) → then ≡ kept ++ leaves kept line → IsFirstLine rest line end after → first_stopped leaves answers outcome keep kept (numbered_from number [] rest) ≡ all
+      → stopped_as keep (outcome kept line) number (answers kept line) ≡ None
+      → first_stopped leaves answers outcome keep then (numbered_from (number_after number end) [] after) ≡ all
   goes_on kept then all then_is first so_far here =
-      ap (λ (k : List (List ℕ)). stopped_by keep (first_refused leaves answers outcome k (numbered_from (number_after number end) [] after))) then_is
-      ∙ sym (stopped_later keep _ (first_refused leaves answers outcome (kept ++ leaves kept line) (numbered_from (number_after number end) [] after)) here)
-      ∙ ap (stopped_by keep) (sym (by_first kept first ∙ first_refused-one leaves answers outcome kept number line (numbered_from (number_after number end) [] after)))
+      ap (λ (k : List (List ℕ)). first_stopped leaves answers outcome keep k (numbered_from (number_after number end) [] after)) then_is
+      ∙ sym (by_first kept first ∙ ap (λ (s : Option Stopped). or_later s (first_stopped leaves answers outcome keep (kept ++ leaves kept line) (numbered_from (number_after number end) [] after))) here)
       ∙ so_far
 
   -- one in which no line is left
-  pub never_stops : (kept : List (List ℕ)) (all : Option Refused) → HasNoEnd rest → stopped_by keep (first_refused leaves answers outcome kept (numbered_from number [] rest)) ≡ all → None ≡ all
+  pub never_stops : (kept : List (List ℕ)) (all : Option Stopped) → HasNoEnd rest → first_stopped leaves answers outcome keep kept (numbered_from number [] rest) ≡ all → None ≡ all
   never_stops kept all none so_far =
-      sym (never_stopped keep) ∙ ap (stopped_by keep) (sym (ap (first_refused leaves answers outcome kept) (numbered_from-none number rest none) ∙ first_refused-none leaves answers outcome kept)) ∙ so_far
+      sym (ap (first_stopped leaves answers outcome keep kept) (numbered_from-none number rest none) ∙ first_stopped-none leaves answers outcome keep kept) ∙ so_far

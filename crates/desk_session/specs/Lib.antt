@@ -1,7 +1,7 @@
 pub mod Faults
 pub mod Lines
 pub mod Outcomes
-pub mod Refused
+pub mod Stopped
 pub mod Taken
 pub mod Served
 pub mod Words

@@ -1,5 +1,6 @@
 -- The lines of bytes.
-use Rattle.std.specs.Prelude.{◌≡◌, ℕ, ◌+◌, List, [], ◌∷◌, ◌++◌, map, All, Bool, true, false, ◌==◌, ◌||◌, if◌then◌else◌}
+use Rattle.std.specs.Prelude.{◌≡◌, ℕ, ◌+◌, List, [], ◌∷◌, ◌++◌, codes, drop, map, nat_eq, All, Bool, true, false, Option, Some, None, ◌==◌, ◌||◌, if◌then◌else◌}
+use Rattle.std.specs.List.{starts_with}
 
 -- whether a byte ends a line: a line feed or a carriage return, so that of the two together the second ends an empty line
 abbrev pub ends_line : ℕ → Bool
@@ -49,3 +50,28 @@ numbered_lines bytes = numbered_from 1 [] bytes
 -- The lines that are numbered are all lines, in their order.
 abbrev pub NumberedLinesAreLines : Type 0
 NumberedLinesAreLines = (bytes : List ℕ) → map (λ line. line.1) (numbered_lines bytes) ≡ lines_of bytes
+
+-- A clerk may mark a line with a '!' before it: what comes after the mark of a line that has one.
+abbrev pub after_mark : (line : List ℕ) → Option (List ℕ)
+after_mark line = if starts_with nat_eq line (codes "!") then Some (drop 1 line) else None
+
+abbrev pub or_whole : (line : List ℕ) → (rest : Option (List ℕ)) → List ℕ
+or_whole line None = line
+or_whole line (Some rest) = rest
+
+abbrev pub mark_before : (rest : Option (List ℕ)) → List ℕ
+mark_before None = []
+mark_before (Some rest) = codes "!"
+
+-- a line without its mark, and the mark, where lines may be marked
+abbrev pub unmarked : (marked : Bool) → (line : List ℕ) → List ℕ
+unmarked false line = line
+unmarked true line = or_whole line (after_mark line)
+
+abbrev pub mark_of : (marked : Bool) → (line : List ℕ) → List ℕ
+mark_of false line = []
+mark_of true line = mark_before (after_mark line)
+
+-- lines with their numbers, each without its mark
+abbrev pub unmarked_lines : (marked : Bool) → List (ℕ × List ℕ) → List (ℕ × List ℕ)
+unmarked_lines marked lines = map (λ (line : ℕ × List ℕ). (line.0, unmarked marked line.1)) lines

@@ -2,14 +2,15 @@
 use Rattle.std.specs.Prelude.{ℕ, Bool, true, false, List, [], ◌∷◌, ◌++◌}
 use Rattle.program_streams.specs.Words.{counted}
 use Rattle.desk_session.specs.declared.outcome.Outcome.{Outcome}
-use Rattle.desk_session.specs.declared.outcome.Outcome.TheVariants.{Blank, Fault, Refused, Taken}
+use Rattle.desk_session.specs.declared.outcome.Outcome.TheVariants.{Blank, Fault, Held, Refused, Taken}
 use Rattle.desk_session.specs.declared.outcome.Tally.{Tally}
 
-abbrev pub is_refused : Outcome → Bool
-is_refused Blank = false
-is_refused Fault = false
-is_refused Refused = true
-is_refused Taken = false
+abbrev pub is_held : Outcome → Bool
+is_held Blank = false
+is_held Fault = false
+is_held Refused = false
+is_held Held = true
+is_held Taken = false
 
 abbrev pub no_lines : Tally
 no_lines = record { rows = 0; faults = 0 }
@@ -19,6 +20,7 @@ abbrev pub counted_with : Tally → Outcome → Tally
 counted_with tally Blank = tally
 counted_with tally Fault = record { rows = counted tally.rows 1; faults = counted tally.faults 1 }
 counted_with tally Refused = record { rows = counted tally.rows 1; faults = tally.faults }
+counted_with tally Held = record { rows = counted tally.rows 1; faults = tally.faults }
 counted_with tally Taken = record { rows = counted tally.rows 1; faults = tally.faults }
 
 -- with lines, after the entries `kept`: each counts by what comes of it after what those before it leave

@@ -15,8 +15,11 @@ mod together;
 pub use asking::answer;
 pub use fault::SessionFault;
 pub use gather::MAX_LINE;
-pub use lines::{SplitLine, is_finished, number_after, numbered_lines_are_lines, split_line};
+pub use lines::{
+    SplitLine, after_mark, is_finished, mark_of, number_after, numbered_lines_are_lines,
+    split_line, unmarked,
+};
 pub use outcome::{Outcome, Tally};
 pub use register::Register;
 pub use session::serve;
-pub use together::{RefusedLine, serve_together};
+pub use together::{StoppedLine, serve_together};

@@ -1,6 +1,6 @@
 //! The lines of an input that is there as a whole.
-ghost use Rattle.std.specs.Prelude.{◌≡◌, ◌<◌, ◌-◌, ◌^◌, ◌↔◌, [], IsTrue, MatchOption};
-ghost use Rattle.desk_session.specs.Lines.{HasNoEnd, IsFirstLine, NumberedLinesAreLines, ends_line, number_after, unfinished_of};
+ghost use Rattle.std.specs.Prelude.{◌≡◌, ◌<◌, ◌-◌, ◌^◌, ◌↔◌, [], IsTrue, MatchOption, option_map};
+ghost use Rattle.desk_session.specs.Lines.{HasNoEnd, IsFirstLine, NumberedLinesAreLines, after_mark, ends_line, mark_of, number_after, unfinished_of, unmarked};
 
 /// An input, split after its first line.
 #[derive(Clone, Copy)]
@@ -60,3 +60,36 @@ pub fn is_finished(input: &[u8]) -> bool
 pub fn numbered_lines_are_lines()
     ensures { NumberedLinesAreLines }
 {}
+
+/// What comes after the '!' with which a line begins, if it does: a clerk has marked it.
+pub fn after_mark(line: &[u8]) -> Option<&[u8]>
+    ensures { option_map (λ rest. rest.now) result ≡ after_mark line.now }
+{
+    line.strip_prefix(b"!")
+}
+
+/// A line without its mark, where lines may be marked.
+pub fn unmarked(marked: bool, line: &[u8]) -> &[u8]
+    ensures { result.now ≡ unmarked marked line.now }
+{
+    if !marked {
+        return line;
+    }
+    match after_mark(line) {
+        Some(rest) => rest,
+        None => line,
+    }
+}
+
+/// The mark of a line, where lines may be marked.
+pub fn mark_of(marked: bool, line: &[u8]) -> &[u8]
+    ensures { result.now ≡ mark_of marked line.now }
+{
+    if !marked {
+        return &[];
+    }
+    match after_mark(line) {
+        Some(_) => b"!",
+        None => &[],
+    }
+}

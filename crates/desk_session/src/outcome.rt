@@ -1,6 +1,7 @@
 //! What comes of lines, and how many there were.
 ghost use Rattle.std.specs.Prelude.{◌≡◌};
-ghost use Rattle.desk_session.specs.Outcomes.{counted_with, is_refused, no_lines};
+ghost use Rattle.desk_session.specs.Outcomes.{counted_with, is_held, no_lines};
+ghost use Rattle.desk_session.specs.Stopped.{stops};
 
 /// What comes of a line.
 #[derive(Clone, Copy, Debug, PartialEq, Eq)]
@@ -11,17 +12,30 @@ pub enum Outcome {
     Fault,
     /// It is taken, and what it asks for is refused.
     Refused,
-    /// It is taken, or held back with a warning.
+    /// It is held back with a warning.
+    Held,
+    /// It is taken.
     Taken,
 }
 
 impl Outcome {
-    /// Whether what the line asks for is refused.
-    pub fn is_refused(&self) -> bool
-        ensures { result ≡ is_refused self.now }
+    // Whether the line is held back.
+    pub(crate) fn is_held(&self) -> bool
+        ensures { result ≡ is_held self.now }
     {
         match self {
-            Outcome::Refused => true,
+            Outcome::Held => true,
+            _ => false,
+        }
+    }
+
+    // Whether a list of lines that are kept together stops at the line.
+    pub(crate) fn stops(&self, keep_refused: bool) -> bool
+        ensures { result ≡ stops keep_refused self.now }
+    {
+        match self {
+            Outcome::Refused => !keep_refused,
+            Outcome::Held => true,
             _ => false,
         }
     }
@@ -55,7 +69,7 @@ impl Tally {
                 rows: rows.saturating_add(1),
                 faults: faults.saturating_add(1),
             },
-            Outcome::Refused | Outcome::Taken => Tally {
+            Outcome::Refused | Outcome::Held | Outcome::Taken => Tally {
                 rows: rows.saturating_add(1),
                 faults,
             },

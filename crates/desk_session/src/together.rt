@@ -4,7 +4,7 @@ ghost use Rattle.desk_journal.specs.Words.{IsKept, batch_of, disk_of};
 ghost use Rattle.program_streams.specs.Words.{has_failed, watched};
 ghost use Rattle.desk_session.specs.Faults.{StopsBytes};
 ghost use Rattle.desk_session.specs.Lines.{lines_of, numbered_lines};
-ghost use Rattle.desk_session.specs.Refused.{first_refused, refused_as, refused_in, stopped_by};
+ghost use Rattle.desk_session.specs.Stopped.{first_stopped, stopped_as, stopped_in};
 ghost use Rattle.desk_session.specs.Served.{IsAllOrNone, IsPromised, IsServed};
 ghost use Rattle.desk_session.specs.Taken.{TakesLine, TakesLines, left_by};
 
@@ -19,13 +19,15 @@ use sqlite_disk::Disk;
 use std::alloc::Global;
 use std::io::Write;
 
-/// A line that is refused.
+/// A line at which a list of lines stops that are kept together.
 #[derive(Debug, Drop)]
-pub struct RefusedLine {
+pub struct StoppedLine {
     /// Its number in the input, whose lines are counted from 1 by their line feeds.
     pub number: usize,
     /// Its answer.
     pub answer: Vec<u8>,
+    /// Whether it is held back with a warning; otherwise it is refused.
+    pub held: bool,
 }
 
 // What comes after so many bytes of a text.
@@ -49,25 +51,26 @@ fn take_line<O: Register>(
     keep_refused: bool,
     batch: &mut Vec<Vec<u8>>,
     text: &mut Vec<u8>,
-) -> Result<Option<RefusedLine>, SessionFault>
+) -> Result<Option<StoppedLine>, SessionFault>
     ensures fault { IfErr result (λ f. (f ≡ SessionFault.OutOfMemory) ⊎ ((f ≡ SessionFault.LongLine) × (65_536 < length line.now))) }
     ensures taken { (kept : List (List ℕ)) → O.stands setup.now register.old kept → OnOk result
         (TakesLine (O.leaves setup.now) (O.answers setup.now) (O.stands setup.now register.new) kept line.now (batch_of batch.old.items) (batch_of batch.new.items) text.old.items text.new.items) }
-    ensures stopped { (kept : List (List ℕ)) → O.stands setup.now register.old kept → IfOk result (λ refused. option_map refused_in refused ≡ stopped_by keep_refused (refused_as (O.outcome setup.now kept line.now) number (O.answers setup.now kept line.now))) }
+    ensures stopped { (kept : List (List ℕ)) → O.stands setup.now register.old kept → IfOk result (λ stopped. option_map stopped_in stopped ≡ stopped_as keep_refused (O.outcome setup.now kept line.now) number (O.answers setup.now kept line.now)) }
 {
     if line.len() > MAX_LINE {
         return Err(SessionFault::LongLine);
     }
     let before = text.len();
     let outcome = register.take(setup, alloc, line, batch, text)?;
-    if keep_refused {
-        return Ok(None);
-    }
-    if !outcome.is_refused() {
+    if !outcome.stops(keep_refused) {
         return Ok(None);
     }
     let answer = Vec::from_slice(alloc, bytes_after(text, before))?;
-    Ok(Some(RefusedLine { number, answer }))
+    Ok(Some(StoppedLine {
+        number,
+        answer,
+        held: outcome.is_held(),
+    }))
 }
 
 // Takes the lines of an input, up to the one at which the list stops, which is given.
@@ -79,11 +82,11 @@ fn take_lines<O: Register>(
     keep_refused: bool,
     batch: &mut Vec<Vec<u8>>,
     text: &mut Vec<u8>,
-) -> Result<Option<RefusedLine>, SessionFault>
+) -> Result<Option<StoppedLine>, SessionFault>
     ensures fault { IfErr result (StopsBytes false [] input.now) }
     ensures taken { (kept : List (List ℕ)) → O.stands setup.now register.old kept → result ≡ Ok None →
         TakesLines (O.leaves setup.now) (O.answers setup.now) (O.stands setup.now register.new) kept (lines_of input.now) (batch_of batch.old.items) (batch_of batch.new.items) text.old.items text.new.items }
-    ensures stopped { (kept : List (List ℕ)) → O.stands setup.now register.old kept → IfOk result (λ refused. option_map refused_in refused ≡ stopped_by keep_refused (first_refused (O.leaves setup.now) (O.answers setup.now) (O.outcome setup.now) kept (numbered_lines input.now))) }
+    ensures stopped { (kept : List (List ℕ)) → O.stands setup.now register.old kept → IfOk result (λ stopped. option_map stopped_in stopped ≡ first_stopped (O.leaves setup.now) (O.answers setup.now) (O.outcome setup.now) keep_refused kept (numbered_lines input.now)) }
 {
     let mut number = 1usize;
     let mut rest = input;
@@ -109,8 +112,8 @@ fn take_lines<O: Register>(
 }
 
 /// Keeps the lines of an input together, and then answers them. Whatever a crash leaves has what all of them leave, or nothing
-/// of it. A last line that has no end isn't taken. Unless lines that are refused are to be kept too, the list stops at the
-/// first of them: it is given, and nothing is written to the disk or answered.
+/// of it. A last line that has no end isn't taken. The list stops at the first line that is held back or, unless lines that are
+/// refused are to be kept too, at the first that is refused: that line is given, and nothing is written to the disk or answered.
 pub fn serve_together<D: Disk, O: Register, W: Write>(
     setup: &O::Setup,
     alloc: Global,
@@ -119,7 +122,7 @@ pub fn serve_together<D: Disk, O: Register, W: Write>(
     writer: &mut Watched<W>,
     input: &[u8],
     keep_refused: bool,
-) -> Result<Option<RefusedLine>, SessionFault>
+) -> Result<Option<StoppedLine>, SessionFault>
     requires writer_works { has_failed writer.old ≡ false }
     ensures all_or_none { (kept : List (List ℕ)) → IsKept D.Disk.seen D.Disk.may_leave D.Disk.is_usable kept journal.old → O.stands setup.now register.old kept →
         IsAllOrNone (O.leaves setup.now) kept (lines_of input.now) (D.Disk.may_leave (disk_of journal.new)) }
@@ -127,9 +130,9 @@ pub fn serve_together<D: Disk, O: Register, W: Write>(
         IsPromised (O.leaves setup.now) (O.answers setup.now) kept (lines_of input.now) (W.contents (watched writer.old)) (W.contents (watched writer.new)) (has_failed writer.new ≡ false) (D.Disk.may_leave (disk_of journal.new)) }
     ensures served { (kept : List (List ℕ)) → IsKept D.Disk.seen D.Disk.may_leave D.Disk.is_usable kept journal.old → O.stands setup.now register.old kept → result ≡ Ok None →
         IsServed (O.leaves setup.now) (O.answers setup.now) (λ entries. IsKept D.Disk.seen D.Disk.may_leave D.Disk.is_usable entries journal.new) (O.stands setup.now register.new) kept (lines_of input.now) (W.contents (watched writer.old)) (W.contents (watched writer.new)) }
-    ensures stopped { (kept : List (List ℕ)) → O.stands setup.now register.old kept → IfOk result (λ refused. option_map refused_in refused ≡ stopped_by keep_refused (first_refused (O.leaves setup.now) (O.answers setup.now) (O.outcome setup.now) kept (numbered_lines input.now))) }
-    ensures unwritten { (kept : List (List ℕ)) → O.stands setup.now register.old kept → stopped_by keep_refused (first_refused (O.leaves setup.now) (O.answers setup.now) (O.outcome setup.now) kept (numbered_lines input.now)) ≢ None → journal.new ≡ journal.old }
-    ensures untold { IfOk result (λ refused. refused ≢ None → writer.new ≡ writer.old) }
+    ensures stopped { (kept : List (List ℕ)) → O.stands setup.now register.old kept → IfOk result (λ stopped. option_map stopped_in stopped ≡ first_stopped (O.leaves setup.now) (O.answers setup.now) (O.outcome setup.now) keep_refused kept (numbered_lines input.now)) }
+    ensures unwritten { (kept : List (List ℕ)) → O.stands setup.now register.old kept → first_stopped (O.leaves setup.now) (O.answers setup.now) (O.outcome setup.now) keep_refused kept (numbered_lines input.now) ≢ None → journal.new ≡ journal.old }
+    ensures untold { IfOk result (λ stopped. stopped ≢ None → writer.new ≡ writer.old) }
     ensures long { result ≡ Err SessionFault.LongLine → journal.new ≡ journal.old }
     ensures unanswered { (kept : List (List ℕ)) → IsKept D.Disk.seen D.Disk.may_leave D.Disk.is_usable kept journal.old → O.stands setup.now register.old kept → result ≡ Err SessionFault.Write →
         IsKept D.Disk.seen D.Disk.may_leave D.Disk.is_usable (kept ++ left_by (O.leaves setup.now) kept (lines_of input.now)) journal.new }

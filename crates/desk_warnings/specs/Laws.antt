@@ -8,35 +8,42 @@ use Rattle.row_forms.specs.declared.row.Work.TheVariants.{Command}
 use Rattle.row_forms.specs.Words.{names_of}
 use Rattle.row_forms.specs.declared.line.line.Line.TheVariants as says
 use Rattle.row_forms.specs.Line.Words.{line_read}
-use Rattle.desk_session.specs.Words.{left_by}
+use Rattle.desk_session.specs.Words.{after_mark, left_by}
 use Rattle.desk_numbers.specs.Words.{placed_command}
 use Rattle.desk_entries.specs.declared.standing.Standing.{Standing}
-use Rattle.desk_entries.specs.Words.{IsHistory, StandsAfter, docketed_by, leaves, most_clerks, reading_at, run_by, within}
-use Rattle.desk_warnings.specs.Careful.{after_mark, careful_leaves, taken_at}
+use Rattle.desk_entries.specs.Words.{IsHistory, StandsAfter, answers, docketed_by, leaves, most_clerks, outcome, reading_at, run_by, within}
+use Rattle.desk_warnings.specs.declared.register.HeldBack.{HeldBack}
+use Rattle.desk_warnings.specs.declared.register.HeldBack.TheVariants.{Nothing, Warned}
+use Rattle.desk_warnings.specs.Careful.{careful_answers, careful_leaves, careful_outcome, taken_at}
 
 -- the lines that are taken, each after what those before it leave
 abbrev pub with_taken : Option (List ℕ) → List (List ℕ) → List (List ℕ)
 with_taken None lines = lines
 with_taken (Some line) lines = line ∷ lines
 
-unfoldable pub lines_taken : Standing → (today : Option ℤ) → (kept : List (List ℕ)) → List (List ℕ) → List (List ℕ)
-lines_taken under today kept [] = []
-lines_taken under today kept (line ∷ lines) =
-    with_taken (taken_at under today kept line) (lines_taken under today (kept ++ careful_leaves under today kept line) lines)
+unfoldable pub lines_taken : Standing → (held : HeldBack) → (kept : List (List ℕ)) → List (List ℕ) → List (List ℕ)
+lines_taken under held kept [] = []
+lines_taken under held kept (line ∷ lines) =
+    with_taken (taken_at under held kept line) (lines_taken under held (kept ++ careful_leaves under held kept line) lines)
 
 -- Lines leave what the lines that are taken of them would leave without warnings.
 abbrev pub WarningsKeepNothing : Type 0
-WarningsKeepNothing = (under : Standing) (today : Option ℤ) (kept lines : List (List ℕ))
-    → left_by (careful_leaves under today) kept lines ≡ left_by (leaves under) kept (lines_taken under today kept lines)
+WarningsKeepNothing = (under : Standing) (held : HeldBack) (kept lines : List (List ℕ))
+    → left_by (careful_leaves under held) kept lines ≡ left_by (leaves under) kept (lines_taken under held kept lines)
 
 -- So what they leave after a history is a history with it, under what stands, and the same stands after them.
 abbrev pub CarefulIsHistory : Type 0
-CarefulIsHistory = (under : Standing) (today : Option ℤ) (kept lines : List (List ℕ)) → IsHistory kept → StandsAfter kept under
-    → IsHistory (kept ++ left_by (careful_leaves under today) kept lines) × StandsAfter (kept ++ left_by (careful_leaves under today) kept lines) under
+CarefulIsHistory = (under : Standing) (held : HeldBack) (kept lines : List (List ℕ)) → IsHistory kept → StandsAfter kept under
+    → IsHistory (kept ++ left_by (careful_leaves under held) kept lines) × StandsAfter (kept ++ left_by (careful_leaves under held) kept lines) under
 
 -- A command that would be refused by what is docketed before it is taken with a '!' before it alone.
 abbrev pub RefusedAreHeld : Type 0
 RefusedAreHeld = (under : Standing) (today : Option ℤ) (kept : List (List ℕ)) (line : List ℕ) (row : Row) (asked : CommandOf) (refused : Refusal)
     → within kept (line_read most_clerks (names_of under.court) (reading_at under kept line).text) ≡ says.Row row → row.work ≡ Command asked
     → refusal (setup_of under.court) (parts_of (docketed_by under kept)) (placed_command (run_by under kept).numbers.moved asked) ≡ Some refused
-    → after_mark line ≡ None → taken_at under today kept line ≡ None
+    → after_mark line ≡ None → taken_at under (Warned today) kept line ≡ None
+
+-- Where nothing is held back, a line leaves what it leaves without warnings, and is answered so.
+abbrev pub NothingIsHeldBack : Type 0
+NothingIsHeldBack = (under : Standing) (kept : List (List ℕ)) (line : List ℕ)
+    → (careful_leaves under Nothing kept line ≡ leaves under kept line) × (careful_answers under Nothing kept line ≡ answers under kept line) × (careful_outcome under Nothing kept line ≡ outcome under kept line)

@@ -1,5 +1,5 @@
 //! Laws of the definitions, the contracts of functions that do nothing.
-ghost use Rattle.desk_warnings.specs.Laws.{CarefulIsHistory, RefusedAreHeld, WarningsKeepNothing};
+ghost use Rattle.desk_warnings.specs.Laws.{CarefulIsHistory, NothingIsHeldBack, RefusedAreHeld, WarningsKeepNothing};
 
 /// Lines leave what the lines that are taken of them would leave without warnings.
 #[tactic(auto, using(crate::proofs::CarefulLemmas::keep_nothing))]
@@ -17,4 +17,10 @@ pub fn careful_is_history()
 #[tactic(auto, using(crate::proofs::CarefulLemmas::refused_held))]
 pub fn refused_are_held()
     ensures { RefusedAreHeld }
+{}
+
+/// Where nothing is held back, lines are taken as without warnings.
+#[tactic(auto, using(crate::proofs::CarefulLemmas::nothing_held))]
+pub fn nothing_is_held_back()
+    ensures { NothingIsHeldBack }
 {}

@@ -1,28 +1,53 @@
-//! The register that holds back rows that draw a warning.
-ghost use Rattle.std.specs.Prelude.{◌≡◌, ◌≢◌, ◌++◌, [], ℕ, List, true, false, IfOk, OnOk, option_map, string_bytes};
-ghost use Rattle.desk_entries.specs.Words.{StandsAt};
-ghost use Rattle.desk_warnings.specs.Careful.{after_mark, held_first, held_last, held_text, warnings_at};
+//! The register that may hold back rows that draw a warning.
+ghost use Rattle.std.specs.Prelude.{◌≡◌, ◌≢◌, ◌++◌, [], ℕ, List, true, false, IfOk, OnOk, string_bytes};
+ghost use Rattle.desk_journal.specs.Words.{batch_of};
+ghost use Rattle.desk_session.specs.Words.{TakesLine};
+ghost use Rattle.desk_entries.specs.Words.{IsReadyAt, StandsAt};
+ghost use Rattle.desk_warnings.specs.declared.register.HeldBack.TheVariants.{Warned};
+ghost use Rattle.desk_warnings.specs.Careful.{are_marked, careful_answers, careful_leaves, careful_outcome, held_first, held_last, held_text, warnings_at};
 
 use crate::warnings::warnings_on;
 use court_clock::Day;
 use csv::StringRecord;
 use desk_entries::{DocketRegister, Standing, read_named};
-use desk_session::{Outcome, Register};
+use desk_session::{Outcome, Register, after_mark};
 use docket_rows::{Command, Query};
 use row_forms::{Line, Row, RowCause, Work};
 use rule_periods::{Grant, Request};
 use std::alloc::{AllocError, Global};
 
-/// What stands when rows are entered, and the day that counts as today, if one does.
+/// What is held back of the rows that are entered.
+#[derive(Clone, Copy, Debug, PartialEq, Eq)]
+pub enum HeldBack {
+    /// Nothing.
+    Nothing,
+    /// A row that draws a warning, unless its line begins with a '!'. The day counts as today for the warning of an event that
+    /// lies far from it, if there is one.
+    Warned(Option<Day>),
+}
+
+impl HeldBack {
+    /// Whether lines may begin with a '!', so that they are taken without warnings.
+    pub fn are_marked(&self) -> bool
+        ensures { result ≡ are_marked self.now }
+    {
+        match self {
+            HeldBack::Nothing => false,
+            HeldBack::Warned(_) => true,
+        }
+    }
+}
+
+/// What stands when rows are entered, and what is held back of them.
 #[derive(Drop)]
 pub struct CarefulStanding {
     /// What stands: the court, and what strikes come to.
     pub standing: Standing,
-    /// The day, for the warning of an event that lies far from it.
-    pub today: Option<Day>,
+    /// What is held back.
+    pub held_back: HeldBack,
 }
 
-/// A court's docket as entries come to it, which holds back rows that draw a warning.
+/// A court's docket as entries come to it, which may hold back rows that draw a warning.
 #[derive(Drop)]
 pub struct CarefulRegister {
     /// The docket.
@@ -43,36 +68,30 @@ type RowTypes = Option<
     ),
 >;
 
-// What comes after the '!' with which a line begins, if it does.
-fn after_mark(line: &[u8]) -> Option<&[u8]>
-    ensures { option_map (λ rest. rest.now) result ≡ after_mark line.now }
-{
-    line.strip_prefix(b"!")
-}
-
 impl CarefulRegister {
     // What a clerk is warned of a line.
     #[tactic(auto, unfolding(crate::specs::Careful::warnings_at))]
     fn warnings_at(
         &self,
         alloc: Global,
-        setup: &CarefulStanding,
+        standing: &Standing,
+        today: Option<Day>,
         line: &[u8],
     ) -> Result<String, AllocError>
-        ensures { (kept : List (List ℕ)) → StandsAt setup.now.standing self.now.register kept → IfOk result (λ text. string_bytes text ≡ warnings_at setup.now.standing setup.now.today kept line.now) }
+        ensures { (kept : List (List ℕ)) → StandsAt standing.now self.now.register kept → IfOk result (λ text. string_bytes text ≡ warnings_at standing.now today kept line.now) }
     {
         let _types: RowTypes = None;
         let mut fields = StringRecord::new(alloc);
         let cases = self.register.cases();
-        let (said, _) = read_named(alloc, &setup.standing.court, cases, line, &mut fields)?;
+        let (said, _) = read_named(alloc, &standing.court, cases, line, &mut fields)?;
         match said {
             Line::Row(row) if self.register.has_room() => warnings_on(
                 alloc,
-                &setup.standing.court,
+                &standing.court,
                 self.register.numbers().moved(),
                 cases,
                 self.register.docket(),
-                setup.today,
+                today,
                 &row.work,
             ),
             _ => Ok(String::new(alloc)),
@@ -119,19 +138,43 @@ fn push_held(
     push_last(text)
 }
 
+impl CarefulRegister {
+    // Takes a line, unless it draws a warning and isn't marked.
+    fn take_unwarned(
+        &mut self,
+        standing: &Standing,
+        today: Option<Day>,
+        alloc: Global,
+        line: &[u8],
+        batch: &mut Vec<Vec<u8>>,
+        text: &mut Vec<u8>,
+    ) -> Result<Outcome, AllocError>
+        ensures taken { (kept : List (List ℕ)) → IsReadyAt standing.now self.old.register kept → OnOk result
+            (TakesLine (careful_leaves standing.now (Warned today)) (careful_answers standing.now (Warned today)) (IsReadyAt standing.now self.new.register) kept line.now (batch_of batch.old.items) (batch_of batch.new.items) text.old.items text.new.items) }
+        ensures came { (kept : List (List ℕ)) → IsReadyAt standing.now self.old.register kept → IfOk result (λ came. came ≡ careful_outcome standing.now (Warned today) kept line.now) }
+    {
+        if let Some(rest) = after_mark(line) {
+            return self.register.take(standing, alloc, rest, batch, text);
+        }
+        let warnings = self.warnings_at(alloc, standing, today, line)?;
+        if are_none(warnings.as_str()) {
+            return self.register.take(standing, alloc, line, batch, text);
+        }
+        push_held(alloc, text, self.register.next_number(), warnings.as_str())?;
+        Ok(Outcome::Held)
+    }
+}
+
 impl Register for CarefulRegister {
     type Setup = CarefulStanding;
 
-    ghost use Rattle.desk_entries.specs.Words.{IsReadyAt};
-    ghost use Rattle.desk_warnings.specs.Careful.{careful_answers, careful_leaves, careful_outcome};
-
     ghost stands = { λ setup careful kept. IsReadyAt setup.standing careful.register kept };
 
-    ghost leaves = { λ setup kept line. careful_leaves setup.standing setup.today kept line };
+    ghost leaves = { λ setup kept line. careful_leaves setup.standing setup.held_back kept line };
 
-    ghost answers = { λ setup kept line. careful_answers setup.standing setup.today kept line };
+    ghost answers = { λ setup kept line. careful_answers setup.standing setup.held_back kept line };
 
-    ghost outcome = { λ setup kept line. careful_outcome setup.standing setup.today kept line };
+    ghost outcome = { λ setup kept line. careful_outcome setup.standing setup.held_back kept line };
 
     fn take(
         &mut self,
@@ -141,18 +184,15 @@ impl Register for CarefulRegister {
         batch: &mut Vec<Vec<u8>>,
         text: &mut Vec<u8>,
     ) -> Result<Outcome, AllocError> {
-        if let Some(rest) = after_mark(line) {
-            return self
-                .register
-                .take(&setup.standing, alloc, rest, batch, text);
+        let CarefulStanding {
+            standing,
+            held_back,
+        } = setup;
+        match held_back {
+            HeldBack::Nothing => self.register.take(standing, alloc, line, batch, text),
+            HeldBack::Warned(today) => {
+                self.take_unwarned(standing, *today, alloc, line, batch, text)
+            }
         }
-        let warnings = self.warnings_at(alloc, setup, line)?;
-        if are_none(warnings.as_str()) {
-            return self
-                .register
-                .take(&setup.standing, alloc, line, batch, text);
-        }
-        push_held(alloc, text, self.register.next_number(), warnings.as_str())?;
-        Ok(Outcome::Taken)
     }
 }

@@ -1,4 +1,3 @@
 pub mod Called
-pub mod Table
 pub mod Laws
 pub mod Words

@@ -20,9 +20,7 @@ pub use named::{
     push_case_line, push_motion_called, push_named_answer, push_named_calendar, push_named_line,
     push_named_reply, without_names_as_before,
 };
-pub use names::{
-    CaseCalled, case_called, case_names, number_called, push_called, without_names_as_numbers,
-};
+pub use names::{CaseCalled, case_called, number_called, push_called, without_names_as_numbers};
 pub use numbers::push_number;
 pub use run::{Closing, Reply, push_closing, push_numbers, push_reply, reply_to, run_text};
 pub use sheets::{push_case, push_deadline, push_deadlines, push_motions, push_sheet};

@@ -23,7 +23,7 @@ use Rattle.docket_selection.specs.declared.item.Matter.TheVariants.{Deadline, He
 use Rattle.content_lines.specs.Words.{date_digits, property, utc_text}
 use Rattle.office_texts.specs.Words.{name_of}
 use Rattle.reason_texts.specs.Periods.Words.{event_words, rule_section, rule_words}
-use Rattle.report_texts.specs.Words.{matter_words, minute_time, period_words, second_time}
+use Rattle.report_texts.specs.Words.{given_words, matter_words, minute_time, period_words, second_time}
 use Rattle.report_ics.specs.declared.appointment.Appointment.{Appointment}
 use Rattle.report_ics.specs.Times.{slot_begins, utc_if_any}
 
@@ -166,8 +166,16 @@ abbrev pub described : Period → List ℕ
 described (period.Rule rule) = rule_period_words rule
 described (period.Entered e) = period_words (period.Entered e)
 
+unfoldable pub reading_front : List ℕ
+reading_front = codes "\nBy another reading of the Rules: "
+
+-- when it ends by another reading, if one gives another end
+abbrev pub reading_words : ClockView → Option Shown → List ℕ
+reading_words clock (Some other) = reading_front ++ given_words clock other ++ codes "."
+reading_words clock None = []
+
 unfoldable pub deadline_words : ClockView → (second : ℕ) → DueDeadline → List ℕ
-deadline_words clock second d = codes "Period: " ++ described d.period ++ codes ".\n" ++ end_words clock second d.shown ++ codes "."
+deadline_words clock second d = codes "Period: " ++ described d.period ++ codes ".\n" ++ end_words clock second d.shown ++ codes "." ++ reading_words clock d.other
 
 -- what the docket says besides
 abbrev pub description : ClockView → (second : ℕ) → Matter → List ℕ

@@ -4,7 +4,7 @@ ghost use Rattle.std.specs.Prelude.{◌≡◌, ◌++◌, OnOk, codes};
 ghost use Rattle.report_texts.specs.Words.{second_time};
 ghost use Rattle.content_lines.specs.Words.{property, sent, sent_line};
 ghost use Rattle.office_texts.specs.Words.{AddsText};
-ghost use Rattle.report_ics.specs.Events.{affidavits_back, affidavits_front, affidavits_words, closing_words, deadline_name, deadline_words, described, description, end_words, hearing_words, midnight_words, name_words, notice_front, off_words, paper_words, place_lines, rule_front, rule_period_words, state_words, summary, until_back, until_front, what_words, word_lines};
+ghost use Rattle.report_ics.specs.Events.{affidavits_back, affidavits_front, affidavits_words, closing_words, deadline_name, deadline_words, described, description, end_words, hearing_words, midnight_words, name_words, notice_front, off_words, paper_words, place_lines, reading_front, reading_words, rule_front, rule_period_words, state_words, summary, until_back, until_front, what_words, word_lines};
 
 use crate::appointment::Appointment;
 use case_numbers::{Cases, push_case_text};
@@ -15,7 +15,7 @@ use docket_rows::{SheetHearing, State};
 use docket_selection::{DueDeadline, Matter};
 use office_texts::{push_number, room_name};
 use reason_texts::{event_words, rule_section, rule_words};
-use report_texts::{push_matter, push_minute, push_period, push_second};
+use report_texts::{push_given, push_matter, push_minute, push_period, push_second};
 use rule_periods::{Period, RulePeriod};
 use rule6::{Act, Shown};
 use std::alloc::AllocError;
@@ -241,7 +241,29 @@ fn push_deadline(
     push_described(value, &due.period)?;
     value.push_str(".\n")?;
     push_end(value, clock, second, &due.shown)?;
-    value.push_str(".")
+    value.push_str(".")?;
+    push_reading(value, clock, due.other)
+}
+
+/// Adds when the time of a deadline ends by another reading, if one gives another end.
+fn push_reading(value: &mut String, clock: &Clock, other: Option<Shown>) -> Result<(), AllocError>
+    ensures { OnOk result (AddsText value.old value.new (reading_words clock.now other)) }
+{
+    match other {
+        Some(other) => {
+            push_reading_front(value)?;
+            push_given(value, clock, &other)?;
+            value.push_str(".")
+        }
+        None => Ok(()),
+    }
+}
+
+#[tactic(auto, unfolding(crate::specs::Events::reading_front))]
+fn push_reading_front(value: &mut String) -> Result<(), AllocError>
+    ensures { OnOk result (AddsText value.old value.new reading_front) }
+{
+    value.push_str("\nBy another reading of the Rules: ")
 }
 
 /// Adds a period of the Rules with its event and its section, or an entered one.

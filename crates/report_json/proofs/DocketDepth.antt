@@ -34,22 +34,23 @@ use Rattle.deadline_reasons.specs.declared.reason.Reason.{Reason}
 use Rattle.reason_texts.specs.declared.course.Course.{Course}
 use Rattle.reason_texts.specs.Words.{course_after, course_of, day_shown}
 use Rattle.office_texts.specs.Words.{means_text, state_word}
-use Rattle.row_forms.specs.declared.row.Row.{Row}
+use Rattle.row_forms.specs.declared.numbered.NumberedRow.{NumberedRow}
+use Rattle.row_forms.specs.Words.{rows_of}
 use Rattle.office_texts.specs.declared.run.reply.Reply.{Reply}
 use Rattle.office_texts.specs.declared.run.reply.Reply.TheVariants.{Made, Viewed}
 use Rattle.office_texts.specs.Run.Words.{docketed_after, docketed_then}
 use Rattle.desk_numbers.specs.declared.moved.Moved.{Moved as MovedOf}
-use Rattle.report_numbers.specs.Words.{numbered_calendar}
+use Rattle.report_texts.specs.Words.{numbered_calendar}
 use Rattle.report_json.specs.declared.answers.AnsweredRow.{AnsweredRow}
 use Rattle.report_json.specs.Answers.{answer_fields, answered_value, case_named, day_named, motion_named, refusal_fields, refusal_front, refusal_value, reply_fields, row_fields, view_fields}
 use Rattle.report_json.specs.Bookings.{booked_fields, booking_fields, booking_value, calendar_fields, calendar_value}
 use Rattle.report_json.specs.Cases.{case_fields, name_fields}
-use Rattle.report_json.specs.Deadlines.{deadline_fields, deadline_value, docketed_fields, end_of, event_value, filed_fields, filed_value, last_day_of, outcome_fields, shown_fields, started_fields}
+use Rattle.report_json.specs.Deadlines.{deadline_fields, deadline_value, docketed_fields, end_of, event_value, filed_fields, filed_value, last_day_of, outcome_fields, shown_fields, shown_value, started_fields}
 use Rattle.report_json.specs.Document.{answers_from, court_value, court_fields, document_fields, document_value}
 use Rattle.report_json.specs.Motions.{hearing_fields, hearing_value, motion_fields, motion_value, notice_days_of}
 use Rattle.report_json.specs.Names.{judges_value, name_value, names_from}
 use Rattle.report_json.specs.Periods.{code_of, day_of_grant, days_of_grant, days_of_length, entered_fields, entered_of, entered_value, grant_fields, grant_value, hours_of_grant, hours_of_length, service_value}
-use Rattle.report_json.specs.Reasons.{case_value, explained_docketed, explained_fields, explained_sheet_fields, explained_value, instant_shown, reason_fields, reason_value, reason_values, reasons_field}
+use Rattle.report_json.specs.Reasons.{case_value, explained_docketed, explained_fields, explained_sheet_fields, explained_value, instant_shown, reason_fields, reason_value, reason_values, reasons_field, why_fields}
 use Rattle.report_json.specs.Sheets.{sheet_docketed, sheet_fields, sheet_value}
 use Rattle.report_json.specs.Times.{day_value, happened_fields, instant_value}
 use Rattle.report_json.specs.Values.{amount, field, or_null}
@@ -80,6 +81,10 @@ filed_within zone f =
 
 shown_within : (zone : TimeZone) (end : Shown) → FieldsWithin 0 (shown_fields zone end)
 shown_within zone end = (nullable day_value 0 (λ _. flat) (last_day_of end), (nullable (instant_value zone) 0 (instant_within zone) (end_of end), tt))
+
+shown_object_within : (zone : TimeZone) (end : Shown) → depth (shown_value zone end) ≤ 1
+unfolding shown_value
+shown_object_within zone end = object_within 0 (shown_fields zone end) (shown_within zone end)
 
 started_within : (zone : TimeZone) (row : DeadlineRowView) → FieldsWithin 2 (started_fields zone row)
 unfolding started_fields
@@ -149,8 +154,8 @@ explained_within : (clock : ClockView) (e : ExplainedDeadline) → depth (explai
 unfolding explained_value
 explained_within clock e =
     object_within 2 (explained_fields clock e)
-    (append_within 2 (deadline_fields clock.zone e.deadline) (reasons_field clock e ∷ []) (append_within 2 (docketed_fields clock.zone e.deadline) (outcome_fields clock.zone e.deadline) (docketed_within clock.zone e.deadline) (outcome_within clock.zone e.deadline))
-    (list_within 1 _ (reasons_within clock (course_of e.deadline.row.period) e.reasons.items), tt))
+    (append_within 2 (deadline_fields clock.zone e.deadline) (why_fields clock e) (append_within 2 (docketed_fields clock.zone e.deadline) (outcome_fields clock.zone e.deadline) (docketed_within clock.zone e.deadline) (outcome_within clock.zone e.deadline))
+    (nullable (shown_value clock.zone) 2 (λ end. let h = shown_object_within clock.zone end in omega arith) e.other, (list_within 1 _ (reasons_within clock (course_of e.deadline.row.period) e.reasons.items), tt)))
 
 case_within : (court : CourtView) (named : List NamedCase) (e : ExplainedSheet) → depth (case_value court named e) ≤ 5
 unfolding case_value explained_docketed
@@ -224,10 +229,10 @@ answered_within court named r = object_within 5 _ (append_within 5 (row_fields r
 pub answered_reads_within : (court : CourtView) (named : List NamedCase) (r : AnsweredRow) → depth (answered_value court named r) ≤ max_depth
 answered_reads_within court named r = let h = answered_within court named r in omega arith
 
-answers_within : (court : CourtView) (named : List NamedCase) (moved : List MovedOf) (docketed : Rows) (number : ℕ) (rows : List Row) → AllWithin 6 (answers_from court named moved docketed number rows)
+answers_within : (court : CourtView) (named : List NamedCase) (moved : List MovedOf) (docketed : Rows) (rows : List NumberedRow) → AllWithin 6 (answers_from court named moved docketed rows)
 unfolding answers_from
-answers_within court named moved docketed number [] = tt
-answers_within court named moved docketed number (row ∷ rows) = (answered_within court named _, answers_within court named moved (docketed_then (setup_of court) docketed row.work) (number + 1) rows)
+answers_within court named moved docketed [] = tt
+answers_within court named moved docketed (n ∷ rows) = (answered_within court named _, answers_within court named moved (docketed_then (setup_of court) docketed n.row.work) rows)
 
 judges_within : (court : CourtView) → depth (judges_value court) ≤ 1
 unfolding names_from
@@ -243,12 +248,12 @@ calendar_within court named c =
     object_within 2 (calendar_fields court named c)
     (nullable string 2 (λ _. omega arith) _, (array_within (booking_value court named) 1 (booking_within court named) c.bookings, tt))
 
-pub document_within : (court : CourtView) (named : List NamedCase) (moved : List MovedOf) (choice : Choice) (rows : List Row) (sheets : List ExplainedSheet) → depth (document_value court named moved choice rows sheets) ≤ max_depth
+pub document_within : (court : CourtView) (named : List NamedCase) (moved : List MovedOf) (choice : Choice) (rows : List NumberedRow) (sheets : List ExplainedSheet) → depth (document_value court named moved choice rows sheets) ≤ max_depth
 unfolding document_value
 document_within court named moved choice rows sheets =
-    let docketed = docketed_after (setup_of court) (opening_rows (setup_of court)) rows in
+    let docketed = docketed_after (setup_of court) (opening_rows (setup_of court)) (rows_of rows) in
     let here : depth (court_value court) ≤ 7 = let h = court_within court in omega arith in
-    let answers = list_within 6 _ (answers_within court named moved (opening_rows (setup_of court)) 1 rows) in
+    let answers = list_within 6 _ (answers_within court named moved (opening_rows (setup_of court)) rows) in
     let cases = array_within (case_value court named) 5 (case_within court named) sheets in
     let calendars = array_within (calendar_value court named) 3 (calendar_within court named) (map (numbered_calendar moved) (chosen_calendars (setup_of court) docketed choice)) in
     let whole = object_within 7 (document_fields court named moved choice rows sheets) (here, (answers, (omega arith, (omega arith, tt)))) in

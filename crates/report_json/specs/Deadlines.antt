@@ -29,6 +29,10 @@ shown_fields zone end =
     ∷ field (codes "end") (or_null (instant_value zone) (end_of end))
     ∷ []
 
+-- the end by another reading
+unfoldable pub shown_value : TimeZone → Shown → Json
+shown_value zone end = object_of (shown_fields zone end)
+
 unfoldable pub event_value : TimeZone → EventView → Json
 event_value zone e = object_of (happened_fields zone e.day e.minute)
 

@@ -11,7 +11,7 @@ use Rattle.reason_texts.specs.Words.{course_after, course_of, day_shown, section
 use Rattle.docket_selection.specs.declared.explained.explained.ExplainedDeadline.{ExplainedDeadline}
 use Rattle.docket_selection.specs.declared.explained.explained.ExplainedSheet.{ExplainedSheet}
 use Rattle.report_json.specs.Cases.{case_fields}
-use Rattle.report_json.specs.Deadlines.{deadline_fields}
+use Rattle.report_json.specs.Deadlines.{deadline_fields, shown_value}
 use Rattle.report_json.specs.Motions.{motion_value}
 use Rattle.report_json.specs.Times.{day_value, instant_value}
 use Rattle.report_json.specs.Values.{Field, array_of, field, object_of, or_null}
@@ -45,9 +45,12 @@ reason_values clock course (r ∷ reasons) = reason_value clock course r ∷ rea
 abbrev pub reasons_field : ClockView → ExplainedDeadline → Field
 reasons_field clock e = field (codes "reasons") (array_of (reason_values clock (course_of e.deadline.row.period) e.reasons.items))
 
--- a deadline, and why its time ends when it does
+-- when its time ends by another reading, if one gives another end, and why it ends when it does
+abbrev pub why_fields : ClockView → ExplainedDeadline → List Field
+why_fields clock e = field (codes "other_reading") (or_null (shown_value clock.zone) e.other) ∷ reasons_field clock e ∷ []
+
 abbrev pub explained_fields : ClockView → ExplainedDeadline → List Field
-explained_fields clock e = deadline_fields clock.zone e.deadline ++ reasons_field clock e ∷ []
+explained_fields clock e = deadline_fields clock.zone e.deadline ++ why_fields clock e
 
 unfoldable pub explained_value : ClockView → ExplainedDeadline → Json
 explained_value clock e = object_of (explained_fields clock e)

@@ -112,6 +112,18 @@ impl ToFields for Shown {
     }
 }
 
+/// The end by another reading, as an object.
+impl ToJson for Shown {
+    ghost use Rattle.report_json.specs.Deadlines.{shown_value};
+
+    ghost value = { λ court named shown. shown_value court.clock.zone shown };
+
+    #[tactic(auto, unfolding(crate::specs::Deadlines::shown_value))]
+    fn write(&self, out: &mut JsonWriter, court: &Court, cases: &Cases) -> Result<(), AllocError> {
+        out.object(court, cases, self)
+    }
+}
+
 fn last_day_of(shown: &Shown) -> Option<Day>
     ensures { result ≡ last_day_of shown.now }
 {

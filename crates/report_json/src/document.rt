@@ -6,6 +6,7 @@ ghost use Rattle.json.specs.Tree.{json_tokens};
 ghost use Rattle.docket_rows.specs.Words.{Rows, opening_rows, setup_of};
 ghost use Rattle.docket_core.specs.Words.{StandsFor};
 ghost use Rattle.office_texts.specs.Run.Words.{Holds, docketed_after};
+ghost use Rattle.row_forms.specs.Words.{rows_of};
 ghost use Rattle.report_json.specs.Document.{AreSheetsAfter, IsDocketJson, answers_from, calendars_field, court_fields, court_value, document_fields, document_value};
 ghost use Rattle.report_json.specs.Values.{Adds, AddsFields, AddsValue, array_of, field};
 
@@ -19,11 +20,11 @@ use desk_numbers::MovedNumbers;
 use docket_core::Docket;
 use docket_selection::{Choice, ExplainedSheet};
 use office_texts::reply_to;
-use report_numbers::{explained_selection, numbered_calendars};
-use row_forms::Row;
+use report_texts::{explained_selection, numbered_calendars};
+use row_forms::NumberedRow;
 use std::alloc::{AllocError, Global};
 
-/// One line of JSON: an object with the court, what each row was answered, the sheets of the chosen cases with the reasons
+/// One line of JSON: an object with the court, what each row was answered, by its number, the sheets of the chosen cases with the reasons
 /// of each deadline, and the calendars of the chosen judges after the last row. `cases` has the names of cases, each of which
 /// is beside the number of its case. Deadlines and motions have the numbers that `moved` says, while rows name them by their
 /// places. `Err` says that memory ran out.
@@ -32,7 +33,7 @@ pub fn json_text(
     court: &Court,
     cases: &Cases,
     moved: &MovedNumbers,
-    rows: &[Row],
+    rows: &[NumberedRow],
     choice: &Choice,
 ) -> Result<Vec<u8>, AllocError>
     ensures { IfOk result (λ text. IsDocketJson court.now cases.now.named moved.now choice.now rows.now text.items) }
@@ -51,7 +52,7 @@ fn push_document(
     court: &Court,
     cases: &Cases,
     moved: &MovedNumbers,
-    rows: &[Row],
+    rows: &[NumberedRow],
     choice: &Choice,
 ) -> Result<Vec<ExplainedSheet>, AllocError>
     ensures sheets { IfOk result (λ sheets. AreSheetsAfter court.now moved.now choice.now rows.now sheets.items) }
@@ -69,7 +70,7 @@ fn push_document_fields(
     court: &Court,
     cases: &Cases,
     moved: &MovedNumbers,
-    rows: &[Row],
+    rows: &[NumberedRow],
     choice: &Choice,
 ) -> Result<Vec<ExplainedSheet>, AllocError>
     ensures sheets { IfOk result (λ sheets. AreSheetsAfter court.now moved.now choice.now rows.now sheets.items) }
@@ -131,11 +132,11 @@ fn push_answers(
     cases: &Cases,
     moved: &MovedNumbers,
     docket: &mut Docket,
-    rows: &[Row],
+    rows: &[NumberedRow],
 ) -> Result<(), AllocError>
     requires { Holds (setup_of court.now) docket.old (opening_rows (setup_of court.now)) }
-    ensures answers { OnOk result (AddsFields out.old out.new (field (codes "answers") (array_of (answers_from court.now cases.now.named moved.now (opening_rows (setup_of court.now)) 1 rows.now)) ∷ [])) }
-    ensures docket { OnOk result (Holds (setup_of court.now) docket.new (docketed_after (setup_of court.now) (opening_rows (setup_of court.now)) rows.now)) }
+    ensures answers { OnOk result (AddsFields out.old out.new (field (codes "answers") (array_of (answers_from court.now cases.now.named moved.now (opening_rows (setup_of court.now)) rows.now)) ∷ [])) }
+    ensures docket { OnOk result (Holds (setup_of court.now) docket.new (docketed_after (setup_of court.now) (opening_rows (setup_of court.now)) (rows_of rows.now))) }
 {
     out.key("answers")?;
     out.begin_array()?;
@@ -151,22 +152,20 @@ fn push_answered(
     cases: &Cases,
     moved: &MovedNumbers,
     docket: &mut Docket,
-    rows: &[Row],
+    rows: &[NumberedRow],
 ) -> Result<(), AllocError>
     requires { Holds (setup_of court.now) docket.old (opening_rows (setup_of court.now)) }
-    ensures answers { OnOk result (Adds out.old out.new (flat_map json_tokens (answers_from court.now cases.now.named moved.now (opening_rows (setup_of court.now)) 1 rows.now))) }
-    ensures docket { OnOk result (Holds (setup_of court.now) docket.new (docketed_after (setup_of court.now) (opening_rows (setup_of court.now)) rows.now)) }
+    ensures answers { OnOk result (Adds out.old out.new (flat_map json_tokens (answers_from court.now cases.now.named moved.now (opening_rows (setup_of court.now)) rows.now))) }
+    ensures docket { OnOk result (Holds (setup_of court.now) docket.new (docketed_after (setup_of court.now) (opening_rows (setup_of court.now)) (rows_of rows.now))) }
 {
-    let mut number = 1u64;
-    for row in rows {
-        let reply = reply_to(alloc, docket, &row.work)?;
+    for numbered in rows {
+        let reply = reply_to(alloc, docket, &numbered.row.work)?;
         let answered = AnsweredRow {
-            number,
-            clerk: row.clerk,
-            reply: moved.number_reply(&row.work, reply),
+            number: numbered.number,
+            clerk: numbered.row.clerk,
+            reply: moved.number_reply(&numbered.row.work, reply),
         };
         answered.write(out, court, cases)?;
-        number += 1;
     }
     Ok(())
 }

@@ -15,17 +15,17 @@ use court_days::Court;
 use desk_numbers::MovedNumbers;
 use docket_core::Docket;
 use office_texts::reply_to;
-use row_forms::Row;
+use row_forms::NumberedRow;
 use std::alloc::{AllocError, Global};
 
-/// A line of JSON for each row, in their order: an object that says what the row is answered, as among the answers of
+/// A line of JSON for each row, in their order: an object that says the row's number and what it is answered, as among the answers of
 /// `json_text`, with the numbers that `moved` says. `Err` says that memory ran out.
 pub fn answer_lines(
     alloc: Global,
     court: &Court,
     cases: &Cases,
     moved: &MovedNumbers,
-    rows: &[Row],
+    rows: &[NumberedRow],
 ) -> Result<Vec<u8>, AllocError>
     ensures { IfOk result (λ text. AreAnswerLines court.now cases.now.named moved.now rows.now text.items) }
 {
@@ -43,22 +43,20 @@ fn push_lines(
     cases: &Cases,
     moved: &MovedNumbers,
     docket: &mut Docket,
-    rows: &[Row],
+    rows: &[NumberedRow],
 ) -> Result<(), AllocError>
     requires { Holds (setup_of court.now) docket.old (opening_rows (setup_of court.now)) }
     ensures lines { OnOk result (text.new.items ≡ text.old.items ++ flat_map line_of (answers_of court.now cases.now.named moved.now rows.now)) }
     ensures read { OnOk result (All ReadsBack (answers_of court.now cases.now.named moved.now rows.now)) }
 {
-    let mut number = 1u64;
-    for row in rows {
-        let reply = reply_to(alloc, docket, &row.work)?;
+    for numbered in rows {
+        let reply = reply_to(alloc, docket, &numbered.row.work)?;
         let answered = AnsweredRow {
-            number,
-            clerk: row.clerk,
-            reply: moved.number_reply(&row.work, reply),
+            number: numbered.number,
+            clerk: numbered.row.clerk,
+            reply: moved.number_reply(&numbered.row.work, reply),
         };
         push_line(alloc, text, court, cases, &answered)?;
-        number += 1;
     }
     Ok(())
 }

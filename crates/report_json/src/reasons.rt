@@ -3,7 +3,7 @@
 ghost use Rattle.std.specs.Prelude.{◌≡◌, [], ◌∷◌, OnOk};
 ghost use Rattle.std.specs.List.{flat_map};
 ghost use Rattle.json.specs.Tree.{json_tokens};
-ghost use Rattle.report_json.specs.Reasons.{explained_docketed, instant_shown, reason_values, reasons_field};
+ghost use Rattle.report_json.specs.Reasons.{explained_docketed, instant_shown, reason_values, reasons_field, why_fields};
 ghost use Rattle.report_json.specs.Values.{Adds, AddsFields};
 
 use crate::to_json::{ToFields, ToJson};
@@ -66,6 +66,19 @@ fn instant_shown(reason: &Reason) -> Option<Instant>
     }
 }
 
+/// Writes the end by another reading, if there is one, and the reasons of a deadline.
+fn push_why(
+    out: &mut JsonWriter,
+    court: &Court,
+    cases: &Cases,
+    explained: &ExplainedDeadline,
+) -> Result<(), AllocError>
+    ensures { OnOk result (AddsFields out.old out.new (why_fields court.now.clock explained.now)) }
+{
+    out.field(court, cases, "other_reading", &explained.other)?;
+    push_reasons(out, court, cases, explained)
+}
+
 /// Writes the reasons of a deadline.
 fn push_reasons(
     out: &mut JsonWriter,
@@ -117,7 +130,7 @@ impl ToFields for ExplainedDeadline {
         cases: &Cases,
     ) -> Result<(), AllocError> {
         self.deadline.write_fields(out, court, cases)?;
-        push_reasons(out, court, cases, self)
+        push_why(out, court, cases, self)
     }
 }
 

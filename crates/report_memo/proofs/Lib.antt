@@ -1,6 +1,9 @@
+pub mod AnswerLemmas
 pub mod AskedLemmas
 pub mod DocketLemmas
 pub mod MarginLemmas
 pub mod MemoLemmas
+pub mod NamesLemmas
 pub mod ReplyLemmas
+pub mod RowLemmas
 pub mod TextLemmas

@@ -1,23 +1,18 @@
--- What the words of the command line ask for.
+-- What the options ask for.
 use Rattle.std.specs.Prelude.{◌≡◌, ◌&&◌, Bool, true, false, List, [], ◌∷◌, Option, Some, None, codes}
 use Rattle.std.specs.Option.{option_and_then}
 use Rattle.clap.specs.Kinds.{or_else}
-use Rattle.clap.specs.Words.{Kinds, Row, Text, fault_of, first_of, matches_of, takes}
+use Rattle.clap.specs.Words.{Kinds, Row, Text, first_of}
 use Rattle.clap.specs.declared.error.kind.ErrorKind.TheVariants.{MissingRequiredArgument}
 use Rattle.office_texts.specs.Names.Words.{case_called}
 use Rattle.court_clock.specs.Words.{day_of_text}
 use Rattle.program_main.specs.Texts.Words.{faults_unless, is_case_taken, is_day_taken}
 use Rattle.report_memo.specs.declared.asked.Asked.{Asked}
-use Rattle.report_memo.specs.CommandLine.{command_line}
 
 -- what the options were given asks for that: the case and the day are those that the texts of their options write
 pub record IsAskedBy (given : List Row) (asked : Asked) : Type 0 where
   pub case : asked.case ≡ option_and_then case_called (first_of (codes "case") given)
   pub today : asked.today ≡ option_and_then day_of_text (first_of (codes "today") given)
-
--- the words ask for it
-abbrev pub IsAsked : List Text → Asked → Type 0
-IsAsked words asked = IsAskedBy (matches_of command_line words) asked
 
 -- the fault of a day that is given: it counts for a case alone, and its text writes a day
 abbrev pub faults_of_day : (today case : Option Text) → Kinds
@@ -29,10 +24,6 @@ faults_of_day (Some text) (Some number) = faults_unless (is_day_taken (Some text
 abbrev pub faults_given : List Row → Kinds
 faults_given given = or_else (faults_unless (is_case_taken (first_of (codes "case") given))) (faults_of_day (first_of (codes "today") given) (first_of (codes "case") given))
 
--- the faults that words have: of the command line, or else of what they give
-abbrev pub faults_of : List Text → Kinds
-faults_of words = or_else (fault_of command_line words) (faults_given (matches_of command_line words))
-
 -- a day is given that counts, or none is
 abbrev pub day_counts : (today case : Option Text) → Bool
 day_counts None case = true
@@ -41,7 +32,3 @@ day_counts (Some text) (Some number) = is_day_taken (Some text)
 
 abbrev pub are_given_taken : List Row → Bool
 are_given_taken given = is_case_taken (first_of (codes "case") given) && day_counts (first_of (codes "today") given) (first_of (codes "case") given)
-
--- the program takes the words: the command line does, and the case and the day count
-abbrev pub are_taken : List Text → Bool
-are_taken words = takes command_line words && are_given_taken (matches_of command_line words)

@@ -1,4 +1,6 @@
 pub mod Names
+pub mod Labels
+pub mod Doubtful
 pub mod Texts
 pub mod Reasons
 pub mod Sources
@@ -11,3 +13,4 @@ pub mod Case
 pub mod CommandLine
 pub mod Asked
 pub mod Answer
+pub mod Words

@@ -1,6 +1,6 @@
 -- The names that a court's file gives to holidays.
-use Rattle.std.specs.Prelude.{ℕ, ◌==◌, ◌&&◌, ◌||◌, not, nat_lt, Bool, ℤ, List, [], ◌∷◌, ◌++◌, length, take, Option, Some, None, codes, if◌then◌else◌}
-use Rattle.std.specs.List.{list_all}
+use Rattle.std.specs.Prelude.{ℕ, ◌==◌, ◌&&◌, ◌||◌, not, nat_eq, nat_lt, Bool, ℤ, List, [], ◌∷◌, ◌++◌, length, take, Option, Some, None, codes, if◌then◌else◌}
+use Rattle.std.specs.List.{ends_with, flat_map, list_all}
 use Rattle.std.specs.Option.{option_and_then}
 use Rattle.toml.specs.Data.{Data, Members, no_members, member, as_str, as_table, get_member}
 use Rattle.court_file_text.specs.Words.{toml_of}
@@ -41,6 +41,25 @@ named_in None = []
 abbrev pub table_of_names : Members → Option Members
 table_of_names document = option_and_then as_table (get_member (codes "holiday_names") document)
 
+-- what the table of a court's file names, where it has one
+abbrev pub named_by_file : List ℕ → List NamedDay
+named_by_file file = named_in (option_and_then table_of_names (toml_of file))
+
 -- the names that a court's file gives to holidays, as many at the most as a list of holidays has dates
 abbrev pub holiday_names : List ℕ → List NamedDay
-holiday_names file = take most_dates (named_in (option_and_then table_of_names (toml_of file)))
+holiday_names file = take most_dates (named_by_file file)
+
+-- the end of a name by which the court's file says that it is in doubt whether the state declares the day a holiday
+abbrev pub doubt_mark : List ℕ
+doubt_mark = codes " (doubtful)"
+
+-- the day, where its name is so marked
+abbrev pub if_doubtful : NamedDay → List ℤ
+if_doubtful n = if ends_with nat_eq n.name doubt_mark then n.day ∷ [] else []
+
+abbrev pub doubtful_among : List NamedDay → List ℤ
+doubtful_among names = flat_map if_doubtful names
+
+-- the days that a court's file marks as doubtful
+abbrev pub doubtful_days : List ℕ → List ℤ
+doubtful_days file = doubtful_among (named_by_file file)

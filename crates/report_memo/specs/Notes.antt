@@ -1,7 +1,6 @@
 -- The lines that say of an act by how much it was in time or late, of a refusal why it is one, and of an extension what a reader
 -- is warned of.
 use Rattle.std.specs.Prelude.{ℕ, List, [], Option, Some, option_map}
-use Rattle.case_numbers.specs.declared.names.NamedCase.{NamedCase}
 use Rattle.court_days.specs.Words.{CourtView}
 use Rattle.rule6.specs.declared.timeliness.Shown.{Shown}
 use Rattle.rule_periods.specs.declared.grant.Request.{Request}
@@ -26,6 +25,7 @@ use Rattle.reason_notes.specs.Warnings.Words.{extension_notes}
 use Rattle.reason_refusals.specs.Words.{deadline_asked, motion_of_refusal, query_lines, request_asked}
 use Rattle.reason_refusals.specs.Commands.Words.{deadline_at, why_refused}
 use Rattle.office_texts.specs.Named.Words.{motion_called}
+use Rattle.report_memo.specs.Labels.{LabelsView}
 
 -- what a reader is warned of an extension, by the deadline as it was left and the request for it
 abbrev pub notes_of_request : CourtView → Shown → Option DeadlineRowView → Option Request → List ℕ
@@ -38,14 +38,14 @@ abbrev pub motion_refused : List Moved → CommandOf → Refusal → Option (ℕ
 motion_refused moved command refusal = option_map (λ at. (at.0, number_in moved at.0 Motion at.1)) (motion_of_refusal command refusal)
 
 -- what is said of the answer to a command, in which what is docketed is by its place
-abbrev pub notes_of : CourtView → List NamedCase → List Moved → (docketed : Rows) → CommandOf → Answer → List ℕ
-notes_of court named moved docketed command (answer.Filed timely) =
+abbrev pub notes_of : CourtView → LabelsView → (docketed : Rows) → CommandOf → Answer → List ℕ
+notes_of court labels docketed command (answer.Filed timely) =
     recorded_lines docketed.days court.clock (deadline_at (parts_of docketed) (deadline_asked command))
-notes_of court named moved docketed command (answer.Extended shown) =
+notes_of court labels docketed command (answer.Extended shown) =
     notes_of_request court shown (deadline_at (parts_of docketed) (deadline_asked command)) (request_asked command)
-notes_of court named moved docketed command (answer.Refused refusal) =
-    why_refused court (parts_of docketed) command (motion_called named (motion_refused moved command refusal)) refusal
-notes_of court named moved docketed command answer = []
+notes_of court labels docketed command (answer.Refused refusal) =
+    why_refused court (parts_of docketed) command (motion_called labels.cases (motion_refused labels.moved command refusal)) refusal
+notes_of court labels docketed command answer = []
 
 -- what is said of the view that answers a question
 abbrev pub notes_viewed : (docketed : Rows) → QueryOf → View → List ℕ
@@ -53,7 +53,7 @@ notes_viewed docketed query (view.Refused refusal) = query_lines docketed.days q
 notes_viewed docketed query v = []
 
 -- what is said of a reply
-abbrev pub notes_text : CourtView → List NamedCase → List Moved → (docketed : Rows) → Work → Reply → List ℕ
-notes_text court named moved docketed (Command command) (Made answer) = notes_of court named moved docketed command answer
-notes_text court named moved docketed (Query query) (Viewed v) = notes_viewed docketed query v
-notes_text court named moved docketed work reply = []
+abbrev pub notes_text : CourtView → LabelsView → (docketed : Rows) → Work → Reply → List ℕ
+notes_text court labels docketed (Command command) (Made answer) = notes_of court labels docketed command answer
+notes_text court labels docketed (Query query) (Viewed v) = notes_viewed docketed query v
+notes_text court labels docketed work reply = []

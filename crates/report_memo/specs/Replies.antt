@@ -1,6 +1,5 @@
 -- The replies to rows, with the reasons of each deadline that they show.
-use Rattle.std.specs.Prelude.{◌≡◌, ℕ, ◌+◌, Bool, true, false, List, [], ◌∷◌, Option, Some, None, ◌++◌, codes, if◌then◌else◌}
-use Rattle.case_numbers.specs.declared.names.NamedCase.{NamedCase}
+use Rattle.std.specs.Prelude.{◌≡◌, ℕ, Bool, true, false, List, [], ◌∷◌, Option, Some, None, ◌++◌, codes, if◌then◌else◌}
 use Rattle.court_days.specs.Words.{CourtView}
 use Rattle.rule_periods.specs.Words.{DeadlineRowView}
 use Rattle.docket_rows.specs.declared.answer.Answer.TheVariants as answer
@@ -11,17 +10,16 @@ use Rattle.docket_rows.specs.declared.sheet.Sheet.{Sheet}
 use Rattle.docket_rows.specs.declared.view.View.TheVariants as view
 use Rattle.docket_rows.specs.Words.{Rows, setup_of, started}
 use Rattle.docket_core.specs.Words.{DocketView}
-use Rattle.desk_numbers.specs.declared.moved.Moved.{Moved}
 use Rattle.desk_numbers.specs.Words.{numbered}
-use Rattle.row_forms.specs.declared.row.Row.{Row}
+use Rattle.row_forms.specs.declared.numbered.NumberedRow.{NumberedRow}
 use Rattle.row_forms.specs.declared.row.Work.{Work}
 use Rattle.row_forms.specs.declared.row.Work.TheVariants.{Command, Query}
 use Rattle.office_texts.specs.declared.run.reply.Reply.{Reply}
 use Rattle.office_texts.specs.declared.run.reply.Reply.TheVariants.{Made, Viewed}
 use Rattle.office_texts.specs.Run.Words.{Holds, docketed_then, reply_to, row_numbers}
 use Rattle.office_texts.specs.Named.Words.{named_line_of}
-use Rattle.reason_texts.specs.Words.{NamedDay}
 use Rattle.report_memo.specs.declared.detail.Detail.TheVariants.{Reasons}
+use Rattle.report_memo.specs.Labels.{LabelsView}
 use Rattle.report_memo.specs.Notes.{notes_text}
 use Rattle.report_memo.specs.Reasons.{AreReasonsDocketed, AreReasonsIfAny}
 use Rattle.report_memo.specs.Sheets.{IsSheet}
@@ -69,16 +67,16 @@ pub record HasAnswered (court : CourtView) (docket : DocketView) (docketed : Row
   pub holds : Holds (setup_of court) docket docketed
 
 -- the reasons of the deadline whose end a reply tells, as it is docketed after the row, or of that whose end is computed
-abbrev pub AreReasonsTold : CourtView → List NamedDay → (docketed : Rows) → Option (ℕ × ℕ) → Option DeadlineRowView → List ℕ → Type 0
-AreReasonsTold court names docketed (Some told) computed = AreReasonsDocketed court names docketed told.0 told.1
-AreReasonsTold court names docketed None computed = AreReasonsIfAny court names docketed.days computed
+abbrev pub AreReasonsTold : CourtView → LabelsView → (docketed : Rows) → Option (ℕ × ℕ) → Option DeadlineRowView → List ℕ → Type 0
+AreReasonsTold court labels docketed (Some told) computed = AreReasonsDocketed court labels docketed told.0 told.1
+AreReasonsTold court labels docketed None computed = AreReasonsIfAny court labels docketed.days computed
 
-abbrev pub AreReasonsWith : CourtView → List NamedDay → (docketed : Rows) → Work → Reply → List ℕ → Type 0
-AreReasonsWith court names docketed work reply = AreReasonsTold court names docketed (deadline_told work reply) (deadline_computed work reply)
+abbrev pub AreReasonsWith : CourtView → LabelsView → (docketed : Rows) → Work → Reply → List ℕ → Type 0
+AreReasonsWith court labels docketed work reply = AreReasonsTold court labels docketed (deadline_told work reply) (deadline_computed work reply)
 
 -- what is written below the line of a reply: the reasons of the deadline that it tells, and what is said of an act or a refusal
-abbrev pub IsTold : CourtView → List NamedDay → List NamedCase → List Moved → (docketed : Rows) → Work → Reply → List ℕ → Type 0
-IsTold court names named moved docketed work reply = Then (AreReasonsWith court names docketed work reply) (Is (notes_text court named moved docketed work reply))
+abbrev pub IsTold : CourtView → LabelsView → (docketed : Rows) → Work → Reply → List ℕ → Type 0
+IsTold court labels docketed work reply = Then (AreReasonsWith court labels docketed work reply) (Is (notes_text court labels docketed work reply))
 
 -- the sheet that a reply shows
 abbrev pub sheet_replied : Reply → Option Sheet
@@ -91,27 +89,25 @@ without_list (Viewed (view.Sheet sheet)) = None
 without_list (Viewed (view.Bookings bookings)) = None
 without_list reply = Some reply
 
--- to the row of that number of that clerk a sheet with the reasons of its deadlines, or the text of the reply with numbers and
--- what is written below it
-abbrev pub IsReplyWith : CourtView → List NamedDay → List NamedCase → List Moved → (docketed : Rows) → (number clerk : ℕ) → Work → Reply → Option Sheet → List ℕ → Type 0
-IsReplyWith court names named moved docketed number clerk work reply (Some sheet) =
-    Then (Is (row_numbers number clerk ++ codes "sheet\n")) (IsSheet court names named docketed.days Reasons sheet)
-IsReplyWith court names named moved docketed number clerk work reply None =
-    Then (Is (named_line_of court named number clerk (numbered moved work reply))) (IsTold court names named moved docketed work reply)
+-- to a row a sheet with the reasons of its deadlines, or the text of the reply with numbers and what is written below it
+abbrev pub IsReplyWith : CourtView → LabelsView → (docketed : Rows) → NumberedRow → Reply → Option Sheet → List ℕ → Type 0
+IsReplyWith court labels docketed n reply (Some sheet) =
+    Then (Is (row_numbers n.number n.row.clerk ++ codes "sheet\n")) (IsSheet court labels docketed.days Reasons sheet)
+IsReplyWith court labels docketed n reply None =
+    Then (Is (named_line_of court labels.cases n.number n.row.clerk (numbered labels.moved n.row.work reply))) (IsTold court labels docketed n.row.work reply)
 
 -- the docket's reply is by places, and what it shows has numbers
-abbrev pub IsReply : CourtView → List NamedDay → List NamedCase → List Moved → (docketed : Rows) → (number clerk : ℕ) → Work → Reply → List ℕ → Type 0
-IsReply court names named moved docketed number clerk work reply =
-    IsReplyWith court names named moved docketed number clerk work reply (sheet_replied (numbered moved work reply))
+abbrev pub IsReply : CourtView → LabelsView → (docketed : Rows) → NumberedRow → Reply → List ℕ → Type 0
+IsReply court labels docketed n reply =
+    IsReplyWith court labels docketed n reply (sheet_replied (numbered labels.moved n.row.work reply))
 
 -- the reply to a row, before which this is docketed: the row's number, its clerk's, and the reply
-abbrev pub IsRow : CourtView → List NamedDay → List NamedCase → List Moved → (docketed : Rows) → (number : ℕ) → Row → List ℕ → Type 0
-IsRow court names named moved docketed number row =
-    IsReply court names named moved (docketed_then (setup_of court) docketed row.work) number row.clerk row.work (reply_to (setup_of court) docketed row.work)
+abbrev pub IsRow : CourtView → LabelsView → (docketed : Rows) → NumberedRow → List ℕ → Type 0
+IsRow court labels docketed n =
+    IsReply court labels (docketed_then (setup_of court) docketed n.row.work) n (reply_to (setup_of court) docketed n.row.work)
 
--- the replies to rows, the first of which has that number
-unfoldable pub AreReplies : CourtView → List NamedDay → List NamedCase → List Moved → (docketed : Rows) → (number : ℕ) → List Row → List ℕ → Type 0
-AreReplies court names named moved docketed number [] = Is []
-AreReplies court names named moved docketed number (row ∷ rows) =
-    Then (IsRow court names named moved docketed number row)
-    (AreReplies court names named moved (docketed_then (setup_of court) docketed row.work) (number + 1) rows)
+-- the replies to rows, in their order
+unfoldable pub AreReplies : CourtView → LabelsView → (docketed : Rows) → List NumberedRow → List ℕ → Type 0
+AreReplies court labels docketed [] = Is []
+AreReplies court labels docketed (n ∷ rows) =
+    Then (IsRow court labels docketed n) (AreReplies court labels (docketed_then (setup_of court) docketed n.row.work) rows)

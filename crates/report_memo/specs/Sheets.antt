@@ -1,7 +1,6 @@
 -- A sheet with the reasons of its deadlines.
 use Rattle.std.specs.Prelude.{ℕ, ℤ, List, [], ◌++◌, Option, Some, None}
 use Rattle.std.specs.List.{flat_map}
-use Rattle.case_numbers.specs.declared.names.NamedCase.{NamedCase}
 use Rattle.court_clock.specs.Words.{ClockView}
 use Rattle.court_days.specs.Words.{CourtView, DaysView}
 use Rattle.docket_rows.specs.declared.sheet.Sheet.{Sheet}
@@ -15,11 +14,11 @@ use Rattle.docket_rows.specs.declared.view.View.TheVariants as view
 use Rattle.rule6.specs.declared.timeliness.Shown.{Shown}
 use Rattle.office_texts.specs.Words.{deadline_line, motion_lines}
 use Rattle.office_texts.specs.Named.Words.{named_case_line}
-use Rattle.reason_texts.specs.Words.{NamedDay}
 use Rattle.reason_notes.specs.Margins.Words.{ahead_line, recorded_lines}
 use Rattle.reason_notes.specs.Warnings.Words.{deadline_notes, hearing_notes}
 use Rattle.report_memo.specs.declared.detail.Detail.{Detail}
 use Rattle.report_memo.specs.declared.detail.Detail.TheVariants.{Reasons, Whole}
+use Rattle.report_memo.specs.Labels.{LabelsView}
 use Rattle.report_memo.specs.Reasons.{AreReasons}
 use Rattle.report_memo.specs.Sources.{source_lines}
 use Rattle.report_memo.specs.Texts.{Each, Is, Then}
@@ -48,9 +47,9 @@ more_lines court days filed Reasons d = []
 more_lines court days filed (Whole today sources) d = whole_lines court days filed today d
 
 -- the line of a deadline, its reasons, and what comes before and after them
-abbrev pub IsDeadline : CourtView → List NamedDay → DaysView → (filed : ℤ) → Detail → SheetDeadline → List ℕ → Type 0
-IsDeadline court names days filed detail d =
-    Then (Is (first_lines court.clock detail d)) (Then (AreReasons court names days d.row) (Is (more_lines court days filed detail d)))
+abbrev pub IsDeadline : CourtView → LabelsView → DaysView → (filed : ℤ) → Detail → SheetDeadline → List ℕ → Type 0
+IsDeadline court labels days filed detail d =
+    Then (Is (first_lines court.clock detail d)) (Then (AreReasons court labels days d.row) (Is (more_lines court days filed detail d)))
 
 -- what a reader is warned of a hearing, where one is set
 abbrev pub notes_if_set : DaysView → Option SheetHearing → List ℕ
@@ -66,11 +65,11 @@ motions_text court days Reasons motions = flat_map (motion_lines court) motions
 motions_text court days (Whole today sources) motions = flat_map (whole_motion court days) motions
 
 -- the line of the case, then its deadlines, each with its reasons, then its motions
-abbrev pub IsSheet : CourtView → List NamedDay → List NamedCase → DaysView → Detail → Sheet → List ℕ → Type 0
-IsSheet court names named days detail sheet =
-    Then (Is (named_case_line named sheet)) (Then (Each (IsDeadline court names days sheet.filed detail) sheet.deadlines) (Is (motions_text court days detail sheet.motions)))
+abbrev pub IsSheet : CourtView → LabelsView → DaysView → Detail → Sheet → List ℕ → Type 0
+IsSheet court labels days detail sheet =
+    Then (Is (named_case_line labels.cases sheet)) (Then (Each (IsDeadline court labels days sheet.filed detail) sheet.deadlines) (Is (motions_text court days detail sheet.motions)))
 
 -- a case that isn't open shows none
-abbrev pub IsSheetShown : CourtView → List NamedDay → List NamedCase → DaysView → View → List ℕ → Type 0
-IsSheetShown court names named days (view.Sheet sheet) = IsSheet court names named days Reasons sheet
-IsSheetShown court names named days _ = Is []
+abbrev pub IsSheetShown : CourtView → LabelsView → DaysView → View → List ℕ → Type 0
+IsSheetShown court labels days (view.Sheet sheet) = IsSheet court labels days Reasons sheet
+IsSheetShown court labels days _ = Is []

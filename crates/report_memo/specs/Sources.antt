@@ -1,6 +1,6 @@
 -- Which rows made the deadlines of a case what they are: the one that started a deadline, those that extended it, and the one
 -- that recorded its act.
-use Rattle.std.specs.Prelude.{ℕ, ◌+◌, ◌==◌, List, [], ◌∷◌, ◌++◌, Option, Some, None, codes, option_to_list, if◌then◌else◌}
+use Rattle.std.specs.Prelude.{ℕ, ◌==◌, List, [], ◌∷◌, ◌++◌, Option, Some, None, codes, option_to_list, if◌then◌else◌}
 use Rattle.std.specs.Fmt.{decimal}
 use Rattle.std.specs.List.{flat_map}
 use Rattle.docket_rows.specs.declared.answer.Answer.{Answer}
@@ -11,7 +11,7 @@ use Rattle.docket_rows.specs.Words.{CourtSetup, Rows}
 use Rattle.docket_rows.specs.declared.command.Counted.TheVariants.{Deadline}
 use Rattle.desk_numbers.specs.declared.moved.Moved.{Moved}
 use Rattle.desk_numbers.specs.Words.{number_in}
-use Rattle.row_forms.specs.declared.row.Row.{Row}
+use Rattle.row_forms.specs.declared.numbered.NumberedRow.{NumberedRow}
 use Rattle.row_forms.specs.declared.row.Work.{Work}
 use Rattle.row_forms.specs.declared.row.Work.TheVariants.{Command, Query}
 use Rattle.office_texts.specs.declared.run.reply.Reply.{Reply}
@@ -38,11 +38,11 @@ source_in asked row (Command c) (Made a) = source_made asked row c a
 source_in asked row (Command c) (Viewed view) = None
 source_in asked row (Query query) reply = None
 
--- what rows did to the deadlines of the case, from that number on, each as it is answered
-unfoldable pub sources_made : CourtSetup → (asked : ℕ) → (docketed : Rows) → (number : ℕ) → List Row → List Source
-sources_made setup asked docketed number [] = []
-sources_made setup asked docketed number (row ∷ rows) =
-    option_to_list (source_in asked number row.work (reply_to setup docketed row.work)) ++ sources_made setup asked (docketed_then setup docketed row.work) (number + 1) rows
+-- what rows did to the deadlines of the case, each as it is answered
+unfoldable pub sources_made : CourtSetup → (asked : ℕ) → (docketed : Rows) → List NumberedRow → List Source
+sources_made setup asked docketed [] = []
+sources_made setup asked docketed (n ∷ rows) =
+    option_to_list (source_in asked n.number n.row.work (reply_to setup docketed n.row.work)) ++ sources_made setup asked (docketed_then setup docketed n.row.work) rows
 
 -- what a row did to a deadline of the case, with the number of the deadline, which the docket has by its place
 abbrev pub numbered_source : List Moved → (case : ℕ) → Source → Source

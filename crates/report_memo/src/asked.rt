@@ -1,4 +1,4 @@
-//! What the words of the command line ask for.
+//! What the options ask for.
 
 ghost use Rattle.std.specs.Prelude.{◌≡◌, ◌∷◌, [], true, option_map, IfErr, IfOk};
 ghost use Rattle.std.specs.Option.{option_and_then};
@@ -14,7 +14,7 @@ use office_texts::CaseCalled;
 use program_main::{OptionsFault, case_option, day_option};
 use std::alloc::Global;
 
-/// What the words ask for: the memo of one case, or of all rows where no case is named.
+/// What is asked for: the memo of one case, or of all rows where no case is named.
 #[derive(Debug, Drop)]
 pub struct Asked {
     /// A case, by its number or by its name.
@@ -23,9 +23,9 @@ pub struct Asked {
     pub today: Option<Day>,
 }
 
-/// What the options were given asks for. BadWords where the case or the day has a fault, and OutOfMemory where
-/// memory runs out.
-pub(crate) fn asked_by(alloc: Global, given: &ArgMatches<'_>) -> Result<Asked, OptionsFault>
+/// What is asked for by the texts of the options `case` and `today` that were given. BadWords where a text calls no case or writes
+/// no day, or where a day is given and no case, and OutOfMemory where memory runs out.
+pub fn asked_by(alloc: Global, given: &ArgMatches<'_>) -> Result<Asked, OptionsFault>
     ensures asked { IfOk result (λ asked. IsAskedBy (rows_of (found_of given.now)) asked) }
     ensures faults { IsAnswerFor (faults_given (rows_of (found_of given.now))) result }
     ensures taken { are_given_taken (rows_of (found_of given.now)) ≡ true → IfErr result (λ fault. fault ≡ OptionsFault.OutOfMemory) }

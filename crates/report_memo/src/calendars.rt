@@ -10,9 +10,8 @@ ghost use Rattle.office_texts.specs.Words.{AddsText};
 ghost use Rattle.report_memo.specs.Memo.{AreCalendars};
 ghost use Rattle.report_memo.specs.Texts.{Pushes};
 
-use case_numbers::Cases;
+use crate::labels::Labels;
 use court_days::Court;
-use desk_numbers::MovedNumbers;
 use docket_core::Docket;
 use hearing_slots::Bookings;
 use office_texts::push_named_calendar;
@@ -23,8 +22,7 @@ pub(crate) fn push_calendars(
     alloc: Global,
     text: &mut String,
     court: &Court,
-    cases: &Cases,
-    moved: &MovedNumbers,
+    labels: &Labels<'_>,
     docket: &Docket,
     first: u8,
     count: u8,
@@ -32,10 +30,10 @@ pub(crate) fn push_calendars(
     requires court { docket.now.setup ≡ setup_of court.now }
     requires numbers { first + count ≤ length court.now.judges }
     requires few { first + count ≤ most_names }
-    ensures { (docketed : Rows) → Holds (setup_of court.now) docket.now docketed → Pushes (AreCalendars court.now cases.now.named moved.now docketed first count) result text.old text.new }
+    ensures { (docketed : Rows) → Holds (setup_of court.now) docket.now docketed → Pushes (AreCalendars court.now labels.now docketed first count) result text.old text.new }
 {
     for judge in first..first + count {
-        push_judge(alloc, text, court, cases, moved, docket, judge)?;
+        push_judge(alloc, text, court, labels, docket, judge)?;
     }
     Ok(())
 }
@@ -45,20 +43,19 @@ fn push_judge(
     alloc: Global,
     text: &mut String,
     court: &Court,
-    cases: &Cases,
-    moved: &MovedNumbers,
+    labels: &Labels<'_>,
     docket: &Docket,
     judge: u8,
 ) -> Result<(), AllocError>
     requires court { docket.now.setup ≡ setup_of court.now }
     requires judge { judge < length court.now.judges }
-    ensures { OnOk result (AddsText text.old text.new (named_calendar court.now cases.now.named judge (map (numbered_booking moved.now) ((parts_held docket.now).judge judge)))) }
+    ensures { OnOk result (AddsText text.old text.new (named_calendar court.now labels.now.cases judge (map (numbered_booking labels.now.moved) ((parts_held docket.now).judge judge)))) }
 {
     match docket.calendar(judge) {
         Some(calendar) => {
             let placed = Bookings::from_vec(Vec::from_slice(alloc, calendar.all())?);
-            let numbered = moved.number_bookings(placed);
-            push_named_calendar(text, court, cases, judge, numbered.as_slice())
+            let numbered = labels.moved.number_bookings(placed);
+            push_named_calendar(text, court, labels.cases, judge, numbered.as_slice())
         }
         None => unreachable!(),
     }

@@ -5,16 +5,15 @@ ghost use Rattle.report_memo.specs.Case.{IsCaseClosed, IsCaseMemo, IsCaseShown, 
 ghost use Rattle.program_streams.specs.Words.{IsFinding};
 
 use crate::detail::Detail;
+use crate::labels::Labels;
 use crate::sheets::push_sheet;
 use crate::sources::{Sources, docket_after};
 use case_numbers::{Cases, push_case_text};
 use court_clock::Day;
 use court_days::{Court, Days};
-use desk_numbers::MovedNumbers;
 use docket_rows::{Query, View};
 use program_streams::Finding;
-use reason_texts::HolidayName;
-use row_forms::Row;
+use row_forms::NumberedRow;
 use std::alloc::{AllocError, Global};
 
 /// The whole sheet of a case as it is after all rows, with the numbers of its deadlines and motions, or the line of a case that
@@ -22,26 +21,23 @@ use std::alloc::{AllocError, Global};
 pub(crate) fn case_text(
     alloc: Global,
     court: &Court,
-    names: &[HolidayName],
-    cases: &Cases,
-    moved: &MovedNumbers,
-    rows: &[Row],
+    labels: &Labels<'_>,
+    rows: &[NumberedRow],
     case: u32,
     today: Option<Day>,
 ) -> Result<Finding<String>, AllocError>
-    ensures { IfOk result (IsFinding string_bytes (IsCaseMemo court.now names.now cases.now.named moved.now rows.now case today) (IsCaseClosed court.now cases.now.named moved.now rows.now case)) }
+    ensures { IfOk result (IsFinding string_bytes (IsCaseMemo court.now labels.now rows.now case today) (IsCaseClosed court.now labels.now rows.now case)) }
 {
     let mut made = Vec::new(alloc);
     let docket = docket_after(alloc, court, rows, case, &mut made)?;
-    let sources = Sources::numbered(moved, case, made);
+    let sources = Sources::numbered(labels.moved, case, made);
     let detail = Detail::Whole { today, sources };
     let view = docket.show(alloc, &Query::Sheet(case))?;
-    let numbered = moved.number_view(view);
+    let numbered = labels.moved.number_view(view);
     case_shown(
         alloc,
         court,
-        names,
-        cases,
+        labels,
         docket.days(),
         &detail,
         case,
@@ -53,22 +49,21 @@ pub(crate) fn case_text(
 fn case_shown(
     alloc: Global,
     court: &Court,
-    names: &[HolidayName],
-    cases: &Cases,
+    labels: &Labels<'_>,
     days: &Days,
     detail: &Detail,
     case: u32,
     view: &View,
 ) -> Result<Finding<String>, AllocError>
-    ensures { IfOk result (IsFinding string_bytes (IsCaseShown court.now names.now cases.now.named days.now detail.now view.now) (IsClosed cases.now.named case view.now)) }
+    ensures { IfOk result (IsFinding string_bytes (IsCaseShown court.now labels.now days.now detail.now view.now) (IsClosed labels.now.cases case view.now)) }
 {
     match view {
         View::Sheet(sheet) => {
             let mut text = String::new(alloc);
-            push_sheet(alloc, &mut text, court, names, cases, days, detail, sheet)?;
+            push_sheet(alloc, &mut text, court, labels, days, detail, sheet)?;
             Ok(Finding::Text(text))
         }
-        _ => Ok(Finding::Missing(closed_line(alloc, cases, case)?)),
+        _ => Ok(Finding::Missing(closed_line(alloc, labels.cases, case)?)),
     }
 }
 
@@ -77,7 +72,7 @@ fn closed_line(alloc: Global, cases: &Cases, case: u32) -> Result<String, AllocE
     ensures { IfOk result (λ line. string_bytes line ≡ closed_line cases.now.named case) }
 {
     let mut line = String::new(alloc);
-    line.push_str("deadline_memo: case ")?;
+    line.push_str("docket: case ")?;
     push_case_text(&mut line, cases, case)?;
     line.push_str(" isn't open: no row has opened it\n")?;
     Ok(line)

@@ -1,24 +1,26 @@
-//! What the program that says why reads of its words, and what it writes: the answers of one clerk, with the reasons of
-//! each deadline that they show.
+//! Why deadlines are the days that they are: the answers to rows, with the reasons of each deadline that they show, or the whole
+//! sheet of a case.
 #![tactic(auto)]
 
 mod asked;
 mod calendars;
 mod case;
-mod command;
 mod detail;
+mod doubtful;
+mod labels;
 mod laws;
 mod memo;
 mod names;
 mod notes;
-mod program;
 mod reasons;
 mod replies;
 mod report;
 mod sheets;
 mod sources;
+mod subcommand;
 mod whole;
 
-pub use asked::Asked;
+pub use asked::{Asked, asked_by};
 pub use laws::margins_say_the_state;
-pub use program::DeadlineMemo;
+pub use report::memo_of;
+pub use subcommand::with_memo;

@@ -4,15 +4,13 @@ ghost use Rattle.std.specs.Prelude.{string_bytes, IfOk};
 ghost use Rattle.report_memo.specs.Memo.{IsMemo};
 
 use crate::calendars::push_calendars;
+use crate::labels::Labels;
 use crate::replies::push_replies;
 use crate::sheets::push_sheets;
-use case_numbers::Cases;
 use court_days::Court;
-use desk_numbers::MovedNumbers;
 use docket_core::Docket;
 use docket_rows::LAST_CASE;
-use reason_texts::HolidayName;
-use row_forms::Row;
+use row_forms::NumberedRow;
 use std::alloc::{AllocError, Global};
 
 /// The reply to each row in turn, with the reasons of the deadlines that it shows, then the sheets of all open cases,
@@ -21,37 +19,15 @@ use std::alloc::{AllocError, Global};
 pub(crate) fn memo_text(
     alloc: Global,
     court: &Court,
-    names: &[HolidayName],
-    cases: &Cases,
-    moved: &MovedNumbers,
-    rows: &[Row],
+    labels: &Labels<'_>,
+    rows: &[NumberedRow],
 ) -> Result<String, AllocError>
-    ensures { IfOk result (λ text. IsMemo court.now names.now cases.now.named moved.now rows.now (string_bytes text)) }
+    ensures { IfOk result (λ text. IsMemo court.now labels.now rows.now (string_bytes text)) }
 {
     let mut docket = Docket::new(alloc, court)?;
     let mut text = String::new(alloc);
-    push_replies(
-        alloc,
-        &mut text,
-        court,
-        names,
-        cases,
-        moved,
-        &mut docket,
-        rows,
-    )?;
-    push_sheets(
-        alloc, &mut text, court, names, cases, moved, &docket, 1, LAST_CASE,
-    )?;
-    push_calendars(
-        alloc,
-        &mut text,
-        court,
-        cases,
-        moved,
-        &docket,
-        0,
-        court.judges(),
-    )?;
+    push_replies(alloc, &mut text, court, labels, &mut docket, rows)?;
+    push_sheets(alloc, &mut text, court, labels, &docket, 1, LAST_CASE)?;
+    push_calendars(alloc, &mut text, court, labels, &docket, 0, court.judges())?;
     Ok(text)
 }

@@ -9,7 +9,7 @@ ghost use Rattle.office_texts.specs.Named.Words.{motion_called};
 ghost use Rattle.reason_refusals.specs.Commands.Words.{deadline_at, why_refused};
 ghost use Rattle.report_memo.specs.Notes.{motion_refused, notes_of, notes_of_request, notes_text, notes_viewed};
 
-use case_numbers::Cases;
+use crate::labels::Labels;
 use court_days::Court;
 use desk_numbers::MovedNumbers;
 use docket_core::Docket;
@@ -32,17 +32,16 @@ pub(crate) fn push_notes(
     alloc: Global,
     text: &mut String,
     court: &Court,
-    cases: &Cases,
-    moved: &MovedNumbers,
+    labels: &Labels<'_>,
     docket: &Docket,
     work: &Work,
     reply: &Reply,
 ) -> Result<(), AllocError>
-    ensures { (docketed : Rows) → Holds (setup_of court.now) docket.now docketed → OnOk result (string_bytes text.new ≡ string_bytes text.old ++ notes_text court.now cases.now.named moved.now docketed work.now reply.now) }
+    ensures { (docketed : Rows) → Holds (setup_of court.now) docket.now docketed → OnOk result (string_bytes text.new ≡ string_bytes text.old ++ notes_text court.now labels.now docketed work.now reply.now) }
 {
     match (work, reply) {
         (Work::Command(command), Reply::Made(answer)) => push_notes_of(
-            alloc, text, court, cases, moved, docket, command, answer,
+            alloc, text, court, labels, docket, command, answer,
         ),
         (Work::Query(query), Reply::Viewed(view)) => push_notes_viewed(
             alloc, text, docket, query, view,
@@ -56,19 +55,18 @@ fn push_notes_of(
     alloc: Global,
     text: &mut String,
     court: &Court,
-    cases: &Cases,
-    moved: &MovedNumbers,
+    labels: &Labels<'_>,
     docket: &Docket,
     command: &Command,
     answer: &Answer,
 ) -> Result<(), AllocError>
-    ensures { (docketed : Rows) → Holds (setup_of court.now) docket.now docketed → OnOk result (string_bytes text.new ≡ string_bytes text.old ++ notes_of court.now cases.now.named moved.now docketed command.now answer.now) }
+    ensures { (docketed : Rows) → Holds (setup_of court.now) docket.now docketed → OnOk result (string_bytes text.new ≡ string_bytes text.old ++ notes_of court.now labels.now docketed command.now answer.now) }
 {
     match answer {
         Answer::Filed(_) => push_filed(alloc, text, court, docket, command),
         Answer::Extended(shown) => push_extended(text, court, docket, command, shown),
         Answer::Refused(refusal) => push_refused(
-            alloc, text, court, cases, moved, docket, command, refusal,
+            alloc, text, court, labels, docket, command, refusal,
         ),
         _ => Ok(()),
     }
@@ -141,16 +139,19 @@ fn push_refused(
     alloc: Global,
     text: &mut String,
     court: &Court,
-    cases: &Cases,
-    moved: &MovedNumbers,
+    labels: &Labels<'_>,
     docket: &Docket,
     command: &Command,
     refusal: &Refusal,
 ) -> Result<(), AllocError>
-    ensures { (docketed : Rows) → Holds (setup_of court.now) docket.now docketed → OnOk result (string_bytes text.new ≡ string_bytes text.old ++ why_refused court.now (parts_of docketed) command.now (motion_called cases.now.named (motion_refused moved.now command.now refusal.now)) refusal.now) }
+    ensures { (docketed : Rows) → Holds (setup_of court.now) docket.now docketed → OnOk result (string_bytes text.new ≡ string_bytes text.old ++ why_refused court.now (parts_of docketed) command.now (motion_called labels.now.cases (motion_refused labels.now.moved command.now refusal.now)) refusal.now) }
 {
     let mut called = String::new(alloc);
-    push_motion_called(&mut called, cases, motion_refused(moved, command, refusal))?;
+    push_motion_called(
+        &mut called,
+        labels.cases,
+        motion_refused(labels.moved, command, refusal),
+    )?;
     push_why_refused(
         alloc,
         text,

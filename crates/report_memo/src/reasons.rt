@@ -7,12 +7,14 @@ ghost use Rattle.office_texts.specs.Run.Words.{Holds};
 ghost use Rattle.report_memo.specs.Reasons.{AreReasons, AreReasonsDocketed, deadline_lines};
 ghost use Rattle.report_memo.specs.Texts.{Pushes};
 
+use crate::doubtful::push_doubtful;
+use crate::labels::Labels;
 use court_clock::Day;
 use court_days::{Court, Days};
 use deadline_reasons::{Reason, reasons_of};
 use docket_core::Docket;
 use reason_notes::push_readings;
-use reason_texts::{Course, HolidayName, push_heading, push_reasons};
+use reason_texts::{Course, push_heading, push_reasons};
 use rule_periods::{DeadlineRow, DocketRow, Event, Period, check_start};
 use rule6::ServiceKind;
 use std::alloc::{AllocError, Global};
@@ -23,14 +25,14 @@ pub(crate) fn push_deadline_reasons(
     alloc: Global,
     text: &mut String,
     court: &Court,
-    names: &[HolidayName],
+    labels: &Labels<'_>,
     days: &Days,
     row: &DeadlineRow,
 ) -> Result<(), AllocError>
-    ensures { Pushes (AreReasons court.now names.now days.now row.now) result text.old text.new }
+    ensures { Pushes (AreReasons court.now labels.now days.now row.now) result text.old text.new }
 {
     let reasons = reasons_of(alloc, days, court.clock(), row)?;
-    push_lines(alloc, text, court, names, days, row, reasons.as_slice())
+    push_lines(alloc, text, court, labels, days, row, reasons.as_slice())
 }
 
 /// Adds the period of the deadline in words, a line for each reason, and the other readings that give another end.
@@ -38,17 +40,18 @@ fn push_lines(
     alloc: Global,
     text: &mut String,
     court: &Court,
-    names: &[HolidayName],
+    labels: &Labels<'_>,
     days: &Days,
     row: &DeadlineRow,
     reasons: &[Reason],
 ) -> Result<(), AllocError>
-    ensures { OnOk result (string_bytes text.new ≡ string_bytes text.old ++ deadline_lines court.now names.now days.now row.now reasons.now) }
+    ensures { OnOk result (string_bytes text.new ≡ string_bytes text.old ++ deadline_lines court.now labels.now days.now row.now reasons.now) }
 {
     push_heading(alloc, text, row)?;
     let course = Course::of(&row.period());
-    push_reasons(text, court.clock(), names, course, reasons)?;
-    push_readings(alloc, text, days, court.clock(), row)
+    push_reasons(text, court.clock(), labels.holidays, course, reasons)?;
+    push_readings(alloc, text, days, court.clock(), row)?;
+    push_doubtful(text, labels.doubtful, days, row, reasons)
 }
 
 /// Adds the reasons of the docketed deadline at that place in its case, if there is one.
@@ -56,15 +59,15 @@ pub(crate) fn push_docketed_reasons(
     alloc: Global,
     text: &mut String,
     court: &Court,
-    names: &[HolidayName],
+    labels: &Labels<'_>,
     docket: &Docket,
     case: u32,
     place: u32,
 ) -> Result<(), AllocError>
-    ensures { (docketed : Rows) → Holds (setup_of court.now) docket.now docketed → Pushes (AreReasonsDocketed court.now names.now docketed case place) result text.old text.new }
+    ensures { (docketed : Rows) → Holds (setup_of court.now) docket.now docketed → Pushes (AreReasonsDocketed court.now labels.now docketed case place) result text.old text.new }
 {
     match docket.deadline(case, place) {
-        Some(row) => push_deadline_reasons(alloc, text, court, names, docket.days(), row.row()),
+        Some(row) => push_deadline_reasons(alloc, text, court, labels, docket.days(), row.row()),
         None => Ok(()),
     }
 }
@@ -74,7 +77,7 @@ pub(crate) fn push_started_reasons(
     alloc: Global,
     text: &mut String,
     court: &Court,
-    names: &[HolidayName],
+    labels: &Labels<'_>,
     days: &Days,
     period: &Period,
     event: &Event,
@@ -82,12 +85,12 @@ pub(crate) fn push_started_reasons(
     service: &Option<ServiceKind>,
 ) -> Result<(), AllocError>
     ensures { start_refusal days.now period.now event.now second.now service.now ≡ None →
-        Pushes (AreReasons court.now names.now days.now (started period.now event.now second.now service.now)) result text.old text.new }
+        Pushes (AreReasons court.now labels.now days.now (started period.now event.now second.now service.now)) result text.old text.new }
 {
     match check_start(days, period, *event, *second, *service) {
         Ok(()) => {
             let row = DocketRow::start(alloc, *period, *event, *second, *service);
-            push_deadline_reasons(alloc, text, court, names, days, row.row())
+            push_deadline_reasons(alloc, text, court, labels, days, row.row())
         }
         Err(_) => Ok(()),
     }

@@ -8,22 +8,21 @@ ghost use Rattle.office_texts.specs.declared.run.reply.Reply.{Reply};
 ghost use Rattle.office_texts.specs.declared.run.reply.Reply.TheVariants.{Viewed};
 ghost use Rattle.office_texts.specs.Run.Words.{Holds, docketed_after, docketed_then, row_numbers};
 ghost use Rattle.office_texts.specs.Words.{AddsText};
+ghost use Rattle.row_forms.specs.Words.{rows_of};
 ghost use Rattle.report_memo.specs.Reasons.{AreReasonsIfAny};
 ghost use Rattle.report_memo.specs.Replies.{AreReasonsWith, AreReplies, HasAnswered, IsReply, IsRow, IsTold, deadline_asked, deadline_extended, deadline_queried, deadline_started, deadline_told, is_computed, sheet_replied, without_list};
 ghost use Rattle.report_memo.specs.Texts.{Pushes};
 
 use crate::detail::Detail;
+use crate::labels::Labels;
 use crate::notes::push_notes;
 use crate::reasons::{push_docketed_reasons, push_started_reasons};
 use crate::sheets::push_sheet;
-use case_numbers::Cases;
 use court_days::Court;
-use desk_numbers::MovedNumbers;
 use docket_core::Docket;
 use docket_rows::{Answer, Command, Query, Sheet, View};
 use office_texts::{Reply, push_named_line, push_numbers, reply_to};
-use reason_texts::HolidayName;
-use row_forms::{Row, Work};
+use row_forms::{NumberedRow, Work};
 use std::alloc::{AllocError, Global};
 
 /// Carries out each row in turn, and adds the reply to it. `Err` says that memory ran out.
@@ -31,65 +30,52 @@ pub(crate) fn push_replies(
     alloc: Global,
     text: &mut String,
     court: &Court,
-    names: &[HolidayName],
-    cases: &Cases,
-    moved: &MovedNumbers,
+    labels: &Labels<'_>,
     docket: &mut Docket,
-    rows: &[Row],
+    rows: &[NumberedRow],
 ) -> Result<(), AllocError>
     requires { Holds (setup_of court.now) docket.old (opening_rows (setup_of court.now)) }
-    ensures text { Pushes (AreReplies court.now names.now cases.now.named moved.now (opening_rows (setup_of court.now)) 1 rows.now) result text.old text.new }
-    ensures docket { OnOk result (Holds (setup_of court.now) docket.new (docketed_after (setup_of court.now) (opening_rows (setup_of court.now)) rows.now)) }
+    ensures text { Pushes (AreReplies court.now labels.now (opening_rows (setup_of court.now)) rows.now) result text.old text.new }
+    ensures docket { OnOk result (Holds (setup_of court.now) docket.new (docketed_after (setup_of court.now) (opening_rows (setup_of court.now)) (rows_of rows.now))) }
 {
-    let mut number = 1u64;
     for row in rows {
-        push_row(alloc, text, court, names, cases, moved, docket, number, row)?;
-        number += 1;
+        push_row(alloc, text, court, labels, docket, row)?;
     }
     Ok(())
 }
 
-/// Carries out a row of that number, counted from 1, and adds the reply to it.
+/// Carries out a row, and adds the reply to it.
 fn push_row(
     alloc: Global,
     text: &mut String,
     court: &Court,
-    names: &[HolidayName],
-    cases: &Cases,
-    moved: &MovedNumbers,
+    labels: &Labels<'_>,
     docket: &mut Docket,
-    number: u64,
-    row: &Row,
+    row: &NumberedRow,
 ) -> Result<(), AllocError>
-    ensures text { (docketed : Rows) → Holds (setup_of court.now) docket.old docketed → Pushes (IsRow court.now names.now cases.now.named moved.now docketed number row.now) result text.old text.new }
-    ensures docket { (docketed : Rows) → Holds (setup_of court.now) docket.old docketed → OnOk result (Holds (setup_of court.now) docket.new (docketed_then (setup_of court.now) docketed row.now.work)) }
+    ensures text { (docketed : Rows) → Holds (setup_of court.now) docket.old docketed → Pushes (IsRow court.now labels.now docketed row.now) result text.old text.new }
+    ensures docket { (docketed : Rows) → Holds (setup_of court.now) docket.old docketed → OnOk result (Holds (setup_of court.now) docket.new (docketed_then (setup_of court.now) docketed row.now.row.work)) }
 {
-    let reply = reply_to(alloc, docket, &row.work)?;
-    push_explained(
-        alloc, text, court, names, cases, moved, docket, number, row.clerk, &row.work, reply,
-    )
+    let reply = reply_to(alloc, docket, &row.row.work)?;
+    push_explained(alloc, text, court, labels, docket, row, reply)
 }
 
-/// Adds the reply to what was asked for in the row of that number of that clerk, with the numbers of what it shows, and the
-/// reasons of the deadlines that it shows, where the docket is as it was left. The docket is asked by places, so what is said
-/// of the reply goes by the reply without numbers.
+/// Adds the reply to a row, with the numbers of what it shows, and the reasons of the deadlines that it shows, where the docket
+/// is as it was left. The docket is asked by places, so what is said of the reply goes by the reply without numbers.
 fn push_explained(
     alloc: Global,
     text: &mut String,
     court: &Court,
-    names: &[HolidayName],
-    cases: &Cases,
-    moved: &MovedNumbers,
+    labels: &Labels<'_>,
     docket: &Docket,
-    number: u64,
-    clerk: u8,
-    work: &Work,
+    row: &NumberedRow,
     reply: Reply,
 ) -> Result<(), AllocError>
-    ensures { (docketed : Rows) → HasAnswered court.now docket.now docketed work.now reply → Pushes (IsReply court.now names.now cases.now.named moved.now docketed number clerk work.now reply) result text.old text.new }
+    ensures { (docketed : Rows) → HasAnswered court.now docket.now docketed row.now.row.work reply → Pushes (IsReply court.now labels.now docketed row.now reply) result text.old text.new }
 {
     let placed = without_list(&reply);
-    let numbered = moved.number_reply(work, reply);
+    let (work, number, clerk) = (&row.row.work, row.number, row.row.clerk);
+    let numbered = labels.moved.number_reply(work, reply);
     match sheet_replied(&numbered) {
         Some(sheet) => {
             push_sheet_front(text, number, clerk)?;
@@ -97,18 +83,15 @@ fn push_explained(
                 alloc,
                 text,
                 court,
-                names,
-                cases,
+                labels,
                 docket.days(),
                 &Detail::Reasons,
                 sheet,
             )
         }
         None => {
-            push_named_line(text, court, cases, number, clerk, &numbered)?;
-            push_told(
-                alloc, text, court, names, cases, moved, docket, work, placed,
-            )
+            push_named_line(text, court, labels.cases, number, clerk, &numbered)?;
+            push_told(alloc, text, court, labels, docket, work, placed)
         }
     }
 }
@@ -130,20 +113,18 @@ fn push_told(
     alloc: Global,
     text: &mut String,
     court: &Court,
-    names: &[HolidayName],
-    cases: &Cases,
-    moved: &MovedNumbers,
+    labels: &Labels<'_>,
     docket: &Docket,
     work: &Work,
     placed: Option<Reply>,
 ) -> Result<(), AllocError>
     ensures { (docketed : Rows) (reply : Reply) → HasAnswered court.now docket.now docketed work.now reply → placed ≡ without_list reply →
-        Pushes (IsTold court.now names.now cases.now.named moved.now docketed work.now reply) result text.old text.new }
+        Pushes (IsTold court.now labels.now docketed work.now reply) result text.old text.new }
 {
     match placed {
         Some(reply) => {
-            push_reasons_told(alloc, text, court, names, docket, work, &reply)?;
-            push_notes(alloc, text, court, cases, moved, docket, work, &reply)
+            push_reasons_told(alloc, text, court, labels, docket, work, &reply)?;
+            push_notes(alloc, text, court, labels, docket, work, &reply)
         }
         None => Ok(()),
     }
@@ -172,18 +153,18 @@ fn push_reasons_told(
     alloc: Global,
     text: &mut String,
     court: &Court,
-    names: &[HolidayName],
+    labels: &Labels<'_>,
     docket: &Docket,
     work: &Work,
     reply: &Reply,
 ) -> Result<(), AllocError>
-    ensures { (docketed : Rows) → HasAnswered court.now docket.now docketed work.now reply.now → Pushes (AreReasonsWith court.now names.now docketed work.now reply.now) result text.old text.new }
+    ensures { (docketed : Rows) → HasAnswered court.now docket.now docketed work.now reply.now → Pushes (AreReasonsWith court.now labels.now docketed work.now reply.now) result text.old text.new }
 {
     match deadline_told(work, reply) {
         Some((case, place)) => push_docketed_reasons(
-            alloc, text, court, names, docket, case, place,
+            alloc, text, court, labels, docket, case, place,
         ),
-        None if is_computed(reply) => push_reasons_asked(alloc, text, court, names, docket, work),
+        None if is_computed(reply) => push_reasons_asked(alloc, text, court, labels, docket, work),
         None => Ok(()),
     }
 }
@@ -200,15 +181,15 @@ fn push_reasons_asked(
     alloc: Global,
     text: &mut String,
     court: &Court,
-    names: &[HolidayName],
+    labels: &Labels<'_>,
     docket: &Docket,
     work: &Work,
 ) -> Result<(), AllocError>
     ensures { (docketed : Rows) (shown : Shown) → HasAnswered court.now docket.now docketed work.now (Viewed (Computed shown)) →
-        Pushes (AreReasonsIfAny court.now names.now docketed.days (deadline_asked work.now)) result text.old text.new }
+        Pushes (AreReasonsIfAny court.now labels.now docketed.days (deadline_asked work.now)) result text.old text.new }
 {
     match work {
-        Work::Query(query) => push_reasons_queried(alloc, text, court, names, docket, query),
+        Work::Query(query) => push_reasons_queried(alloc, text, court, labels, docket, query),
         _ => Ok(()),
     }
 }
@@ -218,19 +199,19 @@ fn push_reasons_queried(
     alloc: Global,
     text: &mut String,
     court: &Court,
-    names: &[HolidayName],
+    labels: &Labels<'_>,
     docket: &Docket,
     query: &Query,
 ) -> Result<(), AllocError>
     ensures { (docketed : Rows) (shown : Shown) → Computed shown ≡ view_of (setup_of court.now) docketed query.now → Holds (setup_of court.now) docket.now docketed →
-        Pushes (AreReasonsIfAny court.now names.now docketed.days (deadline_queried query.now)) result text.old text.new }
+        Pushes (AreReasonsIfAny court.now labels.now docketed.days (deadline_queried query.now)) result text.old text.new }
 {
     match query {
         Query::Compute(period, event, second, service) => push_started_reasons(
             alloc,
             text,
             court,
-            names,
+            labels,
             docket.days(),
             period,
             event,

@@ -8,17 +8,15 @@ ghost use Rattle.report_memo.specs.Sheets.{IsDeadline, IsSheet, IsSheetShown, fi
 ghost use Rattle.report_memo.specs.Texts.{Each, Pushes};
 
 use crate::detail::Detail;
+use crate::labels::Labels;
 use crate::reasons::push_deadline_reasons;
 use crate::sources::push_sources;
 use crate::whole::{push_all_motions, push_more};
-use case_numbers::Cases;
 use court_clock::Day;
 use court_days::{Court, Days};
-use desk_numbers::MovedNumbers;
 use docket_core::Docket;
 use docket_rows::{Query, Sheet, SheetDeadline, View};
 use office_texts::{push_case_line, push_deadline};
-use reason_texts::HolidayName;
 use std::alloc::{AllocError, Global};
 
 /// Adds the lines of a sheet, with the reasons of each deadline after its line, and more where more is asked for. `Err`
@@ -27,20 +25,19 @@ pub(crate) fn push_sheet(
     alloc: Global,
     text: &mut String,
     court: &Court,
-    names: &[HolidayName],
-    cases: &Cases,
+    labels: &Labels<'_>,
     days: &Days,
     detail: &Detail,
     sheet: &Sheet,
 ) -> Result<(), AllocError>
-    ensures { Pushes (IsSheet court.now names.now cases.now.named days.now detail.now sheet.now) result text.old text.new }
+    ensures { Pushes (IsSheet court.now labels.now days.now detail.now sheet.now) result text.old text.new }
 {
-    push_case_line(text, cases, sheet)?;
+    push_case_line(text, labels.cases, sheet)?;
     push_deadlines(
         alloc,
         text,
         court,
-        names,
+        labels,
         days,
         sheet.filed,
         detail,
@@ -54,16 +51,16 @@ fn push_deadlines(
     alloc: Global,
     text: &mut String,
     court: &Court,
-    names: &[HolidayName],
+    labels: &Labels<'_>,
     days: &Days,
     filed: Day,
     detail: &Detail,
     deadlines: &[SheetDeadline],
 ) -> Result<(), AllocError>
-    ensures { Pushes (Each (IsDeadline court.now names.now days.now filed detail.now) deadlines.now) result text.old text.new }
+    ensures { Pushes (Each (IsDeadline court.now labels.now days.now filed detail.now) deadlines.now) result text.old text.new }
 {
     for deadline in deadlines {
-        push_explained(alloc, text, court, names, days, filed, detail, deadline)?;
+        push_explained(alloc, text, court, labels, days, filed, detail, deadline)?;
     }
     Ok(())
 }
@@ -73,16 +70,16 @@ fn push_explained(
     alloc: Global,
     text: &mut String,
     court: &Court,
-    names: &[HolidayName],
+    labels: &Labels<'_>,
     days: &Days,
     filed: Day,
     detail: &Detail,
     deadline: &SheetDeadline,
 ) -> Result<(), AllocError>
-    ensures { Pushes (IsDeadline court.now names.now days.now filed detail.now deadline.now) result text.old text.new }
+    ensures { Pushes (IsDeadline court.now labels.now days.now filed detail.now deadline.now) result text.old text.new }
 {
     push_first_lines(alloc, text, court, detail, deadline)?;
-    push_deadline_reasons(alloc, text, court, names, days, &deadline.row)?;
+    push_deadline_reasons(alloc, text, court, labels, days, &deadline.row)?;
     push_more(alloc, text, court, days, filed, detail, deadline)
 }
 
@@ -111,20 +108,18 @@ pub(crate) fn push_sheets(
     alloc: Global,
     text: &mut String,
     court: &Court,
-    names: &[HolidayName],
-    cases: &Cases,
-    moved: &MovedNumbers,
+    labels: &Labels<'_>,
     docket: &Docket,
     first: u32,
     count: u32,
 ) -> Result<(), AllocError>
     requires numbers { first + count ≤ 5_000 }
-    ensures { (docketed : Rows) → Holds (setup_of court.now) docket.now docketed → Pushes (AreSheets court.now names.now cases.now.named moved.now docketed first count) result text.old text.new }
+    ensures { (docketed : Rows) → Holds (setup_of court.now) docket.now docketed → Pushes (AreSheets court.now labels.now docketed first count) result text.old text.new }
 {
     for case in first..first + count {
         let view = docket.show(alloc, &Query::Sheet(case))?;
-        let numbered = moved.number_view(view);
-        push_sheet_shown(alloc, text, court, names, cases, docket.days(), &numbered)?;
+        let numbered = labels.moved.number_view(view);
+        push_sheet_shown(alloc, text, court, labels, docket.days(), &numbered)?;
     }
     Ok(())
 }
@@ -134,24 +129,14 @@ fn push_sheet_shown(
     alloc: Global,
     text: &mut String,
     court: &Court,
-    names: &[HolidayName],
-    cases: &Cases,
+    labels: &Labels<'_>,
     days: &Days,
     view: &View,
 ) -> Result<(), AllocError>
-    ensures { Pushes (IsSheetShown court.now names.now cases.now.named days.now view.now) result text.old text.new }
+    ensures { Pushes (IsSheetShown court.now labels.now days.now view.now) result text.old text.new }
 {
     match view {
-        View::Sheet(sheet) => push_sheet(
-            alloc,
-            text,
-            court,
-            names,
-            cases,
-            days,
-            &Detail::Reasons,
-            sheet,
-        ),
+        View::Sheet(sheet) => push_sheet(alloc, text, court, labels, days, &Detail::Reasons, sheet),
         _ => Ok(()),
     }
 }

@@ -3,6 +3,7 @@
 ghost use Rattle.std.specs.Prelude.{◌≡◌, ◌++◌, map, IfOk, OnOk, option_to_list, string_bytes};
 ghost use Rattle.docket_rows.specs.Words.{opening_rows, setup_of};
 ghost use Rattle.office_texts.specs.Run.Words.{Holds, docketed_after};
+ghost use Rattle.row_forms.specs.Words.{rows_of};
 ghost use Rattle.report_memo.specs.Sources.{deed_words, numbered_source, source_if, source_in, source_line, source_lines, source_made, source_text, sources_made};
 
 use court_days::Court;
@@ -11,7 +12,7 @@ use docket_core::Docket;
 use docket_rows::{Answer, Command, Counted};
 use office_texts::{Reply, reply_to};
 use reason_texts::push_note;
-use row_forms::{Row, Work};
+use row_forms::{NumberedRow, Work};
 use std::alloc::{AllocError, Global};
 use std::fmt::Write;
 use std::marker::Model;
@@ -75,12 +76,12 @@ impl Sources {
 pub(crate) fn docket_after(
     alloc: Global,
     court: &Court,
-    rows: &[Row],
+    rows: &[NumberedRow],
     case: u32,
     sources: &mut Vec<Source>,
 ) -> Result<Docket, AllocError>
-    ensures docket { IfOk result (λ d. Holds (setup_of court.now) d (docketed_after (setup_of court.now) (opening_rows (setup_of court.now)) rows.now)) }
-    ensures sources { OnOk result (sources.new.items ≡ sources.old.items ++ sources_made (setup_of court.now) case (opening_rows (setup_of court.now)) 1 rows.now) }
+    ensures docket { IfOk result (λ d. Holds (setup_of court.now) d (docketed_after (setup_of court.now) (opening_rows (setup_of court.now)) (rows_of rows.now))) }
+    ensures sources { OnOk result (sources.new.items ≡ sources.old.items ++ sources_made (setup_of court.now) case (opening_rows (setup_of court.now)) rows.now) }
 {
     let mut docket = Docket::new(alloc, court)?;
     carry_out(alloc, court, &mut docket, rows, case, sources)?;
@@ -92,19 +93,17 @@ fn carry_out(
     alloc: Global,
     court: &Court,
     docket: &mut Docket,
-    rows: &[Row],
+    rows: &[NumberedRow],
     case: u32,
     sources: &mut Vec<Source>,
 ) -> Result<(), AllocError>
     requires { Holds (setup_of court.now) docket.old (opening_rows (setup_of court.now)) }
-    ensures docket { OnOk result (Holds (setup_of court.now) docket.new (docketed_after (setup_of court.now) (opening_rows (setup_of court.now)) rows.now)) }
-    ensures sources { OnOk result (sources.new.items ≡ sources.old.items ++ sources_made (setup_of court.now) case (opening_rows (setup_of court.now)) 1 rows.now) }
+    ensures docket { OnOk result (Holds (setup_of court.now) docket.new (docketed_after (setup_of court.now) (opening_rows (setup_of court.now)) (rows_of rows.now))) }
+    ensures sources { OnOk result (sources.new.items ≡ sources.old.items ++ sources_made (setup_of court.now) case (opening_rows (setup_of court.now)) rows.now) }
 {
-    let mut number = 1u64;
     for row in rows {
-        let reply = reply_to(alloc, docket, &row.work)?;
-        push_source(sources, source_in(case, number, &row.work, &reply))?;
-        number += 1;
+        let reply = reply_to(alloc, docket, &row.row.work)?;
+        push_source(sources, source_in(case, row.number, &row.row.work, &reply))?;
     }
     Ok(())
 }

@@ -13,7 +13,6 @@ use Rattle.docket_rows.specs.declared.sheet.SheetHearing.{SheetHearing}
 use Rattle.docket_rows.specs.declared.sheet.SheetMotion.{SheetMotion}
 use Rattle.docket_selection.specs.declared.calendars.JudgeCalendar.{JudgeCalendar}
 use Rattle.docket_selection.specs.declared.item.DueItem.{DueItem}
-use Rattle.reason_notes.specs.Readings.Words.{other_end}
 use Rattle.page_markup.specs.declared.tag.Tag.{Tag}
 use Rattle.page_markup.specs.declared.tag.Tag.TheVariants as tag
 use Rattle.page_markup.specs.Words.{IsMarkup, element, text_in}
@@ -128,10 +127,10 @@ unfolding end_cell
 end_cell_is clock shown None = words tag.Cell _
 end_cell_is clock shown (Some other) = within tag.Cell (both (words tag.Line _) (words tag.Note _))
 
-deadline_row_is : (days : DaysView) (clock : ClockView) (d : SheetDeadline) → IsMarkup (deadline_row days clock d)
+deadline_row_is : (clock : ClockView) (d : SheetDeadline) (other : Option Shown) → IsMarkup (deadline_row clock d other)
 unfolding deadline_row
-deadline_row_is days clock d =
-    within tag.Row (both (both (both (words tag.RowHead _) (period_cell_is d.row)) (end_cell_is clock d.shown (other_end days clock d.row))) (words _ _))
+deadline_row_is clock d other =
+    within tag.Row (both (both (both (words tag.RowHead _) (period_cell_is d.row)) (end_cell_is clock d.shown other)) (words _ _))
 
 reasons_cell_is : (days : DaysView) (clock : ClockView) (e : ExplainedDeadline) → IsMarkup (reasons_cell days clock e)
 unfolding reasons_cell
@@ -139,7 +138,7 @@ reasons_cell_is days clock e = within tag.WideCell (within tag.Details (both (wo
 
 deadline_rows_are : (days : DaysView) (clock : ClockView) (e : ExplainedDeadline) → IsMarkup (deadline_rows days clock e)
 unfolding deadline_rows
-deadline_rows_are days clock e = both (deadline_row_is days clock e.deadline) (within tag.Row (reasons_cell_is days clock e))
+deadline_rows_are days clock e = both (deadline_row_is clock e.deadline e.other) (within tag.Row (reasons_cell_is days clock e))
 
 deadline_heads_are : IsMarkup deadline_heads
 unfolding deadline_heads

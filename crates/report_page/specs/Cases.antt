@@ -14,7 +14,7 @@ use Rattle.docket_rows.specs.declared.sheet.SheetMotion.{SheetMotion}
 use Rattle.deadline_reasons.specs.declared.reason.Reason.{Reason}
 use Rattle.reason_texts.specs.Words.{course_of, reason_lines}
 use Rattle.reason_texts.specs.Periods.Words.{heading_lines}
-use Rattle.reason_notes.specs.Readings.Words.{other_end, reading_lines}
+use Rattle.reason_notes.specs.Readings.Words.{reading_lines}
 use Rattle.page_markup.specs.declared.tag.Tag.TheVariants as tag
 use Rattle.page_markup.specs.Words.{element, text_in}
 use Rattle.report_texts.specs.Words.{period_words, reading_words, whole_day}
@@ -33,10 +33,10 @@ unfoldable pub end_cell : ClockView → Shown → Option Shown → List ℕ
 end_cell clock shown None = text_in tag.Cell (ends_words clock shown)
 end_cell clock shown (Some other) = element tag.Cell (text_in tag.Line (ends_words clock shown) ++ text_in tag.Note (reading_words clock other))
 
--- the number of a deadline, its period, when its time ends, and whether it was met
-unfoldable pub deadline_row : DaysView → ClockView → SheetDeadline → List ℕ
-deadline_row days clock d =
-    element tag.Row (text_in tag.RowHead (decimal d.number) ++ period_cell d.row ++ end_cell clock d.shown (other_end days clock d.row) ++ text_in (state_cell d.state) (state_words d.state d.row.filed))
+-- the number of a deadline, its period, when its time ends, also by another reading, and whether it was met
+unfoldable pub deadline_row : ClockView → SheetDeadline → (other : Option Shown) → List ℕ
+deadline_row clock d other =
+    element tag.Row (text_in tag.RowHead (decimal d.number) ++ period_cell d.row ++ end_cell clock d.shown other ++ text_in (state_cell d.state) (state_words d.state d.row.filed))
 
 -- `Reasons of deadline 3`
 unfoldable pub reasons_title : (number : ℕ) → List ℕ
@@ -54,7 +54,7 @@ reasons_cell days clock e =
 
 -- the row of a deadline, and below it the row of its reasons
 unfoldable pub deadline_rows : DaysView → ClockView → ExplainedDeadline → List ℕ
-deadline_rows days clock e = deadline_row days clock e.deadline ++ element tag.Row (reasons_cell days clock e)
+deadline_rows days clock e = deadline_row clock e.deadline e.other ++ element tag.Row (reasons_cell days clock e)
 
 unfoldable pub deadline_heads : List ℕ
 deadline_heads = four_heads (codes "No.") (codes "Period") (codes "Time ends") (codes "State")

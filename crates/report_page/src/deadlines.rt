@@ -14,7 +14,6 @@ use court_days::Days;
 use docket_rows::SheetDeadline;
 use docket_selection::ExplainedDeadline;
 use page_markup::{Page, Tag};
-use reason_notes::other_end;
 use reason_texts::push_heading;
 use report_texts::{push_period, push_reading};
 use rule_periods::DeadlineRow;
@@ -94,29 +93,35 @@ fn push_explained(
 ) -> Result<(), AllocError>
     ensures { OnOk result (page.new ≡ page.old ++ deadline_rows days.now clock.now explained.now) }
 {
-    push_row(alloc, page, line, days, clock, &explained.deadline)?;
+    push_row(
+        alloc,
+        page,
+        line,
+        clock,
+        &explained.deadline,
+        explained.other,
+    )?;
     page.open(Tag::Row)?;
     push_reasons_cell(alloc, page, line, days, clock, explained)?;
     page.close(Tag::Row)
 }
 
-/// Adds the row of a deadline.
+/// Adds the row of a deadline, with the end by another reading, if there is one.
 #[tactic(auto, unfolding(crate::specs::Cases::deadline_row))]
 fn push_row(
     alloc: Global,
     page: &mut Page,
     line: &mut String,
-    days: &Days,
     clock: &Clock,
     deadline: &SheetDeadline,
+    other: Option<Shown>,
 ) -> Result<(), AllocError>
-    ensures { OnOk result (page.new ≡ page.old ++ deadline_row days.now clock.now deadline.now) }
+    ensures { OnOk result (page.new ≡ page.old ++ deadline_row clock.now deadline.now other) }
 {
     page.open(Tag::Row)?;
     set_number(line, deadline.number)?;
     page.text_in(Tag::RowHead, line)?;
     push_period_cell(alloc, page, line, &deadline.row)?;
-    let other = other_end(alloc, days, clock, &deadline.row)?;
     push_end_cell(page, line, clock, &deadline.shown, other)?;
     set_state(line, deadline.state, deadline.row.filed())?;
     page.text_in(state_cell(deadline.state), line)?;

@@ -1,9 +1,8 @@
 -- What the words of the command line ask for.
-use Rattle.std.specs.Prelude.{◌≡◌, ◌&&◌, Bool, true, false, List, [], Option, Some, None, codes, is_some, option_map, string_bytes, IfSome, if◌then◌else◌}
+use Rattle.std.specs.Prelude.{◌≡◌, ◌&&◌, Bool, true, false, List, [], Option, Some, None, codes, is_some, option_map, string_bytes, if◌then◌else◌}
 use Rattle.std.specs.Option.{option_and_then}
 use Rattle.std.specs.Str.{bytes_eq}
-use Rattle.clap.specs.Kinds.{or_else}
-use Rattle.clap.specs.Words.{Kinds, Row, Text, fault_of, first_of, one_of, subcommand_of, takes}
+use Rattle.clap.specs.Words.{Kinds, Row, Text, first_of, one_of}
 use Rattle.office_texts.specs.Names.Words.{case_called}
 use Rattle.content_lines.specs.Words.{stamp_of_text}
 use Rattle.court_clock.specs.Words.{day_of_text}
@@ -11,7 +10,6 @@ use Rattle.program_main.specs.Texts.Words.{faults_unless, is_case_taken, is_day_
 use Rattle.report_program.specs.declared.asked.Asked.{Asked}
 use Rattle.report_program.specs.declared.asked.Task.{Task}
 use Rattle.report_program.specs.declared.asked.Task.TheVariants.{Due, Ics, Json, Page, Sql, Week}
-use Rattle.report_program.specs.CommandLine.{command_line}
 
 -- what a subcommand of that name writes
 abbrev pub task_of : (name : Text) → Task
@@ -41,10 +39,6 @@ pub record IsAskedBy (name : Text) (given : List Row) (asked : Asked) : Type 0 w
   pub stamp : asked.stamp ≡ option_and_then stamp_of_text (first_of (codes "stamp") given)
   pub lines : IsFlag (one_of (codes "lines") given) asked.lines
 
--- the words have a subcommand, and it asks for that
-abbrev pub IsAsked : List Text → Asked → Type 0
-IsAsked words asked = IfSome (subcommand_of command_line words) (λ met. IsAskedBy met.0 met.1 asked)
-
 -- the text of an option writes an instant, or none is given
 abbrev pub is_instant_taken : (text : Option Text) → Bool
 is_instant_taken None = true
@@ -62,20 +56,3 @@ are_given_taken given =
 -- the fault where one doesn't
 abbrev pub faults_given : List Row → Kinds
 faults_given given = faults_unless (are_given_taken given)
-
--- the same of a subcommand with what it was given, where there is one
-abbrev pub faults_met : Option (Text × List Row) → Kinds
-faults_met None = []
-faults_met (Some met) = faults_given met.1
-
-abbrev pub are_met_taken : Option (Text × List Row) → Bool
-are_met_taken None = true
-are_met_taken (Some met) = are_given_taken met.1
-
--- the faults that words have: of the command line, or else of a day, the instant or the case
-abbrev pub faults_of : List Text → Kinds
-faults_of words = or_else (fault_of command_line words) (faults_met (subcommand_of command_line words))
-
--- the program takes the words: the command line does, and each day, the instant and the case are written
-abbrev pub are_taken : List Text → Bool
-are_taken words = takes command_line words && are_met_taken (subcommand_of command_line words)

@@ -8,7 +8,6 @@ use Rattle.case_numbers.specs.Words.{case_text}
 use Rattle.case_numbers.specs.declared.names.NamedCase.{NamedCase}
 use Rattle.desk_numbers.specs.declared.moved.Moved.{Moved}
 use Rattle.desk_numbers.specs.Words.{numbered_sheet}
-use Rattle.report_numbers.specs.Words.{numbered_calendar, numbered_day, numbered_item}
 use Rattle.court_clock.specs.Words.{day_text}
 use Rattle.court_days.specs.Words.{CourtView, file_of}
 use Rattle.docket_rows.specs.Words.{CourtSetup, Rows, opening_rows, setup_of}
@@ -17,12 +16,13 @@ use Rattle.docket_selection.specs.declared.item.DueItem.{DueItem}
 use Rattle.docket_selection.specs.Words.{IsDue, chosen_calendars, chosen_sheets, day_bookings, week_days}
 use Rattle.docket_selection.specs.declared.changes.change.RowChange.{RowChange}
 use Rattle.content_lines.specs.Words.{HasShortLines}
-use Rattle.report_texts.specs.Words.{due_text, week_text}
+use Rattle.report_texts.specs.Words.{due_text, numbered_calendar, numbered_day, numbered_item, week_text}
 use Rattle.report_ics.specs.Words.{appointments_of, icalendar_text}
 use Rattle.docket_selection.specs.declared.explained.explained.ExplainedSheet.{ExplainedSheet}
 use Rattle.docket_selection.specs.Explained.Words.{AreExplained}
 use Rattle.report_page.specs.Words.{page_text}
-use Rattle.row_forms.specs.declared.row.Row.{Row}
+use Rattle.row_forms.specs.declared.numbered.NumberedRow.{NumberedRow}
+use Rattle.row_forms.specs.Words.{numbered_from, rows_of}
 use Rattle.office_texts.specs.Run.Words.{docketed_after}
 use Rattle.report_json.specs.Words.{AreAnswerLines, IsDocketJson}
 use Rattle.report_sql.specs.Words.{script_text}
@@ -37,6 +37,7 @@ use Rattle.report_program.specs.declared.chosen.Missing.TheVariants.{Case, Close
 use Rattle.report_program.specs.Appointments.{numbered_appointment}
 use Rattle.report_program.specs.Changes.{changes_made}
 use Rattle.report_program.specs.Opened.{found_of}
+use Rattle.report_program.specs.Past.{PastView, changes_since, no_past}
 
 -- the list of what is due, with the numbers of deadlines and motions
 pub record IsNumberedDue (setup : CourtSetup) (docketed : Rows) (moved : List Moved) (choice : Choice) (list : List DueItem) : Type 0 where
@@ -70,34 +71,34 @@ of_any_judge choice = record choice { judge = None }
 
 -- The text of a calendar: an event for each item of the list of what is chosen, and for each deadline and each chosen hearing that
 -- is off by the changes that were made, as the chosen judge saw them.
-pub record IsIcsText (court : CourtView) (named : List NamedCase) (moved : List Moved) (docketed : Rows) (changes : List RowChange) (choice : Choice) (stamp : ℤ) (text : List ℕ) : Type 0 where
+pub record IsIcsText (court : CourtView) (named : List NamedCase) (moved : List Moved) (docketed : Rows) (changes : List RowChange) (corrections : ℕ) (choice : Choice) (stamp : ℤ) (text : List ℕ) : Type 0 where
   pub items : List DueItem
   pub chosen : IsDue (setup_of court) docketed choice items
   pub others : List DueItem
   pub of_any : IsSome choice.judge → IsDue (setup_of court) docketed (of_any_judge choice) others
-  pub lines : text ≡ icalendar_text court named stamp (map (numbered_appointment moved) (appointments_of choice (record { judge = choice.judge; changes = changes }) items others))
+  pub lines : text ≡ icalendar_text court named stamp (map (numbered_appointment moved corrections) (appointments_of choice (record { judge = choice.judge; changes = changes }) items others))
   pub short : HasShortLines text
 
 -- the text of what is shown of the docket
-abbrev pub IsListing : CourtView → List NamedCase → List Moved → (docketed : Rows) → List RowChange → Listing → List ℕ → Type 0
-IsListing court named moved docketed changes (Due choice) text = IsDueText court named moved docketed choice text
-IsListing court named moved docketed changes (Week judge day) text = text ≡ week_text_of court named moved docketed judge day
-IsListing court named moved docketed changes (Page choice) text = IsPage court named moved docketed choice text
-IsListing court named moved docketed changes (Ics choice stamp) text = IsIcsText court named moved docketed changes choice stamp text
+abbrev pub IsListing : CourtView → List NamedCase → List Moved → (docketed : Rows) → List RowChange → (corrections : ℕ) → Listing → List ℕ → Type 0
+IsListing court named moved docketed changes corrections (Due choice) text = IsDueText court named moved docketed choice text
+IsListing court named moved docketed changes corrections (Week judge day) text = text ≡ week_text_of court named moved docketed judge day
+IsListing court named moved docketed changes corrections (Page choice) text = IsPage court named moved docketed choice text
+IsListing court named moved docketed changes corrections (Ics choice stamp) text = IsIcsText court named moved docketed changes corrections choice stamp text
 
--- what is docketed after all rows, and what they changed
-abbrev pub docketed_by : CourtView → List Row → Rows
-docketed_by court rows = docketed_after (setup_of court) (opening_rows (setup_of court)) rows
+-- what is docketed after all rows, and what these changed, after what came of corrections
+abbrev pub docketed_by : CourtView → List NumberedRow → Rows
+docketed_by court rows = docketed_after (setup_of court) (opening_rows (setup_of court)) (rows_of rows)
 
-abbrev pub changes_by : CourtView → List Row → List RowChange
-changes_by court rows = changes_made (setup_of court) (opening_rows (setup_of court)) 1 rows
+abbrev pub changes_by : CourtView → PastView → List NumberedRow → List RowChange
+changes_by court past rows = changes_since past ++ changes_made (setup_of court) (opening_rows (setup_of court)) rows
 
 -- the text of what is chosen
-abbrev pub IsTextOf : CourtView → List NamedCase → List Moved → List Row → Chosen → List ℕ → Type 0
-IsTextOf court named moved rows (Listed listing) text = IsListing court named moved (docketed_by court rows) (changes_by court rows) listing text
-IsTextOf court named moved rows (Json choice) text = IsDocketJson court named moved choice rows text
-IsTextOf court named moved rows Lines text = AreAnswerLines court named moved rows text
-IsTextOf court named moved rows Sql text = text ≡ script_text court named moved rows
+abbrev pub IsTextOf : CourtView → List NamedCase → List Moved → PastView → List NumberedRow → Chosen → List ℕ → Type 0
+IsTextOf court named moved past rows (Listed listing) text = IsListing court named moved (docketed_by court rows) (changes_by court past rows) past.corrections listing text
+IsTextOf court named moved past rows (Json choice) text = IsDocketJson court named moved choice rows text
+IsTextOf court named moved past rows Lines text = AreAnswerLines court named moved rows text
+IsTextOf court named moved past rows Sql text = text ≡ script_text court named moved rows
 
 -- the text of a word, where it was given
 abbrev pub word_given : Option (String Global) → List ℕ
@@ -109,17 +110,17 @@ abbrev pub called_given : Option CaseCalled → List ℕ
 called_given (Some called) = called_text called
 called_given None = []
 
--- the line of a case that the court's file doesn't name
+-- the line of a case of which there is no such name
 abbrev pub no_case : Option CaseCalled → List ℕ
-no_case called = codes "court_calendar: no case is named '" ++ called_given called ++ codes "' in the court's file\n"
+no_case called = codes "docket: no case is named '" ++ called_given called ++ codes "'\n"
 
 -- the line of a judge that the court's file doesn't name
 abbrev pub no_judge : Option (String Global) → List ℕ
-no_judge word = codes "court_calendar: no judge is named '" ++ word_given word ++ codes "' in the court's file\n"
+no_judge word = codes "docket: no judge is named '" ++ word_given word ++ codes "' in the court's file\n"
 
 -- that the court's file doesn't cover a day, from which one it does, and to which
 unfoldable pub uncovered_words : (day : ℤ) → List ℕ
-uncovered_words day = codes "court_calendar: " ++ day_text day ++ codes " isn't covered"
+uncovered_words day = codes "docket: " ++ day_text day ++ codes " isn't covered"
 
 unfoldable pub from_words : (from : ℤ) → List ℕ
 from_words from = codes ": the court's file covers " ++ day_text from
@@ -133,7 +134,7 @@ not_covered day from to = uncovered_words day ++ from_words from ++ to_words to
 
 -- the line of a case that isn't open
 abbrev pub closed_line : List NamedCase → (case : ℕ) → List ℕ
-closed_line named case = codes "court_calendar: case " ++ case_text named case ++ codes " isn't open: no row has opened it\n"
+closed_line named case = codes "docket: case " ++ case_text named case ++ codes " isn't open: no row has opened it\n"
 
 -- the line that says what isn't there
 abbrev pub missing_line : CourtView → List NamedCase → Asked → Missing → List ℕ
@@ -143,22 +144,22 @@ missing_line court named asked (Day day) = not_covered day court.days.from court
 missing_line court named asked (Closed case) = closed_line named case
 
 -- the text of what is asked for, where cases have these names and these aren't at the places of their numbers
-abbrev pub IsCalendar : Asked → CourtView → List NamedCase → List Moved → List Row → List ℕ → Type 0
-IsCalendar asked court named moved rows text = IsOkAnd (found_of court named rows asked) (λ chosen. IsTextOf court named moved rows chosen text)
+abbrev pub IsCalendar : Asked → CourtView → List NamedCase → List Moved → PastView → List NumberedRow → List ℕ → Type 0
+IsCalendar asked court named moved past rows text = IsOkAnd (found_of court named rows asked) (λ chosen. IsTextOf court named moved past rows chosen text)
 
 -- the line that says what isn't there of it
-abbrev pub IsMissing : Asked → CourtView → List NamedCase → List Row → List ℕ → Type 0
+abbrev pub IsMissing : Asked → CourtView → List NamedCase → List NumberedRow → List ℕ → Type 0
 IsMissing asked court named rows line = IsErrAnd (found_of court named rows asked) (λ missing. line ≡ missing_line court named asked missing)
 
--- the text of an input, in the court whose file it has, where cases have these names and these aren't at the places of their
--- numbers
-pub record IsCalendarOf (asked : Asked) (named : List NamedCase) (moved : List Moved) (input : Input) (text : List ℕ) : Type 0 where
+-- The text of an input, in the court whose file it has. Its rows have the numbers 1, 2 and so on; no case has a name, and deadlines
+-- and motions have their places as numbers.
+pub record IsCalendarOf (asked : Asked) (input : Input) (text : List ℕ) : Type 0 where
   pub court : CourtView
   pub is_court : file_of court ≡ input.file
-  pub is_calendar : IsCalendar asked court named moved input.rows text
+  pub is_calendar : IsCalendar asked court [] [] no_past (numbered_from 1 input.rows) text
 
 -- the line that says what isn't there, in that court
-pub record IsMissingOf (asked : Asked) (named : List NamedCase) (input : Input) (line : List ℕ) : Type 0 where
+pub record IsMissingOf (asked : Asked) (input : Input) (line : List ℕ) : Type 0 where
   pub court : CourtView
   pub is_court : file_of court ≡ input.file
-  pub is_missing : IsMissing asked court named input.rows line
+  pub is_missing : IsMissing asked court [] (numbered_from 1 input.rows) line

@@ -1,9 +1,9 @@
 -- What rows change of what calendars show.
-use Rattle.std.specs.Prelude.{ℕ, ◌+◌, List, [], ◌∷◌, ◌++◌, Option, None, option_to_list}
+use Rattle.std.specs.Prelude.{ℕ, List, [], ◌∷◌, ◌++◌, Option, None, option_to_list}
 use Rattle.docket_rows.specs.Words.{CourtSetup, Rows}
 use Rattle.docket_selection.specs.declared.changes.change.RowChange.{RowChange}
 use Rattle.docket_selection.specs.Changes.Words.{change_made}
-use Rattle.row_forms.specs.declared.row.Row.{Row}
+use Rattle.row_forms.specs.declared.numbered.NumberedRow.{NumberedRow}
 use Rattle.row_forms.specs.declared.row.Work.{Work}
 use Rattle.row_forms.specs.declared.row.Work.TheVariants.{Command, Query}
 use Rattle.office_texts.specs.declared.run.reply.Reply.{Reply}
@@ -16,8 +16,8 @@ change_in number (Command command) (Made answer) = change_made number command an
 change_in number (Command command) (Viewed view) = None
 change_in number (Query query) reply = None
 
--- what rows change, of which the first has that number, each as it is answered
-unfoldable pub changes_made : CourtSetup → (docketed : Rows) → (number : ℕ) → List Row → List RowChange
-changes_made setup docketed number [] = []
-changes_made setup docketed number (row ∷ rows) =
-    option_to_list (change_in number row.work (reply_to setup docketed row.work)) ++ changes_made setup (docketed_then setup docketed row.work) (number + 1) rows
+-- what rows change, each by its number, as it is answered
+unfoldable pub changes_made : CourtSetup → (docketed : Rows) → List NumberedRow → List RowChange
+changes_made setup docketed [] = []
+changes_made setup docketed (n ∷ rows) =
+    option_to_list (change_in n.number n.row.work (reply_to setup docketed n.row.work)) ++ changes_made setup (docketed_then setup docketed n.row.work) rows

@@ -1,8 +1,8 @@
--- What the program's command line may have, as `clap` reads it.
+-- What the subcommands for reports may have, as `clap` reads it.
 use Rattle.std.specs.Prelude.{Some, true, [], ◌∷◌, ◌++◌, codes}
 use Rattle.clap.specs.Words.{App, Rule, Shape, Text, new_rule, with_subcommand}
 use Rattle.clap.specs.Simple.{new_shape}
-use Rattle.clap.specs.declared.builder.action.ArgAction.TheVariants.{SetTrue}
+use Rattle.clap.specs.declared.builder.action.ArgAction.TheVariants.{Set, SetTrue}
 use Rattle.program_main.specs.Texts.Words.{text_rule}
 
 -- `--lines`, once at most
@@ -13,9 +13,19 @@ lines_rule = record (new_rule (codes "lines")) { long = Some (codes "lines"); ac
 abbrev pub needed_rule : (name : Text) → Rule
 needed_rule name = record (text_rule name) { required = true }
 
--- a subcommand that takes the days, the judge and the case that are chosen
+-- `FOLDER`, the first place, once at most
+abbrev pub folder_rule : Rule
+folder_rule = record (new_rule (codes "folder")) { action = Some Set; value_names = 1 }
+
+-- a subcommand that takes where the rows are: a docket's folder, or `--input FILE`
+abbrev pub sourced_shape : (name : Text) → Shape
+sourced_shape name = record (new_shape name) { rules = folder_rule ∷ text_rule (codes "input") ∷ [] }
+
+-- one that also takes the days, the judge and the case that are chosen
 abbrev pub choosing_shape : (name : Text) → Shape
-choosing_shape name = record (new_shape name) { rules = text_rule (codes "from") ∷ text_rule (codes "to") ∷ text_rule (codes "judge") ∷ text_rule (codes "case") ∷ [] }
+choosing_shape name = record (sourced_shape name) {
+  rules = (sourced_shape name).rules ++ text_rule (codes "from") ∷ text_rule (codes "to") ∷ text_rule (codes "judge") ∷ text_rule (codes "case") ∷ [];
+}
 
 -- the one of calendars, which also takes the instant at which one is written
 abbrev pub ics_shape : Shape
@@ -27,17 +37,14 @@ json_shape = record (choosing_shape (codes "json")) { rules = (choosing_shape (c
 
 -- the one of a judge's week, for which the judge and a day have to be given
 abbrev pub week_shape : Shape
-week_shape = record (new_shape (codes "week")) { rules = needed_rule (codes "judge") ∷ needed_rule (codes "of") ∷ [] }
+week_shape = record (sourced_shape (codes "week")) { rules = (sourced_shape (codes "week")).rules ++ needed_rule (codes "judge") ∷ needed_rule (codes "of") ∷ [] }
 
--- the program's name, which the words leave out, with the help and the version that `clap` adds
-abbrev pub bare_command : App
-bare_command = record {
-  top = record (new_shape (codes "court_calendar")) { no_binary_name = true; has_version = true; subcommand_required = true };
-  subs = [];
-}
+-- the one of SQL
+abbrev pub sql_shape : Shape
+sql_shape = sourced_shape (codes "sql")
 
--- the whole: a subcommand for each format
-abbrev pub command_line : App
-command_line =
-    with_subcommand (with_subcommand (with_subcommand (with_subcommand (with_subcommand (with_subcommand bare_command (choosing_shape (codes "due"))) week_shape) (choosing_shape (codes "page"))) ics_shape)
-    json_shape) (new_shape (codes "sql"))
+-- a command line with a subcommand for each report
+abbrev pub with_reports : App → App
+with_reports app =
+    with_subcommand (with_subcommand (with_subcommand (with_subcommand (with_subcommand (with_subcommand app (choosing_shape (codes "due"))) week_shape) (choosing_shape (codes "page"))) ics_shape)
+    json_shape) sql_shape

@@ -1,7 +1,9 @@
 pub mod Appointments
 pub mod Asked
+pub mod Past
 pub mod Calendar
 pub mod Changes
 pub mod Chosen
 pub mod CommandLine
 pub mod Opened
+pub mod Words

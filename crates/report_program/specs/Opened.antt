@@ -6,7 +6,8 @@ use Rattle.docket_rows.specs.declared.query.Query.TheVariants as query
 use Rattle.docket_rows.specs.declared.view.View.{View}
 use Rattle.docket_rows.specs.declared.view.View.TheVariants as view
 use Rattle.docket_rows.specs.Words.{opening_rows, setup_of, view_of}
-use Rattle.row_forms.specs.declared.row.Row.{Row}
+use Rattle.row_forms.specs.declared.numbered.NumberedRow.{NumberedRow}
+use Rattle.row_forms.specs.Words.{rows_of}
 use Rattle.office_texts.specs.Run.Words.{docketed_after}
 use Rattle.report_program.specs.declared.asked.Asked.{Asked}
 use Rattle.report_program.specs.declared.chosen.Chosen.{Chosen}
@@ -29,12 +30,12 @@ is_sheet (view.Sheet sheet) = true
 is_sheet _ = false
 
 -- the docket after all rows shows the sheet of the case
-abbrev pub is_open_after : CourtView → List Row → (case : ℕ) → Bool
+abbrev pub is_open_after : CourtView → List NumberedRow → (case : ℕ) → Bool
 is_open_after court rows case =
-    is_sheet (view_of (setup_of court) (docketed_after (setup_of court) (opening_rows (setup_of court)) rows) (query.Sheet case))
+    is_sheet (view_of (setup_of court) (docketed_after (setup_of court) (opening_rows (setup_of court)) (rows_of rows)) (query.Sheet case))
 
 -- the case, if one is given that no row has opened
-abbrev pub closed_case : CourtView → List Row → Option ℕ → Option ℕ
+abbrev pub closed_case : CourtView → List NumberedRow → Option ℕ → Option ℕ
 closed_case court rows (Some case) = if is_open_after court rows case then None else Some case
 closed_case court rows None = None
 
@@ -43,11 +44,11 @@ unless_closed chosen (Some case) = Err (Closed case)
 unless_closed chosen None = Ok chosen
 
 -- what is chosen, unless it is of a case alone that no row has opened
-abbrev pub if_open : CourtView → List Row → Chosen → Result Chosen Missing
+abbrev pub if_open : CourtView → List NumberedRow → Chosen → Result Chosen Missing
 if_open court rows chosen = unless_closed chosen (closed_case court rows (case_chosen chosen))
 
 -- what is chosen, or the first that isn't there: the case by its name, the judge, the day of a week, the case by the rows
-unfoldable pub found_of : CourtView → List NamedCase → List Row → Asked → Result Chosen Missing
+unfoldable pub found_of : CourtView → List NamedCase → List NumberedRow → Asked → Result Chosen Missing
 found_of court named rows asked = do
   chosen ← chosen_of court named asked
   if_open court rows chosen

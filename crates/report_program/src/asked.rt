@@ -57,9 +57,9 @@ pub struct Asked {
     pub lines: bool,
 }
 
-/// What a subcommand of that name asks for with what it was given, at the clock's time. BadWords where a text writes no day, no instant or no
-/// case, and OutOfMemory where memory runs out.
-pub(crate) fn asked_by(
+/// What a subcommand of that name asks for with what it was given, at the clock's time: a subcommand of `with_reports`. Where the rows
+/// are isn't in the answer. BadWords where a text writes no day, no instant or no case, and OutOfMemory where memory runs out.
+pub fn asked_by(
     alloc: Global,
     clock_time: Instant,
     name: &str,

@@ -3,6 +3,7 @@
 ghost use Rattle.std.specs.Prelude.{◌≡◌, ◌++◌, option_to_list, OnOk, IfOk};
 ghost use Rattle.docket_rows.specs.Words.{opening_rows, setup_of};
 ghost use Rattle.office_texts.specs.Run.Words.{Holds, docketed_after};
+ghost use Rattle.row_forms.specs.Words.{rows_of};
 ghost use Rattle.report_program.specs.Changes.{change_in, changes_made};
 
 use court_clock::Day;
@@ -12,19 +13,19 @@ use docket_rows::Hearing;
 use docket_selection::{Change, HearingChange, RowChange, change_made};
 use hearing_slots::Panel;
 use office_texts::{Reply, reply_to};
-use row_forms::{Row, Work};
+use row_forms::{NumberedRow, Work};
 use std::alloc::{AllocError, Global};
 
 /// The docket of the court after all rows, each of which is carried out as `clerk_office` does. What they change is added to a
-/// list, in their order. `Err` says that memory ran out.
+/// list, in their order, each with the number of its row. `Err` says that memory ran out.
 pub(crate) fn docket_after(
     alloc: Global,
     court: &Court,
-    rows: &[Row],
+    rows: &[NumberedRow],
     changes: &mut Vec<RowChange>,
 ) -> Result<Docket, AllocError>
-    ensures docket { IfOk result (λ d. Holds (setup_of court.now) d (docketed_after (setup_of court.now) (opening_rows (setup_of court.now)) rows.now)) }
-    ensures changes { OnOk result (changes.new.items ≡ changes.old.items ++ changes_made (setup_of court.now) (opening_rows (setup_of court.now)) 1 rows.now) }
+    ensures docket { IfOk result (λ d. Holds (setup_of court.now) d (docketed_after (setup_of court.now) (opening_rows (setup_of court.now)) (rows_of rows.now))) }
+    ensures changes { OnOk result (changes.new.items ≡ changes.old.items ++ changes_made (setup_of court.now) (opening_rows (setup_of court.now)) rows.now) }
 {
     let mut docket = Docket::new(alloc, court)?;
     carry_out(alloc, court, &mut docket, rows, changes)?;
@@ -36,18 +37,16 @@ fn carry_out(
     alloc: Global,
     court: &Court,
     docket: &mut Docket,
-    rows: &[Row],
+    rows: &[NumberedRow],
     changes: &mut Vec<RowChange>,
 ) -> Result<(), AllocError>
     requires { Holds (setup_of court.now) docket.old (opening_rows (setup_of court.now)) }
-    ensures docket { OnOk result (Holds (setup_of court.now) docket.new (docketed_after (setup_of court.now) (opening_rows (setup_of court.now)) rows.now)) }
-    ensures changes { OnOk result (changes.new.items ≡ changes.old.items ++ changes_made (setup_of court.now) (opening_rows (setup_of court.now)) 1 rows.now) }
+    ensures docket { OnOk result (Holds (setup_of court.now) docket.new (docketed_after (setup_of court.now) (opening_rows (setup_of court.now)) (rows_of rows.now))) }
+    ensures changes { OnOk result (changes.new.items ≡ changes.old.items ++ changes_made (setup_of court.now) (opening_rows (setup_of court.now)) rows.now) }
 {
-    let mut number = 1;
-    for row in rows {
-        let reply = reply_to(alloc, docket, &row.work)?;
-        push_change(changes, number, &row.work, &reply)?;
-        number += 1;
+    for numbered in rows {
+        let reply = reply_to(alloc, docket, &numbered.row.work)?;
+        push_change(changes, numbered.number, &numbered.row.work, &reply)?;
     }
     Ok(())
 }

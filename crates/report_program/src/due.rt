@@ -10,8 +10,7 @@ use court_days::Court;
 use desk_numbers::MovedNumbers;
 use docket_core::Docket;
 use docket_selection::{Choice, DueItem, DueTypes, due_of};
-use report_numbers::number_items;
-use report_texts::push_due;
+use report_texts::{number_items, push_due};
 use std::alloc::{AllocError, Global};
 
 /// What is due of the docket. `Err` says that memory ran out.

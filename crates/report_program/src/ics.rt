@@ -16,7 +16,7 @@ use docket_selection::{Choice, DueItem, DueTypes, HearingHistories, RowChange, d
 use report_ics::icalendar;
 use std::alloc::{AllocError, Global};
 
-/// The calendar of what is chosen of the docket, after these changes, written at an instant. `Err` says that memory ran out.
+/// The calendar of what is chosen of the docket, after these changes and so many corrections, written at an instant. `Err` says that memory ran out.
 pub(crate) fn ics_text(
     alloc: Global,
     court: &Court,
@@ -24,17 +24,26 @@ pub(crate) fn ics_text(
     moved: &MovedNumbers,
     docket: &Docket,
     changes: Vec<RowChange>,
+    corrections: u64,
     choice: &Choice,
     stamp: Instant,
 ) -> Result<Vec<u8>, AllocError>
     requires court { docket.now.setup ≡ setup_of court.now }
-    ensures { (docketed : Rows) → Holds (setup_of court.now) docket.now docketed → IfOk result (λ text. IsIcsText court.now cases.now.named moved.now docketed changes.items choice.now stamp text.items) }
+    ensures { (docketed : Rows) → Holds (setup_of court.now) docket.now docketed → IfOk result (λ text. IsIcsText court.now cases.now.named moved.now docketed changes.items corrections choice.now stamp text.items) }
 {
     let _types: DueTypes = None;
     let items = due_of(alloc, court, docket, choice)?;
     let histories = HearingHistories::of_changes(alloc, choice.judge, changes)?;
     let others = due_of_any(alloc, court, docket, choice)?;
-    let appointments = numbered_appointments(alloc, moved, choice, &histories, &items, &others)?;
+    let appointments = numbered_appointments(
+        alloc,
+        moved,
+        corrections,
+        choice,
+        &histories,
+        &items,
+        &others,
+    )?;
     let text = icalendar(alloc, court, cases, stamp, &appointments)?;
     Ok(text.into_bytes())
 }

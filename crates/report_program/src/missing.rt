@@ -31,14 +31,14 @@ pub(crate) fn missing_line(
     }
 }
 
-/// The line of a case that the court's file doesn't name.
+/// The line of a case of which there is no such name.
 fn no_case(alloc: Global, called: &Option<CaseCalled>) -> Result<String, AllocError>
     ensures { IfOk result (λ line. string_bytes line ≡ no_case called.now) }
 {
     let mut line = String::new(alloc);
-    line.push_str("court_calendar: no case is named '")?;
+    line.push_str("docket: no case is named '")?;
     push_called_given(&mut line, called)?;
-    line.push_str("' in the court's file\n")?;
+    line.push_str("'\n")?;
     Ok(line)
 }
 
@@ -57,7 +57,7 @@ fn no_judge(alloc: Global, word: &Option<String>) -> Result<String, AllocError>
     ensures { IfOk result (λ line. string_bytes line ≡ no_judge word.now) }
 {
     let word = word_given(word);
-    format!(in alloc; "court_calendar: no judge is named '{word}' in the court's file\n")
+    format!(in alloc; "docket: no judge is named '{word}' in the court's file\n")
 }
 
 /// The text of a word, where it was given.
@@ -86,7 +86,7 @@ fn not_covered(alloc: Global, day: Day, from: Day, to: Day) -> Result<String, Al
 fn push_uncovered(line: &mut String, day: Day) -> Result<(), AllocError>
     ensures { OnOk result (AddsText line.old line.new (uncovered_words day)) }
 {
-    write!(line, "court_calendar: {day} isn't covered")
+    write!(line, "docket: {day} isn't covered")
 }
 
 /// Adds from which day on it covers days.
@@ -110,7 +110,7 @@ fn closed_line(alloc: Global, cases: &Cases, case: u32) -> Result<String, AllocE
     ensures { IfOk result (λ line. string_bytes line ≡ closed_line cases.now.named case) }
 {
     let mut line = String::new(alloc);
-    line.push_str("court_calendar: case ")?;
+    line.push_str("docket: case ")?;
     push_case_text(&mut line, cases, case)?;
     line.push_str(" isn't open: no row has opened it\n")?;
     Ok(line)

@@ -9,7 +9,7 @@ use crate::docket::docket_after;
 use case_numbers::Cases;
 use court_days::Court;
 use docket_rows::{Query, View};
-use row_forms::Row;
+use row_forms::NumberedRow;
 use std::alloc::{AllocError, Global};
 
 /// What is chosen of the court after all rows, or the first that isn't there of it. `Err` says that memory ran out.
@@ -18,7 +18,7 @@ pub(crate) fn found_of(
     alloc: Global,
     court: &Court,
     cases: &Cases,
-    rows: &[Row],
+    rows: &[NumberedRow],
     asked: &Asked,
 ) -> Result<Result<Chosen, Missing>, AllocError>
     ensures { IfOk result (λ found. found ≡ found_of court.now cases.now.named rows.now asked.now) }
@@ -33,7 +33,7 @@ pub(crate) fn found_of(
 fn if_open(
     alloc: Global,
     court: &Court,
-    rows: &[Row],
+    rows: &[NumberedRow],
     chosen: Chosen,
 ) -> Result<Result<Chosen, Missing>, AllocError>
     ensures { IfOk result (λ found. found ≡ if_open court.now rows.now chosen) }
@@ -61,7 +61,7 @@ fn case_chosen(chosen: &Chosen) -> Option<u32>
 fn closed_case(
     alloc: Global,
     court: &Court,
-    rows: &[Row],
+    rows: &[NumberedRow],
     case: Option<u32>,
 ) -> Result<Option<u32>, AllocError>
     ensures { IfOk result (λ closed. closed ≡ closed_case court.now rows.now case) }
@@ -76,7 +76,12 @@ fn closed_case(
 }
 
 /// Whether the case is open after all rows.
-fn is_open_after(alloc: Global, court: &Court, rows: &[Row], case: u32) -> Result<bool, AllocError>
+fn is_open_after(
+    alloc: Global,
+    court: &Court,
+    rows: &[NumberedRow],
+    case: u32,
+) -> Result<bool, AllocError>
     ensures { IfOk result (λ opened. opened ≡ is_open_after court.now rows.now case) }
 {
     let mut changes = Vec::new(alloc);

@@ -12,8 +12,8 @@ use desk_numbers::MovedNumbers;
 use docket_core::Docket;
 use docket_selection::{Choice, DueTypes};
 use page_markup::Page;
-use report_numbers::{explained_selection, numbered_calendars};
 use report_page::push_page;
+use report_texts::{explained_selection, numbered_calendars};
 use std::alloc::{AllocError, Global};
 
 /// The page of the docket: what is due, the chosen judges' hearings, and the sheets of the chosen cases with their

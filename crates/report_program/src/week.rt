@@ -3,7 +3,7 @@
 ghost use Rattle.std.specs.Prelude.{◌≡◌, map, IfOk};
 ghost use Rattle.docket_core.specs.Words.{StandsFor};
 ghost use Rattle.docket_selection.specs.Words.{day_bookings};
-ghost use Rattle.report_numbers.specs.Words.{numbered_day};
+ghost use Rattle.report_texts.specs.Words.{numbered_day};
 ghost use Rattle.docket_rows.specs.Words.{Rows, setup_of};
 ghost use Rattle.office_texts.specs.Run.Words.{Holds};
 ghost use Rattle.report_program.specs.Calendar.{week_text_of};
@@ -14,8 +14,7 @@ use court_days::Court;
 use desk_numbers::MovedNumbers;
 use docket_core::Docket;
 use docket_selection::{DayBookings, bookings_on, week_days};
-use report_numbers::number_days;
-use report_texts::push_week;
+use report_texts::{number_days, push_week};
 use std::alloc::{AllocError, Global};
 
 /// The week of the judge in which the day is. `Err` says that memory ran out.

@@ -1,11 +1,11 @@
 -- The rows of answers.
-use Rattle.std.specs.Prelude.{ℕ, ◌+◌, ◌-◌, List, [], ◌∷◌, ◌++◌, length, take, codes}
+use Rattle.std.specs.Prelude.{ℕ, ◌-◌, List, [], ◌∷◌, ◌++◌, length, take, codes}
 use Rattle.case_numbers.specs.declared.names.NamedCase.{NamedCase}
 use Rattle.court_days.specs.Words.{CourtView}
 use Rattle.docket_rows.specs.declared.answer.Answer.TheVariants as answer
 use Rattle.docket_rows.specs.declared.view.View.TheVariants as view
 use Rattle.docket_rows.specs.Words.{Rows, refusal_number, setup_of}
-use Rattle.row_forms.specs.declared.row.Row.{Row}
+use Rattle.row_forms.specs.declared.numbered.NumberedRow.{NumberedRow}
 use Rattle.office_texts.specs.declared.run.reply.Reply.{Reply}
 use Rattle.office_texts.specs.declared.run.reply.Reply.TheVariants.{Made, Viewed}
 use Rattle.office_texts.specs.Run.Words.{docketed_then, reply_to}
@@ -28,9 +28,9 @@ answer_words court named reply = take (length (named_reply court named reply) - 
 unfoldable pub answer_row : CourtView → List NamedCase → (place clerk : ℕ) → Reply → List ℕ
 answer_row court named place clerk reply = row_of (codes "answers") place (number clerk ∷ refusal_value reply ∷ text (answer_words court named reply) ∷ [])
 
--- what each row is answered, where the first has that number; deadlines and motions have the numbers that they keep
-unfoldable pub answer_rows : CourtView → List NamedCase → List Moved → (docketed : Rows) → (place : ℕ) → List Row → List ℕ
-answer_rows court named moved docketed place [] = []
-answer_rows court named moved docketed place (row ∷ rows) =
-    answer_row court named place row.clerk (numbered moved row.work (reply_to (setup_of court) docketed row.work))
-    ++ answer_rows court named moved (docketed_then (setup_of court) docketed row.work) (place + 1) rows
+-- what each row is answered, with its number; deadlines and motions have the numbers that they keep
+unfoldable pub answer_rows : CourtView → List NamedCase → List Moved → (docketed : Rows) → List NumberedRow → List ℕ
+answer_rows court named moved docketed [] = []
+answer_rows court named moved docketed (n ∷ rows) =
+    answer_row court named n.number n.row.clerk (numbered moved n.row.work (reply_to (setup_of court) docketed n.row.work))
+    ++ answer_rows court named moved (docketed_then (setup_of court) docketed n.row.work) rows

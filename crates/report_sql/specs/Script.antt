@@ -7,7 +7,8 @@ use Rattle.court_days.specs.Words.{CourtView, OutageView}
 use Rattle.docket_rows.specs.declared.sheet.Sheet.{Sheet}
 use Rattle.docket_rows.specs.Words.{Rows, opening_rows, setup_of}
 use Rattle.docket_selection.specs.Words.{open_sheets}
-use Rattle.row_forms.specs.declared.row.Row.{Row}
+use Rattle.row_forms.specs.declared.numbered.NumberedRow.{NumberedRow}
+use Rattle.row_forms.specs.Words.{rows_of}
 use Rattle.office_texts.specs.Run.Words.{docketed_after}
 use Rattle.desk_numbers.specs.declared.moved.Moved.{Moved}
 use Rattle.desk_numbers.specs.Words.{numbered_sheet}
@@ -46,11 +47,11 @@ transaction_end = codes "COMMIT;\n"
 
 -- of a court, the names of cases, what isn't at the place that its number says, and all rows: the tables, what each row was
 -- answered, and what is docketed after the last
-unfoldable pub script_text : CourtView → List NamedCase → List Moved → List Row → List ℕ
+unfoldable pub script_text : CourtView → List NamedCase → List Moved → List NumberedRow → List ℕ
 script_text court named moved rows =
     let opening = opening_rows (setup_of court) in
     transaction_front
     ++ tables named
-    ++ answer_rows court named moved opening 1 rows
-    ++ docketed_text court named moved (docketed_after (setup_of court) opening rows)
+    ++ answer_rows court named moved opening rows
+    ++ docketed_text court named moved (docketed_after (setup_of court) opening (rows_of rows))
     ++ transaction_end

@@ -3,6 +3,7 @@
 ghost use Rattle.std.specs.Prelude.{◌≡◌, ◌-◌, ◌++◌, [], ◌∷◌, OnOk, length, string_bytes, take};
 ghost use Rattle.docket_rows.specs.Words.{opening_rows, setup_of};
 ghost use Rattle.office_texts.specs.Run.Words.{Holds, docketed_after};
+ghost use Rattle.row_forms.specs.Words.{rows_of};
 ghost use Rattle.report_sql.specs.Answers.{answer_row, answer_rows, answer_words, refusal_value};
 ghost use Rattle.report_sql.specs.Rows.{AddsValues, text};
 
@@ -13,7 +14,7 @@ use desk_numbers::MovedNumbers;
 use docket_core::Docket;
 use docket_rows::{Answer, View};
 use office_texts::{Reply, push_named_reply, reply_to};
-use row_forms::Row;
+use row_forms::NumberedRow;
 use std::alloc::{AllocError, Global};
 
 /// Carries out each row in turn, and adds what it is answered, with the names of cases and the numbers of deadlines and motions. `Err` says that
@@ -25,24 +26,30 @@ pub(crate) fn push_answers(
     cases: &Cases,
     moved: &MovedNumbers,
     docket: &mut Docket,
-    rows: &[Row],
+    rows: &[NumberedRow],
 ) -> Result<(), AllocError>
     requires { Holds (setup_of court.now) docket.old (opening_rows (setup_of court.now)) }
-    ensures answers { OnOk result (out.new ≡ out.old ++ answer_rows court.now cases.now.named moved.now (opening_rows (setup_of court.now)) 1 rows.now) }
-    ensures docket { OnOk result (Holds (setup_of court.now) docket.new (docketed_after (setup_of court.now) (opening_rows (setup_of court.now)) rows.now)) }
+    ensures answers { OnOk result (out.new ≡ out.old ++ answer_rows court.now cases.now.named moved.now (opening_rows (setup_of court.now)) rows.now) }
+    ensures docket { OnOk result (Holds (setup_of court.now) docket.new (docketed_after (setup_of court.now) (opening_rows (setup_of court.now)) (rows_of rows.now))) }
 {
     let mut line = String::new(alloc);
-    let mut place = 1u64;
-    for row in rows {
-        let reply = reply_to(alloc, docket, &row.work)?;
-        let numbered = moved.number_reply(&row.work, reply);
-        push_answer(out, &mut line, court, cases, place, row.clerk, &numbered)?;
-        place += 1;
+    for numbered in rows {
+        let reply = reply_to(alloc, docket, &numbered.row.work)?;
+        let reply = moved.number_reply(&numbered.row.work, reply);
+        push_answer(
+            out,
+            &mut line,
+            court,
+            cases,
+            numbered.number,
+            numbered.row.clerk,
+            &reply,
+        )?;
     }
     Ok(())
 }
 
-/// Adds the row of an answer. `line` is a place to work in.
+/// Adds the row of an answer, whose key is the number of the row that was answered. `line` is a place to work in.
 #[tactic(auto, unfolding(crate::specs::Answers::answer_row))]
 fn push_answer(
     out: &mut Script,

@@ -11,10 +11,10 @@ use case_numbers::Cases;
 use court_days::Court;
 use desk_numbers::MovedNumbers;
 use docket_core::Docket;
-use row_forms::Row;
+use row_forms::NumberedRow;
 use std::alloc::{AllocError, Global};
 
-/// One transaction of SQL: it makes the tables, and puts into them what each row was answered and what is docketed after
+/// One transaction of SQL: it makes the tables, and puts into them what each row was answered, by its number, and what is docketed after
 /// the last. `cases` has the names of cases, which answers have in place of numbers: the table of cases has a column for them where
 /// there are any. Deadlines and
 /// motions have the numbers that `moved` says, while rows name them by their places. `Err` says that memory ran out.
@@ -24,7 +24,7 @@ pub fn sql_text(
     court: &Court,
     cases: &Cases,
     moved: &MovedNumbers,
-    rows: &[Row],
+    rows: &[NumberedRow],
 ) -> Result<Vec<u8>, AllocError>
     ensures { IfOk result (λ text. text.items ≡ script_text court.now cases.now.named moved.now rows.now) }
 {

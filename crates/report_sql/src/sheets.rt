@@ -21,7 +21,7 @@ use desk_numbers::MovedNumbers;
 use docket_core::Docket;
 use docket_rows::{Sheet, SheetDeadline, SheetMotion};
 use docket_selection::sheets_of;
-use report_numbers::number_sheets;
+use report_texts::number_sheets;
 use std::alloc::{AllocError, Global};
 
 /// Adds each outage, and each open case with all that is on its sheet, where deadlines and motions have their numbers. `Err`

@@ -5,6 +5,7 @@ pub mod Items
 pub mod Names
 pub mod Other
 pub mod Periods
+pub mod Selected
 pub mod Times
 pub mod Week
 pub mod Words

@@ -5,8 +5,10 @@ unfoldable pub use Rattle.report_texts.specs.Due.{chosen_words, closing_line, li
 pub use Rattle.report_texts.specs.Items.{time_words, matter_words, room_words}
 unfoldable pub use Rattle.report_texts.specs.Items.{item_line, span_words}
 unfoldable pub use Rattle.report_texts.specs.Names.{panel_names}
+pub use Rattle.report_texts.specs.Other.{given_words}
 unfoldable pub use Rattle.report_texts.specs.Other.{reading_words}
 unfoldable pub use Rattle.report_texts.specs.Periods.{period_words}
 pub use Rattle.report_texts.specs.Periods.{unit_words}
+pub use Rattle.report_texts.specs.Selected.{numbered_calendar, numbered_day, numbered_item}
 unfoldable pub use Rattle.report_texts.specs.Times.{minute_time, second_time}
 unfoldable pub use Rattle.report_texts.specs.Week.{week_text}

@@ -1,5 +1,5 @@
-//! What is due and a judge's week, as texts of 80 columns for a terminal or paper. Each function adds to a text; where
-//! memory runs out, what was added so far stays.
+//! What is selected of a docket, with the numbers that deadlines and motions keep; and what is due and a judge's week, as texts of
+//! 80 columns for a terminal or paper. Each function of these adds to a text; where memory runs out, what was added so far stays.
 #![tactic(auto)]
 
 mod days;
@@ -10,6 +10,7 @@ mod judges;
 mod numbers;
 mod other;
 mod periods;
+mod selected;
 mod week;
 
 pub use days::push_whole_day;
@@ -17,6 +18,9 @@ pub use due::{is_day_of, push_chosen, push_closing, push_due};
 pub use items::{push_matter, push_room, push_span, push_time};
 pub use judges::push_panel;
 pub use numbers::{push_minute, push_second};
-pub use other::push_reading;
+pub use other::{push_given, push_reading};
 pub use periods::{push_period, unit_words};
+pub use selected::{
+    explained_selection, number_days, number_item, number_items, number_sheets, numbered_calendars,
+};
 pub use week::push_week;

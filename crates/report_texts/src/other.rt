@@ -44,8 +44,8 @@ fn push_reading_front(text: &mut String) -> Result<(), AllocError>
     text.push_str("other reading ")
 }
 
-/// Adds the last day or the instant that it gives, or that no covered day ends the time.
-fn push_given(text: &mut String, clock: &Clock, other: &Shown) -> Result<(), AllocError>
+/// Adds the last day or the instant that another reading gives, or that no covered day ends the time. `Err` says that memory ran out.
+pub fn push_given(text: &mut String, clock: &Clock, other: &Shown) -> Result<(), AllocError>
     ensures { OnOk result (AddsText text.old text.new (given_words clock.now other.now)) }
 {
     match *other {

@@ -5,6 +5,7 @@ pub mod Columns
 pub mod Forms
 pub mod Rows
 pub mod Records
+pub mod Numbered
 pub mod FirstFault
 pub mod Bounds
 pub mod Words

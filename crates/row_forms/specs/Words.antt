@@ -19,3 +19,5 @@ pub use Rattle.row_forms.specs.Records.{MeetsNoText, TakesAnyRow, TakesText, rec
 pub use Rattle.row_forms.specs.FirstFault.{AreSpelled, FirstFaultIsTold, IsFirstFault}
 pub use Rattle.row_forms.specs.Fault.{cause_text}
 pub use Rattle.row_forms.specs.Bounds.{IsClerk, IsOfClerk, RowsAreBounded}
+pub use Rattle.row_forms.specs.Numbered.{rows_of}
+unfoldable pub use Rattle.row_forms.specs.Numbered.{numbered_from}

@@ -8,6 +8,7 @@ mod forms;
 mod headings;
 mod laws;
 mod line;
+mod numbered;
 mod records;
 mod row;
 
@@ -18,5 +19,6 @@ pub use laws::{
     rows_ask_by_their_words,
 };
 pub use line::{Line, push_row_text, read_line};
+pub use numbered::{NumberedRow, numbered_rows};
 pub use records::{MAX_ROWS, Next, read_next, read_rows, row_of, rows_reader};
 pub use row::{Row, Work};

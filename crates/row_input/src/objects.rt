@@ -45,7 +45,8 @@ fn put_fault(
     let advice = advice(alloc, order, fault)?;
     out.begin_object()?;
     put_number(out, "line", line.number)?;
-    put_number(out, "column", fault.place.saturating_add(1))?;
+    let place = fault.place.saturating_add(line.mark);
+    put_number(out, "column", place.saturating_add(1))?;
     put_text(out, "text", whole.as_str())?;
     out.key("found")?;
     out.string(found)?;

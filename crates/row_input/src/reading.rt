@@ -2,14 +2,13 @@
 
 ghost use Rattle.std.specs.Prelude.{◌≡◌, ◌++◌, ◌∷◌, [], IfOk, None, OnOk, map, option_map};
 ghost use Rattle.csv.specs.Records.{fields_of};
-ghost use Rattle.desk_session.specs.Words.{numbered_lines};
+ghost use Rattle.desk_session.specs.Words.{mark_of, numbered_lines};
 ghost use Rattle.row_forms.specs.Words.{names_of};
-ghost use Rattle.row_written.specs.Words.{read_as};
-ghost use Rattle.row_input.specs.Reading.{ended, faulty_as, faulty_in, faulty_of, header_after, in_place, placed_from, row_of, rows_of, unended};
+ghost use Rattle.row_input.specs.Reading.{ended, faulty_as, faulty_in, faulty_of, header_after, in_place, line_as, placed_from, row_of, rows_of, unended};
 
 use court_days::Court;
 use csv::StringRecord;
-use desk_session::{number_after, split_line};
+use desk_session::{mark_of, number_after, split_line, unmarked};
 use row_fields::DateOrder;
 use row_written::{Fault, Written, read_written};
 use std::alloc::{AllocError, Global};
@@ -21,6 +20,8 @@ pub struct FaultyLine {
     pub number: usize,
     /// The line, without its end.
     pub line: Vec<u8>,
+    /// How many bytes of it are its mark, before its fields.
+    pub mark: usize,
     /// What is wrong with its fields.
     pub faults: Vec<Fault>,
 }
@@ -68,20 +69,25 @@ impl Reading {
         clerks: u8,
         court: &Court,
         order: Option<DateOrder>,
+        marked: bool,
         number: usize,
         line: &[u8],
         end: u8,
     ) -> Result<(), AllocError>
-        ensures rows { OnOk result (self.new.rows.items ≡ self.old.rows.items ++ row_of (read_as clerks (names_of court.now) order (option_map fields_of self.old.header) line.now)) }
-        ensures placed { OnOk result (self.new.placed.items ≡ self.old.placed.items ++ (in_place (read_as clerks (names_of court.now) order (option_map fields_of self.old.header) line.now) ++ end ∷ [])) }
-        ensures faulty { OnOk result (map faulty_in self.new.faulty.items ≡ map faulty_in self.old.faulty.items ++ faulty_as number line.now (read_as clerks (names_of court.now) order (option_map fields_of self.old.header) line.now)) }
-        ensures header { OnOk result (option_map fields_of self.new.header ≡ header_after (option_map fields_of self.old.header) (read_as clerks (names_of court.now) order (option_map fields_of self.old.header) line.now)) }
+        ensures rows { OnOk result (self.new.rows.items ≡ self.old.rows.items ++ row_of (mark_of marked line.now) (line_as clerks (names_of court.now) order marked (option_map fields_of self.old.header) line.now)) }
+        ensures placed { OnOk result (self.new.placed.items ≡ self.old.placed.items ++ (in_place (mark_of marked line.now) (line_as clerks (names_of court.now) order marked (option_map fields_of self.old.header) line.now) ++ end ∷ [])) }
+        ensures faulty { OnOk result (map faulty_in self.new.faulty.items ≡ map faulty_in self.old.faulty.items ++ faulty_as number line.now (mark_of marked line.now) (line_as clerks (names_of court.now) order marked (option_map fields_of self.old.header) line.now)) }
+        ensures header { OnOk result (option_map fields_of self.new.header ≡ header_after (option_map fields_of self.old.header) (line_as clerks (names_of court.now) order marked (option_map fields_of self.old.header) line.now)) }
     {
-        match read_written(alloc, clerks, court, order, &self.header, line)? {
+        let mark = mark_of(marked, line);
+        let text = unmarked(marked, line);
+        match read_written(alloc, clerks, court, order, &self.header, text)? {
             Written::Nothing => {}
             Written::Header(headings) => self.header = Some(headings),
             Written::Plain(text) => {
+                self.rows.extend_from_slice(mark)?;
                 push_ended(&mut self.rows, &text)?;
+                self.placed.extend_from_slice(mark)?;
                 self.placed.extend_from_slice(unended(&text))?;
             }
             Written::Faulty(faults) => {
@@ -89,6 +95,7 @@ impl Reading {
                 self.faulty.push(FaultyLine {
                     number,
                     line,
+                    mark: mark.len(),
                     faults,
                 })?;
             }
@@ -99,17 +106,19 @@ impl Reading {
 }
 
 /// Reads an input line by line as people write rows: the plain rows that its lines are, and the lines that have faults. A last
-/// line that has no end isn't read. `Err` says that memory ran out.
+/// line that has no end isn't read. Where lines may be marked, one that begins with a '!' is read without it, and its plain row
+/// begins with it. `Err` says that memory ran out.
 pub fn read_input(
     alloc: Global,
     clerks: u8,
     court: &Court,
     order: Option<DateOrder>,
+    marked: bool,
     input: &[u8],
 ) -> Result<Reading, AllocError>
-    ensures rows { IfOk result (λ reading. reading.rows.items ≡ rows_of clerks (names_of court.now) order None (numbered_lines input.now)) }
-    ensures placed { IfOk result (λ reading. reading.placed.items ≡ placed_from clerks (names_of court.now) order None [] input.now) }
-    ensures faulty { IfOk result (λ reading. map faulty_in reading.faulty.items ≡ faulty_of clerks (names_of court.now) order None (numbered_lines input.now)) }
+    ensures rows { IfOk result (λ reading. reading.rows.items ≡ rows_of clerks (names_of court.now) order marked None (numbered_lines input.now)) }
+    ensures placed { IfOk result (λ reading. reading.placed.items ≡ placed_from clerks (names_of court.now) order marked None [] input.now) }
+    ensures faulty { IfOk result (λ reading. map faulty_in reading.faulty.items ≡ faulty_of clerks (names_of court.now) order marked None (numbered_lines input.now)) }
 {
     let mut reading = Reading {
         header: None,
@@ -120,7 +129,9 @@ pub fn read_input(
     let mut number = 1usize;
     let mut rest = input;
     while let Some(split) = split_line(rest) {
-        reading.read(alloc, clerks, court, order, number, split.line, split.end)?;
+        reading.read(
+            alloc, clerks, court, order, marked, number, split.line, split.end,
+        )?;
         number = number_after(number, split.end);
         rest = split.rest;
     }

@@ -47,10 +47,15 @@ pub(crate) fn sentence(
 }
 
 /// Adds a line with marks below a field of the line before it.
-fn push_marks(text: &mut String, shown: &str, fault: &Fault) -> Result<(), AllocError> {
+fn push_marks(
+    text: &mut String,
+    shown: &str,
+    place: usize,
+    fault: &Fault,
+) -> Result<(), AllocError> {
     text.push_str("    ")?;
     for (i, letter) in shown.chars().enumerate() {
-        if i >= fault.place {
+        if i >= place {
             break;
         }
         text.push(if letter == '\t' { '\t' } else { ' ' })?;
@@ -73,11 +78,12 @@ fn push_line(
     let shown = shown(alloc, &line.line)?;
     let number = line.number;
     for fault in &line.faults {
-        let column = fault.place.saturating_add(1);
+        let place = fault.place.saturating_add(line.mark);
+        let column = place.saturating_add(1);
         let said = sentence(alloc, court, order, fault)?;
         let (said, whole) = (said.as_str(), shown.as_str());
         write!(text, "line {number} column {column}: {said}\n    {whole}\n")?;
-        push_marks(text, shown.as_str(), fault)?;
+        push_marks(text, shown.as_str(), place, fault)?;
     }
     Ok(())
 }

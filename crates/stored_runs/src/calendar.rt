@@ -1,4 +1,4 @@
-//! One stored run of the court's calendar.
+//! One stored run of a report.
 
 ghost use Rattle.std.specs.Prelude.{◌≡◌, false};
 ghost use Rattle.program_streams.specs.Words.{has_failed};
@@ -7,16 +7,16 @@ use crate::lines::input_of;
 use crate::stored::push_name;
 use crate::sums::push_sum;
 use court_clock::Instant;
-use program_main::run_program;
-use program_streams::Watched;
-use report_program::CourtCalendar;
+use program_main::OptionsFault;
+use program_streams::{OfficeFault, Report, Watched, ended_by, missing, refused, run_report};
+use program_words::{Task, asked_of};
 use std::alloc::{AllocError, Global};
 use std::sync::Wait;
 use std::thread::Threads;
 
 // No clause says what is written; what is stored to be written shows it.
 
-/// Adds the line `%%%% NAME WORD WORD ..`, and then what the calendar writes with these words of its command line for that
+/// Adds the line `%%%% NAME WORD WORD ..`, and then what `docket` writes with these words and `--input -` for that
 /// input, and what it writes of a fault. Where the input is made from that text, the sum of what it writes is added in its
 /// place. The line is NAME with the words, each after a space. `Err` says that memory ran out.
 pub fn push_calendar<H: Threads + Wait + Sync>(
@@ -32,9 +32,9 @@ pub fn push_calendar<H: Threads + Wait + Sync>(
     let mut errors = Watched::new(Vec::new(alloc));
     let status = if is_made {
         let input = input_of(alloc, text)?;
-        calendar_run(rt, alloc, line, input.as_slice(), &mut writer, &mut errors)?
+        report_run(rt, alloc, line, input.as_slice(), &mut writer, &mut errors)?
     } else {
-        calendar_run(rt, alloc, line, text.as_bytes(), &mut writer, &mut errors)?
+        report_run(rt, alloc, line, text.as_bytes(), &mut writer, &mut errors)?
     };
     if is_made {
         push_sum(alloc, output, writer.inner().as_slice())?;
@@ -45,7 +45,7 @@ pub fn push_calendar<H: Threads + Wait + Sync>(
 }
 
 // The status of a run with the words of that line.
-fn calendar_run<H: Threads + Wait + Sync>(
+fn report_run<H: Threads + Wait + Sync>(
     rt: &H,
     alloc: Global,
     line: &str,
@@ -56,11 +56,48 @@ fn calendar_run<H: Threads + Wait + Sync>(
     requires writer_works { has_failed writer.old ≡ false }
 {
     let words = words_of(alloc, line)?;
+    match asked_of(alloc, first_instant(), &words) {
+        Ok(task) => Ok(task_run(rt, alloc, &task, input, writer, errors)),
+        Err(OptionsFault::BadWords(text)) => Ok(refused(errors, text.as_str())),
+        Err(_) => Ok(ended_by(alloc, errors, &OfficeFault::OutOfMemory)),
+    }
+}
+
+// The status of a report or a memo. Other tasks are none of an input.
+fn task_run<H: Threads + Wait + Sync>(
+    rt: &H,
+    alloc: Global,
+    task: &Task,
+    input: &[u8],
+    writer: &mut Watched<Vec<u8>>,
+    errors: &mut Watched<Vec<u8>>,
+) -> u8
+    requires writer_works { has_failed writer.old ≡ false }
+{
+    match task {
+        Task::Report(_, asked) => run_of(rt, alloc, asked, input, writer, errors),
+        Task::Memo(_, asked) => run_of(rt, alloc, asked, input, writer, errors),
+        _ => refused(errors, "this is no report\n"),
+    }
+}
+
+// The status of what is asked for of an input.
+fn run_of<H: Threads + Wait + Sync, P: Report>(
+    rt: &H,
+    alloc: Global,
+    asked: &P,
+    input: &[u8],
+    writer: &mut Watched<Vec<u8>>,
+    errors: &mut Watched<Vec<u8>>,
+) -> u8
+    requires writer_works { has_failed writer.old ≡ false }
+{
     let mut reader = Watched::new(input);
-    let program = CourtCalendar {
-        clock_time: first_instant(),
-    };
-    Ok(run_program(rt, alloc, &program, Ok(words), &mut reader, writer, errors))
+    match run_report(rt, alloc, &mut reader, writer, asked) {
+        Ok(None) => 0,
+        Ok(Some(line)) => missing(errors, line.as_str()),
+        Err(fault) => ended_by(alloc, errors, &fault),
+    }
 }
 
 // The first instant of 1970, which the clock shows in these runs.
@@ -71,12 +108,14 @@ fn first_instant() -> Instant {
     }
 }
 
-// The words of the line, of which the first stands for the program's name.
-fn words_of(alloc: Global, line: &str) -> Result<Vec<String>, AllocError> {
+// The words of the line after its name, and that the input is read as standard input is.
+fn words_of<'a>(alloc: Global, line: &'a str) -> Result<Vec<&'a str>, AllocError> {
     let mut words = Vec::new(alloc);
-    for word in line.split(' ') {
-        words.push(String::from_str(alloc, word)?)?;
+    for word in line.split(' ').skip(1) {
+        words.push(word)?;
     }
+    words.push("--input")?;
+    words.push("-")?;
     Ok(words)
 }
 

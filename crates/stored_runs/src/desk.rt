@@ -81,14 +81,7 @@ fn write_kept(alloc: Global, disk: Memory, rows: &mut Watched<Vec<u8>>) -> Resul
     requires { has_failed rows.old ≡ false }
 {
     match Desk::open(alloc, disk) {
-        Ok((desk, entries)) => write_rows(
-            alloc,
-            desk.standing(),
-            desk.moved(),
-            desk.cases(),
-            &entries,
-            rows,
-        ),
+        Ok((desk, entries)) => write_rows(alloc, desk.standing(), desk.moved(), &entries, rows),
         Err((fault, _)) => Err(fault),
     }
 }

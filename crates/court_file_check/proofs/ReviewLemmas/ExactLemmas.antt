@@ -1,5 +1,5 @@
 -- Which days a review has: those of the span that pass, in their order.
-use Rattle.std.proofs.Common.{◌≡◌, ◌⊎◌, inl, inr, ◌<◌, ℕ, zero, suc, ℤ, pos, negsuc, ◌+ℤ◌, ◌-ℤ◌, ◌≤ℤ◌, ◌<ℤ◌, unsigned_abs, Bool, true, false, List, ◌∷◌, length, get_or, Option, Some, None, filter_map, if◌then◌else◌, arith, refl, ap, sym, ◌∙◌}
+use Rattle.std.proofs.Common.{◌≡◌, ◌⊎◌, inl, inr, ◌<◌, ℕ, zero, suc, ℤ, pos, negsuc, ◌+ℤ◌, ◌-ℤ◌, ◌≤ℤ◌, ◌<ℤ◌, unsigned_abs, ◌&&◌, is_none, Bool, true, false, List, ◌∷◌, length, get_or, Option, Some, None, filter_map, if◌then◌else◌, arith, refl, ap, sym, ◌∙◌}
 use Rattle.std.specs.List.{AllPairs, Contains, cons_option}
 use Rattle.std.proofs.lemmas.Int.{ints}
 use Rattle.std.proofs.lemmas.List.{get_or_default}
@@ -7,8 +7,9 @@ use Rattle.std.proofs.lemmas.List.Kept.{AllPairs-cons}
 use Rattle.court_clock.specs.Words.{days_through}
 use Rattle.court_clock.proofs.CallerLemmas.{place_from_first, distance_within}
 use Rattle.court_days.specs.Words.{DaysView, is_among, is_covered}
+use Rattle.court_file_check.specs.declared.review.days.DayTest.TheVariants.{Unknown}
 use Rattle.court_file_check.specs.declared.review.review.Due.{Due}
-use Rattle.court_file_check.specs.Review.Review.{due_on, lacked, with_reason, unknown, unless_due, days_from, lacking, unknowns, LackingIsExact, UnknownsAreExact, ReviewIsInOrder}
+use Rattle.court_file_check.specs.Review.Review.{due_on, lacked, with_reason, if_passes, days_from, days_that, lacking, LackingIsExact, UnknownsAreExact, ReviewIsInOrder}
 
 cons_cases : {Y : Type 0} (x z : Y) (xs : List Y) (k : ℕ) → k < length (x ∷ xs) → get_or (x ∷ xs) k z ≡ z → (x ≡ z) ⊎ Contains xs z
 cons_cases x z xs zero l e = inl e
@@ -123,26 +124,26 @@ lacking_is_exact c capital d due = (
       is_told (lacked c capital) c.from (days_through c.from c.to) spot.place (d, due) spot.within (ap (lacked c capital) spot.is ∙ told)),
 )
 
-unknown_cases : (among : Bool) (o : Option Due) (e d : ℤ) → (if among then unless_due e o else None) ≡ Some d → (e ≡ d) × (among ≡ true) × (o ≡ None)
+unknown_cases : (among : Bool) (o : Option Due) (e d : ℤ) → (if among && is_none o then Some e else None) ≡ Some d → (e ≡ d) × (among ≡ true) × (o ≡ None)
 unknown_cases true None e d h = let same : e ≡ d = cc in (same, refl, refl)
 unknown_cases true (Some k) e d h = absurd (cc)
 unknown_cases false o e d h = absurd (cc)
 
-unknown_makes : (among : Bool) (o : Option Due) (d : ℤ) → among ≡ true → o ≡ None → (if among then unless_due d o else None) ≡ Some d
+unknown_makes : (among : Bool) (o : Option Due) (d : ℤ) → among ≡ true → o ≡ None → (if among && is_none o then Some d else None) ≡ Some d
 unknown_makes among o d there is = rw (there, is) refl
 
 pub unknowns_are_exact : UnknownsAreExact
-unfolding unknowns
+unfolding days_that
 unknowns_are_exact c capital d = (
   (λ has.
-      let told = told_is (unknown c capital) c.from (days_through c.from c.to) d has in
+      let told = told_is (if_passes c (Unknown capital)) c.from (days_through c.from c.to) d has in
       let e : ℤ = c.from +ℤ pos told.place in
       let is = unknown_cases (is_among c.federal e) (due_on capital e) e d told.told in
       (place_covered c told.place d told.within is.0, sym (ap (is_among c.federal) is.0) ∙ is.1, sym (ap (due_on capital) is.0) ∙ is.2)),
   (λ h.
       let spot = place_of c d h.0 in
-      let told : unknown c capital d ≡ Some d = unknown_makes (is_among c.federal d) (due_on capital d) d h.1 h.2 in
-      is_told (unknown c capital) c.from (days_through c.from c.to) spot.place d spot.within (ap (unknown c capital) spot.is ∙ told)),
+      let told : if_passes c (Unknown capital) d ≡ Some d = unknown_makes (is_among c.federal d) (due_on capital d) d h.1 h.2 in
+      is_told (if_passes c (Unknown capital)) c.from (days_through c.from c.to) spot.place d spot.within (ap (if_passes c (Unknown capital)) spot.is ∙ told)),
 )
 
 -- what it has of later days comes later
@@ -165,12 +166,12 @@ in_order h key keyed first (suc n) =
 lacked_key : (c : DaysView) (capital : Bool) (e : ℤ) (y : ℤ × Due) → lacked c capital e ≡ Some y → y.0 ≡ e
 lacked_key c capital e y is = let cases = lacked_cases (is_among c.federal e) (due_on capital e) e y.0 y.1 is in sym cases.0
 
-unknown_key : (c : DaysView) (capital : Bool) (e y : ℤ) → unknown c capital e ≡ Some y → y ≡ e
+unknown_key : (c : DaysView) (capital : Bool) (e y : ℤ) → if_passes c (Unknown capital) e ≡ Some y → y ≡ e
 unknown_key c capital e y is = let cases = unknown_cases (is_among c.federal e) (due_on capital e) e y is in sym cases.0
 
 pub review_is_in_order : ReviewIsInOrder
-unfolding lacking unknowns
+unfolding lacking days_that
 review_is_in_order c capital = (
   in_order (lacked c capital) (λ y. y.0) (lacked_key c capital) c.from (days_through c.from c.to),
-  in_order (unknown c capital) (λ y. y) (unknown_key c capital) c.from (days_through c.from c.to),
+  in_order (if_passes c (Unknown capital)) (λ y. y) (unknown_key c capital) c.from (days_through c.from c.to),
 )

@@ -1,10 +1,9 @@
-//! The days that a court's federal list lacks, and those that it has without a reason.
+//! The days that a court's federal list lacks.
 
-ghost use Rattle.std.specs.Prelude.{◌≡◌, ◌<◌, ◌+ℤ◌, ◌++◌, ◌∷◌, pos, OnOk, IfOk};
-ghost use Rattle.std.specs.Option.{option_to_list};
-ghost use Rattle.court_clock.specs.Words.{days_through};
-ghost use Rattle.court_file_check.specs.Review.Review.{due_on, lacked, lacking, unknown, unknowns};
+ghost use Rattle.std.specs.Prelude.{◌≡◌, IfOk};
+ghost use Rattle.court_file_check.specs.Review.Review.{due_on, lacked, lacking};
 
+use crate::review::days::{count_of, covered_day, push_some};
 use court_clock::Day;
 use court_days::{Days, HolidayList};
 use court_holidays::{FederalHoliday, holiday_on, observed_on};
@@ -47,24 +46,9 @@ pub fn lacking_days(
     let mut lacking = Vec::new(alloc);
     for place in 0..count {
         let day = covered_day(days, place);
-        push_lacked(&mut lacking, lacked(days, capital, day))?;
+        push_some(&mut lacking, lacked(days, capital, day))?;
     }
     Ok(lacking)
-}
-
-/// The days of the span that the federal list has and that aren't due, in their order. Such a day may be a closing by
-/// executive order, or a wrong date. An `Err` says that memory ran out.
-#[tactic(auto, unfolding(crate::specs::Review::Review::unknowns))]
-pub fn unknown_days(alloc: Global, days: &Days, capital: bool) -> Result<Vec<Day>, AllocError>
-    ensures { IfOk result (λ u. u.items ≡ unknowns days.now capital) }
-{
-    let count = count_of(days);
-    let mut unknowns = Vec::new(alloc);
-    for place in 0..count {
-        let day = covered_day(days, place);
-        push_unknown(&mut unknowns, unknown(days, capital, day))?;
-    }
-    Ok(unknowns)
 }
 
 /// What the review has of a day, if the list lacks it.
@@ -76,63 +60,4 @@ fn lacked(days: &Days, capital: bool, day: Day) -> Option<(Day, Due)>
     }
     let due = due_on(day, capital)?;
     Some((day, due))
-}
-
-/// What the review has of a day, if it is in the list.
-fn unknown(days: &Days, capital: bool, day: Day) -> Option<Day>
-    ensures { result ≡ unknown days.now capital day }
-{
-    if !days.in_list(HolidayList::Federal, day) {
-        return None;
-    }
-    match due_on(day, capital) {
-        Some(_) => None,
-        None => Some(day),
-    }
-}
-
-/// How many days the span has.
-fn count_of(days: &Days) -> usize
-    ensures { result ≡ days_through days.now.from days.now.to }
-{
-    (days.to().number() - days.from().number()) as usize + 1
-}
-
-/// The day at a place of the span, counted from 0.
-#[tactic(auto, using(court_clock::proofs::CallerLemmas::place_from_first))]
-fn covered_day(days: &Days, place: usize) -> Day
-    requires { place < days_through days.now.from days.now.to }
-    ensures { result ≡ days.now.from +ℤ pos place }
-{
-    let _last = days.to().number();
-    match Day::new(days.from().number() + place as i32) {
-        Some(day) => day,
-        None => unreachable!(),
-    }
-}
-
-/// Puts what the review has of a day, if anything, at the end of the list.
-fn push_lacked(list: &mut Vec<(Day, Due)>, item: Option<(Day, Due)>) -> Result<(), AllocError>
-    ensures { OnOk result (list.new.items ≡ list.old.items ++ option_to_list item) }
-{
-    match item {
-        Some(item) => {
-            list.push(item)?;
-            Ok(())
-        }
-        None => Ok(()),
-    }
-}
-
-/// Puts the day, if there is one, at the end of the list.
-fn push_unknown(list: &mut Vec<Day>, item: Option<Day>) -> Result<(), AllocError>
-    ensures { OnOk result (list.new.items ≡ list.old.items ++ option_to_list item) }
-{
-    match item {
-        Some(day) => {
-            list.push(day)?;
-            Ok(())
-        }
-        None => Ok(()),
-    }
 }

@@ -4,8 +4,8 @@ ghost use Rattle.std.specs.Prelude.{◌≡◌, IfOk, filter, not};
 ghost use Rattle.court_clock.specs.Words.{is_weekend};
 ghost use Rattle.court_file_check.specs.Warnings.{lacking_told};
 
+use crate::review::days::is_weekend;
 use crate::review::{Due, lacking_days};
-use crate::warnings::days::is_weekend;
 use court_clock::Day;
 use court_days::Days;
 use std::alloc::{AllocError, Global};

@@ -6,6 +6,7 @@ use Rattle.rule_periods.specs.Words.{shown_of}
 use Rattle.docket_rows.specs.declared.sheet.Sheet.{Sheet}
 use Rattle.docket_rows.specs.declared.sheet.SheetDeadline.{SheetDeadline}
 use Rattle.deadline_reasons.specs.Words.{IsDerivation}
+use Rattle.reason_notes.specs.Readings.Words.{other_end}
 use Rattle.docket_selection.specs.declared.explained.explained.ExplainedDeadline.{ExplainedDeadline}
 use Rattle.docket_selection.specs.declared.explained.explained.ExplainedSheet.{ExplainedSheet}
 
@@ -16,10 +17,11 @@ AreAlike R [] (y ∷ ys) = ⊥
 AreAlike R (x ∷ xs) [] = ⊥
 AreAlike R (x ∷ xs) (y ∷ ys) = R x y × AreAlike R xs ys
 
--- the deadline, with the reasons of a derivation of what is shown of it
+-- the deadline, with the reasons of a derivation of what is shown of it, and the end by another reading, if there is one
 pub record IsExplained (days : DaysView) (clock : ClockView) (d : SheetDeadline) (e : ExplainedDeadline) : Type 0 where
   pub same : e.deadline ≡ d
   pub derived : IsDerivation days clock d.row e.reasons.items (shown_of days clock d.row)
+  pub other : e.other ≡ other_end days clock d.row
 
 -- the sheet, with each of its deadlines explained, in their order
 pub record IsSheetExplained (days : DaysView) (clock : ClockView) (s : Sheet) (e : ExplainedSheet) : Type 0 where

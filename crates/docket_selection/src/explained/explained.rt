@@ -7,15 +7,19 @@ use court_clock::{Clock, Day};
 use court_days::Days;
 use deadline_reasons::{Reason, reasons_of};
 use docket_rows::{Sheet, SheetDeadline, SheetMotions};
+use reason_notes::other_end;
+use rule6::Shown;
 use std::alloc::{AllocError, Global};
 
-/// A deadline of a sheet, with the reasons why its time ends when it does.
+/// A deadline of a sheet, with the reasons why its time ends when it does, and when it ends by another reading.
 #[derive(Debug, Drop)]
 pub struct ExplainedDeadline {
     /// The deadline.
     pub deadline: SheetDeadline,
     /// The reasons, each of which follows from those before it.
     pub reasons: Vec<Reason>,
+    /// When its time ends by the first other reading of the Rules that gives another end, if one does.
+    pub other: Option<Shown>,
 }
 
 /// The sheet of a case, with the reasons of each deadline.
@@ -90,7 +94,7 @@ fn explained_deadlines(
     Ok(list)
 }
 
-/// The deadline, with its reasons.
+/// The deadline, with its reasons and the end by another reading.
 fn explained_deadline(
     alloc: Global,
     days: &Days,
@@ -100,5 +104,10 @@ fn explained_deadline(
     ensures { IfOk result (λ e. IsExplained days.now clock.now deadline e) }
 {
     let reasons = reasons_of(alloc, days, clock, &deadline.row)?;
-    Ok(ExplainedDeadline { deadline, reasons })
+    let other = other_end(alloc, days, clock, &deadline.row)?;
+    Ok(ExplainedDeadline {
+        deadline,
+        reasons,
+        other,
+    })
 }

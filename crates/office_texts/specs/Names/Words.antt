@@ -1,5 +1,4 @@
 -- The words of clauses and definitions, for the crates above, from one place.
 unfoldable pub use Rattle.office_texts.specs.Names.Called.{case_called, case_number}
 pub use Rattle.office_texts.specs.Names.Called.{called_text, number_called}
-unfoldable pub use Rattle.office_texts.specs.Names.Table.{case_names}
 pub use Rattle.office_texts.specs.Names.Laws.{WithoutNamesAsNumbers}

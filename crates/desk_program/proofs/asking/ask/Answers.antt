@@ -1,6 +1,5 @@
 use Rattle.std.proofs.Common.{[], ◌≡◌}
 use Rattle.std.specs.Io.KnownBytes.{Appends}
-use Rattle.desk_journal.specs.Words.{batch_of}
 use Rattle.desk_session.specs.Words.{lines_of, tally_of, told_to}
 use Rattle.desk_entries.specs.Words.{came_shown, shown}
 use Rattle.program_streams.specs.Words.{watched}
@@ -8,12 +7,11 @@ use Rattle.desk_program.proofs.DeskLemmas.{some_both}
 use Rattle.desk_program.proofs.asking.ask.Goals as goal
 
 pub returns-in-Ok : goal.returns-in-Ok
-returns-in-Ok g c =
-    let docketed = c.in_ok-standing.ensures.docketed in
-    let under = c.in_ok-standing.field-0.standing in
+returns-in-Ok g c = λ entries docketed.
+    let under = c.args.docketed.standing in
     some_both (g.R.Read.remaining (watched c.args.reader.now))
-    (λ input. Appends (g.W.Write.contents (watched c.args.writer.now)) (g.W.Write.contents (watched c.answer.new.writer)) (told_to (λ kept line. []) (shown under) (batch_of c.args.entries.now) (lines_of input)))
-    (λ input. c.in-Ok.tally ≡ tally_of (λ kept line. []) (came_shown under) (batch_of c.args.entries.now) (lines_of input)) _
+    (λ input. Appends (g.W.Write.contents (watched c.args.writer.now)) (g.W.Write.contents (watched c.answer.new.writer)) (told_to (λ kept line. []) (shown under) entries (lines_of input)))
+    (λ input. c.in-Ok.tally ≡ tally_of (λ kept line. []) (came_shown under) entries (lines_of input)) _
     (λ input told counted. record { history = docketed.history; under = under; stands = docketed.standing; told = told; counted = counted })
-    (c.in-Ok.ensures.answered (batch_of c.args.entries.now) docketed.stands.at)
-    (c.in-Ok.ensures.tally (batch_of c.args.entries.now) docketed.stands.at)
+    (c.in-Ok.ensures.answered entries docketed.stands.at)
+    (c.in-Ok.ensures.tally entries docketed.stands.at)

@@ -1,5 +1,6 @@
 use Rattle.std.proofs.Common.{◌∙◌, ◌++◌, ℕ, List, ap, append-nil, sym}
-use Rattle.desk_program.proofs.RowsLemmas.{no_row_written, none_counted, one_counted, one_row_written}
+use Rattle.desk_entries.proofs.CallerLemmas.{none_counted, one_counted}
+use Rattle.desk_program.proofs.RowsLemmas.{no_row_written, one_row_written}
 use Rattle.desk_program.proofs.rows.push_entry.Goals as goal
 
 pub returns-then-not-is_row-clause-text : goal.returns-then-not-is_row-clause-text

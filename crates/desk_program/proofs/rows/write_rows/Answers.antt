@@ -8,23 +8,22 @@ use Rattle.std.proofs.lemmas.Result.{on_ok_weaker}
 use Rattle.desk_journal.specs.Words.{batch_of}
 use Rattle.program_streams.specs.Words.{watched}
 use Rattle.desk_entries.specs.Words.{next_number, note_in, row_entries, row_only, rows_written, standing_file}
-use Rattle.desk_entries.proofs.CallerLemmas.{begun_batch, length_batch, next_number-few, take_batch}
+use Rattle.desk_entries.proofs.CallerLemmas.{begun_batch, length_batch, next_number-few, number_more, take_batch}
 use Rattle.desk_program.specs.Rows.{head_of, written_rows}
-use Rattle.desk_program.proofs.RowsLemmas.{number_first, number_more, rows_first, rows_more}
+use Rattle.desk_program.proofs.RowsLemmas.{number_first, rows_first, rows_more}
 use Rattle.desk_program.proofs.rows.write_rows.Goals as goal
 
 pub loop-place-init : goal.loop-place-init
 loop-place-init g c =
-    let named = c.args.cases.now.named in
-    let head : List ℕ = head_of (standing_file (batch_of c.args.entries.now)) named c.args.moved.now in (
+    let head : List ℕ = head_of (standing_file (batch_of c.args.entries.now)) in (
       omega arith,
       c.requires.works,
       [],
       Appends-nil (g.W.Write.contents (watched c.args.writer.now)),
       rows_first c.args.under.now c.args.moved.now head c.push_file.new.text.items c.args.entries.now
           (c.in_ok-push_file.ensures
-          ∙ ap (λ (t : List ℕ). t ++ head_of c.standing_file.result.now named c.args.moved.now) c.new-text.ensures.items
-          ∙ ap (λ (f : List ℕ). head_of f named c.args.moved.now) c.standing_file.ensures),
+          ∙ ap (λ (t : List ℕ). t ++ head_of c.standing_file.result.now) c.new-text.ensures.items
+          ∙ ap head_of c.standing_file.ensures),
       number_first c.args.entries.now,
     )
 
@@ -40,8 +39,7 @@ pub loop-place-preserved : goal.loop-place-preserved
 loop-place-preserved g c =
     let under = c.args.under.now in
     let moved = c.args.moved.now in
-    let named = c.args.cases.now.named in
-    let head : List ℕ = head_of (standing_file (batch_of c.args.entries.now)) named c.args.moved.now in
+    let head : List ℕ = head_of (standing_file (batch_of c.args.entries.now)) in
     let kept : List (List ℕ) = batch_of (take c.loop-place.place c.args.entries.now) in
     let entry : List ℕ = c.index-entries-place.result.items in
     let (begun, working, written, appends, so_far, next) = c.loop-place.invariant in
@@ -63,11 +61,10 @@ pub returns : goal.returns
 returns g c =
     let under = c.args.under.now in
     let moved = c.args.moved.now in
-    let named = c.args.cases.now.named in
-    let head : List ℕ = head_of (standing_file (batch_of c.args.entries.now)) named c.args.moved.now in
+    let head : List ℕ = head_of (standing_file (batch_of c.args.entries.now)) in
     let (begun, working, written, appends, so_far, next) = c.loop-place.invariant in
     let all : take c.loop-place.place c.args.entries.now ≡ c.args.entries.now = take_all c.loop-place.place c.args.entries.now (omega (arith, c.loop-place-test.false)) in
-    let whole : written ++ c.loop-place.text.items ≡ written_rows under moved named (batch_of c.args.entries.now) =
+    let whole : written ++ c.loop-place.text.items ≡ written_rows under moved (batch_of c.args.entries.now) =
     so_far
     ∙ ap (λ (l : List (Vec ℕ Global)). head ++ rows_written under moved 1 (row_entries (batch_of l))) all in
     record {

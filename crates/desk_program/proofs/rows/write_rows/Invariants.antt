@@ -12,5 +12,5 @@ invariant-loop-place g l =
     (1 ≤ l.place)
     × (has_failed l.writer ≡ false)
     × (written : List ℕ) × Appends (g.W.Write.contents (watched l.fn.writer)) (g.W.Write.contents (watched l.writer)) written
-    × (written ++ l.text.items ≡ head_of (standing_file (batch_of l.entries)) l.cases.named l.moved ++ rows_written l.under l.moved 1 (row_entries (batch_of (take l.place l.entries))))
+    × (written ++ l.text.items ≡ head_of (standing_file (batch_of l.entries)) ++ rows_written l.under l.moved 1 (row_entries (batch_of (take l.place l.entries))))
     × (l.number ≡ next_number (batch_of (take l.place l.entries)))

@@ -3,11 +3,11 @@ use Rattle.std.specs.Prelude.{option_map}
 use Rattle.std.proofs.lemmas.Result.{err_from_is_err_and}
 use Rattle.desk_journal.specs.Words.{batch_of}
 use Rattle.desk_session.specs.Lines.{lines_from, lines_of, numbered_from, numbered_lines, unfinished_from}
-use Rattle.desk_session.specs.Refused.{first_refused, refused_in, stopped_by}
+use Rattle.desk_session.specs.Stopped.{first_stopped, stopped_in}
 use Rattle.desk_session.specs.Taken.{TakesLines, left_by}
 use Rattle.desk_session.proofs.FaultLemmas.{line_stops}
 use Rattle.desk_session.proofs.TakenLemmas.{all_left, more_taken, none_left, none_taken, one_left, one_taken}
-use Rattle.desk_session.proofs.TogetherLemmas.{all_lines, front_finished, front_lines, front_with, goes_on, long_in, never_stops, number_within, stops}
+use Rattle.desk_session.proofs.TogetherLemmas.{all_lines, front_finished, front_lines, front_with, goes_on, long_in, never_stops, number_within, stops_here}
 use Rattle.desk_session.proofs.together.take_lines.Goals as goal
 
 pub loop-split-init : goal.loop-split-init
@@ -22,7 +22,7 @@ loop-split-init g c =
       omega arith,
       λ kept stands. (
         none_taken leaves answers (g.O.Register.stands c.args.setup.now c.args.register.now) kept (batch_of c.args.batch.now.items) c.args.text.now.items stands,
-        ap (λ (k : List (List ℕ)). stopped_by c.args.keep_refused (first_refused leaves answers outcome k (numbered_lines c.args.input.now))) (none_left leaves answers kept),
+        ap (λ (k : List (List ℕ)). first_stopped leaves answers outcome c.args.keep_refused k (numbered_lines c.args.input.now)) (none_left leaves answers kept),
       ),
     )
 
@@ -48,12 +48,12 @@ loop-split-preserved g c =
           let (taken, stop) = so_far kept stands in
           let entries = kept ++ left_by leaves kept (lines_of front) in
           let one = c.in_ok-stopped.ensures.taken entries taken.stands in
-          let here = sym (c.in_ok-stopped.ensures.stopped entries taken.stands) ∙ ap (option_map refused_in) c.in-None.is in
+          let here = sym (c.in_ok-stopped.ensures.stopped entries taken.stands) ∙ ap (option_map stopped_in) c.in-None.is in
           let then = ap (λ (l : List (List ℕ)). kept ++ left_by leaves kept l) lines ∙ all_left leaves answers kept (lines_of front) (line ∷ []) ∙ ap (λ (l : List (List ℕ)). entries ++ l) (one_left leaves answers entries line) in (
             subst (λ (l : List (List ℕ)). TakesLines leaves answers stands_then kept l (batch_of c.args.batch.now.items) (batch_of c.take_line.new.batch.items) c.args.text.now.items c.take_line.new.text.items) (sym lines)
                 (more_taken leaves answers (g.O.Register.stands c.args.setup.now c.loop-split.register) stands_then kept (lines_of front) (line ∷ []) (batch_of c.args.batch.now.items) (batch_of c.loop-split.batch.items) (batch_of c.take_line.new.batch.items) c.args.text.now.items c.loop-split.text.items c.take_line.new.text.items taken
                 (one_taken leaves answers stands_then entries line (batch_of c.loop-split.batch.items) (batch_of c.take_line.new.batch.items) c.loop-split.text.items c.take_line.new.text.items one)),
-            subst (λ (n : ℕ). stopped_by c.args.keep_refused (first_refused leaves answers outcome (kept ++ left_by leaves kept (lines_of (front ++ (line ++ end ∷ [])))) (numbered_from n [] after)) ≡ stopped_by c.args.keep_refused (first_refused leaves answers outcome kept (numbered_lines c.args.input.now))) (sym c.number_after-number.ensures)
+            subst (λ (n : ℕ). first_stopped leaves answers outcome c.args.keep_refused (kept ++ left_by leaves kept (lines_of (front ++ (line ++ end ∷ [])))) (numbered_from n [] after) ≡ first_stopped leaves answers outcome c.args.keep_refused kept (numbered_lines c.args.input.now)) (sym c.number_after-number.ensures)
                 (goes_on leaves answers outcome c.args.keep_refused number rest line end after entries (kept ++ left_by leaves kept (lines_of (front ++ (line ++ end ∷ [])))) _ then first stop here),
           ),
     )
@@ -71,8 +71,8 @@ returns-in-Some-stopped-clause-stopped g c = λ kept stands.
     let (taken, stop) = so_far kept stands in
     let leaves = g.O.Register.leaves c.args.setup.now in
     let entries = kept ++ left_by leaves kept (lines_of front) in
-    let here = sym (c.in_ok-stopped.ensures.stopped entries taken.stands) ∙ ap (option_map refused_in) c.in-Some-stopped.is in
-    stops leaves (g.O.Register.answers c.args.setup.now) (g.O.Register.outcome c.args.setup.now) c.args.keep_refused c.loop-split.number c.loop-split.rest.now c.in-Some.split.line.now c.in-Some.split.end c.in-Some.split.rest.now entries _ (refused_in c.in-Some-stopped.line) c.in-Some.ensures stop here
+    let here = sym (c.in_ok-stopped.ensures.stopped entries taken.stands) ∙ ap (option_map stopped_in) c.in-Some-stopped.is in
+    stops_here leaves (g.O.Register.answers c.args.setup.now) (g.O.Register.outcome c.args.setup.now) c.args.keep_refused c.loop-split.number c.loop-split.rest.now c.in-Some.split.line.now c.in-Some.split.end c.in-Some.split.rest.now entries _ (stopped_in c.in-Some-stopped.line) c.in-Some.ensures stop here
 
 pub returns-clause-taken : goal.returns-clause-taken
 returns-clause-taken g c = λ kept stands is.

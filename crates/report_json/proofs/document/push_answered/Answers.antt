@@ -5,41 +5,42 @@ use Rattle.json.specs.Tree.{json_tokens}
 use Rattle.docket_rows.specs.Words.{Rows, setup_of, opening_rows}
 use Rattle.office_texts.specs.declared.run.reply.Reply.{Reply}
 use Rattle.office_texts.specs.Run.Words.{Holds, docketed_after, docketed_then, reply_to}
-use Rattle.office_texts.proofs.RunLemmas.CallerLemmas.{docketed_at}
+use Rattle.row_forms.specs.declared.numbered.NumberedRow.{NumberedRow}
+use Rattle.row_forms.specs.Words.{rows_of}
+use Rattle.report_texts.proofs.CallerLemmas.{docketed_at_number}
 use Rattle.desk_numbers.specs.Words.{numbered}
 use Rattle.report_json.specs.Answers.{answered_value}
 use Rattle.report_json.specs.Document.{answers_from}
 use Rattle.report_json.proofs.document.push_answered.Goals as goal
 
-pub loop-row-init : goal.loop-row-init
+pub loop-numbered-init : goal.loop-numbered-init
 unfolding docketed_after
-loop-row-init c = record { number = refl; holds = c.requires; so_far = refl }
+loop-numbered-init c = record { holds = c.requires; so_far = refl }
 
-pub loop-row-preserved : goal.loop-row-preserved
+pub loop-numbered-preserved : goal.loop-numbered-preserved
 unfolding answers_from
-loop-row-preserved c =
+loop-numbered-preserved c =
     let court = c.args.court.now in
     let named = c.args.cases.now.named in
     let moved = c.args.moved.now in
     let setup = setup_of court in
     let rows = c.args.rows.now in
-    let i = c.loop-row.row-index in
-    let n = c.loop-row.number in
-    let row = c.row-item.result in
-    let before = c.loop-row.out in
-    let docketed : Rows = docketed_after setup (opening_rows setup) (take i rows) in
-    let replied = c.in_ok-reply.ensures setup docketed c.loop-row.invariant.holds in
-    let more : docketed_after setup (opening_rows setup) (take (i + 1) rows) ≡ docketed_then setup docketed row.work =
-    docketed_at setup (opening_rows setup) rows i row c.loop-row-test.true ∙ ap (λ r. docketed_then setup docketed r.work) (sym c.row-item.is) in
+    let i = c.loop-numbered.numbered-index in
+    let row = c.numbered-item.result.row in
+    let n = c.numbered-item.result.number in
+    let before = c.loop-numbered.out in
+    let docketed : Rows = docketed_after setup (opening_rows setup) (rows_of (take i rows)) in
+    let replied = c.in_ok-reply.ensures setup docketed c.loop-numbered.invariant.holds in
+    let more : docketed_after setup (opening_rows setup) (rows_of (take (i + 1) rows)) ≡ docketed_then setup docketed row.work =
+    docketed_at_number setup (opening_rows setup) rows i c.numbered-item.result c.loop-numbered-test.true ∙ ap (λ (r : NumberedRow). docketed_then setup docketed r.row.work) (sym c.numbered-item.is) in
     let reply = numbered moved row.work (reply_to setup docketed row.work) in
     let line = λ (reply : Reply). json_tokens (answered_value court named (record { number = n; clerk = row.clerk; reply = reply })) in
-    let later = flat_map json_tokens (answers_from court named moved (docketed_then setup docketed row.work) (n + 1) (drop (i + 1) rows)) in
+    let later = flat_map json_tokens (answers_from court named moved (docketed_then setup docketed row.work) (drop (i + 1) rows)) in
     let same : line c.number_reply.result ≡ line reply = ap line (c.number_reply.ensures ∙ ap (numbered moved row.work) replied.0) in
-    let step = at_drop_more (λ rest. flat_map json_tokens (answers_from court named moved docketed n rest)) rows i row c.loop-row-test.true ∙ ap (λ r. flat_map json_tokens (answers_from court named moved docketed n (r ∷ drop (i + 1) rows))) (sym c.row-item.is) in
+    let step = at_drop_more (λ rest. flat_map json_tokens (answers_from court named moved docketed rest)) rows i c.numbered-item.result c.loop-numbered-test.true ∙ ap (λ (r : NumberedRow). flat_map json_tokens (answers_from court named moved docketed (r ∷ drop (i + 1) rows))) (sym c.numbered-item.is) in
     record {
-      number = omega arith;
       holds = subst (Holds setup c.reply_to.new.docket) (sym more) replied.1;
-      so_far = rw (c.in_ok-write.ensures, more) (append_assoc before (line c.number_reply.result) later ∙ ap (λ l. before ++ l) (ap (λ l. l ++ later) same ∙ sym step) ∙ c.loop-row.invariant.so_far);
+      so_far = rw (c.in_ok-write.ensures, more) (append_assoc before (line c.number_reply.result) later ∙ ap (λ l. before ++ l) (ap (λ l. l ++ later) same ∙ sym step) ∙ c.loop-numbered.invariant.so_far);
     }
 
 pub returns-clause-answers : goal.returns-clause-answers
@@ -48,6 +49,6 @@ returns-clause-answers c =
     let court = c.args.court.now in
     let named = c.args.cases.now.named in
     let setup = setup_of court in
-    let past : length c.args.rows.now ≤ c.loop-row.row-index = omega (arith, c.loop-row-test.false) in
-    let none = at_drop_all (λ rest. flat_map json_tokens (answers_from court named c.args.moved.now (docketed_after setup (opening_rows setup) (take c.loop-row.row-index c.args.rows.now)) c.loop-row.number rest)) c.args.rows.now c.loop-row.row-index past in
-    sym (append-nil _) ∙ rw none at c.loop-row.invariant.so_far
+    let past : length c.args.rows.now ≤ c.loop-numbered.numbered-index = omega (arith, c.loop-numbered-test.false) in
+    let none = at_drop_all (λ rest. flat_map json_tokens (answers_from court named c.args.moved.now (docketed_after setup (opening_rows setup) (rows_of (take c.loop-numbered.numbered-index c.args.rows.now))) rest)) c.args.rows.now c.loop-numbered.numbered-index past in
+    sym (append-nil _) ∙ rw none at c.loop-numbered.invariant.so_far

@@ -17,7 +17,7 @@ returns-clause-fields c =
     let rows = c.args.rows.now in
     let sheets = c.in_ok-sheets.sheets.items in
     let all =
-    four_fields (field (codes "court") (court_value court)) (field (codes "answers") (array_of (answers_from court named moved (opening_rows (setup_of court)) 1 rows)))
+    four_fields (field (codes "court") (court_value court)) (field (codes "answers") (array_of (answers_from court named moved (opening_rows (setup_of court)) rows)))
     (cases_field court named sheets) (calendars_field court named moved c.args.choice.now (docketed_by court rows)) c.args.out.now in
     rw (← all, ← c.in_ok-push_court.ensures, ← c.in_ok-push_answers.ensures.answers, ← c.deref.ensures.value, ← c.in_ok-list_field.ensures)
     (c.in_ok-push_calendars.ensures (docketed_by court rows) c.in_ok-push_answers.ensures.docket.stands)

@@ -12,6 +12,6 @@ invariant-loop-judge l = record {
   leads : (docketed : Rows)
       (new : List ℕ)
       → Holds (setup_of l.court) l.docket docketed
-      → Adds (AreCalendars l.court l.cases.named l.moved docketed l.judge (l.fn.first + l.fn.count - l.judge)) (string_bytes l.text) new
-      → Adds (AreCalendars l.court l.cases.named l.moved docketed l.fn.first l.fn.count) (string_bytes l.fn.text) new;
+      → Adds (AreCalendars l.court l.labels docketed l.judge (l.fn.first + l.fn.count - l.judge)) (string_bytes l.text) new
+      → Adds (AreCalendars l.court l.labels docketed l.fn.first l.fn.count) (string_bytes l.fn.text) new;
 }

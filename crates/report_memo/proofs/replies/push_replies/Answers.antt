@@ -1,13 +1,14 @@
-use Rattle.std.proofs.Common.{◌≡◌, ◌≤◌, ◌+◌, ◌∙◌, take, length, string_bytes, refl, sym, ap, subst, arith}
+use Rattle.std.proofs.Common.{◌≡◌, ◌≤◌, ◌+◌, take, length, string_bytes, sym, subst, arith}
 use Rattle.docket_rows.specs.Words.{Rows, setup_of, opening_rows}
+use Rattle.row_forms.specs.Words.{rows_of}
 use Rattle.office_texts.specs.Run.Words.{Holds, docketed_after, docketed_then}
-use Rattle.office_texts.proofs.RunLemmas.CallerLemmas.{docketed_at}
 use Rattle.report_memo.proofs.ReplyLemmas.{replies_end, replies_more}
+use Rattle.report_memo.proofs.RowLemmas.{docketed_at}
 use Rattle.report_memo.proofs.replies.push_replies.Goals as goal
 
 pub loop-row-init : goal.loop-row-init
 unfolding docketed_after
-loop-row-init c = record { number = refl; holds = c.requires; leads = λ new all. all }
+loop-row-init c = record { holds = c.requires; leads = λ new all. all }
 
 pub loop-row-preserved : goal.loop-row-preserved
 loop-row-preserved c =
@@ -16,19 +17,18 @@ loop-row-preserved c =
     let rows = c.args.rows.now in
     let i = c.loop-row.row-index in
     let row = c.row-item.result in
-    let docketed : Rows = docketed_after setup (opening_rows setup) (take i rows) in
+    let docketed : Rows = docketed_after setup (opening_rows setup) (rows_of (take i rows)) in
     let is = sym c.row-item.is in
-    let more : docketed_after setup (opening_rows setup) (take (i + 1) rows) ≡ docketed_then setup docketed row.work =
-    docketed_at setup (opening_rows setup) rows i row c.loop-row-test.true ∙ ap (λ r. docketed_then setup docketed r.work) is in
+    let more : docketed_after setup (opening_rows setup) (rows_of (take (i + 1) rows)) ≡ docketed_then setup docketed row.row.work =
+    docketed_at setup (opening_rows setup) rows i row c.loop-row-test.true is in
     let holds = c.loop-row.invariant.holds in
     record {
-      number = omega arith;
       holds = subst (Holds setup c.push_row.new.docket) (sym more) (c.in_ok-push_row.ensures.docket docketed holds);
       leads = λ new rest.
-          c.loop-row.invariant.leads new (replies_more court c.args.names.now c.args.cases.now.named c.args.moved.now docketed c.loop-row.number rows i row (string_bytes c.loop-row.text) _ new c.loop-row-test.true is (c.in_ok-push_row.ensures.text docketed holds) (rw more at rest));
+          c.loop-row.invariant.leads new (replies_more court c.args.labels.now docketed rows i row (string_bytes c.loop-row.text) _ new c.loop-row-test.true is (c.in_ok-push_row.ensures.text docketed holds) (rw more at rest));
     }
 
 pub returns-clause-text : goal.returns-clause-text
 returns-clause-text c =
     let past : length c.args.rows.now ≤ c.loop-row.row-index = omega (arith, c.loop-row-test.false) in
-    c.loop-row.invariant.leads (string_bytes c.loop-row.text) (replies_end c.args.court.now c.args.names.now c.args.cases.now.named c.args.moved.now _ c.loop-row.number c.args.rows.now c.loop-row.row-index (string_bytes c.loop-row.text) past)
+    c.loop-row.invariant.leads (string_bytes c.loop-row.text) (replies_end c.args.court.now c.args.labels.now _ c.args.rows.now c.loop-row.row-index (string_bytes c.loop-row.text) past)

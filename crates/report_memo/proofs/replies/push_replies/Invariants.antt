@@ -1,5 +1,6 @@
-use Rattle.std.proofs.Common.{◌≡◌, ◌+◌, ℕ, List, drop, take, string_bytes}
+use Rattle.std.proofs.Common.{ℕ, List, drop, take, string_bytes}
 use Rattle.docket_rows.specs.Words.{setup_of, opening_rows}
+use Rattle.row_forms.specs.Words.{rows_of}
 use Rattle.office_texts.specs.Run.Words.{Holds, docketed_after}
 use Rattle.report_memo.specs.Replies.{AreReplies}
 use Rattle.report_memo.specs.Texts.{Adds}
@@ -9,11 +10,10 @@ use Rattle.report_memo.proofs.replies.push_replies.Given as goal
 abbrev pub invariant-loop-row : goal.invariant-loop-row
 invariant-loop-row l =
     let setup = setup_of l.court in
-    let docketed = docketed_after setup (opening_rows setup) (take l.row-index l.rows) in
+    let docketed = docketed_after setup (opening_rows setup) (rows_of (take l.row-index l.rows)) in
     record {
-      number : l.number ≡ l.row-index + 1;
       holds : Holds setup l.docket docketed;
       leads : (new : List ℕ)
-          → Adds (AreReplies l.court l.names l.cases.named l.moved docketed l.number (drop l.row-index l.rows)) (string_bytes l.text) new
-          → Adds (AreReplies l.court l.names l.cases.named l.moved (opening_rows setup) 1 l.rows) (string_bytes l.fn.text) new;
+          → Adds (AreReplies l.court l.labels docketed (drop l.row-index l.rows)) (string_bytes l.text) new
+          → Adds (AreReplies l.court l.labels (opening_rows setup) l.rows) (string_bytes l.fn.text) new;
     }

@@ -1,17 +1,17 @@
-use Rattle.std.proofs.Common.{◌≡◌, ℕ, Option, string_bytes, subst}
+use Rattle.std.proofs.Common.{◌≡◌, ℕ, Option, ap, string_bytes, subst}
 use Rattle.std.specs.Prelude.{IfOk, MatchOption}
 use Rattle.program_streams.specs.Words.{IsFinding}
 use Rattle.report_memo.specs.Answer.{no_case}
+use Rattle.report_memo.specs.Labels.{LabelsView}
 use Rattle.report_memo.specs.Case.{IsCaseClosed, IsCaseMemo}
 use Rattle.report_memo.proofs.report.called_text.Goals as goal
 
 pub returns-in-Some : goal.returns-in-Some
 returns-in-Some c =
     let court = c.args.court.now in
-    let named = c.args.cases.now.named in
-    let moved = c.args.moved.now in
+    let labels = c.args.labels.now in
     let rows = c.args.rows.now in
     subst (λ (r : Option ℕ). IfOk c.case_text.result (IsFinding string_bytes
-    (λ text. MatchOption r ⊥ (λ case. IsCaseMemo court c.args.names.now named moved rows case c.args.today text))
-    (λ line. MatchOption r (line ≡ no_case c.args.called.now) (λ case. IsCaseClosed court named moved rows case line))))
-    c.in-Some.ensures c.case_text.ensures
+    (λ text. MatchOption r ⊥ (λ case. IsCaseMemo court labels rows case c.args.today text))
+    (λ line. MatchOption r (line ≡ no_case c.args.called.now) (λ case. IsCaseClosed court labels rows case line))))
+    (rw (ap (λ (l : LabelsView). l.cases) c.labels.view_is) at c.in-Some.ensures) c.case_text.ensures

@@ -2,6 +2,7 @@ use Rattle.std.proofs.Common.{◌≡◌, ◌+◌, ◌-◌, ◌∙◌, string_byt
 use Rattle.docket_rows.specs.declared.query.Query.TheVariants as query
 use Rattle.docket_rows.specs.Words.{setup_of, view_of}
 use Rattle.desk_numbers.specs.Words.{numbered_view}
+use Rattle.report_memo.specs.Labels.{LabelsView}
 use Rattle.report_memo.specs.Memo.{IsSheetOf}
 use Rattle.report_memo.specs.Texts.{Adds}
 use Rattle.report_memo.proofs.DocketLemmas.{days_held}
@@ -18,12 +19,13 @@ loop-case-preserved c =
       within = omega (arith, c.loop-case-test.true);
       leads = λ docketed new holds rest.
           let days = c.days.ensures ∙ days_held setup c.args.docket.now docketed holds in
-          let view = c.number_view-numbered.ensures ∙ ap (numbered_view c.args.moved.now) (c.in_ok-view.ensures.rows docketed holds.stands ∙ ap (λ b. view_of b docketed (query.Sheet case)) holds.setup_is) in
-          let shown : Adds (IsSheetOf court c.args.names.now c.args.cases.now.named c.args.moved.now docketed case) (string_bytes c.loop-case.text) _ = rw view at (rw days at c.in_ok-push_sheet_shown.ensures) in
-          c.loop-case.invariant.leads docketed new holds (adds_range (IsSheetOf court c.args.names.now c.args.cases.now.named c.args.moved.now docketed) case end (string_bytes c.loop-case.text) _ new (omega (arith, c.loop-case-test.true)) shown rest);
+          let moved : c.labels.inside.moved.now ≡ c.args.labels.now.moved = ap (λ (l : LabelsView). l.moved) c.labels.view_is in
+          let view = rw moved at c.number_view-numbered.ensures ∙ ap (numbered_view c.args.labels.now.moved) (c.in_ok-view.ensures.rows docketed holds.stands ∙ ap (λ b. view_of b docketed (query.Sheet case)) holds.setup_is) in
+          let shown : Adds (IsSheetOf court c.args.labels.now docketed case) (string_bytes c.loop-case.text) _ = rw view at (rw days at c.in_ok-push_sheet_shown.ensures) in
+          c.loop-case.invariant.leads docketed new holds (adds_range (IsSheetOf court c.args.labels.now docketed) case end (string_bytes c.loop-case.text) _ new (omega (arith, c.loop-case-test.true)) shown rest);
     }
 
 pub returns : goal.returns
 returns c docketed holds =
     let none : c.args.first + c.args.count - c.loop-case.case ≡ 0 = omega (arith, c.loop-case-test.false) in
-    c.loop-case.invariant.leads docketed (string_bytes c.loop-case.text) holds (rw none (adds_range_end (IsSheetOf c.args.court.now c.args.names.now c.args.cases.now.named c.args.moved.now docketed) c.loop-case.case (string_bytes c.loop-case.text)))
+    c.loop-case.invariant.leads docketed (string_bytes c.loop-case.text) holds (rw none (adds_range_end (IsSheetOf c.args.court.now c.args.labels.now docketed) c.loop-case.case (string_bytes c.loop-case.text)))

@@ -12,6 +12,6 @@ invariant-loop-case l = record {
   leads : (docketed : Rows)
       (new : List ℕ)
       → Holds (setup_of l.court) l.docket docketed
-      → Adds (AreSheets l.court l.names l.cases.named l.moved docketed l.case (l.fn.first + l.fn.count - l.case)) (string_bytes l.text) new
-      → Adds (AreSheets l.court l.names l.cases.named l.moved docketed l.fn.first l.fn.count) (string_bytes l.fn.text) new;
+      → Adds (AreSheets l.court l.labels docketed l.case (l.fn.first + l.fn.count - l.case)) (string_bytes l.text) new
+      → Adds (AreSheets l.court l.labels docketed l.fn.first l.fn.count) (string_bytes l.fn.text) new;
 }

@@ -6,5 +6,5 @@ pub returns : goal.returns
 returns c =
     let court = c.args.court.now in
     let rows = c.args.rows.now in
-    let made : c.docket_after.new.changes.items ≡ changes_by court rows = search rules in
-    rw made at (c.listing_of.ensures (docketed_by court rows) c.in_ok-docket.ensures.docket)
+    let made : c.docket_after.new.changes.items ≡ changes_by court c.args.past.now rows = search rules in
+    rw (made, c.corrections.ensures) at (c.listing_of.ensures (docketed_by court rows) c.in_ok-docket.ensures.docket)

@@ -12,9 +12,9 @@ invariant-loop-split l =
     let names = names_of l.court in
     let header = option_map fields_of l.reading.header in
     (l.number + length l.rest ≤ length l.input + 1)
-    × (l.reading.rows.items ++ rows_of l.clerks names l.order header (numbered_from l.number [] l.rest) ≡ rows_of l.clerks names l.order None (numbered_lines l.input))
-    × (l.reading.placed.items ++ placed_from l.clerks names l.order header [] l.rest ≡ placed_from l.clerks names l.order None [] l.input)
-    × (map faulty_in l.reading.faulty.items ++ faulty_of l.clerks names l.order header (numbered_from l.number [] l.rest) ≡ faulty_of l.clerks names l.order None (numbered_lines l.input))
+    × (l.reading.rows.items ++ rows_of l.clerks names l.order l.marked header (numbered_from l.number [] l.rest) ≡ rows_of l.clerks names l.order l.marked None (numbered_lines l.input))
+    × (l.reading.placed.items ++ placed_from l.clerks names l.order l.marked header [] l.rest ≡ placed_from l.clerks names l.order l.marked None [] l.input)
+    × (map faulty_in l.reading.faulty.items ++ faulty_of l.clerks names l.order l.marked header (numbered_from l.number [] l.rest) ≡ faulty_of l.clerks names l.order l.marked None (numbered_lines l.input))
 
 abbrev pub decreases-loop-split : goal.decreases-loop-split
 decreases-loop-split l = length l.rest

@@ -10,7 +10,7 @@ loop-place-init c = c.new-lacking.ensures.items
 
 pub loop-place-preserved : goal.loop-place-preserved
 loop-place-preserved c =
-    told_step (lacked c.args.days.now c.args.capital) c.args.days.now.from c.loop-place.place c.covered_day-day.result c.lacked.result c.loop-place.lacking.items _ c.covered_day-day.ensures c.loop-place.invariant c.lacked.ensures c.in_ok-push_lacked.ensures
+    told_step (lacked c.args.days.now c.args.capital) c.args.days.now.from c.loop-place.place c.covered_day-day.result c.lacked.result c.loop-place.lacking.items _ c.covered_day-day.ensures c.loop-place.invariant c.lacked.ensures c.in_ok-push_some.ensures
 
 pub returns : goal.returns
 unfolding lacking

@@ -2,9 +2,9 @@ use Rattle.std.proofs.Common.{refl}
 use Rattle.std.proofs.lemmas.Result.{on_ok_weaker}
 use Rattle.desk_journal.specs.Words.{IsKept}
 use Rattle.desk_session.specs.Words.{IsServed, lines_of}
-use Rattle.desk_entries.specs.Words.{IsReadyAt, answers, leaves}
+use Rattle.desk_entries.specs.Words.{IsReadyAt}
 use Rattle.program_streams.specs.Words.{watched}
-use Rattle.desk_program.specs.Desk.{standing_at}
+use Rattle.desk_program.specs.Desk.{answers_at, leaves_at, standing_at}
 use Rattle.desk_program.proofs.DeskLemmas.{promised_docket, served_docket, some_weaker}
 use Rattle.desk_program.proofs.desk.Desk.enter.Goals as goal
 
@@ -20,7 +20,7 @@ returns-clause-served g c = λ kept keeps.
     let after = g.W.Write.contents (watched c.serve.new.writer) in
     on_ok_weaker c.serve.result
     (λ served. some_weaker (g.R.Read.remaining (watched c.args.reader.now))
-    (λ input. IsServed (leaves under) (answers under) (λ entries. IsKept g.D.Disk.seen g.D.Disk.may_leave g.D.Disk.is_usable entries c.serve.new.journal) (IsReadyAt under c.serve.new.register) kept (lines_of input) before after) _
+    (λ input. IsServed (leaves_at c.args.self.now) (answers_at c.args.self.now) (λ entries. IsKept g.D.Disk.seen g.D.Disk.may_leave g.D.Disk.is_usable entries c.serve.new.journal) (IsReadyAt under c.serve.new.register.register) kept (lines_of input) before after) _
     (λ input all. served_docket g.D.Disk.seen g.D.Disk.may_leave g.D.Disk.is_usable c.args.self.now _ kept keeps refl (lines_of input) before after all) served)
     (c.serve.ensures.served kept keeps.kept keeps.docketed.stands)
 

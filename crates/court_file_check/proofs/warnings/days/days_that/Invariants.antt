@@ -1,8 +1,0 @@
-use Rattle.std.proofs.Common.{◌≡◌, filter_map}
-use Rattle.court_file_check.specs.Review.Words.{days_from}
-use Rattle.court_file_check.specs.Warnings.{if_passes}
-use Rattle.court_file_check.proofs.warnings.days.days_that.Given as goal
-
--- the list has those of the days so far that pass
-abbrev pub invariant-loop-place : goal.invariant-loop-place
-invariant-loop-place l = l.found.items ≡ filter_map (if_passes l.days l.test) (days_from l.days.from l.place)

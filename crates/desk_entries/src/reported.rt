@@ -1,0 +1,118 @@
+//! The rows that stand, as reports take them.
+ghost use Rattle.std.specs.Prelude.{◌≡◌, ◌<◌, ◌≤◌, ◌++◌, ◌∷◌, [], ℕ, List, length, IfOk, OnOk};
+ghost use Rattle.row_forms.specs.Words.{names_of};
+ghost use Rattle.row_forms.specs.Line.Words.{line_read};
+ghost use Rattle.case_numbers.specs.Words.{after_name};
+ghost use Rattle.desk_journal.specs.Words.{batch_of};
+ghost use Rattle.desk_entries.specs.Entries.{most_clerks, most_entries, note_in};
+ghost use Rattle.desk_entries.specs.Register.{StandsAt};
+ghost use Rattle.desk_entries.specs.Reported.{rows_standing, said_standing, standing_as};
+
+use crate::entry::is_row;
+use crate::register::{DocketRegister, MOST_CLERKS, RowTypes};
+use crate::review::{Difference, decide_entry};
+use crate::standing::Standing;
+use case_numbers::after_name;
+use csv::StringRecord;
+use desk_numbers::MovedNumbers;
+use row_forms::{Line, NumberedRow, Row, read_line};
+use std::alloc::{AllocError, Global};
+
+// Adds the row of a line that says this, with its number, where this is what isn't at the place of its number.
+pub(crate) fn push_said(
+    rows: &mut Vec<NumberedRow>,
+    moved: &MovedNumbers,
+    number: u32,
+    said: &Line,
+) -> Result<(), AllocError>
+    ensures { OnOk result (rows.new.items ≡ rows.old.items ++ said_standing moved.now number said.now) }
+{
+    let _types: RowTypes = None;
+    let Line::Row(row) = said else {
+        return Ok(());
+    };
+    let row = Row {
+        clerk: row.clerk,
+        work: moved.place(&row.work),
+    };
+    rows.push(NumberedRow {
+        number: u64::from(number),
+        row,
+    })?;
+    Ok(())
+}
+
+// Adds the row of that number, whose entry this is and which isn't struck.
+fn push_unstruck(
+    alloc: Global,
+    under: &Standing,
+    moved: &MovedNumbers,
+    number: u32,
+    entry: &[u8],
+    fields: &mut StringRecord,
+    rows: &mut Vec<NumberedRow>,
+) -> Result<(), AllocError>
+    ensures { OnOk result (rows.new.items ≡ rows.old.items ++ said_standing moved.now number (line_read most_clerks (names_of under.now.court) (after_name entry.now))) }
+{
+    let _types: RowTypes = None;
+    let said = read_line(alloc, after_name(entry), MOST_CLERKS, &under.court, fields)?;
+    push_said(rows, moved, number, &said)
+}
+
+// Adds the row that an entry is, if it is one that stands, before the register takes it.
+fn push_standing(
+    alloc: Global,
+    under: &Standing,
+    register: &DocketRegister,
+    entry: &[u8],
+    fields: &mut StringRecord,
+    rows: &mut Vec<NumberedRow>,
+) -> Result<(), AllocError>
+    ensures { (kept : List (List ℕ)) → StandsAt under.now register.now kept → OnOk result (rows.new.items ≡ rows.old.items ++ standing_as (note_in entry.now) under.now kept entry.now) }
+{
+    let number = register.next_number();
+    if !is_row(entry) || under.corrections.is_struck(number) {
+        return Ok(());
+    }
+    push_unstruck(
+        alloc,
+        under,
+        register.numbers().moved(),
+        number,
+        entry,
+        fields,
+        rows,
+    )
+}
+
+/// The rows of entries that stand, each with the number that it was answered with, counted from 1; a row that is struck is left
+/// out. What a row names by a number is named by its place among those that stand, so that what the rows docket one after another
+/// is the docket that stands. `Err` says that memory ran out.
+pub fn standing_rows(
+    alloc: Global,
+    under: &Standing,
+    entries: &[Vec<u8>],
+) -> Result<Vec<NumberedRow>, AllocError>
+    requires some { 0 < length entries.now }
+    requires few { length entries.now ≤ most_entries }
+    ensures { IfOk result (λ rows. rows.items ≡ rows_standing under.now (batch_of entries.now)) }
+{
+    let mut register = DocketRegister::new(alloc, under)?;
+    let mut fields = StringRecord::new(alloc);
+    let mut rows = Vec::new(alloc);
+    // What is answered otherwise than it was is no concern of a report.
+    let mut passed: Vec<Difference> = Vec::new(alloc);
+    for place in 1..entries.len() {
+        push_standing(
+            alloc,
+            under,
+            &register,
+            &entries[place],
+            &mut fields,
+            &mut rows,
+        )?;
+        decide_entry(alloc, under, &mut register, &entries[place], &mut passed)?;
+        passed.clear();
+    }
+    Ok(rows)
+}

@@ -1,0 +1,57 @@
+//! What the program does.
+ghost use Rattle.std.specs.Prelude.{◌≡◌, false};
+ghost use Rattle.program_streams.specs.Words.{has_failed};
+
+use crate::alone::{change, check, init, rows, strike};
+use crate::beside::{ask, cases, plain, struck, try_rows};
+use crate::court::{check_file, write_file};
+use crate::enter::enter;
+use crate::fault::Fault;
+use crate::reports::{memo, report};
+use program_streams::Watched;
+use program_words::Task;
+use std::io::Write;
+use std::sync::Wait;
+use std::thread::Threads;
+
+/// Does what is asked for, and gives the status.
+pub fn done<H: Threads + Wait + Sync, W: Write, E: Write>(
+    rt: &HostRuntime,
+    threads: &H,
+    writer: &mut Watched<W>,
+    errors: &mut Watched<E>,
+    task: &Task,
+) -> Result<u8, Fault>
+    requires { has_failed writer.old ≡ false }
+{
+    match task {
+        Task::Init(folder, court) => init(rt, folder.as_str(), court.as_str())?,
+        Task::Enter(folder, lines, warnings, keeping) => enter(
+            rt,
+            writer,
+            errors,
+            folder.as_str(),
+            *lines,
+            *warnings,
+            *keeping,
+        )?,
+        Task::Try(folder, lines, warnings) => {
+            try_rows(rt, writer, errors, folder.as_str(), *lines, *warnings)?
+        }
+        Task::Ask(folder, lines) => ask(rt, writer, errors, folder.as_str(), *lines)?,
+        Task::Plain(folder, style) => plain(rt, writer, errors, folder.as_str(), *style)?,
+        Task::Strike(folder, striking) => strike(rt, writer, folder.as_str(), striking)?,
+        Task::Struck(folder) => struck(rt, writer, folder.as_str())?,
+        Task::Cases(folder) => cases(rt, writer, folder.as_str())?,
+        Task::Check(folder) => check(rt, writer, folder.as_str())?,
+        Task::Rows(folder) => rows(rt, writer, folder.as_str())?,
+        Task::Report(source, asked) => report(rt, threads, writer, source, asked)?,
+        Task::Memo(source, asked) => memo(rt, threads, writer, source, asked)?,
+        Task::CourtCheck(file, asked) => return check_file(rt, writer, file.as_str(), asked),
+        Task::CourtWrite(court, from, to) => write_file(rt, writer, *court, *from, *to)?,
+        Task::CourtChange(folder, file, accept) => {
+            change(rt, writer, folder.as_str(), file.as_str(), *accept)?
+        }
+    }
+    Ok(0)
+}

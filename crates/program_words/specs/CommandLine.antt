@@ -1,0 +1,88 @@
+-- What the command line may have, as `clap` reads it.
+use Rattle.std.specs.Prelude.{Some, true, [], codes}
+use Rattle.clap.specs.Words.{App, Rule, Text, new_app, new_rule, with_rule, with_subcommand}
+use Rattle.clap.specs.Simple.{new_shape}
+use Rattle.clap.specs.declared.builder.action.ArgAction.TheVariants.{Set, SetTrue}
+use Rattle.program_main.specs.Texts.Words.{text_rule}
+use Rattle.report_program.specs.CommandLine.{with_reports}
+use Rattle.report_memo.specs.CommandLine.{with_memo}
+
+-- `--NAME`, once at most
+abbrev pub flag_rule : (name : Text) → Rule
+flag_rule name = record (new_rule name) { long = Some name; action = Some SetTrue }
+
+-- `--NAME TEXT`, once, as it has to be given
+abbrev pub needed_rule : (name : Text) → Rule
+needed_rule name = record (text_rule name) { required = true }
+
+-- a text that is known by its place, once, as it has to be given
+abbrev pub place_rule : (name : Text) → Rule
+place_rule name = record (new_rule name) { action = Some Set; value_names = 1; required = true }
+
+-- ---- the subcommands of a folder
+
+-- one that takes a folder
+abbrev pub folder_line : (name : Text) → App
+folder_line name = with_rule (new_app name) (place_rule (codes "folder"))
+
+-- how lines are written that people write
+abbrev pub with_style : App → App
+with_style line = with_rule (with_rule line (text_rule (codes "dates"))) (flag_rule (codes "json"))
+
+-- one that takes a folder and lines
+abbrev pub lines_line : (name : Text) → App
+lines_line name = with_style (with_rule (folder_line name) (flag_rule (codes "as-written")))
+
+-- one that takes a folder and rows, which may be held back
+abbrev pub rows_line : (name : Text) → App
+rows_line name = with_rule (with_rule (lines_line name) (flag_rule (codes "warn"))) (text_rule (codes "today"))
+
+abbrev pub init_line : App
+init_line = with_rule (folder_line (codes "init")) (needed_rule (codes "court"))
+
+abbrev pub enter_line : App
+enter_line = with_rule (with_rule (rows_line (codes "enter")) (flag_rule (codes "all-or-nothing"))) (flag_rule (codes "keep-refused"))
+
+abbrev pub plain_line : App
+plain_line = with_style (folder_line (codes "plain"))
+
+abbrev pub strike_line : App
+strike_line =
+    with_rule (with_rule (with_rule (with_rule (with_rule (folder_line (codes "strike")) (place_rule (codes "row"))) (needed_rule (codes "reason"))) (needed_rule (codes "by"))) (needed_rule (codes "today")))
+    (flag_rule (codes "accept"))
+
+-- ---- the subcommands of a court's file, which come after the word `court`
+
+abbrev pub check_line : App
+check_line = with_rule (with_rule (with_rule (new_app (codes "check")) (place_rule (codes "file"))) (text_rule (codes "today"))) (flag_rule (codes "capital"))
+
+abbrev pub write_line : App
+write_line = with_rule (with_rule (with_rule (new_app (codes "write")) (needed_rule (codes "court"))) (needed_rule (codes "from"))) (needed_rule (codes "to"))
+
+abbrev pub change_line : App
+change_line = with_rule (with_rule (folder_line (codes "change")) (place_rule (codes "file"))) (flag_rule (codes "accept"))
+
+-- ---- the whole
+
+-- a program of that name, which the words leave out, and which takes one of its subcommands
+abbrev pub bare_line : (name : Text) → App
+bare_line name = record { top = record (new_shape name) { no_binary_name = true; has_version = true; subcommand_required = true }; subs = [] }
+
+-- the subcommands by which a folder is made, and by which rows are read
+abbrev pub with_rows : App → App
+with_rows line =
+    with_subcommand (with_subcommand (with_subcommand (with_subcommand (with_subcommand line init_line.top) enter_line.top) (rows_line (codes "try")).top) (lines_line (codes "ask")).top) plain_line.top
+
+-- those of what a folder keeps
+abbrev pub with_kept : App → App
+with_kept line =
+    with_subcommand (with_subcommand (with_subcommand (with_subcommand (with_subcommand line strike_line.top) (folder_line (codes "struck")).top) (folder_line (codes "cases")).top)
+    (folder_line (codes "check")).top) (folder_line (codes "rows")).top
+
+-- the command line of `docket`: its subcommands, of which `court` has a command line of its own
+abbrev pub command_line : App
+command_line = with_subcommand (with_memo (with_reports (with_kept (with_rows (bare_line (codes "docket")))))) (new_app (codes "court")).top
+
+-- the words after `court`
+abbrev pub court_line : App
+court_line = with_subcommand (with_subcommand (with_subcommand (bare_line (codes "docket court")) check_line.top) write_line.top) change_line.top

@@ -1,0 +1,5 @@
+pub mod Asked
+pub mod CommandLine
+pub mod Given
+pub mod Task
+pub mod Words

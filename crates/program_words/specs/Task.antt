@@ -1,0 +1,161 @@
+-- What a subcommand asks for with what it was given, and the faults of what it was given.
+use Rattle.std.specs.Prelude.{◌≡◌, ℤ, ◌&&◌, Bool, true, false, not, List, [], ◌∷◌, Option, None, Some, String, codes, is_some, string_bytes, if◌then◌else◌}
+use Rattle.std.specs.Option.{option_and_then}
+use Rattle.std.specs.Str.{bytes_eq}
+use Rattle.std.specs.declared.alloc.Global.{Global}
+use Rattle.clap.specs.Kinds.{or_else}
+use Rattle.clap.specs.Words.{Kinds, Row, Text, first_of}
+use Rattle.clap.specs.declared.error.kind.ErrorKind.TheVariants.{ArgumentConflict, MissingRequiredArgument}
+use Rattle.court_clock.specs.Words.{day_of_text}
+use Rattle.court_writing.specs.Words.{district_named, of_district, zone_text}
+use Rattle.program_main.specs.Texts.Words.{faults_unless, is_day_taken}
+use Rattle.report_program.specs.Words.{IsAskedBy as IsReportAsked, faults_given as report_faults}
+use Rattle.report_memo.specs.Words.{IsAskedBy as IsMemoAsked, faults_given as memo_faults}
+use Rattle.program_words.specs.declared.subcommand.Subcommand.{Subcommand}
+use Rattle.program_words.specs.declared.subcommand.Subcommand.TheVariants as sub
+use Rattle.program_words.specs.declared.task.Keeping.{Keeping}
+use Rattle.program_words.specs.declared.task.Keeping.TheVariants.{Each, Together}
+use Rattle.program_words.specs.declared.task.Lines.{Lines}
+use Rattle.program_words.specs.declared.task.Lines.TheVariants as lines
+use Rattle.program_words.specs.declared.task.Source.{Source}
+use Rattle.program_words.specs.declared.task.Source.TheVariants as source
+use Rattle.program_words.specs.declared.task.Style.{Style}
+use Rattle.program_words.specs.declared.task.Task.{Task}
+use Rattle.program_words.specs.declared.task.Task.TheVariants as task
+use Rattle.program_words.specs.declared.task.Warnings.{Warnings}
+use Rattle.program_words.specs.Given.{faults_beside, faults_if_given, faults_reading, faults_without, is_flag, line_of, number_of, order_of, year_of}
+
+-- ---- which subcommand a name means
+
+abbrev pub meant : (name : Text) → Subcommand
+meant name =
+    if bytes_eq name (codes "init") then sub.Init
+    else if bytes_eq name (codes "enter") then sub.Enter
+    else if bytes_eq name (codes "try") then sub.Try
+    else if bytes_eq name (codes "ask") then sub.Ask
+    else if bytes_eq name (codes "plain") then sub.Plain
+    else if bytes_eq name (codes "strike") then sub.Strike
+    else if bytes_eq name (codes "struck") then sub.Struck
+    else if bytes_eq name (codes "cases") then sub.Cases
+    else if bytes_eq name (codes "check") then sub.Check
+    else if bytes_eq name (codes "rows") then sub.Rows
+    else if bytes_eq name (codes "memo") then sub.Memo
+    else if bytes_eq name (codes "court") then sub.Court
+    else sub.Report
+
+-- after the word `court`
+abbrev pub court_meant : (name : Text) → Subcommand
+court_meant name =
+    if bytes_eq name (codes "check") then sub.CourtCheck
+    else if bytes_eq name (codes "write") then sub.CourtWrite
+    else sub.CourtChange
+
+-- ---- what was given
+
+-- the text of that name, and whether the flag of that name was given
+abbrev pub IsText : (name : Text) → List Row → String Global → Type 0
+IsText name given text = first_of name given ≡ Some (string_bytes text)
+
+abbrev pub has : (name : Text) → List Row → Bool
+has name given = is_flag (first_of name given)
+
+-- how lines are written that people write
+abbrev pub style_of : List Row → Style
+style_of given = record { order = option_and_then order_of (first_of (codes "dates") given); json = has (codes "json") given }
+
+abbrev pub style_faults : List Row → Kinds
+style_faults given = faults_if_given order_of (first_of (codes "dates") given)
+
+-- how lines are read
+abbrev pub lines_of : List Row → Lines
+lines_of given = if has (codes "as-written") given then lines.AsWritten (style_of given) else lines.Plain
+
+-- `--dates` and `--json` count beside `--as-written` alone
+abbrev pub beside_faults : List Row → Kinds
+beside_faults given =
+    or_else (faults_beside (is_some (first_of (codes "dates") given)) (has (codes "as-written") given)) (faults_beside (has (codes "json") given) (has (codes "as-written") given))
+
+abbrev pub lines_faults : List Row → Kinds
+lines_faults given = or_else (beside_faults given) (style_faults given)
+
+-- whether rows are held back that draw a warning, and which day counts as today
+abbrev pub warnings_of : List Row → Option Warnings
+warnings_of given = if has (codes "warn") given then Some (record { today = option_and_then day_of_text (first_of (codes "today") given) }) else None
+
+-- `--today` counts beside `--warn` alone
+abbrev pub warnings_faults : List Row → Kinds
+warnings_faults given =
+    or_else (faults_beside (is_some (first_of (codes "today") given)) (has (codes "warn") given)) (faults_unless (is_day_taken (first_of (codes "today") given)))
+
+-- which rows are kept
+abbrev pub keeping_of : List Row → Keeping
+keeping_of given = if has (codes "all-or-nothing") given then Together (has (codes "keep-refused") given) else Each
+
+-- `--keep-refused` counts beside `--all-or-nothing` alone
+abbrev pub keeping_faults : List Row → Kinds
+keeping_faults given = faults_beside (has (codes "keep-refused") given) (has (codes "all-or-nothing") given)
+
+-- of what a report is: a folder, or an input, which `-` says is standard input
+abbrev pub IsSource : List Row → Source → Type 0
+IsSource given (source.Folder folder) = (first_of (codes "folder") given ≡ Some (string_bytes folder)) × (first_of (codes "input") given ≡ None)
+IsSource given (source.File file) = (first_of (codes "input") given ≡ Some (string_bytes file)) × (bytes_eq (string_bytes file) (codes "-") ≡ false) × (first_of (codes "folder") given ≡ None)
+IsSource given source.StandardInput = (first_of (codes "input") given ≡ Some (codes "-")) × (first_of (codes "folder") given ≡ None)
+
+-- it is one of the two, and not both
+abbrev pub source_faults : (folder input : Option Text) → Kinds
+source_faults (Some folder) (Some input) = ArgumentConflict ∷ []
+source_faults (Some folder) None = []
+source_faults None (Some input) = []
+source_faults None None = MissingRequiredArgument ∷ []
+
+-- ---- the subcommands
+
+-- the subcommand asks for that, by the clock's time
+abbrev pub IsTask : (clock_time : ℤ) → Subcommand → (name : Text) → List Row → Task → Type 0
+IsTask clock_time sub.Init name given (task.Init folder court) = IsText (codes "folder") given folder × IsText (codes "court") given court
+IsTask clock_time sub.Enter name given (task.Enter folder lines warnings keeping) =
+    IsText (codes "folder") given folder × (lines ≡ lines_of given) × (warnings ≡ warnings_of given) × (keeping ≡ keeping_of given)
+IsTask clock_time sub.Try name given (task.Try folder lines warnings) = IsText (codes "folder") given folder × (lines ≡ lines_of given) × (warnings ≡ warnings_of given)
+IsTask clock_time sub.Ask name given (task.Ask folder lines) = IsText (codes "folder") given folder × (lines ≡ lines_of given)
+IsTask clock_time sub.Plain name given (task.Plain folder style) = IsText (codes "folder") given folder × (style ≡ style_of given)
+IsTask clock_time sub.Strike name given (task.Strike folder striking) =
+    IsText (codes "folder") given folder × (option_and_then number_of (first_of (codes "row") given) ≡ Some striking.row)
+    × (option_and_then line_of (first_of (codes "reason") given) ≡ Some (string_bytes striking.reason)) × (option_and_then line_of (first_of (codes "by") given) ≡ Some (string_bytes striking.by))
+    × (option_and_then day_of_text (first_of (codes "today") given) ≡ Some striking.today) × (striking.accept ≡ has (codes "accept") given)
+IsTask clock_time sub.Struck name given (task.Struck folder) = IsText (codes "folder") given folder
+IsTask clock_time sub.Cases name given (task.Cases folder) = IsText (codes "folder") given folder
+IsTask clock_time sub.Check name given (task.Check folder) = IsText (codes "folder") given folder
+IsTask clock_time sub.Rows name given (task.Rows folder) = IsText (codes "folder") given folder
+IsTask clock_time sub.Report name given (task.Report of asked) = IsSource given of × IsReportAsked name given asked × (asked.clock_time ≡ clock_time)
+IsTask clock_time sub.Memo name given (task.Memo of asked) = IsSource given of × IsMemoAsked given asked
+IsTask clock_time sub.CourtCheck name given (task.CourtCheck file asked) =
+    IsText (codes "file") given file × (asked.today ≡ option_and_then day_of_text (first_of (codes "today") given)) × (asked.capital ≡ has (codes "capital") given)
+IsTask clock_time sub.CourtWrite name given (task.CourtWrite court from to) =
+    (option_and_then district_named (first_of (codes "court") given) ≡ Some (of_district court.code.now court.state (zone_text court.zone)))
+    × (option_and_then year_of (first_of (codes "from") given) ≡ Some from) × (option_and_then year_of (first_of (codes "to") given) ≡ Some to)
+IsTask clock_time sub.CourtChange name given (task.CourtChange folder file accept) =
+    IsText (codes "folder") given folder × IsText (codes "file") given file × (accept ≡ has (codes "accept") given)
+IsTask clock_time subcommand name given other = ⊥
+
+-- the faults of what it was given, of which the first counts
+abbrev pub faults_given : Subcommand → List Row → Kinds
+faults_given sub.Init given = or_else (faults_without (first_of (codes "folder") given)) (faults_without (first_of (codes "court") given))
+faults_given sub.Enter given =
+    or_else (faults_without (first_of (codes "folder") given)) (or_else (lines_faults given) (or_else (warnings_faults given) (keeping_faults given)))
+faults_given sub.Try given = or_else (faults_without (first_of (codes "folder") given)) (or_else (lines_faults given) (warnings_faults given))
+faults_given sub.Ask given = or_else (faults_without (first_of (codes "folder") given)) (lines_faults given)
+faults_given sub.Plain given = or_else (faults_without (first_of (codes "folder") given)) (style_faults given)
+faults_given sub.Strike given =
+    or_else (or_else (faults_without (first_of (codes "folder") given)) (faults_reading number_of (first_of (codes "row") given)))
+    (or_else (or_else (faults_reading line_of (first_of (codes "reason") given)) (faults_reading line_of (first_of (codes "by") given))) (faults_reading day_of_text (first_of (codes "today") given)))
+faults_given sub.Struck given = faults_without (first_of (codes "folder") given)
+faults_given sub.Cases given = faults_without (first_of (codes "folder") given)
+faults_given sub.Check given = faults_without (first_of (codes "folder") given)
+faults_given sub.Rows given = faults_without (first_of (codes "folder") given)
+faults_given sub.Report given = or_else (source_faults (first_of (codes "folder") given) (first_of (codes "input") given)) (report_faults given)
+faults_given sub.Memo given = or_else (source_faults (first_of (codes "folder") given) (first_of (codes "input") given)) (memo_faults given)
+faults_given sub.Court given = MissingRequiredArgument ∷ []
+faults_given sub.CourtCheck given = or_else (faults_without (first_of (codes "file") given)) (faults_unless (is_day_taken (first_of (codes "today") given)))
+faults_given sub.CourtWrite given =
+    or_else (faults_reading district_named (first_of (codes "court") given)) (or_else (faults_reading year_of (first_of (codes "from") given)) (faults_reading year_of (first_of (codes "to") given)))
+faults_given sub.CourtChange given = or_else (faults_without (first_of (codes "folder") given)) (faults_without (first_of (codes "file") given))

@@ -1,0 +1,2 @@
+-- The words of clauses and definitions, for the crates above, from one place.
+pub use Rattle.program_words.specs.Asked.{IsAskedTask, are_taken, faults_of}

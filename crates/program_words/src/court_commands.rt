@@ -1,0 +1,108 @@
+//! The subcommands of a court's file, each with its help.
+
+ghost use Rattle.std.specs.Prelude.{◌≡◌, codes, IfOk};
+ghost use Rattle.clap.specs.Words.{app_of, new_app};
+ghost use Rattle.program_words.specs.CommandLine.{change_line, check_line, court_line, write_line};
+
+use crate::command::{bare, with_subcommand};
+use crate::folder_commands::of_folder;
+use crate::options::{with_flag, with_needed, with_place};
+use clap::Command;
+use program_main::with_text;
+use std::alloc::{AllocError, Global};
+
+const COURT: &str = "Check a court's file, write one, or give a folder another";
+
+const COURT_MORE: &str = "Examples:
+  docket court write --court new_york_southern --from 2025 --to 2027
+  docket court check district.toml --today 2025-09-01
+  docket court change cases district.toml
+
+'docket court check --help' says more of the first, and so of each.";
+
+const CHECK: &str = "Say every fault of a court's file, and what may be wrong with it";
+
+const CHECK_MORE: &str =
+    "Each fault comes with its line and column, and with what to write in its place.
+If there is none it says what may be wrong: federal holidays that the list lacks,
+dates that are none, a span that ends too early, and more.
+
+The status is 0 if it finds nothing, 2 if the file has faults, and 9 if it has
+none but something may be wrong.
+
+Example:
+  docket court check district.toml --today 2025-09-01";
+
+const FILE: &str = "The court's file";
+
+const TODAY: &str =
+    "From which day the file is used, as 2025-09-01: warns if it ends within a year";
+
+const CAPITAL: &str = "The court is in the capital's region, which has Inauguration Day";
+
+const WRITE: &str = "Write a court's file, with its holidays";
+
+const COURT_NAME: &str = "The court, by its name below";
+
+const CHANGE: &str = "Give a folder another court's file, if no answer changes by it";
+
+const CHANGE_MORE: &str =
+    "It writes the answers that would change by the other file. The file is taken if
+there are none, or with --accept.
+
+Example:
+  docket court change cases district.toml";
+
+const OTHER_FILE: &str = "The other court's file";
+
+const ACCEPT: &str = "Take it though answers change";
+
+/// The subcommand `court` of the whole command line, which says what may come after it.
+pub(crate) fn court<'a>(alloc: Global) -> Command<'a>
+    ensures { app_of result ≡ new_app (codes "court") }
+{
+    Command::new(alloc, "court")
+        .about(COURT)
+        .after_help(COURT_MORE)
+}
+
+/// The subcommand by which a court's file is checked.
+fn check<'a>(alloc: Global) -> Result<Command<'a>, AllocError>
+    ensures { IfOk result (λ command. app_of command ≡ check_line) }
+{
+    let command = Command::new(alloc, "check")
+        .about(CHECK)
+        .after_help(CHECK_MORE);
+    let command = with_place(alloc, command, "file", "FILE", FILE)?;
+    let command = with_text(alloc, command, "today", "DAY", TODAY)?;
+    with_flag(alloc, command, "capital", CAPITAL)
+}
+
+/// The subcommand by which a court's file is written. Its help ends with the names of the courts.
+fn write<'a>(alloc: Global, names: &'a str) -> Result<Command<'a>, AllocError>
+    ensures { IfOk result (λ command. app_of command ≡ write_line) }
+{
+    let command = Command::new(alloc, "write").about(WRITE).after_help(names);
+    let command = with_needed(alloc, command, "court", "NAME", COURT_NAME)?;
+    let command = with_needed(alloc, command, "from", "YEAR", "The first year")?;
+    with_needed(alloc, command, "to", "YEAR", "The last year")
+}
+
+/// The subcommand by which a folder gets another court's file.
+fn change<'a>(alloc: Global) -> Result<Command<'a>, AllocError>
+    ensures { IfOk result (λ command. app_of command ≡ change_line) }
+{
+    let command = of_folder(alloc, "change", CHANGE, CHANGE_MORE)?;
+    let command = with_place(alloc, command, "file", "FILE", OTHER_FILE)?;
+    with_flag(alloc, command, "accept", ACCEPT)
+}
+
+/// The command line after the word `court`. These are the names of the courts, a line each.
+pub(crate) fn court_command<'a>(alloc: Global, names: &'a str) -> Result<Command<'a>, AllocError>
+    ensures { IfOk result (λ command. app_of command ≡ court_line) }
+{
+    let bare = bare(alloc, "docket court", COURT, COURT_MORE)?;
+    let check = with_subcommand(bare, check(alloc))?;
+    let write = with_subcommand(check, write(alloc, names))?;
+    with_subcommand(write, change(alloc))
+}

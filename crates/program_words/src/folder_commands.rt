@@ -1,0 +1,266 @@
+//! The subcommands of a folder, each with its help.
+
+ghost use Rattle.std.specs.Prelude.{◌≡◌, codes, IfOk};
+ghost use Rattle.clap.specs.Words.{app_of};
+ghost use Rattle.program_words.specs.CommandLine.{enter_line, folder_line, init_line, lines_line, plain_line, rows_line, strike_line, with_style};
+
+use crate::options::{with_flag, with_needed, with_place};
+use clap::Command;
+use program_main::with_text;
+use std::alloc::{AllocError, Global};
+
+// What is said of arguments that several subcommands have.
+const FOLDER: &str = "The folder";
+
+const AS_WRITTEN: &str = "Take lines as people and spreadsheets write them";
+
+const DATES: &str = "With --as-written: month-first or day-first, for 9/2/2025";
+
+const JSON: &str = "With --as-written: write faults of lines as JSON";
+
+const WARN: &str = "Keep no row that draws a warning";
+
+const WARN_DAY: &str = "With --warn: the day that counts as today, as 2025-09-15";
+
+const COURT: &str = "The court's file";
+
+const TOGETHER: &str = "Keep all rows, or none if one is wrong or refused";
+
+const KEEP_REFUSED: &str = "With --all-or-nothing: keep them also if commands are refused";
+
+const INIT: &str = "Make a folder, with the court's file";
+
+const INIT_MORE: &str = "The court's file is read first, and one with a fault makes no folder.
+'docket court write' writes one, and 'docket court check' says more of it.
+
+Example:
+  docket init cases --court district.toml";
+
+const ENTER: &str = "Keep rows, and answer each";
+
+const ENTER_MORE: &str =
+    "Rows are lines of standard input. A row is kept in the folder's journal, through
+any crash, before it is answered. A line with a fault is answered with what is
+wrong, and isn't kept.
+
+With --as-written all lines are read first, and if one has a fault none is kept.
+With --warn a row that draws a warning, such as an event before its case was
+filed, is answered with it and isn't kept, unless '!' stands before it.
+With --all-or-nothing the rows are kept only if no line has a fault, no row is
+held back and no command would be refused; with --keep-refused also if commands
+would be.
+
+Example:
+  docket enter cases --as-written --all-or-nothing < list.csv";
+
+const TRY: &str = "Answer rows as 'enter' would, and keep none";
+
+const TRY_MORE: &str = "Rows are lines of standard input. Another program may enter rows meanwhile.
+
+Example:
+  docket try cases --warn < rows.csv";
+
+const ASK: &str = "Answer questions";
+
+const ASK_MORE: &str =
+    "Questions are lines of standard input. Another program may enter rows meanwhile.
+
+Example:
+  echo '1,sheet,7' | docket ask cases";
+
+const PLAIN: &str = "Write the plain rows that lines are as people write them";
+
+const PLAIN_MORE: &str =
+    "Lines come from standard input. Nothing is kept. If a line has a fault, no row is
+written, and all faults go to standard error.
+
+Example:
+  docket plain cases --dates day-first < list.csv > rows.csv";
+
+const PLAIN_DATES: &str = "month-first or day-first, for 9/2/2025";
+
+const PLAIN_JSON: &str = "Write faults of lines as JSON";
+
+const STRIKE: &str = "Strike a row, if no other answer changes by it";
+
+const STRIKE_MORE: &str =
+    "It writes the answers that would change without the row. The row is struck if
+there are none, or with --accept. It stays in the journal, with why, by whom and
+when it was struck.
+
+Example:
+  docket strike cases 17 --reason 'entered twice' --by Ortiz --today 2025-09-15";
+
+const ROW: &str = "The row's number, with which its answer begins";
+
+const REASON: &str = "Why it is struck, in one line";
+
+const BY: &str = "Who strikes it, in one line";
+
+const STRIKE_DAY: &str = "The day on which it is struck, as 2025-09-15";
+
+const STRIKE_ACCEPT: &str = "Strike it though answers change";
+
+const STRUCK: &str = "List the rows that are struck";
+
+const STRUCK_MORE: &str = "Another program may enter rows meanwhile.
+
+Example:
+  docket struck cases";
+
+const CASES: &str = "List the cases that were opened by a case number";
+
+const CASES_MORE: &str = "A line has the number that the folder gives the case, and the court's, as
+1:25-cv-01234. Another program may enter rows meanwhile.
+
+Example:
+  docket cases cases";
+
+const CHECK: &str = "Decide all rows again, and say how many there are";
+
+const CHECK_MORE: &str =
+    "It says which entry of the journal is damaged, and which row would be answered
+otherwise than it was.
+
+Example:
+  docket check cases";
+
+const ROWS: &str = "Write the court's file and all rows, as clerk_office reads them";
+
+const ROWS_MORE: &str = "Rows that are struck are left out.
+
+Example:
+  docket rows cases > day.txt";
+
+/// A subcommand of that name, which takes a folder.
+pub(crate) fn of_folder<'a>(
+    alloc: Global,
+    name: &'a str,
+    about: &'a str,
+    more: &'a str,
+) -> Result<Command<'a>, AllocError>
+    ensures { IfOk result (λ command. app_of command ≡ folder_line name.now) }
+{
+    let command = Command::new(alloc, name).about(about).after_help(more);
+    with_place(alloc, command, "folder", "FOLDER", FOLDER)
+}
+
+/// The command, which also takes how lines are written that people write.
+fn with_style<'a>(
+    alloc: Global,
+    command: Command<'a>,
+    dates: &'a str,
+    json: &'a str,
+) -> Result<Command<'a>, AllocError>
+    ensures { IfOk result (λ whole. app_of whole ≡ with_style (app_of command.entry)) }
+{
+    let command = with_text(alloc, command, "dates", "ORDER", dates)?;
+    with_flag(alloc, command, "json", json)
+}
+
+/// A subcommand of that name, which takes a folder, and how its lines are read.
+fn of_lines<'a>(
+    alloc: Global,
+    name: &'a str,
+    about: &'a str,
+    more: &'a str,
+) -> Result<Command<'a>, AllocError>
+    ensures { IfOk result (λ command. app_of command ≡ lines_line name.now) }
+{
+    let command = of_folder(alloc, name, about, more)?;
+    let command = with_flag(alloc, command, "as-written", AS_WRITTEN)?;
+    with_style(alloc, command, DATES, JSON)
+}
+
+/// A subcommand of that name, which takes a folder, how its lines are read, and whether rows are held back.
+fn of_rows<'a>(
+    alloc: Global,
+    name: &'a str,
+    about: &'a str,
+    more: &'a str,
+) -> Result<Command<'a>, AllocError>
+    ensures { IfOk result (λ command. app_of command ≡ rows_line name.now) }
+{
+    let command = of_lines(alloc, name, about, more)?;
+    let command = with_flag(alloc, command, "warn", WARN)?;
+    with_text(alloc, command, "today", "DAY", WARN_DAY)
+}
+
+/// The subcommand by which a folder is made.
+pub(crate) fn init<'a>(alloc: Global) -> Result<Command<'a>, AllocError>
+    ensures { IfOk result (λ command. app_of command ≡ init_line) }
+{
+    let command = of_folder(alloc, "init", INIT, INIT_MORE)?;
+    with_needed(alloc, command, "court", "FILE", COURT)
+}
+
+/// The subcommand by which rows are kept, which also takes which of them are.
+pub(crate) fn enter<'a>(alloc: Global) -> Result<Command<'a>, AllocError>
+    ensures { IfOk result (λ command. app_of command ≡ enter_line) }
+{
+    let command = of_rows(alloc, "enter", ENTER, ENTER_MORE)?;
+    let command = with_flag(alloc, command, "all-or-nothing", TOGETHER)?;
+    with_flag(alloc, command, "keep-refused", KEEP_REFUSED)
+}
+
+/// The subcommand by which rows are answered and not kept.
+pub(crate) fn trial<'a>(alloc: Global) -> Result<Command<'a>, AllocError>
+    ensures { IfOk result (λ command. app_of command ≡ rows_line (codes "try")) }
+{
+    of_rows(alloc, "try", TRY, TRY_MORE)
+}
+
+/// The subcommand by which questions are answered.
+pub(crate) fn ask<'a>(alloc: Global) -> Result<Command<'a>, AllocError>
+    ensures { IfOk result (λ command. app_of command ≡ lines_line (codes "ask")) }
+{
+    of_lines(alloc, "ask", ASK, ASK_MORE)
+}
+
+/// The subcommand by which lines are written as plain rows.
+pub(crate) fn plain<'a>(alloc: Global) -> Result<Command<'a>, AllocError>
+    ensures { IfOk result (λ command. app_of command ≡ plain_line) }
+{
+    let command = of_folder(alloc, "plain", PLAIN, PLAIN_MORE)?;
+    with_style(alloc, command, PLAIN_DATES, PLAIN_JSON)
+}
+
+/// The subcommand by which a row is struck.
+pub(crate) fn strike<'a>(alloc: Global) -> Result<Command<'a>, AllocError>
+    ensures { IfOk result (λ command. app_of command ≡ strike_line) }
+{
+    let command = of_folder(alloc, "strike", STRIKE, STRIKE_MORE)?;
+    let command = with_place(alloc, command, "row", "ROW", ROW)?;
+    let command = with_needed(alloc, command, "reason", "TEXT", REASON)?;
+    let command = with_needed(alloc, command, "by", "NAME", BY)?;
+    let command = with_needed(alloc, command, "today", "DAY", STRIKE_DAY)?;
+    with_flag(alloc, command, "accept", STRIKE_ACCEPT)
+}
+
+/// The subcommand by which struck rows are listed.
+pub(crate) fn struck<'a>(alloc: Global) -> Result<Command<'a>, AllocError>
+    ensures { IfOk result (λ command. app_of command ≡ folder_line (codes "struck")) }
+{
+    of_folder(alloc, "struck", STRUCK, STRUCK_MORE)
+}
+
+/// The subcommand by which cases are listed.
+pub(crate) fn cases<'a>(alloc: Global) -> Result<Command<'a>, AllocError>
+    ensures { IfOk result (λ command. app_of command ≡ folder_line (codes "cases")) }
+{
+    of_folder(alloc, "cases", CASES, CASES_MORE)
+}
+
+/// The subcommand by which all rows are decided again.
+pub(crate) fn check<'a>(alloc: Global) -> Result<Command<'a>, AllocError>
+    ensures { IfOk result (λ command. app_of command ≡ folder_line (codes "check")) }
+{
+    of_folder(alloc, "check", CHECK, CHECK_MORE)
+}
+
+/// The subcommand by which rows are written.
+pub(crate) fn rows<'a>(alloc: Global) -> Result<Command<'a>, AllocError>
+    ensures { IfOk result (λ command. app_of command ≡ folder_line (codes "rows")) }
+{
+    of_folder(alloc, "rows", ROWS, ROWS_MORE)
+}

@@ -1,0 +1,140 @@
+//! The subcommands that read lines of standard input: `enter`, `try`, `ask` and `plain`.
+
+ghost use Rattle.std.specs.Prelude.{◌≡◌, codes, IfOk, ℤ};
+ghost use Rattle.clap.specs.Words.{Text, first_of, found_of, rows_of};
+ghost use Rattle.program_main.specs.Options.Words.{IsAnswerFor};
+ghost use Rattle.program_words.specs.declared.subcommand.Subcommand.{Subcommand};
+ghost use Rattle.program_words.specs.Task.{IsTask, beside_faults, faults_given, keeping_faults, keeping_of, lines_faults, lines_of, style_faults, style_of, warnings_faults, warnings_of};
+
+use crate::given::{beside, both, has_flag, is_given, needed};
+use crate::task::{Keeping, Lines, Style, Task, Warnings};
+use crate::values::{day_if_given, order_in};
+use clap::ArgMatches;
+use program_main::OptionsFault;
+use std::alloc::Global;
+
+/// How lines are written that people write.
+fn style_in(alloc: Global, given: &ArgMatches<'_>) -> Result<Style, OptionsFault>
+    ensures style { IfOk result (λ style. style ≡ style_of (rows_of (found_of given.now))) }
+    ensures faults { IsAnswerFor (style_faults (rows_of (found_of given.now))) result }
+{
+    let order = order_in(alloc, given)?;
+    let json = has_flag(given, "json");
+    Ok(Style { order, json })
+}
+
+/// Whether the options of lines that people write are given beside the one that says so.
+fn are_beside(alloc: Global, given: &ArgMatches<'_>) -> Result<((), ()), OptionsFault>
+    ensures { IsAnswerFor (beside_faults (rows_of (found_of given.now))) result }
+{
+    let written = has_flag(given, "as-written");
+    let has_order = is_given(given, "dates");
+    let json = has_flag(given, "json");
+    both(
+        beside(alloc, has_order, "--dates <ORDER>", written, "--as-written"),
+        beside(alloc, json, "--json", written, "--as-written"),
+    )
+}
+
+/// How lines are read.
+fn lines_in(alloc: Global, given: &ArgMatches<'_>) -> Result<Lines, OptionsFault>
+    ensures lines { IfOk result (λ lines. lines ≡ lines_of (rows_of (found_of given.now))) }
+    ensures faults { IsAnswerFor (lines_faults (rows_of (found_of given.now))) result }
+{
+    let (_, style) = both(are_beside(alloc, given), style_in(alloc, given))?;
+    if has_flag(given, "as-written") {
+        Ok(Lines::AsWritten(style))
+    } else {
+        Ok(Lines::Plain)
+    }
+}
+
+/// Whether rows are held back that draw a warning.
+fn warnings_in(alloc: Global, given: &ArgMatches<'_>) -> Result<Option<Warnings>, OptionsFault>
+    ensures warnings { IfOk result (λ warnings. warnings ≡ warnings_of (rows_of (found_of given.now))) }
+    ensures faults { IsAnswerFor (warnings_faults (rows_of (found_of given.now))) result }
+{
+    let warn = has_flag(given, "warn");
+    let has_day = is_given(given, "today");
+    let (_, today) = both(
+        beside(alloc, has_day, "--today <DAY>", warn, "--warn"),
+        day_if_given(alloc, given),
+    )?;
+    if warn {
+        Ok(Some(Warnings { today }))
+    } else {
+        Ok(None)
+    }
+}
+
+/// Which rows are kept.
+fn keeping_in(alloc: Global, given: &ArgMatches<'_>) -> Result<Keeping, OptionsFault>
+    ensures keeping { IfOk result (λ keeping. keeping ≡ keeping_of (rows_of (found_of given.now))) }
+    ensures faults { IsAnswerFor (keeping_faults (rows_of (found_of given.now))) result }
+{
+    let together = has_flag(given, "all-or-nothing");
+    let keep_refused = has_flag(given, "keep-refused");
+    beside(
+        alloc,
+        keep_refused,
+        "--keep-refused",
+        together,
+        "--all-or-nothing",
+    )?;
+    if together {
+        Ok(Keeping::Together(keep_refused))
+    } else {
+        Ok(Keeping::Each)
+    }
+}
+
+/// Rows that are kept.
+pub(crate) fn enter(alloc: Global, given: &ArgMatches<'_>) -> Result<Task, OptionsFault>
+    ensures task { (clock_time : ℤ) (name : Text) → IfOk result (IsTask clock_time Subcommand.Enter name (rows_of (found_of given.now))) }
+    ensures faults { IsAnswerFor (faults_given Subcommand.Enter (rows_of (found_of given.now))) result }
+{
+    let (folder, (lines, (warnings, keeping))) = both(
+        needed(alloc, given, "folder", "<FOLDER>"),
+        both(
+            lines_in(alloc, given),
+            both(warnings_in(alloc, given), keeping_in(alloc, given)),
+        ),
+    )?;
+    Ok(Task::Enter(folder, lines, warnings, keeping))
+}
+
+/// Rows that are answered and not kept.
+pub(crate) fn trial(alloc: Global, given: &ArgMatches<'_>) -> Result<Task, OptionsFault>
+    ensures task { (clock_time : ℤ) (name : Text) → IfOk result (IsTask clock_time Subcommand.Try name (rows_of (found_of given.now))) }
+    ensures faults { IsAnswerFor (faults_given Subcommand.Try (rows_of (found_of given.now))) result }
+{
+    let (folder, (lines, warnings)) = both(
+        needed(alloc, given, "folder", "<FOLDER>"),
+        both(lines_in(alloc, given), warnings_in(alloc, given)),
+    )?;
+    Ok(Task::Try(folder, lines, warnings))
+}
+
+/// Questions that are answered.
+pub(crate) fn ask(alloc: Global, given: &ArgMatches<'_>) -> Result<Task, OptionsFault>
+    ensures task { (clock_time : ℤ) (name : Text) → IfOk result (IsTask clock_time Subcommand.Ask name (rows_of (found_of given.now))) }
+    ensures faults { IsAnswerFor (faults_given Subcommand.Ask (rows_of (found_of given.now))) result }
+{
+    let (folder, lines) = both(
+        needed(alloc, given, "folder", "<FOLDER>"),
+        lines_in(alloc, given),
+    )?;
+    Ok(Task::Ask(folder, lines))
+}
+
+/// Lines that are written as plain rows.
+pub(crate) fn plain(alloc: Global, given: &ArgMatches<'_>) -> Result<Task, OptionsFault>
+    ensures task { (clock_time : ℤ) (name : Text) → IfOk result (IsTask clock_time Subcommand.Plain name (rows_of (found_of given.now))) }
+    ensures faults { IsAnswerFor (faults_given Subcommand.Plain (rows_of (found_of given.now))) result }
+{
+    let (folder, style) = both(
+        needed(alloc, given, "folder", "<FOLDER>"),
+        style_in(alloc, given),
+    )?;
+    Ok(Task::Plain(folder, style))
+}

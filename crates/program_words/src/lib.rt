@@ -1,0 +1,19 @@
+//! The command line of `docket`, and what words ask for.
+#![tactic(auto)]
+
+mod command;
+mod court_commands;
+mod court_tasks;
+mod courts;
+mod folder_commands;
+mod given;
+mod input_tasks;
+mod options;
+mod subcommand;
+mod task;
+mod tasks;
+mod values;
+mod words;
+
+pub use task::{Keeping, Lines, Source, Striking, Style, Task, Warnings};
+pub use words::asked_of;

@@ -1,0 +1,73 @@
+//! Which subcommand a name means.
+
+ghost use Rattle.std.specs.Prelude.{◌≡◌};
+ghost use Rattle.program_words.specs.Task.{court_meant, meant};
+
+/// A subcommand, as its words are read.
+#[derive(Clone, Copy, Debug, PartialEq, Eq)]
+pub(crate) enum Subcommand {
+    /// `init`.
+    Init,
+    /// `enter`.
+    Enter,
+    /// `try`.
+    Try,
+    /// `ask`.
+    Ask,
+    /// `plain`.
+    Plain,
+    /// `strike`.
+    Strike,
+    /// `struck`.
+    Struck,
+    /// `cases`.
+    Cases,
+    /// `check`.
+    Check,
+    /// `rows`.
+    Rows,
+    /// `due`, `week`, `page`, `ics`, `json` or `sql`.
+    Report,
+    /// `memo`.
+    Memo,
+    /// `court`, with no word after it.
+    Court,
+    /// `court check`.
+    CourtCheck,
+    /// `court write`.
+    CourtWrite,
+    /// `court change`.
+    CourtChange,
+}
+
+/// The subcommand of that name.
+pub(crate) fn meant(name: &str) -> Subcommand
+    ensures { result ≡ meant name.now }
+{
+    match name {
+        "init" => Subcommand::Init,
+        "enter" => Subcommand::Enter,
+        "try" => Subcommand::Try,
+        "ask" => Subcommand::Ask,
+        "plain" => Subcommand::Plain,
+        "strike" => Subcommand::Strike,
+        "struck" => Subcommand::Struck,
+        "cases" => Subcommand::Cases,
+        "check" => Subcommand::Check,
+        "rows" => Subcommand::Rows,
+        "memo" => Subcommand::Memo,
+        "court" => Subcommand::Court,
+        _ => Subcommand::Report,
+    }
+}
+
+/// The subcommand of that name after the word `court`.
+pub(crate) fn court_meant(name: &str) -> Subcommand
+    ensures { result ≡ court_meant name.now }
+{
+    match name {
+        "check" => Subcommand::CourtCheck,
+        "write" => Subcommand::CourtWrite,
+        _ => Subcommand::CourtChange,
+    }
+}

@@ -1,0 +1,104 @@
+//! What words ask for.
+
+use court_clock::Day;
+use court_file_check::Asked as CheckAsked;
+use court_writing::CourtName;
+use report_memo::Asked as MemoAsked;
+use report_program::Asked as ReportAsked;
+use row_fields::DateOrder;
+
+/// What is asked for: a case for each subcommand, and one for those of reports, whose `Asked` says which. A folder and a file
+/// are named as the words name them.
+#[derive(Debug, Drop)]
+pub enum Task {
+    /// `init`: a new folder, and the court's file that it begins with.
+    Init(String, String),
+    /// `enter`: rows, which are kept in the folder and answered.
+    Enter(String, Lines, Option<Warnings>, Keeping),
+    /// `try`: rows, which are answered as `enter` would, and not kept.
+    Try(String, Lines, Option<Warnings>),
+    /// `ask`: questions, which are answered.
+    Ask(String, Lines),
+    /// `plain`: rows as people write them, which are written as plain rows.
+    Plain(String, Style),
+    /// `strike`: a row of the folder, which is struck.
+    Strike(String, Striking),
+    /// `struck`: the rows that are struck.
+    Struck(String),
+    /// `cases`: the cases that have names.
+    Cases(String),
+    /// `check`: all rows, decided again.
+    Check(String),
+    /// `rows`: the court's file and the rows, as clerk_office reads them.
+    Rows(String),
+    /// `due`, `week`, `page`, `ics`, `json` or `sql`.
+    Report(Source, ReportAsked),
+    /// `memo`.
+    Memo(Source, MemoAsked),
+    /// `court check`: a court's file, and what is known of its use.
+    CourtCheck(String, CheckAsked),
+    /// `court write`: the court whose file is written, and the first and the last year.
+    CourtWrite(CourtName, u16, u16),
+    /// `court change`: a folder, the other court's file, and whether it is taken though answers differ.
+    CourtChange(String, String, bool),
+}
+
+/// Of what a report is.
+#[derive(Debug, Drop)]
+pub enum Source {
+    /// A folder.
+    Folder(String),
+    /// A file with a court's file, a line `%%` and rows.
+    File(String),
+    /// The same in standard input.
+    StandardInput,
+}
+
+/// How the lines of standard input are read.
+#[derive(Clone, Copy, Debug)]
+pub enum Lines {
+    /// As plain rows.
+    Plain,
+    /// As people write them.
+    AsWritten(Style),
+}
+
+/// How lines are written that people write, and how their faults are.
+#[derive(Clone, Copy, Debug)]
+pub struct Style {
+    /// Which comes first in a date in numbers, if that is known.
+    pub order: Option<DateOrder>,
+    /// Whether faults are written as JSON.
+    pub json: bool,
+}
+
+/// Rows that draw a warning are held back.
+#[derive(Clone, Copy, Debug)]
+pub struct Warnings {
+    /// The day that counts as today, if there is one.
+    pub today: Option<Day>,
+}
+
+/// Which rows are kept.
+#[derive(Clone, Copy, Debug)]
+pub enum Keeping {
+    /// Each that has no fault.
+    Each,
+    /// All of them, or none: none if a line has a fault or a command would be refused; or, if so, though commands would be.
+    Together(bool),
+}
+
+/// A row that is struck, and what is said of that.
+#[derive(Debug, Drop)]
+pub struct Striking {
+    /// The row's number, counted from 1.
+    pub row: u32,
+    /// Why it is struck, in one line.
+    pub reason: String,
+    /// By whom, in one line.
+    pub by: String,
+    /// On which day.
+    pub today: Day,
+    /// Whether it is struck though answers differ.
+    pub accept: bool,
+}

@@ -1,0 +1,118 @@
+//! The other subcommands of a folder, and those of reports.
+
+ghost use Rattle.std.specs.Prelude.{◌≡◌, ℤ, List, Some, codes, option_map, string_bytes, IfOk};
+ghost use Rattle.clap.specs.Words.{Row, Text, first_of, found_of, rows_of};
+ghost use Rattle.program_main.specs.Options.Words.{IsAnswerFor};
+ghost use Rattle.program_words.specs.declared.subcommand.Subcommand.{Subcommand};
+ghost use Rattle.program_words.specs.Given.{faults_without};
+ghost use Rattle.program_words.specs.Task.{IsSource, IsTask, faults_given, source_faults};
+
+use crate::given::{both, has_flag, mistake, needed, text_in};
+use crate::task::{Source, Striking, Task};
+use crate::values::{day_in, line_in, row_in};
+use clap::ArgMatches;
+use court_clock::Instant;
+use program_main::OptionsFault;
+use std::alloc::Global;
+
+/// The folder.
+pub(crate) fn folder_in(alloc: Global, given: &ArgMatches<'_>) -> Result<String, OptionsFault>
+    ensures text { IfOk result (λ text. first_of (codes "folder") (rows_of (found_of given.now)) ≡ Some (string_bytes text)) }
+    ensures faults { IsAnswerFor (faults_without (first_of (codes "folder") (rows_of (found_of given.now)))) result }
+{
+    needed(alloc, given, "folder", "<FOLDER>")
+}
+
+/// A new folder.
+pub(crate) fn init(alloc: Global, given: &ArgMatches<'_>) -> Result<Task, OptionsFault>
+    ensures task { (clock_time : ℤ) (name : Text) → IfOk result (IsTask clock_time Subcommand.Init name (rows_of (found_of given.now))) }
+    ensures faults { IsAnswerFor (faults_given Subcommand.Init (rows_of (found_of given.now))) result }
+{
+    let (folder, court) = both(
+        folder_in(alloc, given),
+        needed(alloc, given, "court", "--court <FILE>"),
+    )?;
+    Ok(Task::Init(folder, court))
+}
+
+/// A row that is struck.
+pub(crate) fn strike(alloc: Global, given: &ArgMatches<'_>) -> Result<Task, OptionsFault>
+    ensures task { (clock_time : ℤ) (name : Text) → IfOk result (IsTask clock_time Subcommand.Strike name (rows_of (found_of given.now))) }
+    ensures faults { IsAnswerFor (faults_given Subcommand.Strike (rows_of (found_of given.now))) result }
+{
+    let of = both(folder_in(alloc, given), row_in(alloc, given));
+    let texts = both(
+        line_in(alloc, given, "reason", "--reason <TEXT>"),
+        line_in(alloc, given, "by", "--by <NAME>"),
+    );
+    let remark = both(texts, day_in(alloc, given));
+    let ((folder, row), ((reason, by), today)) = both(of, remark)?;
+    let accept = has_flag(given, "accept");
+    let striking = Striking {
+        row,
+        reason,
+        by,
+        today,
+        accept,
+    };
+    Ok(Task::Strike(folder, striking))
+}
+
+/// Of what a report is.
+fn source_of(
+    alloc: Global,
+    folder: Option<&str>,
+    input: Option<&str>,
+) -> Result<Source, OptionsFault>
+    ensures source { (given : List Row) → first_of (codes "folder") given ≡ option_map (λ text. text.now) folder.entry → first_of (codes "input") given ≡ option_map (λ text. text.now) input.entry
+        → IfOk result (IsSource given) }
+    ensures faults { IsAnswerFor (source_faults (option_map (λ text. text.now) folder.entry) (option_map (λ text. text.now) input.entry)) result }
+{
+    match (folder, input) {
+        (Some(folder), None) => Ok(Source::Folder(String::from_str(alloc, folder)?)),
+        (None, Some("-")) => Ok(Source::StandardInput),
+        (None, Some(input)) => Ok(Source::File(String::from_str(alloc, input)?)),
+        (Some(_), Some(_)) => Err(mistake(
+            alloc,
+            "FOLDER and '--input <FILE>' are one too many: name a folder or an input",
+        )),
+        (None, None) => Err(mistake(
+            alloc,
+            "name a FOLDER, or an input by '--input <FILE>', where '-' is standard input",
+        )),
+    }
+}
+
+/// Of what the report is.
+fn source_in(alloc: Global, given: &ArgMatches<'_>) -> Result<Source, OptionsFault>
+    ensures source { IfOk result (IsSource (rows_of (found_of given.now))) }
+    ensures faults { IsAnswerFor (source_faults (first_of (codes "folder") (rows_of (found_of given.now))) (first_of (codes "input") (rows_of (found_of given.now)))) result }
+{
+    source_of(alloc, text_in(given, "folder"), text_in(given, "input"))
+}
+
+/// A report of that name, at the clock's time.
+pub(crate) fn report(
+    alloc: Global,
+    clock_time: Instant,
+    name: &str,
+    given: &ArgMatches<'_>,
+) -> Result<Task, OptionsFault>
+    ensures task { IfOk result (IsTask clock_time Subcommand.Report name.now (rows_of (found_of given.now))) }
+    ensures faults { IsAnswerFor (faults_given Subcommand.Report (rows_of (found_of given.now))) result }
+{
+    let (source, asked) = both(
+        source_in(alloc, given),
+        report_program::asked_by(alloc, clock_time, name, given),
+    )?;
+    Ok(Task::Report(source, asked))
+}
+
+/// A memo.
+pub(crate) fn memo(alloc: Global, given: &ArgMatches<'_>) -> Result<Task, OptionsFault>
+    ensures task { (clock_time : ℤ) (name : Text) → IfOk result (IsTask clock_time Subcommand.Memo name (rows_of (found_of given.now))) }
+    ensures faults { IsAnswerFor (faults_given Subcommand.Memo (rows_of (found_of given.now))) result }
+{
+    let (source, asked) = both(source_in(alloc, given), report_memo::asked_by(alloc, given))?;
+    Ok(Task::Memo(source, asked))
+}

@@ -1,0 +1,223 @@
+//! What texts say that have to say something: an order of dates, a row, a line, a year, a court and a day.
+
+ghost use Rattle.std.specs.Prelude.{◌≡◌, ◌∷◌, [], Some, codes, nat_le, string_bytes, IfOk};
+ghost use Rattle.std.specs.Char.{is_ascii_digit};
+ghost use Rattle.std.specs.List.{list_all};
+ghost use Rattle.std.specs.Option.{option_and_then};
+ghost use Rattle.clap.specs.declared.error.kind.ErrorKind.{ErrorKind};
+ghost use Rattle.clap.specs.Words.{first_of, found_of, rows_of};
+ghost use Rattle.court_clock.specs.Words.{day_of_text};
+ghost use Rattle.court_writing.specs.Words.{district_named, of_district, zone_text};
+ghost use Rattle.program_main.specs.Options.Words.{IsAnswerFor, IsFaultAmong};
+ghost use Rattle.program_main.specs.Texts.Words.{faults_unless, is_day_taken};
+ghost use Rattle.program_words.specs.Given.{faults_if_given, faults_reading, is_digits, is_line, line_of, number_of, order_of, year_of};
+
+use crate::courts::nearest_names;
+use crate::given::{missing, mistake, text_in};
+use clap::ArgMatches;
+use court_clock::Day;
+use court_writing::CourtName;
+use program_main::{OptionsFault, day_option};
+use row_fields::DateOrder;
+use std::alloc::Global;
+
+/// The order that a text names.
+fn order_of(text: &str) -> Option<DateOrder>
+    ensures { result ≡ order_of text.now }
+{
+    match text {
+        "month-first" => Some(DateOrder::MonthFirst),
+        "day-first" => Some(DateOrder::DayFirst),
+        _ => None,
+    }
+}
+
+/// The order of dates that was given, if one was. BadWords where its text names none.
+pub(crate) fn order_in(
+    alloc: Global,
+    given: &ArgMatches<'_>,
+) -> Result<Option<DateOrder>, OptionsFault>
+    ensures order { IfOk result (λ order. order ≡ option_and_then order_of (first_of (codes "dates") (rows_of (found_of given.now)))) }
+    ensures faults { IsAnswerFor (faults_if_given order_of (first_of (codes "dates") (rows_of (found_of given.now)))) result }
+{
+    match text_in(given, "dates") {
+        None => Ok(None),
+        Some(text) => match order_of(text) {
+            Some(order) => Ok(Some(order)),
+            None => Err(unread(
+                alloc,
+                text,
+                "--dates <ORDER>",
+                "write month-first or day-first",
+            )),
+        },
+    }
+}
+
+/// The text of what the words call `shown` says nothing. `advice` says how it is written.
+fn unread(alloc: Global, text: &str, shown: &str, advice: &str) -> OptionsFault
+    ensures { IsFaultAmong (ErrorKind.ValueValidation ∷ []) result }
+{
+    match format!(in alloc; "invalid value '{text}' for '{shown}': {advice}") {
+        Ok(text) => mistake(alloc, text.as_str()),
+        Err(_) => OptionsFault::OutOfMemory,
+    }
+}
+
+/// The number of a row that a text writes: one to nine digits.
+pub(crate) fn number_of(text: &str) -> Option<u32>
+    ensures { result ≡ number_of text.now }
+{
+    if is_digits(text.as_bytes()) {
+        text.parse::<u32>().ok()
+    } else {
+        None
+    }
+}
+
+/// Whether a text is one to nine decimal digits.
+fn is_digits(text: &[u8]) -> bool
+    ensures { result ≡ is_digits text.now }
+{
+    !text.is_empty() && text.len() <= 9 && are_digits(text)
+}
+
+fn are_digits(text: &[u8]) -> bool
+    ensures { result ≡ list_all is_ascii_digit text.now }
+{
+    text.iter().all(|byte| byte.is_ascii_digit())
+}
+
+/// The number of a row, which has to be given. BadWords where it isn't, or where its text is no number.
+pub(crate) fn row_in(alloc: Global, given: &ArgMatches<'_>) -> Result<u32, OptionsFault>
+    ensures row { IfOk result (λ row. option_and_then number_of (first_of (codes "row") (rows_of (found_of given.now))) ≡ Some row) }
+    ensures faults { IsAnswerFor (faults_reading number_of (first_of (codes "row") (rows_of (found_of given.now)))) result }
+{
+    match text_in(given, "row") {
+        None => Err(missing(alloc, "ROW")),
+        Some(text) => match number_of(text) {
+            Some(row) => Ok(row),
+            None => Err(unread(
+                alloc,
+                text,
+                "<ROW>",
+                "write the number with which its answer begins",
+            )),
+        },
+    }
+}
+
+/// The year that a text writes: a number up to 9999.
+fn year_of(text: &str) -> Option<u16>
+    ensures { result ≡ year_of text.now }
+{
+    match number_of(text) {
+        Some(number) if number <= 9999 => Some(number as u16),
+        _ => None,
+    }
+}
+
+/// The year of that name, which has to be given. The words call it by `shown`. BadWords where it isn't, or where its text is
+/// none.
+pub(crate) fn year_in(
+    alloc: Global,
+    given: &ArgMatches<'_>,
+    name: &str,
+    shown: &str,
+) -> Result<u16, OptionsFault>
+    ensures year { IfOk result (λ year. option_and_then year_of (first_of name.now (rows_of (found_of given.now))) ≡ Some year) }
+    ensures faults { IsAnswerFor (faults_reading year_of (first_of name.now (rows_of (found_of given.now)))) result }
+{
+    match text_in(given, name) {
+        None => Err(missing(alloc, shown)),
+        Some(text) => match year_of(text) {
+            Some(year) => Ok(year),
+            None => Err(unread(alloc, text, shown, "write a year as 2030")),
+        },
+    }
+}
+
+/// Whether a text is one line with something in it.
+fn is_line(text: &str) -> bool
+    ensures { result ≡ is_line text.now }
+{
+    !text.is_empty() && are_in_line(text.as_bytes())
+}
+
+fn are_in_line(text: &[u8]) -> bool
+    ensures { result ≡ list_all (nat_le 32) text.now }
+{
+    text.iter().all(|byte| b' ' <= *byte)
+}
+
+/// The line of that name, which has to be given. The words call it by `shown`. BadWords where it isn't, or where its text is
+/// empty or has another line.
+pub(crate) fn line_in(
+    alloc: Global,
+    given: &ArgMatches<'_>,
+    name: &str,
+    shown: &str,
+) -> Result<String, OptionsFault>
+    ensures line { IfOk result (λ line. option_and_then line_of (first_of name.now (rows_of (found_of given.now))) ≡ Some (string_bytes line)) }
+    ensures faults { IsAnswerFor (faults_reading line_of (first_of name.now (rows_of (found_of given.now)))) result }
+{
+    match text_in(given, name) {
+        None => Err(missing(alloc, shown)),
+        Some(text) if is_line(text) => Ok(String::from_str(alloc, text)?),
+        Some(text) => Err(unread(alloc, text, shown, "write a text of one line")),
+    }
+}
+
+/// The day of `--today`, if one was given. BadWords where its text writes none.
+pub(crate) fn day_if_given(
+    alloc: Global,
+    given: &ArgMatches<'_>,
+) -> Result<Option<Day>, OptionsFault>
+    ensures day { IfOk result (λ day. day ≡ option_and_then day_of_text (first_of (codes "today") (rows_of (found_of given.now)))) }
+    ensures faults { IsAnswerFor (faults_unless (is_day_taken (first_of (codes "today") (rows_of (found_of given.now))))) result }
+{
+    day_option(alloc, "today", text_in(given, "today"))
+}
+
+/// The day of that name, which has to be given. BadWords where it isn't, or where its text writes none.
+pub(crate) fn day_in(alloc: Global, given: &ArgMatches<'_>) -> Result<Day, OptionsFault>
+    ensures day { IfOk result (λ day. option_and_then day_of_text (first_of (codes "today") (rows_of (found_of given.now))) ≡ Some day) }
+    ensures faults { IsAnswerFor (faults_reading day_of_text (first_of (codes "today") (rows_of (found_of given.now)))) result }
+{
+    match text_in(given, "today") {
+        None => Err(missing(alloc, "--today <DAY>")),
+        Some(text) => match Day::from_text(text) {
+            Some(day) => Ok(day),
+            None => Err(unread(alloc, text, "--today <DAY>", "write a day as 2025-09-15")),
+        },
+    }
+}
+
+/// The court that a text names has no such name.
+fn no_court(alloc: Global, text: &str) -> OptionsFault
+    ensures { IsFaultAmong (ErrorKind.ValueValidation ∷ []) result }
+{
+    let Ok(nearest) = nearest_names(alloc, text) else {
+        return OptionsFault::OutOfMemory;
+    };
+    match format!(in alloc;
+        "no court has the name '{text}'; near to it is {nearest}; 'docket court write --help' lists all"
+    ) {
+        Ok(text) => mistake(alloc, text.as_str()),
+        Err(_) => OptionsFault::OutOfMemory,
+    }
+}
+
+/// The court, which has to be given. BadWords where it isn't, or where no court has that name.
+pub(crate) fn court_in(alloc: Global, given: &ArgMatches<'_>) -> Result<CourtName, OptionsFault>
+    ensures court { IfOk result (λ court. option_and_then district_named (first_of (codes "court") (rows_of (found_of given.now))) ≡ Some (of_district court.code.now court.state (zone_text court.zone))) }
+    ensures faults { IsAnswerFor (faults_reading district_named (first_of (codes "court") (rows_of (found_of given.now)))) result }
+{
+    match text_in(given, "court") {
+        None => Err(missing(alloc, "--court <NAME>")),
+        Some(text) => match CourtName::named(text) {
+            Some(court) => Ok(court),
+            None => Err(no_court(alloc, text)),
+        },
+    }
+}

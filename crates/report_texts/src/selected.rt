@@ -1,0 +1,11 @@
+//! What is selected of a docket, with the numbers that deadlines and motions keep.
+
+mod bookings;
+mod explained;
+mod items;
+mod sheets;
+
+pub use bookings::{number_days, numbered_calendars};
+pub use explained::explained_selection;
+pub use items::{number_item, number_items};
+pub use sheets::number_sheets;

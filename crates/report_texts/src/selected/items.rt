@@ -1,0 +1,35 @@
+//! Items of what is due, with the numbers of their deadlines and motions.
+ghost use Rattle.std.specs.Prelude.{◌≡◌, map};
+ghost use Rattle.docket_rows.specs.declared.command.Counted.{Counted as CountedOf};
+ghost use Rattle.report_texts.specs.Selected.{counted_in, numbered_item};
+
+use desk_numbers::MovedNumbers;
+use docket_rows::Counted;
+use docket_selection::{DueItem, DueTypes, Matter};
+
+// What the number of an item is the number of.
+fn counted_in(matter: &Matter) -> Counted
+    ensures { result ≡ counted_in matter.now }
+{
+    match matter {
+        Matter::Deadline(_) => Counted::Deadline,
+        Matter::Hearing(_) => Counted::Motion,
+    }
+}
+
+/// Gives an item, which has the place of its deadline or its motion, the number of that.
+pub fn number_item(moved: &MovedNumbers, item: &mut DueItem)
+    ensures { item.new ≡ numbered_item moved.now item.old }
+{
+    item.number = moved.number_at(item.case, counted_in(&item.matter), item.number);
+}
+
+/// Gives items, which have the places of their deadlines and motions, the numbers of those.
+pub fn number_items(moved: &MovedNumbers, items: &mut [DueItem])
+    ensures { items.new ≡ map (numbered_item moved.now) items.old }
+{
+    let _types: DueTypes = None;
+    'list: for item in items.iter_mut() {
+        number_item(moved, item);
+    }
+}
