@@ -7,7 +7,7 @@ use Rattle.std.proofs.lemmas.List.{take_more}
 use Rattle.std.proofs.lemmas.List.Folds.{list_any-append}
 use Rattle.court_file_check.specs.Review.Words.{days_from}
 use Rattle.court_file_check.proofs.ReviewLemmas.ReviewLemmas.{days_from-more}
-use Rattle.court_file_check.specs.Names.{texts_of}
+use Rattle.court_file_check.specs.Inside.Names.{texts_of}
 
 or_false : (b : Bool) → (b || false) ≡ b
 or_false b = elim b as (λ v. (v || false) ≡ v) [ true ↦ refl | false ↦ refl ]

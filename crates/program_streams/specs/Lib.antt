@@ -8,3 +8,4 @@ pub mod Office
 pub mod Report
 pub mod Words
 pub mod Parallel
+pub mod Inside

@@ -11,3 +11,4 @@ pub mod Bounds
 pub mod Words
 pub mod Headings
 pub mod Line
+pub mod Inside

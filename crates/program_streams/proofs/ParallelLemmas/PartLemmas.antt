@@ -6,7 +6,7 @@ use Rattle.row_forms.specs.declared.fault.RowError.{RowError}
 use Rattle.row_forms.specs.declared.fault.RowError.TheVariants.{Fault, OutOfMemory}
 use Rattle.row_forms.specs.CourtNames.{CourtNames}
 use Rattle.row_forms.specs.Rows.{AnswersRows, rows_read, rows_read_from}
-use Rattle.program_streams.specs.Parallel.Division.{AreParts, can_be_divided}
+use Rattle.program_streams.specs.Inside.Division.{AreParts, can_be_divided}
 use Rattle.program_streams.proofs.ParallelLemmas.RecordLemmas.{records_of_parts}
 use Rattle.program_streams.proofs.ParallelLemmas.RowLemmas.{fault_first}
 

@@ -12,7 +12,7 @@ use Rattle.csv.specs.declared.parser.State.{State}
 use Rattle.csv.specs.declared.parser.State.TheVariants as st
 use Rattle.row_forms.specs.Records.{all_records}
 use Rattle.row_forms.proofs.RecordsLemmas.{all_records-none, all_records-some, all_records-start}
-use Rattle.program_streams.specs.Parallel.Division.{AreParts, can_be_divided, ends_line, first_of_mark, has_byte, quote}
+use Rattle.program_streams.specs.Inside.Division.{AreParts, can_be_divided, ends_line, first_of_mark, has_byte, quote}
 
 -- no record is begun
 abbrev is_idle : State → Bool

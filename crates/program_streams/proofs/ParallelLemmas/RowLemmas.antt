@@ -10,7 +10,7 @@ use Rattle.row_forms.specs.Columns.{◌>>=◌}
 use Rattle.row_forms.specs.CourtNames.{CourtNames}
 use Rattle.row_forms.specs.Rows.{AnswersRows, in_row, most_rows, numbered_row, row_of, rows_read_from}
 use Rattle.row_forms.proofs.RowsLemmas.{behind_rows, behind_nothing}
-use Rattle.program_streams.specs.Parallel.Joining.{error_after}
+use Rattle.program_streams.specs.Inside.Joining.{error_after}
 
 abbrev Rows : Type 0
 Rows = Result (List Row) (ℕ × RowCause)

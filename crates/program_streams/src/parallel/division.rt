@@ -1,7 +1,7 @@
 //! A text of rows, divided at the end of a line.
 
 ghost use Rattle.std.specs.Prelude.{◌≡◌};
-ghost use Rattle.program_streams.specs.Parallel.Division.{AreParts, can_be_divided};
+ghost use Rattle.program_streams.specs.Inside.Division.{AreParts, can_be_divided};
 
 /// Whether a text may be divided at any end of a line. It has no quote, in which the end of a line ends no row, and not the
 /// first byte of a byte order mark, which is skipped at the beginning of a text alone.

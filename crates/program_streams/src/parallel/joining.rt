@@ -2,7 +2,7 @@
 
 ghost use Rattle.std.specs.Prelude.{◌≡◌, ◌++◌, ◌≤◌, ℕ, List, Ok, length};
 ghost use Rattle.row_forms.specs.Words.{AnswersRows, CourtNames, rows_read_from};
-ghost use Rattle.program_streams.specs.Parallel.Joining.{error_after};
+ghost use Rattle.program_streams.specs.Inside.Joining.{error_after};
 
 use row_forms::{MAX_ROWS, Row, RowCause, RowError};
 

@@ -3,7 +3,7 @@
 ghost use Rattle.std.specs.Prelude.{◌≡◌, true};
 ghost use Rattle.std.specs.Thread.{IsSync};
 ghost use Rattle.row_forms.specs.Words.{AnswersRows, names_of, rows_read};
-ghost use Rattle.program_streams.specs.Parallel.Division.{can_be_divided};
+ghost use Rattle.program_streams.specs.Inside.Division.{can_be_divided};
 
 use crate::parallel::division::{can_be_divided, divide_after};
 use crate::parallel::joining::join_rows;

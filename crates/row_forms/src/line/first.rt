@@ -5,7 +5,7 @@ ghost use Rattle.std.specs.List.{list_all};
 ghost use Rattle.std.specs.Str.{is_utf8};
 ghost use Rattle.csv.specs.Reading.{default_config, records, strip_bom};
 ghost use Rattle.csv.specs.Records.{fields_of};
-ghost use Rattle.row_forms.specs.Line.First.{BeginsWith};
+ghost use Rattle.row_forms.specs.Inside.First.{BeginsWith};
 
 use crate::line::plain::read_plain;
 use crate::{Next, read_next, rows_reader};

@@ -2,8 +2,8 @@
 
 ghost use Rattle.std.specs.Prelude.{◌≡◌, [], true, Some, Ok};
 ghost use Rattle.csv.specs.Records.{fields_of};
-ghost use Rattle.row_forms.specs.Line.First.{BeginsWith};
-ghost use Rattle.row_forms.specs.Line.Plain.{BeginsAtField, cut};
+ghost use Rattle.row_forms.specs.Inside.First.{BeginsWith};
+ghost use Rattle.row_forms.specs.Inside.Plain.{BeginsAtField, cut};
 
 use csv::{ByteRecord, StringRecord};
 use std::alloc::{AllocError, Global};

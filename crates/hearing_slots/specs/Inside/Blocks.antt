@@ -3,7 +3,7 @@ use Rattle.std.specs.Prelude.{◌≡◌, ℕ, ℤ, pos, ◌<ℤ◌, true, Option
 use Rattle.std.specs.Int.{int_div_euclid}
 use Rattle.hearing_slots.specs.declared.booking.Booking.{Booking}
 use Rattle.hearing_slots.specs.Booking.{is_of}
-use Rattle.hearing_slots.specs.Places.{IsAt, IsGapAt}
+use Rattle.hearing_slots.specs.Inside.Places.{IsAt, IsGapAt}
 
 -- the number of the block in which the day lies
 abbrev pub block_of : ℤ → ℤ

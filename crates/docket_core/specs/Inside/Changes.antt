@@ -7,7 +7,7 @@ use Rattle.docket_rows.specs.declared.rebooking.Rebooking.{Rebooking}
 use Rattle.docket_rows.specs.Words.{CaseRecordView, Parts, part_value, changed, case_of, hearing_after, judge_change, room_change}
 use Rattle.docket_decisions.specs.Words.{CanChangeRecord}
 use Rattle.docket_core.specs.Docket.{DocketView, parts_held}
-use Rattle.docket_core.specs.Rebooking.{calendars_after}
+use Rattle.docket_core.specs.Inside.Rebooking.{calendars_after}
 
 -- each part that the command touches holds what the command writes into it, and each other part what it held
 abbrev pub IsAfter : (before : DocketView) → Command → (after : DocketView) → Type 0
