@@ -3,7 +3,8 @@
 use court_writing::WriteFault;
 use desk_entries::HistoryFault;
 use desk_program::{DeskFault, ended_by};
-use program_streams::{self as streams, OfficeFault, Watched, missing, refused};
+use program_runs::{self as runs, OfficeFault, missing, refused};
+use program_streams::Watched;
 use std::alloc::{AllocError, AllocFailed, Global};
 use std::io::Write;
 
@@ -72,7 +73,7 @@ fn not_written<E: Write>(alloc: Global, errors: &mut Watched<E>, fault: &WriteFa
 pub fn told<E: Write>(alloc: Global, errors: &mut Watched<E>, fault: &Fault) -> u8 {
     match fault {
         Fault::Desk(fault) => ended_by(alloc, errors, fault),
-        Fault::Input(fault) => streams::ended_by(alloc, errors, fault),
+        Fault::Input(fault) => runs::ended_by(alloc, errors, fault),
         Fault::Missing(line) => missing(errors, line.as_str()),
         Fault::NotWritten(fault) => not_written(alloc, errors, fault),
         Fault::Told(status) => *status,

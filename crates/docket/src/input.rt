@@ -5,7 +5,8 @@ use court_days::Court;
 use desk_program::DeskFault;
 use desk_session::{SessionFault, is_finished};
 use desk_warnings::HeldBack;
-use program_streams::{OfficeFault, Watched, read_all, refused};
+use program_runs::refused;
+use program_streams::{StreamFault, Watched, read_all};
 use program_words::{Lines, Style, Warnings};
 use row_input::{Reading, json_of, read_input, report_of};
 use std::alloc::Global;
@@ -19,7 +20,7 @@ pub fn whole_input(rt: &HostRuntime) -> Result<Vec<u8>, DeskFault> {
     let mut reader = Watched::new(rt.stdin());
     match read_all(rt.alloc(), &mut reader) {
         Ok(input) => Ok(input),
-        Err(OfficeFault::OutOfMemory) => Err(DeskFault::OutOfMemory),
+        Err(StreamFault::OutOfMemory) => Err(DeskFault::OutOfMemory),
         Err(_) => {
             if reader.failed() {
                 Err(DeskFault::Unkept(SessionFault::Read))

@@ -1,7 +1,7 @@
 //! What is asked for, as what is written.
 
 ghost use Rattle.std.specs.Prelude.{◌≡◌, IfOk, string_bytes};
-ghost use Rattle.program_streams.specs.Words.{IsFinding};
+ghost use Rattle.program_runs.specs.Words.{IsFinding};
 ghost use Rattle.report_memo.specs.Answer.{IsAnswer, IsCalled, IsCalledMissing, IsMissing, no_case};
 ghost use Rattle.report_memo.specs.Labels.{labels_of};
 
@@ -15,7 +15,7 @@ use court_clock::Day;
 use court_days::Court;
 use desk_numbers::MovedNumbers;
 use office_texts::{CaseCalled, number_called, push_called};
-use program_streams::{CheckedInput, Finding, Report};
+use program_runs::{CheckedInput, Finding, Report};
 use row_forms::{NumberedRow, numbered_rows};
 use std::alloc::{AllocError, Global};
 use std::sync::Wait;

@@ -26,7 +26,7 @@ use Rattle.row_forms.specs.Words.{numbered_from, rows_of}
 use Rattle.office_texts.specs.Run.Words.{docketed_after}
 use Rattle.report_json.specs.Words.{AreAnswerLines, IsDocketJson}
 use Rattle.report_sql.specs.Words.{script_text}
-use Rattle.program_streams.specs.Words.{Input}
+use Rattle.program_runs.specs.Words.{Input}
 use Rattle.report_program.specs.declared.asked.Asked.{Asked}
 use Rattle.report_program.specs.declared.chosen.Chosen.{Chosen}
 use Rattle.report_program.specs.declared.chosen.Chosen.TheVariants.{Json, Lines, Listed, Sql}

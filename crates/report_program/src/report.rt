@@ -6,7 +6,7 @@ ghost use Rattle.report_program.specs.Past.{no_past};
 ghost use Rattle.row_forms.specs.Words.{numbered_from};
 ghost use Rattle.office_texts.specs.Run.Words.{Holds};
 ghost use Rattle.report_program.specs.Calendar.{IsCalendar, IsListing, IsMissing, IsTextOf, changes_by, docketed_by};
-ghost use Rattle.program_streams.specs.Words.{IsFinding};
+ghost use Rattle.program_runs.specs.Words.{IsFinding};
 
 use crate::asked::Asked;
 use crate::chosen::{Chosen, ChosenTypes, Listing};
@@ -23,7 +23,7 @@ use court_days::Court;
 use desk_numbers::MovedNumbers;
 use docket_core::Docket;
 use docket_selection::RowChange;
-use program_streams::{CheckedInput, Finding, Report};
+use program_runs::{CheckedInput, Finding, Report};
 use report_json::{answer_lines, json_text};
 use report_sql::sql_text;
 use row_forms::{NumberedRow, numbered_rows};

@@ -7,7 +7,8 @@ use crate::lines::input_of;
 use crate::stored::push_name;
 use crate::sums::push_sum;
 use desk_program::{Desk, DeskFault, ended_by, write_rows};
-use program_streams::{Watched, divide};
+use program_runs::divide;
+use program_streams::Watched;
 use sqlite_disk::Memory;
 use std::alloc::{AllocError, Global};
 

@@ -14,6 +14,7 @@ use std::alloc::{AllocError, Global};
 use std::mem;
 
 // Whether each field is text, and if so they are put into `fields`.
+#[tactic(auto, using(crate::proofs::TextLemmas::text_passes, crate::proofs::TextLemmas::else_fails))]
 fn take_text(row: ByteRecord, fields: &mut StringRecord) -> bool
     ensures text { result ≡ list_all is_utf8 (fields_of row) }
     ensures taken { result ≡ true → fields_of fields.new ≡ fields_of row }
