@@ -9,6 +9,7 @@ mod enter;
 mod fault;
 mod folder;
 mod input;
+mod progress;
 mod reports;
 mod tasks;
 

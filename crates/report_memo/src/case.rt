@@ -5,7 +5,6 @@ ghost use Rattle.report_memo.specs.Case.{IsCaseClosed, IsCaseMemo, IsCaseShown, 
 ghost use Rattle.program_runs.specs.Words.{IsFinding};
 
 use crate::detail::Detail;
-use crate::labels::Labels;
 use crate::sheets::push_sheet;
 use crate::sources::{Sources, docket_after};
 use case_numbers::{Cases, push_case_text};
@@ -13,6 +12,7 @@ use court_clock::Day;
 use court_days::{Court, Days};
 use docket_rows::{Query, View};
 use program_runs::Finding;
+use report_texts::Labels;
 use row_forms::NumberedRow;
 use std::alloc::{AllocError, Global};
 

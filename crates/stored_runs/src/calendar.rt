@@ -102,7 +102,7 @@ fn run_of<H: Threads + Wait + Sync, P: Report>(
 }
 
 // The first instant of 1970, which the clock shows in these runs.
-fn first_instant() -> Instant {
+pub(crate) fn first_instant() -> Instant {
     match Instant::new(0) {
         Some(instant) => instant,
         None => unreachable!(),
@@ -121,7 +121,7 @@ fn words_of<'a>(alloc: Global, line: &'a str) -> Result<Vec<&'a str>, AllocError
 }
 
 // Adds how a run ended, where it isn't with status 0.
-fn push_ending(
+pub(crate) fn push_ending(
     alloc: Global,
     output: &mut Vec<u8>,
     status: u8,

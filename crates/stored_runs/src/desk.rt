@@ -1,4 +1,4 @@
-//! One stored run of the desk, over a disk in memory.
+//! The rows of an input that is too large to be stored, entered at a desk over a disk in memory.
 
 ghost use Rattle.std.specs.Prelude.{◌≡◌, false};
 ghost use Rattle.program_streams.specs.Words.{has_failed};
