@@ -2,27 +2,24 @@
 """Runs the reports of docket on the runs of runs/calendar, and compares what they write with what is stored.
 
     calendar_runs.py DOCKET
-    calendar_runs.py --write DOCKET [NAME ..]
+    calendar_runs.py --write DOCKET
 
-With --write what is stored is made anew, of all runs or of those named. What is due, a judge's week and the answers of a desk to
-a large input are the text of the reference in plain Python, and the rows that a desk then writes are those of the input. A page,
-a calendar, JSON and SQL are what DOCKET writes, and they are stored only where the checks of these formats find that each says of
-the input what the reference and `docket memo` say (lib/calendar_faults.py); and a memo only where its reasons follow from one
-another, as derivations_check.py has it. The calls of a desk are DOCKET's, in a folder, and what it writes is to be read before it
-is stored: no reference knows it. Then runs_join.py puts the runs into the merge gate. It needs Python 3.8 or later and, with
---write, what those checks need; the status is 0 where all is as it must be.
+With --write what is stored is made anew. What is due, a judge's week and the answers of a desk are the text of the reference
+in plain Python, and the rows that a desk writes are those of the input. A page, a calendar, JSON and SQL are what DOCKET
+writes, and they are stored only where the checks of these formats find that each says of the input what the reference and
+`docket memo` say (lib/calendar_faults.py); and a memo only where its reasons follow from one another, as derivations_check.py has
+it. Then runs_join.py puts the runs into the merge gate. It needs Python 3.8 or later
+and, with --write, what those checks need; the status is 0 where all is as it must be.
 """
 import datetime
-import pathlib
 import re
 import sys
-import tempfile
 
 from lib.given_docket import LAST_ROW, input_of
 from lib.memo_lines import closing_of, reasons_of
-from lib.programs import CHECKS, Programs, programs_of, run as run_program
+from lib.programs import CHECKS, Programs, programs_of
 from lib.runs_made import sum_of
-from lib.stored_calendars import calls_of, data_of, is_of_desk, runs, wanted_of
+from lib.stored_calendars import data_of, is_of_desk, runs, wanted_of
 from office_reference import answers_of
 
 # The reference, which answers as clerk_office does.
@@ -80,31 +77,16 @@ def desk_kept(run):
     return kept(run, answers.encode()) + kept(run, data)
 
 
-def calls_text(programs, run):
-    """What the calls of a desk write in a folder, each after its line, and how it ended where it isn't well."""
-    text = b""
-    with tempfile.TemporaryDirectory() as folder:
-        for words, given in calls_of(run):
-            if "court.toml" in words:
-                (pathlib.Path(folder) / "court.toml").write_bytes(given)
-            ended = run_program([programs.docket, *words], given, cwd=folder)
-            text += "$ {}\n".format(" ".join(words)).encode() + ended.output
-            if ended.status != 0:
-                text += "status {}\n".format(ended.status).encode() + ended.errors
-    return text
-
-
-def write(programs, names):
-    """Makes what is stored of the runs of these names anew, or of all."""
+def write(programs):
+    """Makes what is stored anew."""
     from lib.calendar_faults import fault_of
-    asked = [run for run in runs() if not names or run.name in names]
-    for data, is_made in sorted({(data_of(run), run.is_made) for run in asked if run.is_made or not is_of_desk(run)}):
+    for data, is_made in sorted({(data_of(run), run.is_made) for run in runs()}):
         fault = fault_of(input_of(programs, data), LARGE if is_made else SMALL)
         if fault:
             sys.exit(fault)
-    for run in asked:
+    for run in runs():
         if is_of_desk(run):
-            wanted_of(run).write_bytes(desk_kept(run) if run.is_made else calls_text(programs, run))
+            wanted_of(run).write_bytes(desk_kept(run))
             continue
         text = reference_text(run, programs) if run.words[0] in ("due", "week") else written(programs, run)
         fault = memo_fault(run, text) if run.words[0] == "memo" else None
@@ -113,20 +95,15 @@ def write(programs, names):
         wanted_of(run).write_bytes(kept(run, text))
 
 
-def text_now(programs, run):
-    """What is kept of what DOCKET writes of a run."""
-    return calls_text(programs, run) if is_of_desk(run) else kept(run, written(programs, run))
-
-
 def main(words):
-    if words[:1] == ["--write"] and len(words) > 1:
-        write(Programs(programs_of(words[1:2]).docket, REFERENCE), words[2:])
+    if words[:1] == ["--write"] and len(words) == 2:
+        write(Programs(programs_of(words[1:]).docket, REFERENCE))
         return
     if len(words) != 1:
-        sys.exit("usage: calendar_runs.py DOCKET | --write DOCKET [NAME ..]")
+        sys.exit("usage: calendar_runs.py DOCKET | --write DOCKET")
     programs = programs_of(words)
-    looked_at = [run for run in runs() if not (run.is_made and is_of_desk(run))]
-    wrong = [run.name for run in looked_at if text_now(programs, run) != wanted_of(run).read_bytes()]
+    looked_at = [run for run in runs() if not is_of_desk(run)]
+    wrong = [run.name for run in looked_at if kept(run, written(programs, run)) != wanted_of(run).read_bytes()]
     for name in wrong:
         print("{}: it isn't what is stored".format(name))
     print("{} passed, {} failed".format(len(looked_at) - len(wrong), len(wrong)))

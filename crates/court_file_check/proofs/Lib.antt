@@ -2,5 +2,6 @@ pub mod ReadLemmas
 pub mod ItemLemmas
 pub mod BeginLemmas
 pub mod AnyLemmas
+pub mod LackingLemmas
 pub mod CheckLemmas
 pub mod ReviewLemmas

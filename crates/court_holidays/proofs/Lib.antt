@@ -1,4 +1,2 @@
-pub mod DateLemmas
-pub mod WeekdayLemmas
-pub mod EasterLemmas
 pub mod FederalLemmas
+pub mod StatesLemmas

@@ -1,3 +1,4 @@
+pub mod Weekdays
 pub mod Statute
 pub mod Calendar
 pub mod Observed

@@ -1,4 +1,2 @@
-pub mod Dates
-pub mod Weekdays
 pub mod Federal
 pub mod States

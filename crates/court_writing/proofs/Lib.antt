@@ -1,3 +1,2 @@
 pub mod CourtLemmas
-pub mod LinesLemmas
 pub mod SpanLemmas

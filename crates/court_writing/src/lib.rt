@@ -6,11 +6,9 @@ mod courts;
 mod days;
 mod fault;
 mod holiday;
-mod lines;
 mod listed;
 mod lists;
 mod notes;
-mod sources;
 mod writing;
 mod zones;
 

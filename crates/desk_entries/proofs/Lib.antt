@@ -2,7 +2,6 @@ pub mod CallerLemmas
 pub mod ChangeLemmas
 pub mod CountLemmas
 pub mod CaseLemmas
-pub mod NextLineLemmas
 pub mod DecidedLemmas
 pub mod EntryLemmas
 pub mod ExportLemmas
@@ -19,5 +18,4 @@ pub mod PlaceLemmas
 pub mod QuestionLemmas
 pub mod RegisterLemmas
 pub mod RunLemmas
-pub mod ShiftLemmas
 pub mod StrikingLemmas

@@ -5,7 +5,6 @@ mod asking;
 mod batch;
 mod fault;
 mod gather;
-mod keeper;
 mod lines;
 mod outcome;
 mod publish;

@@ -35,7 +35,7 @@ impl Outcome {
     {
         match self {
             Outcome::Refused => !keep_refused,
-            Outcome::Fault | Outcome::Held => true,
+            Outcome::Held => true,
             _ => false,
         }
     }

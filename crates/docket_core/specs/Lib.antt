@@ -1,4 +1,6 @@
+pub mod Changes
 pub mod Docket
 pub mod Memory
+pub mod Rebooking
 pub mod Words
-pub mod Inside
+pub mod Written

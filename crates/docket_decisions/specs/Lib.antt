@@ -1,4 +1,5 @@
 pub mod Changes
+pub mod Holidays
 pub mod Memory
+pub mod Next
 pub mod Words
-pub mod Inside

@@ -6,7 +6,6 @@ mod escaping;
 mod frame;
 mod laws;
 mod page;
-mod style;
 mod tag;
 
 pub use frame::{begin_page, end_page};

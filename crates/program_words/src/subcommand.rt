@@ -30,8 +30,6 @@ pub(crate) enum Subcommand {
     Report,
     /// `memo`.
     Memo,
-    /// `sheet`.
-    Sheet,
     /// `court`, with no word after it.
     Court,
     /// `court check`.
@@ -58,7 +56,6 @@ pub(crate) fn meant(name: &str) -> Subcommand
         "check" => Subcommand::Check,
         "rows" => Subcommand::Rows,
         "memo" => Subcommand::Memo,
-        "sheet" => Subcommand::Sheet,
         "court" => Subcommand::Court,
         _ => Subcommand::Report,
     }

@@ -1,10 +1,8 @@
 //! What words ask for.
 
-use court_clock::Instant;
+use court_clock::Day;
 use court_file_check::Asked as CheckAsked;
 use court_writing::CourtName;
-use desk_warnings::HeldBack;
-use program_main::DaySaid;
 use report_memo::Asked as MemoAsked;
 use report_program::Asked as ReportAsked;
 use row_fields::DateOrder;
@@ -16,9 +14,9 @@ pub enum Task {
     /// `init`: a new folder, and the court's file that it begins with.
     Init(String, String),
     /// `enter`: rows, which are kept in the folder and answered.
-    Enter(String, Lines, HeldBack, Keeping),
+    Enter(String, Lines, Option<Warnings>, Keeping),
     /// `try`: rows, which are answered as `enter` would, and not kept.
-    Try(String, Lines, HeldBack),
+    Try(String, Lines, Option<Warnings>),
     /// `ask`: questions, which are answered.
     Ask(String, Lines),
     /// `plain`: rows as people write them, which are written as plain rows.
@@ -33,7 +31,7 @@ pub enum Task {
     Check(String),
     /// `rows`: the court's file and the rows, as clerk_office reads them.
     Rows(String),
-    /// `due`, `week`, `page`, `ics`, `json`, `sql` or `sheet`.
+    /// `due`, `week`, `page`, `ics`, `json` or `sql`.
     Report(Source, ReportAsked),
     /// `memo`.
     Memo(Source, MemoAsked),
@@ -74,6 +72,13 @@ pub struct Style {
     pub json: bool,
 }
 
+/// Rows that draw a warning are held back.
+#[derive(Clone, Copy, Debug)]
+pub struct Warnings {
+    /// The day that counts as today, if there is one.
+    pub today: Option<Day>,
+}
+
 /// Which rows are kept.
 #[derive(Clone, Copy, Debug)]
 pub enum Keeping {
@@ -93,9 +98,7 @@ pub struct Striking {
     /// By whom, in one line.
     pub by: String,
     /// On which day.
-    pub today: DaySaid,
-    /// The instant that the clock shows, by which it is today.
-    pub clock_time: Instant,
+    pub today: Day,
     /// Whether it is struck though answers differ.
     pub accept: bool,
 }

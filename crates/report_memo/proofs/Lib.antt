@@ -3,5 +3,7 @@ pub mod AskedLemmas
 pub mod DocketLemmas
 pub mod MarginLemmas
 pub mod MemoLemmas
+pub mod NamesLemmas
 pub mod ReplyLemmas
+pub mod RowLemmas
 pub mod TextLemmas

@@ -1,3 +1,6 @@
+pub mod Names
+pub mod Labels
+pub mod Doubtful
 pub mod Texts
 pub mod Reasons
 pub mod Sources

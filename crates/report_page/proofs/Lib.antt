@@ -1,2 +1,1 @@
 pub mod MarkupLemmas
-pub mod RowLemmas

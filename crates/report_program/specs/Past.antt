@@ -1,30 +1,26 @@
 -- What a calendar program is told beside the rows that stand, so that what it shows never goes back: what rows did that are struck
--- now, what rows gave, and that rows were struck or another court's file was taken.
+-- now, and that rows were struck or another court's file was taken.
 use Rattle.std.specs.Prelude.{ℕ, ◌+◌, List, [], ◌∷◌, ◌++◌, Option, Some, None, nat_le, if◌then◌else◌}
-use Rattle.std.specs.List.{filter_map, flat_map}
+use Rattle.std.specs.List.{flat_map}
 use Rattle.docket_rows.specs.declared.answer.Answer.TheVariants.{Booked}
 use Rattle.docket_selection.specs.declared.changes.change.Change.{Change}
 use Rattle.docket_selection.specs.declared.changes.change.Change.TheVariants.{Days, Deadline, Hearing}
 use Rattle.docket_selection.specs.declared.changes.change.RowChange.{RowChange}
-use Rattle.docket_selection.specs.declared.item.DueItem.{DueItem}
 use Rattle.docket_selection.specs.Changes.Words.{change_made}
 use Rattle.row_forms.specs.declared.numbered.NumberedRow.{NumberedRow}
 use Rattle.row_forms.specs.declared.row.Work.{Work}
 use Rattle.row_forms.specs.declared.row.Work.TheVariants.{Command, Query}
-use Rattle.desk_numbers.specs.declared.given.Given.{Given}
-use Rattle.report_program.specs.Lost.{lost_by}
 
--- the rows that are struck, by row what it gave, how many rows there were when one was struck or another court's file was taken last,
--- and how often that was done
+-- the rows that are struck, how many rows there were when one was struck or another court's file was taken last, and how often that
+-- was done
 pub record PastView : Type 0 where
   pub struck : List NumberedRow
-  pub given : List (Option Given)
   pub rows_before : ℕ
   pub corrections : ℕ
 
 -- of an input, in which nothing is struck
 abbrev pub no_past : PastView
-no_past = record { struck = []; given = []; rows_before = 0; corrections = 0 }
+no_past = record { struck = []; rows_before = 0; corrections = 0 }
 
 -- what a row that is struck now asked for, as if it had been done
 abbrev pub change_asked : (number : ℕ) → Work → Option RowChange
@@ -47,10 +43,6 @@ struck_change n = and_undone (change_asked n.number n.row.work)
 -- All that, and then a change of the court's days by the last row before the last correction: what rests on any row may have changed.
 abbrev pub changes_since : PastView → List RowChange
 changes_since past = flat_map struck_change past.struck ++ record { row = past.rows_before; change = Days } ∷ []
-
--- the deadlines that rows started which are struck
-abbrev pub lost_since : PastView → List DueItem
-lost_since past = filter_map (lost_by past.given) past.struck
 
 -- A revision after so many corrections, each of which counts as a row does; one that 64 bits don't hold stays.
 abbrev pub later_by : (corrections revision : ℕ) → ℕ

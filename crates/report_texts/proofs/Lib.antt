@@ -1,3 +1,2 @@
 pub mod CallerLemmas
 pub mod GridLemmas
-pub mod HolidayLemmas

@@ -1,2 +1,4 @@
+pub mod First
+pub mod Plain
 pub mod Line
 pub mod Words

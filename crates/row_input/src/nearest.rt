@@ -95,8 +95,7 @@ fn nearest_in(
             let names = rooms_of(alloc, court)?;
             nearest_of(alloc, word, &names)
         }
-        Column::Period | Column::Deadline => nearest_code(alloc, found, word),
-        Column::Motion => nearest_of(alloc, word, &["last"]),
+        Column::Period => nearest_code(alloc, found, word),
         Column::ServiceOrNone => nearest_of(
             alloc,
             word,

@@ -8,8 +8,7 @@ use crate::stored::push_name;
 use crate::sums::push_sum;
 use court_clock::Instant;
 use program_main::OptionsFault;
-use program_runs::{OfficeFault, Report, ended_by, missing, refused, run_report};
-use program_streams::Watched;
+use program_streams::{OfficeFault, Report, Watched, ended_by, missing, refused, run_report};
 use program_words::{Task, asked_of};
 use std::alloc::{AllocError, Global};
 use std::sync::Wait;
@@ -102,7 +101,7 @@ fn run_of<H: Threads + Wait + Sync, P: Report>(
 }
 
 // The first instant of 1970, which the clock shows in these runs.
-pub(crate) fn first_instant() -> Instant {
+fn first_instant() -> Instant {
     match Instant::new(0) {
         Some(instant) => instant,
         None => unreachable!(),
@@ -121,7 +120,7 @@ fn words_of<'a>(alloc: Global, line: &'a str) -> Result<Vec<&'a str>, AllocError
 }
 
 // Adds how a run ended, where it isn't with status 0.
-pub(crate) fn push_ending(
+fn push_ending(
     alloc: Global,
     output: &mut Vec<u8>,
     status: u8,

@@ -2,7 +2,6 @@
 #![tactic(auto)]
 
 mod calendar;
-mod calls;
 mod desk;
 mod lines;
 mod made;

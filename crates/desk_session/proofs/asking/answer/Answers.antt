@@ -1,13 +1,165 @@
-use Rattle.std.proofs.lemmas.Result.{on_ok_weaker}
-use Rattle.desk_session.specs.Lines.{lines_of}
-use Rattle.desk_session.proofs.PromiseLemmas.{all_told, front_of_all}
+use Rattle.std.proofs.Common.{◌≡◌, ◌∙◌, ◌<◌, inl, inr, ℕ, List, [], ◌++◌, take, length, refl, sym, ap, subst, arith}
+use Rattle.std.specs.Prelude.{IfSome}
+use Rattle.std.proofs.lemmas.Grind.{common_steps}
+use Rattle.std.proofs.lemmas.Result.{IfOk-weaker, err_from_is_err_and, on_ok_weaker}
+use Rattle.std.proofs.KnownBytes.{Appends-nil, Appends-trans, Consumes-all, Consumes-kept, Consumes-nil, Consumes-trans}
+use Rattle.std.specs.Io.KnownBytes.{Appends}
+use Rattle.program_streams.specs.Words.{AppendsFront, has_failed, read_calls, watched}
+use Rattle.desk_session.specs.declared.outcome.Tally.{Tally}
+use Rattle.desk_session.specs.Lines.{lines_from, lines_of, unfinished_from, unfinished_of}
+use Rattle.desk_session.specs.Outcomes.{no_lines, tally_after, tally_of}
+use Rattle.desk_session.specs.Taken.{left_by, told_to}
+use Rattle.desk_session.proofs.EndLemmas.{all_calls, counted_more, counted_none, ended_so, has_ended_now, has_failed_now}
+use Rattle.desk_session.proofs.FaultLemmas.{stops_ends}
+use Rattle.desk_session.proofs.LineLemmas.{lines_from-append, unfinished_from-append}
+use Rattle.desk_session.proofs.OutcomeLemmas.{counted-append, none_counted}
+use Rattle.desk_session.proofs.PromiseLemmas.{front_more, none_read, nothing_said, whole_front, whole_input}
+use Rattle.desk_session.proofs.TakenLemmas.{all_left, none_left, told_to-append, told_to-nil}
 use Rattle.desk_session.proofs.asking.answer.Goals as goal
 
-pub returns-clause-answered : goal.returns-clause-answered
-returns-clause-answered g c = λ kept stands.
-    on_ok_weaker c.serve_lines.result (all_told (g.O.Register.leaves c.args.setup.now) (g.O.Register.answers c.args.setup.now) _ _ kept lines_of _ _ _) (c.serve_lines.ensures.served kept tt stands)
+pub returns-in_err-buffer-clause-front : goal.returns-in_err-buffer-clause-front
+unfolding lines_from
+returns-in_err-buffer-clause-front g c = λ kept stands. (
+  [],
+  Consumes-nil _,
+  nothing_said (g.O.Register.leaves c.args.setup.now) (g.O.Register.answers c.args.setup.now) _ kept,
+)
+
+pub reads-init : goal.reads-init
+unfolding lines_from unfinished_from
+reads-init g c = (
+  [],
+  Consumes-nil _,
+  c.new-begun.ensures.items,
+  c.requires.writer_works,
+  counted_none (read_calls c.args.reader.now),
+  λ kept stands. (
+    c.new-tally.ensures ∙ sym (none_counted (g.O.Register.leaves c.args.setup.now) (g.O.Register.outcome c.args.setup.now) no_lines kept),
+    subst (g.O.Register.stands c.args.setup.now c.args.register.now) (sym (none_left (g.O.Register.leaves c.args.setup.now) (g.O.Register.answers c.args.setup.now) kept)) stands,
+    subst (Appends _ _) (sym (told_to-nil (g.O.Register.leaves c.args.setup.now) (g.O.Register.answers c.args.setup.now) kept)) (Appends-nil _),
+  ),
+)
+
+pub returns-in-Err-clause-front : goal.returns-in-Err-clause-front
+returns-in-Err-clause-front g c = λ kept stands.
+    let (bytes, consumed, begun, working, calls, answered) = c.reads.invariant in (
+      bytes,
+      Consumes-kept _ _ _ bytes consumed c.in-Err.ensures.bytes,
+      whole_front (g.O.Register.leaves c.args.setup.now) (g.O.Register.answers c.args.setup.now) _ _ _ (answered kept stands).2,
+    )
+
+pub returns-then-count-eq0-clause-front : goal.returns-then-count-eq0-clause-front
+returns-then-count-eq0-clause-front g c = λ kept stands.
+    let (bytes, consumed, begun, working, calls, answered) = c.reads.invariant in (
+      bytes,
+      none_read _ _ _ bytes c.read.new.buf c.in-Ok.count consumed c.in-Ok.ensures.bytes.0 c.if-count-eq0.true,
+      whole_front (g.O.Register.leaves c.args.setup.now) (g.O.Register.answers c.args.setup.now) _ _ _ (answered kept stands).2,
+    )
+
+pub returns-then-count-eq0-clause-answered : goal.returns-then-count-eq0-clause-answered
+returns-then-count-eq0-clause-answered g c = λ kept stands.
+    let (bytes, consumed, begun, working, calls, answered) = c.reads.invariant in
+    let room : 0 < length c.read.new.buf = grind (arith, common_steps) in
+    let last = none_read _ _ _ bytes c.read.new.buf c.in-Ok.count consumed c.in-Ok.ensures.bytes.0 c.if-count-eq0.true in
+    let all = Consumes-all _ _ bytes [] bytes last (c.in-Ok.ensures.bytes.1 c.if-count-eq0.true room) refl in
+    on_ok_weaker c.ended.result (λ none. whole_input _ _ bytes all (answered kept stands).2) c.ended.ensures.finished
+
+pub returns-then-count-eq0-clause-finished : goal.returns-then-count-eq0-clause-finished
+returns-then-count-eq0-clause-finished g c =
+    let (bytes, consumed, begun, working, calls, answered) = c.reads.invariant in
+    let room : 0 < length c.read.new.buf = grind (arith, common_steps) in
+    let last = none_read _ _ _ bytes c.read.new.buf c.in-Ok.count consumed c.in-Ok.ensures.bytes.0 c.if-count-eq0.true in
+    let all = Consumes-all _ _ bytes [] bytes last (c.in-Ok.ensures.bytes.1 c.if-count-eq0.true room) refl in
+    on_ok_weaker c.ended.result (λ none. whole_input _ (λ input. unfinished_of input ≡ []) bytes all (sym begun ∙ none)) c.ended.ensures.finished
+
+pub returns-in_err-answer_bytes-in-Ok-clause-front : goal.returns-in_err-answer_bytes-in-Ok-clause-front
+returns-in_err-answer_bytes-in-Ok-clause-front g c = λ kept stands.
+    let (bytes, consumed, begun, working, calls, answered) = c.reads.invariant in
+    let leaves = g.O.Register.leaves c.args.setup.now in
+    let answers = g.O.Register.answers c.args.setup.now in
+    let more = take c.in-Ok.count c.read.new.buf in
+    let (counted_so, ready, told_so) = answered kept stands in
+    let second = c.answer_bytes.ensures.front (kept ++ left_by leaves kept (lines_of bytes)) ready in
+    let lines = ap (λ (b : List ℕ). lines_of bytes ++ lines_from b more) begun ∙ sym (lines_from-append [] bytes more) in (
+      bytes ++ more,
+      Consumes-trans _ _ _ bytes more consumed c.in-Ok.ensures.bytes.0,
+      subst (λ (l : List (List ℕ)). AppendsFront (g.W.Write.contents (watched c.args.writer.now)) (g.W.Write.contents (watched c.answer_bytes.new.writer)) (told_to leaves answers kept l)) lines
+          (front_more leaves answers kept (lines_of bytes) (lines_from c.reads.begun.items more) (g.W.Write.contents (watched c.args.writer.now)) (g.W.Write.contents (watched c.reads.writer)) (g.W.Write.contents (watched c.answer_bytes.new.writer)) told_so second),
+    )
+
+pub reads-preserved : goal.reads-preserved
+reads-preserved g c =
+    let (bytes, consumed, begun, working, calls, answered) = c.reads.invariant in
+    let leaves = g.O.Register.leaves c.args.setup.now in
+    let answers = g.O.Register.answers c.args.setup.now in
+    let more = take c.in-Ok.count c.read.new.buf in
+    let lines = ap (λ (b : List ℕ). lines_of bytes ++ lines_from b more) begun ∙ sym (lines_from-append [] bytes more) in
+    let stands_then : List (List ℕ) → Type 0 = g.O.Register.stands c.args.setup.now c.answer_bytes.new.register in (
+      bytes ++ more,
+      Consumes-trans _ _ _ bytes more consumed c.in-Ok.ensures.bytes.0,
+      c.in_ok-answer_bytes-in-Ok.ensures.begun ∙ ap (λ (b : List ℕ). unfinished_from b more) begun ∙ sym (unfinished_from-append [] bytes more),
+      c.in_ok-answer_bytes-in-Ok.ensures.working,
+      counted_more (read_calls c.args.reader.now) c.reads.counter (read_calls c.reads.reader) (read_calls c.read.new.self) calls c.read.ensures.calls,
+      λ kept stands.
+          let (counted_so, ready, told_so) = answered kept stands in
+          let outcome = g.O.Register.outcome c.args.setup.now in
+          let tally = c.in_ok-answer_bytes-in-Ok.ensures.tally (kept ++ left_by leaves kept (lines_of bytes)) ready in
+          let then = c.in_ok-answer_bytes-in-Ok.ensures.stands (kept ++ left_by leaves kept (lines_of bytes)) ready in
+          let told = c.in_ok-answer_bytes-in-Ok.ensures.told (kept ++ left_by leaves kept (lines_of bytes)) ready in (
+            tally
+                ∙ ap (λ (t : Tally). tally_after leaves outcome t (kept ++ left_by leaves kept (lines_of bytes)) (lines_from c.reads.begun.items more)) counted_so
+                ∙ sym (counted-append leaves outcome no_lines kept (lines_of bytes) (lines_from c.reads.begun.items more))
+                ∙ ap (tally_of leaves outcome kept) lines,
+            subst (λ (l : List (List ℕ)). stands_then (kept ++ left_by leaves kept l)) lines (subst stands_then (sym (all_left leaves answers kept (lines_of bytes) (lines_from c.reads.begun.items more))) then),
+            subst (λ (l : List (List ℕ)). Appends (g.W.Write.contents (watched c.args.writer.now)) (g.W.Write.contents (watched c.answer_bytes.new.writer)) (told_to leaves answers kept l)) lines
+                (subst (Appends (g.W.Write.contents (watched c.args.writer.now)) (g.W.Write.contents (watched c.answer_bytes.new.writer))) (sym (told_to-append leaves answers kept (lines_of bytes) (lines_from c.reads.begun.items more)))
+                (Appends-trans (g.W.Write.contents (watched c.args.writer.now)) (g.W.Write.contents (watched c.reads.writer)) (g.W.Write.contents (watched c.answer_bytes.new.writer)) _ _ told_so told)),
+          ),
+    )
 
 pub returns-clause-front : goal.returns-clause-front
 returns-clause-front g c = λ kept stands.
-    let (bytes, read, promised) = c.serve_lines.ensures.promised kept tt stands in
-    (bytes, read, front_of_all (g.O.Register.leaves c.args.setup.now) (g.O.Register.answers c.args.setup.now) kept _ _ _ _ _ promised)
+    let (bytes, consumed, begun, working, calls, answered) = c.reads.invariant in
+    (bytes, consumed, whole_front (g.O.Register.leaves c.args.setup.now) (g.O.Register.answers c.args.setup.now) _ _ _ (answered kept stands).2)
+
+pub returns-then-count-eq0-clause-tally : goal.returns-then-count-eq0-clause-tally
+returns-then-count-eq0-clause-tally g c = λ kept stands.
+    let (bytes, consumed, begun, working, calls, answered) = c.reads.invariant in
+    let leaves = g.O.Register.leaves c.args.setup.now in
+    let outcome = g.O.Register.outcome c.args.setup.now in
+    let room : 0 < length c.read.new.buf = grind (arith, common_steps) in
+    let last = none_read _ _ _ bytes c.read.new.buf c.in-Ok.count consumed c.in-Ok.ensures.bytes.0 c.if-count-eq0.true in
+    let all = Consumes-all _ _ bytes [] bytes last (c.in-Ok.ensures.bytes.1 c.if-count-eq0.true room) refl in
+    let count = (answered kept stands).0 in
+    IfOk-weaker c.ended.result (λ t. t ≡ c.reads.tally) (λ t. IfSome (g.R.Read.remaining (watched c.args.reader.now)) (λ input. t ≡ tally_of leaves outcome kept (lines_of input)))
+    (λ t is. whole_input _ (λ input. t ≡ tally_of leaves outcome kept (lines_of input)) bytes all (is ∙ count)) c.ended.ensures.tally
+
+pub returns-in_err-buffer-clause-fault : goal.returns-in_err-buffer-clause-fault
+returns-in_err-buffer-clause-fault g c =
+    let p = err_from_is_err_and c.from_residual.result c.from_residual.ensures.1 in
+    rw (p.1, p.2) ([], Consumes-nil _, tt)
+
+pub returns-in-Err-clause-fault : goal.returns-in-Err-clause-fault
+returns-in-Err-clause-fault g c =
+    let (bytes, consumed, begun, working, calls, answered) = c.reads.invariant in
+    (bytes, Consumes-kept _ _ _ bytes consumed c.in-Err.ensures.bytes, inl (has_failed_now _ _ c.read.result _ c.read.ensures.failed c.in-Err.is))
+
+pub returns-then-count-eq0-clause-fault : goal.returns-then-count-eq0-clause-fault
+returns-then-count-eq0-clause-fault g c =
+    let (bytes, consumed, begun, working, calls, answered) = c.reads.invariant in
+    let room : 0 < length c.read.new.buf = grind (arith, common_steps) in
+    let last = none_read _ _ _ bytes c.read.new.buf c.in-Ok.count consumed c.in-Ok.ensures.bytes.0 c.if-count-eq0.true in
+    ended_so c.read.new.self c.reads.writer _ _ bytes c.reads.begun.items c.ended.result last (has_ended_now _ _ c.read.result c.in-Ok.count c.read.new.buf c.read.ensures.ended c.in-Ok.is c.if-count-eq0.true room) begun c.ended.ensures.fault
+
+pub returns-in_err-answer_bytes-in-Ok-clause-fault : goal.returns-in_err-answer_bytes-in-Ok-clause-fault
+returns-in_err-answer_bytes-in-Ok-clause-fault g c =
+    let (bytes, consumed, begun, working, calls, answered) = c.reads.invariant in
+    let more = take c.in-Ok.count c.read.new.buf in
+    let p = err_from_is_err_and c.from_residual-in_err-answer_bytes-in-Ok.result c.from_residual-in_err-answer_bytes-in-Ok.ensures.1 in
+    rw (p.1, p.2)
+    (bytes ++ more, Consumes-trans _ _ _ bytes more consumed c.in-Ok.ensures.bytes.0, stops_ends c.read.new.self c.answer_bytes.new.writer bytes more c.reads.begun.items _ begun c.in_err-answer_bytes-in-Ok.ensures.fault)
+
+pub returns-clause-fault : goal.returns-clause-fault
+returns-clause-fault g c =
+    let (bytes, consumed, begun, working, calls, answered) = c.reads.invariant in
+    (bytes, consumed, inr (all_calls (read_calls c.args.reader.now) c.reads.counter (read_calls c.reads.reader) calls (omega (arith, c.reads-test.false))))

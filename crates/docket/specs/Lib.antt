@@ -1,5 +1,0 @@
-pub mod Endings
-pub mod Folder
-pub mod Lines
-pub mod Reports
-pub mod Sessions

@@ -1,2 +1,0 @@
--- What only proofs rest on, and no reader has to believe.
-pub mod CanSet
