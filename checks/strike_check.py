@@ -166,19 +166,13 @@ def sequences(desk):
     return events
 
 
-def refused_now(replay, lines):
-    """The hearings whose rows stand and are refused now: nothing says of them that they were set before."""
-    rows = [line.decode().split(",") for line, answer in zip(lines, replay.answers) if answer is not None and b" refused " in answer]
-    return {"case-{}-motion-{}@jerghuma".format(*fields[2:4]) for fields in rows if fields[1] in ("book", "move")}
-
-
-def compare_calendars(before, after, replay, lines, what):
+def compare_calendars(before, after, what):
     """What a calendar program takes of the calendar after a strike: no SEQUENCE falls, what an event says otherwise has a higher one,
-    and no hearing vanishes, but for one whose row is refused now."""
+    and no hearing vanishes."""
     for uid, (old, said) in before.items():
         new, says = after.get(uid, (old, said))
         assert new > old or new == old and said == says, (what, uid, before[uid], after[uid])
-        assert uid in after or "-deadline-" in uid or uid in refused_now(replay, lines), (what, uid)
+        assert uid in after or "-deadline-" in uid, (what, uid)
 
 
 def report(desk, *words):
@@ -294,7 +288,7 @@ def check_docket(programs, draw):
                 assert ended.status == 0 and ended.output == text, (row, ended, text)
             struck, given = struck | {row}, after.given
             compare(desk, after, (lines, row))
-            compare_calendars(calendar, sequences(desk), after, lines, (lines, row))
+            compare_calendars(calendar, sequences(desk), (lines, row))
             assert b"rows kept: %d," % len(lines) in desk.call("check").output
         numbers = list(given.values())
         assert len(set(numbers)) == len(numbers), "a number was given twice"
