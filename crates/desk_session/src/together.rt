@@ -30,7 +30,7 @@ pub struct StoppedLine {
     pub held: bool,
 }
 
-// What comes after so many bytes of a text.
+// A text without this many of its first bytes.
 fn bytes_after(text: &[u8], count: usize) -> &[u8]
     ensures { result.now ≡ drop count text.now }
 {

@@ -43,7 +43,7 @@ order_of text = if bytes_eq text (codes "month-first") then Some MonthFirst else
 abbrev pub is_digits : Text → Bool
 is_digits text = nat_le 1 (length text) && (nat_le (length text) 9 && list_all is_ascii_digit text)
 
--- a number, of so many digits
+-- the number that one to nine digits say
 abbrev pub number_of : Text → Option ℕ
 number_of text = if is_digits text then Some (digits_value 10 text) else None
 

@@ -1,5 +1,5 @@
--- What a calendar program is told beside the rows that stand, so that what it shows never goes back: what rows did that are struck
--- now, and that rows were struck or another court's file was taken.
+-- What a calendar program needs to know beside the rows that count, so that it never goes back to what it showed before: what the
+-- struck rows had done, and when rows were struck or another court's file was taken.
 use Rattle.std.specs.Prelude.{ℕ, ◌+◌, List, [], ◌∷◌, ◌++◌, Option, Some, None, nat_le, if◌then◌else◌}
 use Rattle.std.specs.List.{flat_map}
 use Rattle.docket_rows.specs.declared.answer.Answer.TheVariants.{Booked}
@@ -44,6 +44,6 @@ struck_change n = and_undone (change_asked n.number n.row.work)
 abbrev pub changes_since : PastView → List RowChange
 changes_since past = flat_map struck_change past.struck ++ record { row = past.rows_before; change = Days } ∷ []
 
--- A revision after so many corrections, each of which counts as a row does; one that 64 bits don't hold stays.
+-- A revision plus the number of corrections, since each counts as a row does. If the sum needs more than 64 bits, it is left as it is.
 abbrev pub later_by : (corrections revision : ℕ) → ℕ
 later_by corrections revision = if nat_le (revision + corrections) 18_446_744_073_709_551_615 then revision + corrections else revision

@@ -16,7 +16,8 @@ use docket_selection::{Choice, DueItem, DueTypes, HearingHistories, RowChange, d
 use report_ics::icalendar;
 use std::alloc::{AllocError, Global};
 
-/// The calendar of what is chosen of the docket, after these changes and so many corrections, written at an instant. `Err` says that memory ran out.
+/// The calendar of what is chosen of the docket after these changes and this number of corrections, written at an instant. `Err`
+/// says that memory ran out.
 pub(crate) fn ics_text(
     alloc: Global,
     court: &Court,

@@ -128,7 +128,7 @@ pub(crate) fn push_since(changes: &mut Vec<RowChange>, past: &Past) -> Result<()
     Ok(())
 }
 
-/// A revision after so many corrections.
+/// A revision plus the number of corrections.
 pub(crate) fn later_by(corrections: u64, revision: u64) -> u64
     ensures { result ≡ later_by corrections revision }
 {

@@ -175,7 +175,7 @@ fn begins_a_code(alloc: Global, number: &str) -> Result<bool, AllocError> {
     Ok(false)
 }
 
-/// What is said of so many entered periods: all of them, or where they are.
+/// What is said of a number of entered periods: all of them, or where they are.
 fn said_of(alloc: Global, listed: String, count: usize) -> Result<String, AllocError> {
     if count > MOST_LISTED {
         return String::from_str(alloc, "docs/RULES.md says how its periods are entered");
