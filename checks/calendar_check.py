@@ -10,8 +10,9 @@ cases have names (lib/given_docket.py), and each is called by its name. A page i
 markup is looked at too (lib/pages.py). What it says of the reasons of a deadline must be the lines of `docket memo`. In half of
 the inputs rows are given to several clerks (lib/several_clerks.py), which changes nothing. A faulty input must end both
 programs alike, and so must names that no court's file may have, such as `<b>`. Words that write no day, no instant or no case
-must be refused. A judge, a case or the day of a week that isn't there must end the program with status 6 and one line on
-standard error, in each format. It needs Python 3.8 or later; the status is 0 where all is alike.
+must be refused, and words such as `friday` or `+7d` must say the days that this script finds by them. A judge, a case or the day
+of a week that isn't there must end the program with status 6 and one line on standard error, in each format. It needs Python 3.8
+or later; the status is 0 where all is alike.
 """
 import datetime
 import random
@@ -36,7 +37,8 @@ LONG = ["Calloway-Montgomery_von.Humboldt", "-_.-_.-_.-_.-_.-_.-_.-_.-_.-_.-_"]
 # The formats that take a judge and a case.
 CHOOSING = ["due", "page", "ics", "json"]
 # Words that write no day, no instant or no case, the option that is wrong, and what it says is wanted.
-A_DAY = "write a day as 2025-09-15"
+A_DAY = "write a day as 2025-09-15, today, tomorrow, yesterday, monday to sunday, +7d or -3d"
+WEEKDAYS = ["monday", "tuesday", "wednesday", "thursday", "friday", "saturday", "sunday"]
 A_CASE = "write a case as its number, 1 to 4096, or as 1:25-cv-01234-ABC"
 NO_TIMES = [
     (["due", "--from", "2025-13-45"], "from <DAY>", A_DAY),
@@ -288,6 +290,37 @@ def refuses_no_times(programs):
     return None
 
 
+def said_day(today, said):
+    """The day that is said, by today."""
+    if said in WEEKDAYS:
+        return today + datetime.timedelta((WEEKDAYS.index(said) - today.weekday()) % 7)
+    return today + datetime.timedelta({"today": 0, "tomorrow": 1, "yesterday": -1}.get(said) if said.isalpha() else int(said[:-1]))
+
+
+def reads_other_days(programs):
+    """What is wrong with the days that words say, by a day that counts as today and by the clock in the court's zone, or none."""
+    court = 'zone = "{}"\nopens = "09:00"\ncloses = "17:00"\nfrom = "2015-01-01"\nto = "2099-12-31"\nfederal = []\nstate = []\n' \
+            'judges = ["Ames"]\nrooms = ["R1"]\n%%\n'
+    saids = [*WEEKDAYS, "today", "tomorrow", "yesterday", "+0d", "+7d", "+400d", "-3d", "-0d", "-366d"]
+
+    def due(zone, *words):
+        return programs.report(["due", *words], court.format(zone).encode()).texts()[1].split("\n")[0]
+
+    for today in (datetime.date(2024, 2, 26) + datetime.timedelta(count) for count in range(8)):
+        for said in saids:
+            day = said_day(today, said)
+            line = due("-05:00", "--today", str(today), "--from=" + said, "--to=" + said)
+            if line != "Due from {0} to {0}".format(named(day)):
+                return "{} by {}: {}".format(said, today, line)
+    for zone, hours in (("-10:00", -10), ("+10:00", 10)):
+        now = [datetime.datetime.now(datetime.timezone.utc) + datetime.timedelta(hours=hours)]
+        line = due(zone, "--from", "today", "--to", "tomorrow")
+        now.append(datetime.datetime.now(datetime.timezone.utc) + datetime.timedelta(hours=hours))
+        if line not in ["Due from {} to {}".format(named(day), named(said_day(day, "tomorrow"))) for day in (time.date() for time in now)]:
+            return "today in the zone {}: {}".format(zone, line)
+    return None
+
+
 def made_words(chance, names, court, docket, sheets, reasons):
     """Words, and what is wrong with how the program ends that is called with them, or none."""
     def is_text(lines):
@@ -358,7 +391,7 @@ def differs(chance, given):
 def main(words):
     programs, (seed, count) = programs_of(words[:2]), seed_and_count(words[2:], 200)
     compared = 0
-    wrong = refuses_hostile_names(programs) or refuses_no_times(programs)
+    wrong = refuses_hostile_names(programs) or refuses_no_times(programs) or reads_other_days(programs)
     if wrong:
         sys.exit(wrong)
     for number in range(count):

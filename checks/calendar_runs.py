@@ -2,25 +2,33 @@
 """Runs the reports of docket on the runs of runs/calendar, and compares what they write with what is stored.
 
     calendar_runs.py DOCKET
-    calendar_runs.py --write DOCKET
+    calendar_runs.py --write DOCKET [NAME ..]
 
-With --write what is stored is made anew. What is due, a judge's week and the answers of a desk are the text of the reference
-in plain Python, and the rows that a desk writes are those of the input. A page, a calendar, JSON and SQL are what DOCKET
-writes, and they are stored only where the checks of these formats find that each says of the input what the reference and
-`docket memo` say (lib/calendar_faults.py); and a memo only where its reasons follow from one another, as derivations_check.py has
-it. Then runs_join.py puts the runs into the merge gate. It needs Python 3.8 or later
-and, with --write, what those checks need; the status is 0 where all is as it must be.
+With --write what is stored is made anew, of all runs or of those named. What is due, a judge's week and the answers of a desk to
+a large input are the text of the reference in plain Python, and the rows that a desk then writes are those of the input. A page,
+a calendar, JSON and SQL are what DOCKET writes, and they are stored only where the checks of these formats find that each says of
+the input what the reference and `docket memo` say (lib/calendar_faults.py); and a memo only where its reasons follow from one
+another, as derivations_check.py has it. The calls of a desk are DOCKET's, in a folder, and what it writes is to be read before it
+is stored: no reference knows it. Then runs_join.py puts the runs into the merge gate. It needs Python 3.8 or later and, with
+--write, what those checks need; the status is 0 where all is as it must be.
 """
 import datetime
+import pathlib
 import re
 import sys
+import tempfile
 
 from lib.given_docket import LAST_ROW, input_of
 from lib.memo_lines import closing_of, reasons_of
-from lib.programs import CHECKS, Programs, programs_of
+from lib.programs import CHECKS, Programs, programs_of, run as run_program
 from lib.runs_made import sum_of
-from lib.stored_calendars import data_of, is_of_desk, runs, wanted_of
+from lib.stored_calendars import calls_of, data_of, is_of_desk, runs, wanted_of
 from office_reference import answers_of
+from reference.court_file import court_of, split
+from reference.docket import STEPS, deadlines_of, opening, step
+from reference.periods import shown
+from reference.rows_in import rows_of
+from reference.text_out import shown_text
 
 # The reference, which answers as clerk_office does.
 REFERENCE = CHECKS / "office_reference.py"
@@ -70,23 +78,60 @@ def kept(run, text):
     return sum_of(text) if run.is_made else text
 
 
+def moved_lines(court, days, docket):
+    """A line for each deadline that ends otherwise now than it did by these days, with both ends."""
+    for case in sorted(case.number for case in docket.cases):
+        for deadline in deadlines_of(docket, case):
+            was, now = (shown_text(court, shown(by, court.clock, deadline.row)) for by in (days, docket.days))
+            if was != now:
+                yield "  case {} deadline {}: {}, now {}".format(case, deadline.number, was, now)
+
+
+def told(data):
+    """What a desk tells of each row: the answer of the reference, and after a holiday or an outage the deadlines that it moves."""
+    of_court, of_rows = split(data)
+    court = court_of(of_court)
+    docket = opening(court)
+    for answer, row in zip(answers_of(data), rows_of(of_rows, 1, court)):
+        yield from answer
+        if row.work[0] in STEPS:
+            days = docket.days
+            docket, _ = step(court, docket, row.work)
+            if docket.days != days:
+                yield from moved_lines(court, days, docket)
+
+
 def desk_kept(run):
-    """What is kept of a desk: its answers, which are those of the reference, and the rows that it writes, which are the input's."""
+    """What is kept of a desk: what it tells of the rows, by the reference, and the rows that it writes, which are the input's."""
     data = data_of(run)
-    answers = "".join(line + "\n" for answer in answers_of(data) for line in answer)
-    return kept(run, answers.encode()) + kept(run, data)
+    return kept(run, "".join(line + "\n" for line in told(data)).encode()) + kept(run, data)
 
 
-def write(programs):
-    """Makes what is stored anew."""
+def calls_text(programs, run):
+    """What the calls of a desk write in a folder, each after its line, and how it ended where it isn't well."""
+    text = b""
+    with tempfile.TemporaryDirectory() as folder:
+        for words, given in calls_of(run):
+            if "court.toml" in words:
+                (pathlib.Path(folder) / "court.toml").write_bytes(given)
+            ended = run_program([programs.docket, *words], given, cwd=folder)
+            text += "$ {}\n".format(" ".join(words)).encode() + ended.output
+            if ended.status != 0:
+                text += "status {}\n".format(ended.status).encode() + ended.errors
+    return text
+
+
+def write(programs, names):
+    """Makes what is stored of the runs of these names anew, or of all."""
     from lib.calendar_faults import fault_of
-    for data, is_made in sorted({(data_of(run), run.is_made) for run in runs()}):
+    asked = [run for run in runs() if not names or run.name in names]
+    for data, is_made in sorted({(data_of(run), run.is_made) for run in asked if run.is_made or not is_of_desk(run)}):
         fault = fault_of(input_of(programs, data), LARGE if is_made else SMALL)
         if fault:
             sys.exit(fault)
-    for run in runs():
+    for run in asked:
         if is_of_desk(run):
-            wanted_of(run).write_bytes(desk_kept(run))
+            wanted_of(run).write_bytes(desk_kept(run) if run.is_made else calls_text(programs, run))
             continue
         text = reference_text(run, programs) if run.words[0] in ("due", "week") else written(programs, run)
         fault = memo_fault(run, text) if run.words[0] == "memo" else None
@@ -95,15 +140,20 @@ def write(programs):
         wanted_of(run).write_bytes(kept(run, text))
 
 
+def text_now(programs, run):
+    """What is kept of what DOCKET writes of a run."""
+    return calls_text(programs, run) if is_of_desk(run) else kept(run, written(programs, run))
+
+
 def main(words):
-    if words[:1] == ["--write"] and len(words) == 2:
-        write(Programs(programs_of(words[1:]).docket, REFERENCE))
+    if words[:1] == ["--write"] and len(words) > 1:
+        write(Programs(programs_of(words[1:2]).docket, REFERENCE), words[2:])
         return
     if len(words) != 1:
-        sys.exit("usage: calendar_runs.py DOCKET | --write DOCKET")
+        sys.exit("usage: calendar_runs.py DOCKET | --write DOCKET [NAME ..]")
     programs = programs_of(words)
-    looked_at = [run for run in runs() if not is_of_desk(run)]
-    wrong = [run.name for run in looked_at if kept(run, written(programs, run)) != wanted_of(run).read_bytes()]
+    looked_at = [run for run in runs() if not (run.is_made and is_of_desk(run))]
+    wrong = [run.name for run in looked_at if text_now(programs, run) != wanted_of(run).read_bytes()]
     for name in wrong:
         print("{}: it isn't what is stored".format(name))
     print("{} passed, {} failed".format(len(looked_at) - len(wrong), len(wrong)))

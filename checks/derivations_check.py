@@ -208,9 +208,6 @@ def follow(calendar, deadline, texts, shown, more, first):
     expect(lines[:len(wanted)] == wanted, "the period is another")
     left = checked(calendar, deadline, lines[len(wanted):], shown)
     readings = [Line(*line) for line in other_readings.lines(calendar, asked(deadline))]
-    # (what becomes of a time in hours by the reading that a day is no holiday isn't looked at)
-    if (deadline.grants[-1][-1] if deadline.grants else deadline.length[0]) == "h":
-        left = [line for line in left if line.what != "other reading: " + other_readings.DOUBTFUL_DAY]
     expect(left[:len(readings)] == readings, "other readings give other ends")
     expect(left[len(readings):] == [Line(*line) for line in more], "other lines follow the reasons")
 

@@ -6,10 +6,11 @@
 The examples of examples/ of one clerk are entered in two sessions, and answered as by clerk_office. What is said of an
 empty folder, of one that has a journal, and of a second program is looked at. A question is asked and rows are tried beside
 a program that enters rows, rows that draw warnings are held back, plain, as written and kept together, rows are kept together
-or not at all, rows with faults are counted, a folder is filled with cases, cases have their numbers as courts write them, and a
-court is given another file. Then COUNT times (300 without it) a session is ended at a random moment, most of them killed, and
-COUNT / 3 times one that keeps its rows together, as desk_kill.py does it; COUNT / 10 inputs at random are compared, as
-desk_compare.py does it; and a short journal is damaged in its last COUNT / 2 bytes, as desk_damage.py does it. It needs Python
+or not at all, rows with faults are counted, a folder is filled with cases, cases have their numbers as courts write them,
+holidays and outages are answered with the deadlines that they move, and a court is given another file. Then COUNT times (300
+without it) a session is ended at a random moment, most of them killed, and COUNT / 3 times one that keeps its rows together,
+as desk_kill.py does it; COUNT / 10 inputs at random are compared, as desk_compare.py does it; and a short journal is damaged
+in its last COUNT / 2 bytes, as desk_damage.py does it. It needs Python
 3.8 or later.
 """
 import random
@@ -52,7 +53,7 @@ def check_folder(programs):
         ended = desk.call("init", "--court", parent + "/court.toml")
         assert ended.status == REFUSED and b"journal already" in ended.errors, ended
         ended = desk.call("enter", given=b"1,open,1,2025-03-03\n1,open,2,2025-03-03")
-        assert ended.status == REFUSED and ended.output == b"1 1 opened\n" and b"no end" in ended.errors, ended
+        assert ended.status == UNREAD and ended.output == b"1 1 opened\n" and b"no end" in ended.errors, ended
         assert desk.journal.read_bytes().startswith(whole[:-1])
         ended = run([programs.docket, "check", parent + "/nowhere"])
         assert ended.status != 0 and not ended.output and ended.errors.count(b"\n") == 1, ended
@@ -94,7 +95,7 @@ def check_trial(programs, draw):
             tried = desk.call("try", given=b"".join(rows))
             assert tried.status == FAULTY and tried.errors.startswith(b"1 of 202 rows "), tried
             again = desk.call("try", given=b"".join(rows) + b"1,sheet,2")
-            assert again.status == REFUSED and again.output == tried.output and b"nothing is kept" in again.errors, again
+            assert again.status == UNREAD and again.output == tried.output and b"nothing is kept" in again.errors, again
             assert desk.journal.read_bytes() == whole
             session.stdin.write(b"".join(rows))
             session.stdin.close()
@@ -268,7 +269,7 @@ def check_together(programs, draw):
                  b'line 4 fault 4 BadField 8: found "G", expected a kind of service, A to F, or nothing\n'
                  b'line 5 fault 4 BadField 3: found nothing, expected a number, as 7, or the number of a case that was opened, as 1:25-cv-01234\n'
                  b'line 6 fault 5 NotText: expected text in UTF-8\n', b"6 lines have faults", FAULTS),
-                (b"1,open,1,2025-03-03\n1,sheet,1", b"", b"no end", REFUSED),
+                (b"1,open,1,2025-03-03\n1,sheet,1", b"", b"no end", UNREAD),
                 (b"\n" * (LONGEST_INPUT + 1), b"", b"more than 16777216 bytes", UNREAD)):
             ended = desk.call("enter", TOGETHER, given=given)
             lines, last = told_of(ended)
@@ -339,7 +340,7 @@ def check_faulty(programs):
         assert len(rows_of(desk.read())) == 2
         # A last line with no end, and a reader that is gone, are said before it.
         ended = desk.call("enter", given=b"1,no,row\n1,open,2,2025-03-03")
-        assert ended.status == REFUSED and b"no end" in ended.errors, ended
+        assert ended.status == UNREAD and b"no end" in ended.errors, ended
     return "a session says at its end how many rows had faults"
 
 
@@ -399,6 +400,46 @@ def check_numbers(programs):
     return "cases by their numbers as the court writes them"
 
 
+# A deadline of a sheet: its number, and when it ends.
+ENDS = re.compile(rb"deadline (\d+) \S+ (last \S+|until \S+ \S+|beyond) ")
+# Cases and their deadlines: a filing, a time in hours, one to serve, one that is extended, and one that was met.
+MOVABLE = [b"1,open,25-cv-00007,2025-03-03\n", b"1,open,2,2025-03-03\n", b"1,open,3,2025-03-03\n",
+           b"1,start,25-cv-00007,59e,2025-08-04,,,\n", b"1,start,2,72h/after/filing/event/plain,2025-09-25,16:30,,\n",
+           b"1,start,2,59e,2025-03-03,,,\n", b"1,start,3,12a1Ai,2025-08-14,,,\n", b"1,start,3,59e,2025-08-05,,,\n",
+           b"1,extend,3,1,+14d,2025-08-20,09:00,no,yes,no\n", b"1,file,3,2,2025-09-02,10:00,electronic\n"]
+
+
+def ends_of(desk):
+    """When each deadline ends, by its case and its number, as the sheets say."""
+    case, ends = None, {}
+    for line in desk.call("ask", given=b"1,sheet,1\n1,sheet,2\n1,sheet,3\n").output.splitlines():
+        deadline = ENDS.match(line)
+        if deadline:
+            ends[case, deadline[1]] = deadline[2]
+        elif line.startswith(b"case "):
+            case = line.split()[1]
+    return ends
+
+
+def check_moves(programs, draw):
+    """A holiday or an outage is answered with each deadline that it moves, as the sheets before it and after it say; a row that is
+    refused moves none."""
+    with tempfile.TemporaryDirectory() as parent:
+        desk, moves = Desk(programs, parent, SHORT_COURT), 0
+        desk.enter(MOVABLE)
+        before = ends_of(desk)
+        assert len(before) == 5, before
+        for _ in range(60):
+            day = draw.choice([*(end.split()[1] for end in before.values()), b"2025-09-%02d" % draw.randint(1, 30)])
+            row = draw.choice([b"1,holiday,%s,federal\n", b"1,holiday,%s,state\n", b"1,inaccessible,%s,09:00,24:00\n"]) % day
+            answer, *told = desk.call("enter", given=row).output.splitlines(True)
+            after = ends_of(desk)
+            assert told == [b"  case %s deadline %s: %s, now %s\n" % (*of, end, after[of]) for of, end in before.items() if after[of] != end], (row, answer, told)
+            before, moves = after, moves + len(told)
+        assert moves and desk.call("check").status == 0
+    return "{} deadlines that holidays and outages moved, listed with both ends".format(moves)
+
+
 def check_court(programs):
     """Another court's file: it is listed what would differ, and taken only with leave; answers that were given stay."""
     with tempfile.TemporaryDirectory() as parent:
@@ -426,7 +467,7 @@ def main(words):
     for check in (lambda: check_examples(programs, draw), lambda: check_folder(programs), lambda: check_second(programs),
                   lambda: check_trial(programs, draw), lambda: check_warnings(programs), lambda: check_choices(programs, draw), lambda: check_together(programs, draw),
                   lambda: check_refused(programs), lambda: check_faulty(programs), lambda: check_cases(programs),
-                  lambda: check_numbers(programs), lambda: check_court(programs),
+                  lambda: check_numbers(programs), lambda: check_moves(programs, draw), lambda: check_court(programs),
                   lambda: compared(programs, draw, count // 10), lambda: damaged(programs, draw, 12, count // 2),
                   lambda: killed(programs, draw, count), lambda: killed_together(programs, draw, count // 3)):
         print(check(), flush=True)

@@ -5,7 +5,7 @@
 
 A journal of COUNT entries (200 without it), drawn from SEED, is cut after each of its bytes, and each byte is changed to
 another, each latch also to the shut one. The desk must then say what the reader in lib/journal.py finds: the number of
-the entry that is damaged, with status 6 and the file as it was; or the journal is opened with the first of its rows and
+the entry that is damaged, with status 10 and the file as it was; or the journal is opened with the first of its rows and
 their answers, and never with others. Where a changed byte hides entries without a word, it is the first latch of the last
 batch: so it would look if a crash had come before that batch was published. It needs Python 3.8 or later.
 """

@@ -20,7 +20,7 @@ import threading
 import time
 from collections import Counter
 
-from lib.desk import Desk, KEEP_REFUSED, SHORT_COURT, TOGETHER, drawn_rows
+from lib.desk import Desk, KEEP_REFUSED, SHORT_COURT, TOGETHER, answers_alone, drawn_rows
 from lib.journal import rows_of
 from lib.programs import programs_of, seed_and_count
 
@@ -80,7 +80,7 @@ def close(session):
 
 
 def serve(desk, rows, way, draw, pace):
-    """A session with these rows that is ended in that way: what it wrote."""
+    """A session with these rows that is ended in that way: the answers that it wrote."""
     session = desk.session()
     bursts = bursts_of(draw, rows)
     pauses = [0 if draw.random() < 0.5 else draw.random() * pace / 10 for _ in bursts]
@@ -91,7 +91,7 @@ def serve(desk, rows, way, draw, pace):
     errors = session.stderr.read()
     close(session)
     assert session.returncode in STATUSES[way], (way, session.returncode, errors)
-    return written
+    return answers_alone(written)
 
 
 def check_session(desk, rows, way, draw, pace):
@@ -143,7 +143,7 @@ def kill_together(desk, rows, pace, draw):
     session = desk.session(TOGETHER, KEEP_REFUSED)
     giver = threading.Thread(target=give, args=(session.stdin, [b"".join(rows)], [0]))
     giver.start()
-    written = end(session, KILLED, draw, draw.random() * pace)
+    written = answers_alone(end(session, KILLED, draw, draw.random() * pace))
     giver.join()
     close(session)
     kept = rows_of(desk.read())

@@ -3,7 +3,7 @@
 
     desk_limits.py DOCKET CLERK_OFFICE [ROWS [ENTRIES]]
 
-A file that may grow no further, and a small disk that is full (a tmpfs, which needs root): the session ends with status 6,
+A file that may grow no further, and a small disk that is full (a tmpfs, which needs root): the session ends with status 10,
 every row that it answered is kept, and with room again it goes on. A folder that can't be written to, and another program
 that has the journal: the desk is refused, and the journal is as it was. A day of ROWS rows (100,000 without it), which
 are written one after another to a pipe while the answers are read from another: the memory of the desk grows by less than

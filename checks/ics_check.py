@@ -12,7 +12,8 @@ are computed by the C library, which knows zones by itself. Each calendar is als
 line of more than 75 bytes, no character cut by a fold.
 
 Each input is also written twice, after some of its rows and after all, with a judge and without: no event may vanish, no
-SEQUENCE may fall, and that of an event that is written otherwise must be higher. For one input of each zone of
+SEQUENCE may fall, and that of an event that is written otherwise must be higher. In a folder the row that started a deadline is struck
+afterwards: the deadline must be cancelled, on the day from which it ran, and no other event may vanish. For one input of each zone of
 examples/courts both are imported one after another into Debian's khal, which must show what the second one says and nothing
 else, in the zone of that name from the machine's own database.
 
@@ -41,10 +42,14 @@ if icalendar is None or shutil.which("khal") is None:
 from lib.case_names import asked
 from lib.given_docket import given_docket, input_of
 from lib.ics_inputs import ZONES, cut, zoned_input
-from lib.ics_wanted import Clock, answered, day_of, entries_wanted, event_wanted, revisions_of
+from lib.ics_wanted import Clock, answered, day_of, entries_wanted, event_wanted, lost_item, lost_of, revisions_of, uid
 from lib.khal import khal_line, khal_lines
 from lib.made_inputs import INPUTS, made_input
-from lib.programs import programs_of, seed_and_count
+from lib.programs import programs_of, run, seed_and_count
+
+
+STAMP = datetime.datetime(2025, 9, 15, 12, tzinfo=datetime.timezone.utc)
+WHO = ["--reason", "entered twice", "--by", "R. Ames", "--today", "2025-09-02"]
 
 
 # What a calendar has
@@ -59,7 +64,7 @@ def read_value(name, value):
 def events_read(data):
     """The events of a calendar as icalendar reads them, in their order."""
     calendar = icalendar.Calendar.from_ical(data)
-    if (str(calendar["VERSION"]), str(calendar["PRODID"])) != ("2.0", "-//Jerghuma//court_calendar//EN"):
+    if (str(calendar["VERSION"]), str(calendar["PRODID"])) != ("2.0", "-//Jerghuma//docket//EN"):
         raise ValueError("the head of the calendar")
     return [{name: read_value(name, value) for name, value in event.items()} for event in calendar.subcomponents
             if event.name == "VEVENT"]
@@ -103,7 +108,7 @@ def differs(seen, chance, given):
             if not began <= stamp <= datetime.datetime.now(datetime.timezone.utc):
                 return "{}: the stamp isn't the clock's time: {}".format(" ".join(words), stamp)
         wanted = [event_wanted(clock, item, revision(given, revisions, item.case), off, stamp)
-                  for item, off in entries_wanted(given.names, office.docket, office.rows, office.answers, choice)]
+                  for item, off in entries_wanted(given.names, office.docket, office.rows, office.answers, choice, given.lost)]
         for at in range(max(len(wanted), len(read))):
             if wanted[at:at + 1] != read[at:at + 1]:
                 return "{}: event {}\nwanted {}\nfound  {}".format(" ".join(words), at, wanted[at:at + 1], read[at:at + 1])
@@ -129,6 +134,33 @@ def rewritten_differs(seen, chance, given, office):
                 return "{}: the SEQUENCE of {} rises by {}\nbefore {}\nafter  {}".format(" ".join(words), name, rise, event,
                                                                                       new[name])
             seen["changed"] += before != after
+    return None
+
+
+def events_of(given):
+    """The events of all that is in a folder, by their names, written at one instant."""
+    return {event["UID"]: event for event in events_read(given.report(["ics", "--stamp", STAMP.strftime("%Y%m%dT%H%M%SZ")]).output)}
+
+
+def struck_differs(seen, chance, given):
+    """What is wrong with the calendar of a folder once the row is struck that started a deadline, if something is."""
+    office = None if given.place[0] == "--input" else answered(given)
+    if office is None:
+        return None
+    starts = [number for number, row in office.rows.items() if row.split(",")[1] == "start" and office.answers[number].startswith("deadline ")]
+    if not starts:
+        return None
+    row = chance.choice(starts)
+    lost = lost_of(office.rows[row], int(office.answers[row].split(" ")[1]))
+    old = events_of(given)
+    ended = run([given.programs.docket, "strike", *given.place, row, "--accept", *WHO])
+    new, name = events_of(given), uid(lost.case, 0, lost.number)
+    gone = [other for other in old if other not in new and other not in office.docket.beyond]
+    item = lost_item(given.names, lost)
+    wanted = event_wanted(Clock(office.court["zone"]), item._replace(summary="Cancelled: " + item.summary), max(office.rows) + 1, True, STAMP)
+    if ended.status != 0 or gone or new.get(name) != wanted:
+        return "row {} is struck: {}\nvanished {}\nwanted {}\nfound  {}".format(row, ended.status, gone, wanted, new.get(name))
+    seen["struck"] += 1
     return None
 
 
@@ -187,14 +219,15 @@ def main(words):
         chance = random.Random("ics {} {}".format(seed, number))
         data = zoned_input(chance, chance.choice(list(ZONES))) if number % 2 else made_input(chance, chance.choice(INPUTS))
         with tempfile.TemporaryDirectory() as parent:
-            wrong = differs(seen, chance, given_docket(programs, chance, data, parent))
+            given = given_docket(programs, chance, data, parent)
+            wrong = differs(seen, chance, given) or struck_differs(seen, chance, given)
         if wrong:
             sys.exit("seed {} input {}: {}".format(seed, number, wrong))
     wrong = khal_differs(seen, random.Random("khal {}".format(seed)), programs)
     if wrong:
         sys.exit(wrong)
-    print("{} events of {} inputs are what clerk_office says; {} were written otherwise later, each with a higher SEQUENCE; "
-          "khal shows {} in {} zones".format(seen["events"], count, seen["changed"], seen["shown"], len(ZONES)))
+    print("{} events of {} inputs are what clerk_office says; {} were written otherwise later, each with a higher SEQUENCE; {} deadlines "
+          "were struck; khal shows {} in {} zones".format(seen["events"], count, seen["changed"], seen["struck"], seen["shown"], len(ZONES)))
 
 
 if __name__ == "__main__":

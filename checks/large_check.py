@@ -18,6 +18,7 @@ import tempfile
 from lib.calendar_faults import fault_of
 from lib.desk import Desk
 from lib.given_docket import Given, names_in
+from lib.ics_wanted import lost_of
 from lib.kept_numbers import Numbers
 from lib.large_docket import large_docket
 from lib.programs import CHECKS, Programs, programs_of, seed_and_count
@@ -58,6 +59,12 @@ def numbers_given(rows, answers):
         if GIVES.get(fields[1]) == words[2]:
             given[at] = GIVES[fields[1]], int(fields[2]), int(words[3])
     return given
+
+
+def lost_by(rows, answers, strikes):
+    """The deadlines that struck rows had started, by the rows."""
+    given = numbers_given(rows, answers)
+    return [lost_of(rows[at - 1], given[at][2]) for at in sorted(strikes) if given.get(at, [None])[0] == "deadline"]
 
 
 def numbers_that_moved(rows, answers, strikes):
@@ -121,7 +128,8 @@ def check(seed, programs):
         for got, wanted in zip(desk.rows().splitlines() + [None], plain.splitlines() + [None]):
             assert got == wanted, ("another row", got, wanted)
         given = Given(Programs(programs.docket, REFERENCE), [str(desk.folder)], b"", plain, docket.names, None,
-                      Numbers(list(rows), table, docket.before, len(docket.strikes)))
+                      Numbers(list(rows), table, docket.before, len(docket.strikes)),
+                      lost_by(docket.rows, answers, docket.strikes))
         fault = fault_of(given, range(3 * seed, 3 * seed + 3))
     assert fault is None, fault
     return len(docket.rows) + len(docket.strikes) + 1, sum(map(len, table.values()))

@@ -4,7 +4,7 @@
     statuses_check.py DOCKET
 
 TABLE below has the commands, and for each what is done and the status that it must end with. Where a command ends with status 1
-to 6, standard output must be empty, but for what `court check` finds and for answers that came before, and standard error must
+to 6 or 10, standard output must be empty, but for what `court check` finds and for answers that came before, and standard error must
 say what is wrong; lines about the words of the command line begin with `error: `. A folder's journal must be as it was where the
 status is neither 0 nor 8. It needs Linux (/dev/full) and Python 3.8 or later. The last line counts the runs as 'N passed, M
 failed'; the status is 0 where none failed.
@@ -21,7 +21,7 @@ from lib.programs import Ended, programs_of
 ROWS = [b"1,open,1,2025-03-03\n", b"1,start,1,59e,2025-03-03,,,\n", b"1,holiday,2025-03-31,state\n"]
 FAULT, REFUSED, AS_WRITTEN = b"1,open,1\n", b"1,open,1,2025-03-03\n", b'1,Open,2,"Mar 4, 2025"\n'
 QUESTION, NEW, CUT = b"1,sheet,1\n", b"1,open,2,2025-03-04\n", b"1,sheet,1"
-WORDS, COURT, LINES, STREAM, ABSENT, DIFFERS, SOME, DOUBT = 1, 2, 3, 4, 6, 7, 8, 9
+WORDS, COURT, LINES, STREAM, ABSENT, DIFFERS, SOME, DOUBT, JOURNAL = 1, 2, 3, 4, 6, 7, 8, 9, 10
 STRIKE = "--reason twice --by R.Ames --today 2025-09-02"
 # What stands in the place of standard output in a call that ends with FULL: a disk that is full. In one that ends with UNREAD
 # standard input can't be read, and in one that ends with BESIDE another program enters rows.
@@ -48,13 +48,22 @@ def of_report(words):
     yield from ((words + place, b"", WORDS) for place in ("", " F --input sound.txt", " F F", " F --nothing", " --input"))
     yield from ((words + " --input " + file, b"", status) for file, status in (("faulty.txt", COURT), ("rows.txt", LINES), ("none.txt", STREAM)))
     yield from ((words + place, b"", STREAM) for place in (" F" + FULL, " --input sound.txt" + FULL, " --input -" + UNREAD))
-    yield from ((words + place, b"", ABSENT) for place in (" N", " E"))
+    yield from ((words + place, b"", JOURNAL) for place in (" N", " E"))
     if name not in ("week", "sql") and "--case" not in words and "--lines" not in words:
         yield from ((words + " F --case " + case, b"", ABSENT) for case in ("2", "1:25-cv-1"))
         yield words + " F --case 4097", b"", WORDS
     if name not in ("sql", "memo", "week"):
         yield words + " F --judge Nobody", b"", ABSENT
         yield words + " F --from 2025-02-29", b"", WORDS
+        yield from ((words + " F --today 2025-03-10 --from today --to=" + day, b"", 0) for day in ("tomorrow", "sunday", "+7d", "-3d", "2025-04-01"))
+        yield from ((words + " F --from=" + day, b"", WORDS) for day in ("Today", "+d", "+7", "7d", "-7h", "+1000000000d", "", "mon"))
+        yield words + " F --today today", b"", WORDS
+
+
+def of_sheet(place, given):
+    """The calls for a case's sheet of a folder, or of an input."""
+    yield from (("sheet {} {}".format(place, case), given, status) for case, status in (("1", 0), ("2", ABSENT), ("1:25-cv-8", ABSENT), ("4097", WORDS), ("0", WORDS)))
+    yield from (("sheet {}{}".format(place, more), given, WORDS) for more in ("", " 1 1", " 1 --nothing"))
 
 
 def of_rows(words):
@@ -62,7 +71,7 @@ def of_rows(words):
     yield words + " F", QUESTION, 0
     yield words + " F", b"", 0
     yield words + " F", FAULT + QUESTION, SOME
-    yield words + " F", QUESTION + CUT, ABSENT
+    yield words + " F", QUESTION + CUT, STREAM
     yield words + " F" + FULL, QUESTION, STREAM
     yield words + " F" + UNREAD, b"", STREAM
     yield words + " F --as-written", QUESTION, 0
@@ -71,15 +80,15 @@ def of_rows(words):
     yield words + " F --as-written --dates day-first", QUESTION, 0
     for more in ("", " F F", " F --nothing", " F --json", " F --dates day-first", " F --as-written --dates first"):
         yield words + more, QUESTION, WORDS
-    yield from ((words + place, QUESTION, ABSENT) for place in (" N", " E"))
+    yield from ((words + place, QUESTION, JOURNAL) for place in (" N", " E"))
 
 
 def of_folder(words, *, may_be_read_beside):
     """The calls of a command that takes a folder alone."""
     yield words + " F", b"", 0
-    yield words + " F" + BESIDE, b"", 0 if may_be_read_beside else ABSENT
+    yield words + " F" + BESIDE, b"", 0 if may_be_read_beside else JOURNAL
     yield from ((words + more, b"", WORDS) for more in ("", " F F", " F --nothing"))
-    yield from ((words + place, b"", ABSENT) for place in (" N", " E"))
+    yield from ((words + place, b"", JOURNAL) for place in (" N", " E"))
     yield words + " S" + FULL, b"", STREAM
 
 
@@ -87,26 +96,30 @@ TABLE = [
     ("--help", b"", 0), ("--version", b"", 0), ("help due", b"", 0), ("due --help", b"", 0), ("court --help", b"", 0), ("court check --help", b"", 0),
     ("--help" + FULL, b"", STREAM), ("", b"", WORDS), ("nothing", b"", WORDS), ("nothing --help", b"", WORDS), ("court", b"", WORDS), ("court nothing", b"", WORDS),
     ("init new --court court.toml", b"", 0), ("init E --court court.toml", b"", 0), ("init new", b"", WORDS), ("init --court court.toml", b"", WORDS),
-    ("init new --court faulty.toml", b"", COURT), ("init new --court none.toml", b"", STREAM), ("init F --court court.toml", b"", ABSENT),
+    ("init new --court faulty.toml", b"", COURT), ("init new --court none.toml", b"", STREAM), ("init F --court court.toml", b"", JOURNAL),
     *of_rows("enter"), *of_rows("try"), *of_rows("ask"),
-    ("enter F" + BESIDE, NEW, ABSENT), ("try F" + BESIDE, NEW, 0), ("ask F" + BESIDE, QUESTION, 0),
+    ("enter F" + BESIDE, NEW, JOURNAL), ("try F" + BESIDE, NEW, 0), ("ask F" + BESIDE, QUESTION, 0),
     ("enter F", REFUSED, 0), ("enter F --all-or-nothing", REFUSED, LINES), ("enter F --all-or-nothing --keep-refused", REFUSED, 0),
-    ("enter F --all-or-nothing", NEW + FAULT, LINES), ("enter F --all-or-nothing", NEW + CUT, ABSENT), ("enter F --all-or-nothing", NEW, 0),
+    ("enter F --all-or-nothing", NEW + FAULT, LINES), ("enter F --all-or-nothing", NEW + CUT, STREAM), ("enter F --all-or-nothing", NEW, 0),
     ("enter F --warn", REFUSED, 0), ("try F --warn --today 2025-03-03", NEW, 0), ("enter F --warn --all-or-nothing", REFUSED, LINES),
     ("enter F --as-written --warn --all-or-nothing", AS_WRITTEN, 0),
     ("enter F --today 2025-03-03", NEW, WORDS), ("enter F --warn --today yesterday", NEW, WORDS), ("enter F --keep-refused", NEW, WORDS),
     ("ask F --warn", NEW, WORDS), ("try F --all-or-nothing", NEW, WORDS),
     ("plain F", AS_WRITTEN, 0), ("plain F" + BESIDE, AS_WRITTEN, 0), ("plain F --dates month-first", b"1,open,3,3/4/2025\n", 0), ("plain F", FAULT, LINES),
-    ("plain F --json", FAULT, LINES), ("plain F" + FULL, AS_WRITTEN, STREAM), ("plain F" + UNREAD, b"", STREAM), ("plain N", AS_WRITTEN, ABSENT),
+    ("plain F --json", FAULT, LINES), ("plain F" + FULL, AS_WRITTEN, STREAM), ("plain F" + UNREAD, b"", STREAM), ("plain N", AS_WRITTEN, JOURNAL),
     ("plain", AS_WRITTEN, WORDS), ("plain F --as-written", AS_WRITTEN, WORDS),
     ("strike F 1 " + STRIKE, b"", DIFFERS), ("strike F 3 --accept " + STRIKE, b"", 0), ("strike F 99 " + STRIKE, b"", LINES), ("strike F 0 " + STRIKE, b"", LINES),
+    ("strike F 3 --accept --reason twice --by R.Ames --today yesterday", b"", 0), ("strike F 3 --reason r --by b --today later", b"", WORDS),
     ("strike F x " + STRIKE, b"", WORDS), ("strike F 3", b"", WORDS), ("strike F " + STRIKE, b"", WORDS), ("strike F 3 --reason r --by b --today x", b"", WORDS),
-    ("strike F 1 " + STRIKE + FULL, b"", STREAM), ("strike N 3 " + STRIKE, b"", ABSENT), ("strike F 3 " + STRIKE + BESIDE, b"", ABSENT),
+    ("strike F 1 " + STRIKE + FULL, b"", STREAM), ("strike N 3 " + STRIKE, b"", JOURNAL), ("strike F 3 " + STRIKE + BESIDE, b"", JOURNAL),
     *of_folder("struck", may_be_read_beside=True), *of_folder("cases", may_be_read_beside=True), *of_folder("check", may_be_read_beside=False),
     *of_folder("rows", may_be_read_beside=False),
     *(call for report in REPORTS for call in of_report(report)),
     ("week F --judge Ames", b"", WORDS), ("week F --of 2025-03-03", b"", WORDS), ("week F --judge Nobody --of 2025-03-03", b"", ABSENT),
-    ("week F --judge Ames --of 2030-03-03", b"", ABSENT), ("memo F --today 2025-03-03", b"", WORDS), ("ics F --stamp now", b"", WORDS),
+    ("week F --judge Ames --of 2030-03-03", b"", ABSENT), ("week F --judge Ames --today 2025-03-03 --of tuesday", b"", 0),
+    *of_sheet("F", b""), *of_sheet("--input -", FILES["sound.txt"]), ("sheet F 1" + BESIDE, b"", 0), ("sheet F 1" + FULL, b"", STREAM),
+    ("sheet --input faulty.txt 1", b"", COURT), ("sheet --input rows.txt 1", b"", LINES), ("sheet --input none.txt 1", b"", STREAM),
+    ("sheet F 1 --input sound.txt", b"", WORDS), ("sheet S 1:25-cv-7", b"", 0), ("sheet N 1", b"", JOURNAL), ("sheet E 1", b"", JOURNAL), ("memo F --today 2025-03-03", b"", WORDS), ("ics F --stamp now", b"", WORDS),
     ("court check court.toml", b"", DOUBT), ("court check doubtful.toml", b"", DOUBT), ("court check faulty.toml", b"", COURT), ("court check none.toml", b"", STREAM),
     ("court check", b"", WORDS), ("court check court.toml --today x", b"", WORDS), ("court check faulty.toml" + FULL, b"", STREAM),
     ("court check written.toml", b"", 0),
@@ -114,8 +127,8 @@ TABLE = [
     ("court write --court hawaii --from 2026 --to 2024", b"", WORDS), ("court write --court hawaii --from x --to 2024", b"", WORDS),
     ("court write --court hawaii", b"", WORDS), ("court write --court hawaii --from 2024 --to 2026" + FULL, b"", STREAM),
     ("court change F more.toml", b"", 0), ("court change F other.toml", b"", DIFFERS), ("court change F other.toml --accept", b"", 0),
-    ("court change F faulty.toml", b"", COURT), ("court change F none.toml", b"", STREAM), ("court change F", b"", WORDS), ("court change N more.toml", b"", ABSENT),
-    ("court change F more.toml" + BESIDE, b"", ABSENT), ("court change F other.toml" + FULL, b"", STREAM),
+    ("court change F faulty.toml", b"", COURT), ("court change F none.toml", b"", STREAM), ("court change F", b"", WORDS), ("court change N more.toml", b"", JOURNAL),
+    ("court change F more.toml" + BESIDE, b"", JOURNAL), ("court change F other.toml" + FULL, b"", STREAM),
 ]
 
 
@@ -173,9 +186,9 @@ class Place:
             return "it ended with {}".format(ended)
         if status not in (0, SOME) and not is_as_it_was and not text.startswith("enter F"):
             return "the journal isn't as it was: {}".format(ended)
-        if status in (WORDS, COURT, LINES, STREAM, ABSENT) and ended.output and not text.startswith(("court check", "enter F", "try F", "ask F")):
+        if status in (WORDS, COURT, LINES, STREAM, ABSENT, JOURNAL) and ended.output and not text.startswith(("court check", "enter F", "try F", "ask F")):
             return "it wrote {}".format(ended)
-        if status in (WORDS, COURT, LINES, STREAM, ABSENT) and not text.startswith("court check faulty.toml") and not ended.errors.strip():
+        if status in (WORDS, COURT, LINES, STREAM, ABSENT, JOURNAL) and not text.startswith("court check faulty.toml") and not ended.errors.strip():
             return "it says nothing of what is wrong: {}".format(ended)
         return "it doesn't say that the words are wrong: {}".format(ended) if status == WORDS and not ended.errors.startswith(b"error: ") else None
 

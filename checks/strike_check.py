@@ -166,13 +166,34 @@ def sequences(desk):
     return events
 
 
-def compare_calendars(before, after, what):
+def uid_of(case, number):
+    """What a calendar program knows a deadline by."""
+    return "case-{}-deadline-{}@jerghuma".format(case, number)
+
+
+def beyond(replay):
+    """The deadlines that end beyond the days covered, which have no event."""
+    found, case = set(), None
+    for line in closing_lines(replay.court, replay.docket):
+        words = line.split(" ")
+        if words[0] == "case":
+            case = words[1]
+        elif words[0] == "deadline" and words[3] == "beyond":
+            found.add(uid_of(case, words[1]))
+    return found
+
+
+def compare_calendars(before, after, replay, what):
     """What a calendar program takes of the calendar after a strike: no SEQUENCE falls, what an event says otherwise has a higher one,
-    and no hearing vanishes."""
+    and none vanishes, but for a deadline that ends beyond the days covered. The deadlines that rows started once and start no more
+    are cancelled, and no others."""
     for uid, (old, said) in before.items():
         new, says = after.get(uid, (old, said))
         assert new > old or new == old and said == says, (what, uid, before[uid], after[uid])
-        assert uid in after or "-deadline-" in uid, (what, uid)
+        assert uid in after or uid in beyond(replay), (what, uid)
+    started = {uid_of(case, number) for word, case, number in replay.given.values() if word == "start"}
+    cancelled = {uid for uid, (_, says) in after.items() if "-deadline-" in uid and says.get("STATUS") == "CANCELLED"}
+    assert cancelled == started - {uid_of(item.case, item.number) for item in replay.docket.deadlines}, (what, cancelled)
 
 
 def report(desk, *words):
@@ -288,7 +309,7 @@ def check_docket(programs, draw):
                 assert ended.status == 0 and ended.output == text, (row, ended, text)
             struck, given = struck | {row}, after.given
             compare(desk, after, (lines, row))
-            compare_calendars(calendar, sequences(desk), (lines, row))
+            compare_calendars(calendar, sequences(desk), after, (lines, row))
             assert b"rows kept: %d," % len(lines) in desk.call("check").output
         numbers = list(given.values())
         assert len(set(numbers)) == len(numbers), "a number was given twice"

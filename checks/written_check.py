@@ -80,7 +80,8 @@ def drawn(draw, column, clear):
     time = "{:02}:{:02}".format(draw.randint(0, 23), draw.choice([0, 15, 30, 45]))
     return {
         "clerk": lambda: str(draw.randint(1, 64)), "case": lambda: a_case(draw),
-        "deadline": lambda: str(draw.randint(1, 99)), "motion": lambda: str(draw.randint(1, 99)),
+        "deadline": lambda: draw.choice(sorted(RULES)) if draw.random() < 0.3 else str(draw.randint(1, 99)),
+        "motion": lambda: "last" if draw.random() < 0.3 else str(draw.randint(1, 99)),
         "period": lambda: draw.choice(sorted(RULES) + ENTERED), "date": lambda: a_date(draw, clear), "notice": lambda: a_date(draw, clear),
         "second?": lambda: a_date(draw, clear), "time": lambda: time, "time?": lambda: time, "from": lambda: time,
         "to": lambda: draw.choice([time, "24:00"]), "kind?": lambda: draw.choice("ABCDEF"), "means": lambda: draw.choice(["electronic", "paper"]),
@@ -137,13 +138,13 @@ def loosened(draw, style, column, text):
         return time_in(draw, text)
     if column == "case":
         return case_in(draw, text)
-    if column == "period" and text in RULES:
+    if column in ("period", "deadline") and text in RULES:
         return draw.choice([RULES[text], "FRCP " + RULES[text], "Rule " + RULES[text], "Fed. R. Civ. P. " + RULES[text], text.upper(), text])
     if column == "kind?":
         return draw.choice(KINDS[text] + [text, text.lower()])
     if column in ("judge", "judge."):
         return draw.choice([str, str.upper, str.lower])(text).replace("+", draw.choice(["+", " + "])).replace("J.", draw.choice(["J.", "J. "]))
-    if column in ("room", "command"):
+    if column in ("room", "command", "motion"):
         return draw.choice([str, str.upper, str.lower])(text)
     return draw.choice(WORDS[text]) if text in WORDS else text
 
@@ -262,6 +263,27 @@ def check_entering(desk):
     assert desk.call("plain", given=b"1,open,7,2025-09-02").status not in (0, FAULTS)
 
 
+def check_names(desk):
+    """A deadline is named by its rule where just one under it is pending, and the newest motion by `last`; the journal has their numbers."""
+    def entered(given, *words):
+        return desk.call("enter", "--as-written", *words, given=given.encode())
+
+    begun = "1,open,21,2025-09-02\n1,start,21,59(b),2025-09-02\n1,start,21,59(e),2025-09-02\n1,start,21,59(b),2025-09-03\n"
+    ended = entered(begun + "1,file,21,Rule 59(E),2025-09-10,09:00,electronic\n1,motion,21,2025-09-02,14\n1,motion,21,2025-09-03,14\n1,cancel,21,Last\n")
+    assert ended.status == 0, ended
+    assert desk.rows().endswith(b"1,file,21,2,2025-09-10,09:00,electronic\n1,motion,21,2025-09-02,14\n1,motion,21,2025-09-03,14\n1,cancel,21,2\n"), desk.rows()
+    before = desk.journal.read_bytes()
+    for given, said in [("1,file,21,59(e),2025-09-10,09:00,electronic\n", "no deadline of the case under 59e is pending: name one by its number"),
+                        ("1,file,21,59(b),2025-09-10,09:00,electronic\n", "deadlines 1 and 3 of the case are pending under 59b: name one by its number"),
+                        ("1,open,22,2025-09-02\n1,cancel,22,last\n", "the case has no motion")]:
+        ended = entered(given, "--all-or-nothing")
+        lines = told_of(ended)[0].decode()
+        assert ended.status == FAULTS and not ended.output and desk.journal.read_bytes() == before, ended
+        assert re.fullmatch("line {} would be answered: row [0-9]+ fault 4 BadField 4: {}\n".format(given.count("\n"), said), lines), ended
+    tried = desk.call("try", "--as-written", given=b"1,file,21,59(b),2025-09-10,09:00,electronic\n1,file,21,1,2025-09-10,09:00,electronic\n1,file,21,59(b),2025-09-10,09:00,electronic\n")
+    assert tried.output.count(b"filed timely") == 2 and b"deadlines 1 and 3" in tried.output and desk.journal.read_bytes() == before, tried
+
+
 def check_lines(desk):
     """A fault that is found once the rows are read names the line of the input, also as JSON."""
     entered = ["enter", "--all-or-nothing", "--as-written"]
@@ -300,6 +322,7 @@ def main(words):
         print("{} misspelt periods, each with its suggestion or with none".format(check_misspelt(desk, draw, count // 10)))
         print("{} sections whose periods are entered, each with its texts".format(check_sections(desk, draw)))
         check_entering(desk)
+        check_names(desk)
         check_lines(desk)
         print("rows as written are tried, and kept together or not at all; their faults name the lines of the input")
 

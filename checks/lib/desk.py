@@ -7,7 +7,7 @@ from lib.journal import read_journal
 from lib.programs import run
 
 # The status with which the desk ends where its journal can't be opened, read or written.
-REFUSED = 6
+REFUSED = 10
 # The option with which all rows are kept or none, the one with which commands that are refused are kept too, and the status with
 # which a call ends whose rows have faults.
 TOGETHER, KEEP_REFUSED, FAULTS = "--all-or-nothing", "--keep-refused", 3
@@ -30,6 +30,12 @@ def told_of(ended):
     """What a call says on standard error of the lines of its input, and then the line that sums up, both as bytes."""
     *lines, last = ended.errors.splitlines(True)
     return b"".join(lines), last
+
+
+def answers_alone(text):
+    """Answers as the journal keeps them: without the lines below them that begin with a blank, the deadlines that a holiday or an
+    outage moves."""
+    return b"".join(line for line in text.splitlines(True) if not line.startswith(b" "))
 
 
 def divided(text):
@@ -102,11 +108,11 @@ class Desk:
         return self.court + end + b"%%\n" + b"".join(rows)
 
     def enter(self, rows):
-        """The answers to rows. Where some have faults, the session says how many at its end."""
+        """The answers to rows, as the journal keeps them. Where some have faults, the session says how many at its end."""
         ended = self.call("enter", given=b"".join(rows))
         faulty = sum(FAULT_LINE.match(line) is not None for line in ended.output.splitlines())
         assert ended.status == (FAULTY if faulty else 0) and ended.errors.startswith(b"%d of " % faulty if faulty else b""), ended
-        return ended.output
+        return answers_alone(ended.output)
 
     def rows(self):
         """What `rows` writes."""

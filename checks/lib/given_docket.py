@@ -21,7 +21,8 @@ CLERK = re.compile(rb'(?m)^"?([0-9]+)"?,')
 
 class Given(NamedTuple):
     """The docket: the words by which a report finds it and what that reads, what clerk_office reads in its place, the names of
-    cases by their numbers, the clerk of each row (None where all are clerk 1), and its own numbers where rows were struck."""
+    cases by their numbers, the clerk of each row (None where all are clerk 1), its own numbers where rows were struck, and
+    the deadlines that struck rows had started."""
     programs: Programs
     place: list
     data: bytes
@@ -29,6 +30,7 @@ class Given(NamedTuple):
     names: dict
     clerks: list
     numbers: Numbers = None
+    lost: list = []
 
     def report(self, words):
         """What docket says: the name of the report comes first."""

@@ -20,6 +20,8 @@ STATES = {"timely": ", filed in time", "late": ", filed late"}
 
 Item = namedtuple("Item", "day second case kind number summary description begins ends room panel")
 Hearing = namedtuple("Hearing", "day first count panel room notice affidavits")
+# A deadline that no row starts any more: its case and number, the code of its period, and the day from which it ran.
+Lost = namedtuple("Lost", "case number code day")
 Docket = namedtuple("Docket", "items before beyond")
 # A docket, as clerk_office answers it: its court's file, its judges, its rows and the answers to them by their numbers, and what
 # is on the calendar.
@@ -101,6 +103,19 @@ def deadline_item(names, case, words, closes, other):
                 None)
 
 
+def lost_item(names, lost):
+    """A deadline that no row starts any more, on the day from which it ran."""
+    what, described = period_in_words(lost.code)
+    return Item(lost.day, 0, lost.case, 0, lost.number, "Case {} deadline {}: {}".format(called(names, lost.case), lost.number, what),
+                "Period: {}.\nIt was taken off the docket.".format(described), None, None, None, None)
+
+
+def lost_of(row, number):
+    """What the row that started a deadline leaves of it once it is struck."""
+    fields = row.split(",")
+    return Lost(int(fields[2]), number, fields[3], day_of(fields[4]))
+
+
 def hearing_item(names, case, number, hearing):
     second = 900 * hearing.first
     summary = "Case {} motion {}: hearing before {}, room {}".format(called(names, case), number, hearing.panel,
@@ -179,8 +194,9 @@ def uid(case, kind, number):
     return "case-{}-{}-{}@jerghuma".format(case, ("deadline", "motion")[kind], number)
 
 
-def entries_wanted(names, docket, rows, answers, choice):
-    """The items that a calendar has, in order, each with whether it is off the calendar."""
+def entries_wanted(names, docket, rows, answers, choice, lost=()):
+    """The items that a calendar has, in order, each with whether it is off the calendar. Of the deadlines that no row starts any more
+    it has those of the case, where the judge ever had a hearing in it."""
     first, last, judge, case = choice
     histories = histories_of(rows, answers, judge)
 
@@ -200,6 +216,9 @@ def entries_wanted(names, docket, rows, answers, choice):
     for key, (hearing, off) in sorted(histories.items()):
         item = hearing_item(names, *key, hearing)
         if off and is_chosen(item):
+            entries.append((item._replace(summary="Cancelled: " + item.summary), True))
+    for item in [lost_item(names, one) for one in lost]:
+        if case in (None, item.case) and (judge is None or item.case in {of for of, _ in histories}):
             entries.append((item._replace(summary="Cancelled: " + item.summary), True))
     return entries
 

@@ -4,9 +4,9 @@ Each is the deadline of reference/periods.py with one thing changed: its act, it
 """
 from lib.derivation_steps import time_text
 from lib.legal_names import legal_name
-from reference.civil import civil, weekday
+from reference.civil import civil, instant_at, weekday
 from reference.periods import Deadline, Event, Period, shown
-from reference.rule6 import AFTER, BEYOND, FILING, SERVICE, Days, Outage, Shown, adds_three, covered, has_outage, permitted
+from reference.rule6 import AFTER, BEYOND, FILING, SERVICE, Days, Outage, Shown, adds_three, covered, has_outage
 
 # What the name of a holiday ends in that may be none, and the reading by which it is none.
 DOUBT, DOUBTFUL_DAY = " (doubtful)", "that day isn't a legal holiday"
@@ -83,17 +83,32 @@ def on_friday(days, clock, deadline):
     return Shown("last", day) if kept and not moved else None
 
 
+def last_hours(days, clock, deadline):
+    """The day and the second of it to which the last count of hours leads, or None: without outages, and from ends as they are here."""
+    period, last = deadline.period, deadline.grants[-1] if deadline.grants else None
+    start, count, direction = None, period.count, period.direction
+    if last is None and period.unit == "h":
+        start = instant_at(clock.zone, deadline.event.day, 60 * deadline.event.minute)
+    elif last is not None and last.unit == "h":
+        end = shown(days, clock, with_act(deadline._replace(grants=deadline.grants[:-1]), SERVICE, deadline.kind))
+        start, count, direction = end.end if end.kind == "until" else None, last.value, AFTER
+    return None if start is None else civil(clock.zone, start + 3600 * count if direction == AFTER else start - 3600 * count)
+
+
 def on_doubtful(days, clock, names, deadline):
-    """The first doubtful holiday of the state that the last count passes over, where no outage moves the time from it, or None."""
-    day, files = last_counted(days, clock, deadline), deadline.period.act == FILING
+    """The end on the first doubtful holiday of the state that the last count passes over, where no outage moves the time from it, or
+    None: of hours at the time of day to which they lead."""
+    hours, day = last_hours(days, clock, deadline), last_counted(days, clock, deadline)
+    day, second = (day, None) if hours is None else hours
     if day is None or not deadline.grants and deadline.period.direction != AFTER:
         return None
-    while covered(days, day):
-        met = files and has_outage(days, day)
-        if permitted(days, day, AFTER) and not met:
-            return None
+    end = shown(days, clock, deadline)
+    last = days.last + 1 if end == BEYOND else end.end if end.kind == "last" else civil(clock.zone, end.end)[0]
+    while covered(days, day) and day < last:
         if weekday(day) < 5 and day in days.state - days.federal and names.get(day, "").endswith(DOUBT):
-            return None if met else Shown("last", day)
+            if deadline.period.act == FILING and has_outage(days, day):
+                return None
+            return Shown("last", day) if second is None else Shown("until", instant_at(clock.zone, day, second))
         day += 1
     return None
 

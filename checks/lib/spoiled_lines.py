@@ -85,6 +85,12 @@ def spoiled():
     for name, clerk in [("0", "0"), ("65", "65"), ("a name", "Jo"), ("nothing", ""), ("a leading zero", "01")]:
         way(name + " as a clerk", put(start, "1,start", clerk + ",start"))
     way("a deadline that is no number", put(file, ",3,", ",three,"))
+    for name, rule in [("a Rule's number", "59(E)"), ("a Rule that sets two", "12(a)(1)(A)(ii)"), ("a misspelt Rule", "59(ee)"), ("a Rule that is entered", "50(b)"),
+                       ("last", "last"), ("a period that is entered", "14d/after/filing/event/plain"), ("a number as spreadsheets write it", "3.0")]:
+        way(name + " as a deadline", put(file, ",3,", "," + rule + ","))
+    for name, word in [("last", "Last"), ("a misspelt last", "lsat"), ("newest", "newest"), ("a Rule's number", "59(e)")]:
+        way(name + " as a motion", "1,cancel,12," + word)
+    way("a fault after a deadline's rule", put(put(file, ",3,", ",59e,"), "18:10", "25:00"))
     way("a motion that is no number", "1,cancel,12,first")
     way("a motion that is missing", "1,cancel,12")
     # judges and rooms

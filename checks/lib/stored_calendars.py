@@ -1,8 +1,9 @@
 """The runs of the reports and of the desk that are stored in runs/calendar: their inputs and words, and what they must write.
 
 Each line of runs/calendar/words is a run: its name, its input, which is INPUT.in or is made from INPUT.made, and the words
-of the command line; the word `desk` alone enters the rows at a desk. NAME.out is what it writes, and NAME.sum what is kept of
-that where the input is made.
+of the command line. The word `desk` alone is a run of a desk: the rows of an input that is made are entered there, and any other
+input is calls of a desk, one after another. NAME.out is what a run writes, and NAME.sum what is kept of that where the input is
+made.
 """
 import pathlib
 from collections import namedtuple
@@ -28,8 +29,15 @@ def runs():
 
 
 def is_of_desk(run):
-    """Whether the rows are entered at a desk."""
+    """Whether it is a run of a desk."""
     return run.words == ["desk"]
+
+
+def calls_of(run):
+    """The words and the input of each call of a desk, which begins with `$ ` as at a shell."""
+    for call in run.stored.split(b"$ ")[1:]:
+        line, given = call.split(b"\n", 1)
+        yield line.decode().split(" "), given
 
 
 def title_of(run):

@@ -3,8 +3,8 @@ use Rattle.std.proofs.Common.{◌∙◌, refl, sym}
 use Rattle.court_clock.specs.Words.{TextsNameClocks}
 use Rattle.court_days.proofs.CallerLemmas.{same_court}
 use Rattle.office_texts.proofs.RunLemmas.CallerLemmas.{run_text_alike}
-use Rattle.program_streams.specs.Words.{court_part}
-use Rattle.program_streams.proofs.CallerLemmas.{read_file}
+use Rattle.program_runs.specs.Words.{court_part}
+use Rattle.program_runs.proofs.CallerLemmas.{read_file}
 use Rattle.clerk_program.specs.UniqueText.{TextsAreUnique}
 
 pub texts_are_unique_lem : TextsNameClocks → TextsAreUnique

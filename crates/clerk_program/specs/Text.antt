@@ -3,8 +3,8 @@ use Rattle.std.specs.Prelude.{◌≡◌, ◌≢◌, ℕ, List, Option, Result}
 use Rattle.court_days.specs.Words.{CourtView, file_of}
 use Rattle.row_forms.specs.declared.row.Row.{Row}
 use Rattle.office_texts.specs.Run.Words.{run_text}
-use Rattle.program_streams.specs.declared.fault.OfficeFault.{OfficeFault}
-use Rattle.program_streams.specs.Words.{Input, IsRunBy}
+use Rattle.program_runs.specs.declared.fault.OfficeFault.{OfficeFault}
+use Rattle.program_runs.specs.Words.{Input, IsRunBy}
 use Rattle.clerk_workers.specs.Shared.Words.{IsSharedText}
 
 -- the text of a run of rows: one clerk does them one after another, and several share an office whose journal takes so

@@ -1,7 +1,7 @@
 -- What the text of a run of one clerk means: the input determines it, whichever value the court's zone is kept as, and
 -- however many entries the journal takes.
 use Rattle.std.specs.Prelude.{◌≡◌, ℕ, List, Ok}
-use Rattle.program_streams.specs.Words.{Input, input_of}
+use Rattle.program_runs.specs.Words.{Input, input_of}
 use Rattle.clerk_program.specs.Text.{IsTextOf}
 
 abbrev pub TextsAreUnique : Type 0

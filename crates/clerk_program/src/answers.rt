@@ -4,7 +4,7 @@ use crate::clerk_text::ClerkText;
 use crate::text::text_of;
 use clerk_workers::OpenGate;
 use program_main::Options;
-use program_streams::{CheckedInput, Finding, Report};
+use program_runs::{CheckedInput, Finding, Report};
 use std::alloc::{AllocError, Global};
 use std::sync::Wait;
 use std::thread::Threads;

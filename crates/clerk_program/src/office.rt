@@ -1,13 +1,15 @@
 //! A run of the office, from its input to its output.
 
 ghost use Rattle.std.specs.Prelude.{◌≡◌, ◌≢◌, true, false, IfSome, OnErr, OnOk};
-ghost use Rattle.program_streams.specs.Words.{WasCutShort, WasReadWhole, has_ended, has_failed, input_of, rests_on_input, was_called_again, watched};
+ghost use Rattle.program_streams.specs.Words.{WasCutShort, WasReadWhole, has_ended, has_failed, was_called_again, watched};
+ghost use Rattle.program_runs.specs.Words.{input_of, rests_on_input};
 ghost use Rattle.clerk_program.specs.Text.{IsRun};
 
 use crate::answers::Answers;
 use court_file_text::CourtFault;
 use program_main::Options;
-use program_streams::{OfficeFault, Watched, run_report};
+use program_runs::{OfficeFault, run_report};
+use program_streams::Watched;
 use std::alloc::Global;
 use std::io::{Read, Write};
 use std::sync::Wait;

@@ -4,7 +4,8 @@ mod clerks;
 
 use crate::run_office;
 use program_main::Options;
-use program_streams::{OfficeFault, Watched, fault_line, status_of};
+use program_runs::{OfficeFault, fault_line, status_of};
+use program_streams::Watched;
 use sample_court::file;
 use std::alloc::{AllocError, Global};
 use std::io;

@@ -9,7 +9,7 @@ use crate::clerk_text::ClerkText;
 use clerk_workers::{Gate, run_shared};
 use office_texts::run_text;
 use program_main::Options;
-use program_streams::CheckedInput;
+use program_runs::CheckedInput;
 use std::alloc::{AllocError, Global};
 use std::sync::Wait;
 use std::thread::Threads;

@@ -5,7 +5,7 @@ use Rattle.std.proofs.lemmas.List.{get_or-map, get_or-set_other, get_or-set_same
 use Rattle.row_forms.specs.declared.row.Row.{Row}
 use Rattle.row_forms.specs.Words.{IsClerk, IsOfClerk}
 use Rattle.clerk_workers.specs.declared.answer.SharedReply.{SharedReply}
-use Rattle.clerk_workers.specs.Merged.{AreFromTheLast, IsTaken, list_at}
+use Rattle.clerk_workers.specs.Inside.Merged.{AreFromTheLast, IsTaken, list_at}
 use Rattle.clerk_workers.specs.Rows.{AreOfClerks, answers_of, works_of}
 use Rattle.clerk_workers.proofs.WorkerLemmas.{all_but_last, all_first}
 use Rattle.clerk_workers.proofs.RowLemmas.{answers_other, answers_own, works_append, works_other, works_own}

@@ -4,7 +4,7 @@ use Rattle.docket_rows.specs.Words.{CourtSetup}
 use Rattle.clerk_seats.specs.Words.{SeatView, TallyView}
 use Rattle.row_forms.specs.declared.row.Row.{Row}
 use Rattle.clerk_workers.specs.declared.answer.SharedReply.{SharedReply}
-use Rattle.clerk_workers.specs.Merged.{list_at}
+use Rattle.clerk_workers.specs.Inside.Merged.{list_at}
 use Rattle.clerk_workers.specs.Noted.{AllHold, AllNoted, AreNoted}
 use Rattle.clerk_workers.specs.Rows.{answers_of, works_of}
 use Rattle.clerk_workers.specs.Runs.{AllWorked, AreInOrder, AreNumbered}

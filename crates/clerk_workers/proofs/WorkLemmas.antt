@@ -12,7 +12,7 @@ use Rattle.clerk_workers.specs.declared.answer.SharedReply.{SharedReply}
 use Rattle.clerk_workers.specs.Answered.{Says, place_told, places_told}
 use Rattle.clerk_workers.specs.Noted.{HasNoted, IsNoted}
 use Rattle.clerk_workers.specs.Rows.{works_of}
-use Rattle.clerk_workers.specs.Steps.{Answers, FinishesNothing, HasLeft, IsAfter, IsDone}
+use Rattle.clerk_workers.specs.Inside.Steps.{Answers, FinishesNothing, HasLeft, IsAfter, IsDone}
 use Rattle.clerk_workers.specs.Worked.{HasStopped, HasWorked, tally_of}
 use Rattle.clerk_workers.proofs.AnsweredLemmas.{are_answered_later, are_answered_push, places_push, says_since}
 use Rattle.clerk_workers.proofs.RowLemmas.{works_append, works_begin, works_other, works_own}

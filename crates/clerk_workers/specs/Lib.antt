@@ -1,10 +1,9 @@
 pub mod Answered
-pub mod Merged
 pub mod Noted
 pub mod Rows
 pub mod Runs
-pub mod Steps
 pub mod Words
 pub mod Worked
 pub mod Workers
 pub mod Shared
+pub mod Inside

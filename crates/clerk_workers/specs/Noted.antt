@@ -10,10 +10,10 @@ use Rattle.clerk_workers.specs.declared.answer.SharedReply.{SharedReply}
 use Rattle.clerk_workers.specs.declared.outcome.Noted.{Noted}
 use Rattle.clerk_workers.specs.declared.outcome.RunFault.{RunFault}
 use Rattle.clerk_workers.specs.declared.outcome.RunFault.TheVariants.{NotStarted, Stopped}
-use Rattle.clerk_workers.specs.Merged.{AreAsMany, AreMerged}
+use Rattle.clerk_workers.specs.Inside.Merged.{AreAsMany, AreMerged}
 use Rattle.clerk_workers.specs.Rows.{works_of}
 use Rattle.clerk_workers.specs.Runs.{AllStopped, AllWorked}
-use Rattle.clerk_workers.specs.Steps.{IsAfter}
+use Rattle.clerk_workers.specs.Inside.Steps.{IsAfter}
 use Rattle.clerk_workers.specs.Worked.{HasWorked}
 
 module _ {K : Type 0} (hold : K → List SharedReply → Type 0) where

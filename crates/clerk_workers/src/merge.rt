@@ -1,7 +1,7 @@
 //! The answers of all clerks, in the order of the rows.
 
 ghost use Rattle.std.specs.Prelude.{◌≡◌, ◌-◌, ◌<◌, ◌≤◌, [], length, map, vec_capacity};
-ghost use Rattle.clerk_workers.specs.Merged.{AreAsMany, AreMerged, IsTaken, list_at};
+ghost use Rattle.clerk_workers.specs.Inside.Merged.{AreAsMany, AreMerged, IsTaken, list_at};
 ghost use Rattle.clerk_workers.specs.Rows.{AreOfClerks};
 
 use crate::answer::SharedReply;

@@ -6,7 +6,7 @@ ghost use Rattle.row_forms.specs.declared.row.Work.TheVariants as work;
 ghost use Rattle.clerk_seats.specs.Words.{SeatView};
 ghost use Rattle.clerk_workers.specs.Rows.{works_of};
 ghost use Rattle.clerk_workers.specs.Noted.{HasNoted, IsNoted};
-ghost use Rattle.clerk_workers.specs.Steps.{Answers, FinishesNothing, HasLeft};
+ghost use Rattle.clerk_workers.specs.Inside.Steps.{Answers, FinishesNothing, HasLeft};
 ghost use Rattle.clerk_workers.specs.Worked.{HasStopped, tally_of};
 
 use crate::answer::SharedReply;

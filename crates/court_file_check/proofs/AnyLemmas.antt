@@ -1,13 +1,13 @@
 -- A test of the items of a list, with one item more.
-use Rattle.std.proofs.Common.{◌≡◌, ℕ, ◌+◌, ◌<◌, ◌||◌, Bool, true, false, List, [], ◌∷◌, ◌++◌, String, string_bytes, length, get_or, take, ℤ, pos, negsuc, ◌+ℤ◌, ◌-ℤ◌, ◌≤ℤ◌, unsigned_abs, refl, sym, ap, ◌∙◌, arith}
+use Rattle.std.proofs.Common.{◌≡◌, ℕ, ◌+◌, ◌<◌, ◌||◌, Bool, true, false, List, [], ◌∷◌, ◌++◌, String, string_bytes, length, get_or, take, ℤ, pos, negsuc, ◌+ℤ◌, ◌-ℤ◌, ◌≤ℤ◌, unsigned_abs, refl, sym, ap, ◌∙◌, arith, zero-add}
 use Rattle.std.proofs.lemmas.Int.{ints}
 use Rattle.std.specs.List.{list_any}
 use Rattle.std.specs.declared.alloc.Global.{Global}
 use Rattle.std.proofs.lemmas.List.{take_more}
 use Rattle.std.proofs.lemmas.List.Folds.{list_any-append}
-use Rattle.court_file_check.specs.Review.Words.{days_from}
-use Rattle.court_file_check.proofs.ReviewLemmas.ReviewLemmas.{days_from-more}
-use Rattle.court_file_check.specs.Names.{texts_of}
+use Rattle.std.proofs.lemmas.List.FromFn.{map-range_with_len_more}
+use Rattle.court_file_check.specs.Review.{days_from}
+use Rattle.court_file_check.specs.Inside.Names.{texts_of}
 
 or_false : (b : Bool) → (b || false) ≡ b
 or_false b = elim b as (λ v. (v || false) ≡ v) [ true ↦ refl | false ↦ refl ]
@@ -28,10 +28,9 @@ name_more p names i name below is =
 
 -- one day more
 pub day_more : (p : ℤ → Bool) (first : ℤ) (n : ℕ) → list_any p (days_from first (n + 1)) ≡ (list_any p (days_from first n) || p (first +ℤ pos n))
-day_more p first n = ap (list_any p) (days_from-more first n) ∙ any_pushed p (days_from first n) (first +ℤ pos n)
+day_more p first n = ap (list_any p) (map-range_with_len_more (λ k. first +ℤ pos k) 0 n n (zero-add n)) ∙ any_pushed p (days_from first n) (first +ℤ pos n)
 
 pub no_days : (p : ℤ → Bool) (first : ℤ) → list_any p (days_from first 0) ≡ false
-unfolding days_from
 no_days p first = refl
 
 nonneg_abs : (z : ℤ) → pos 0 ≤ℤ z → pos (unsigned_abs z) ≡ z

@@ -2,6 +2,5 @@ pub mod ReadLemmas
 pub mod ItemLemmas
 pub mod BeginLemmas
 pub mod AnyLemmas
-pub mod LackingLemmas
 pub mod CheckLemmas
 pub mod ReviewLemmas

@@ -5,12 +5,12 @@ use Rattle.court_file_text.specs.declared.key.Key.TheVariants.{Federal, State}
 use Rattle.court_file_text.specs.declared.fault.CourtFault.{CourtFault}
 use Rattle.court_file_text.specs.Words.{list_at}
 use Rattle.court_days.specs.Words.{CourtFile, DaysView}
-use Rattle.court_file_check.specs.Review.Words.{days_that}
+use Rattle.court_file_check.specs.Review.{days_that}
 use Rattle.court_file_check.specs.declared.warnings.Asked.{Asked}
 use Rattle.court_file_check.specs.declared.warnings.Warnings.{Warnings}
-use Rattle.court_file_check.specs.declared.review.days.DayTest.TheVariants.{FederalAtWeekend, InBoth, StateAtWeekend, Unknown}
+use Rattle.court_file_check.specs.declared.review.DayTest.TheVariants.{FederalAtWeekend, InBoth, Lacking, StateAtWeekend, Unknown}
 use Rattle.court_file_check.specs.declared.warnings.slips.Slip.{Slip}
-use Rattle.court_file_check.specs.Warnings.{lacking_told, bare_years, slips_from, closes_early, is_long_day, is_short_span, ends_soon}
+use Rattle.court_file_check.specs.Warnings.{bare_years, slips_from, closes_early, is_long_day, is_short_span, ends_soon}
 
 -- the slips of a list, if there is one
 abbrev pub slips_in : DaysView → Result Items CourtFault → List (ℕ × Slip)
@@ -24,7 +24,7 @@ pub record AreWarnings (asked : Asked) (document : Members) (file : CourtFile) (
   pub short_span : w.short_span ≡ is_short_span file.days
   pub ends_soon : w.ends_soon ≡ ends_soon file.days asked.today
   pub bare_years : w.bare_years.items ≡ bare_years file.days
-  pub lacking : w.lacking.items ≡ lacking_told file.days asked.capital
+  pub lacking : w.lacking.items ≡ days_that file.days (Lacking asked.capital)
   pub unknown : w.unknown.items ≡ days_that file.days (Unknown asked.capital)
   pub federal_at_weekend : w.federal_at_weekend.items ≡ days_that file.days FederalAtWeekend
   pub state_at_weekend : w.state_at_weekend.items ≡ days_that file.days StateAtWeekend

@@ -8,23 +8,9 @@ use Rattle.court_clock.specs.Words.{day_of_text, is_weekend}
 use Rattle.court_days.specs.Words.{DaysView, is_among, is_covered}
 use Rattle.court_holidays.specs.Federal.Words.{set_in}
 use Rattle.court_holidays.specs.declared.federal.statute.FederalHoliday.TheVariants.{NewYearsDay}
-use Rattle.court_file_check.specs.declared.review.review.Due.{Due}
-use Rattle.court_file_check.specs.Review.Words.{days_from, due_on, lacking}
+use Rattle.court_file_check.specs.Review.{days_from}
 use Rattle.court_file_check.specs.declared.warnings.slips.Slip.{Slip}
 use Rattle.court_file_check.specs.declared.warnings.slips.Slip.TheVariants.{Outside, Twice, Early}
-
--- A day that the law sets or that is observed in its place, and that the list lacks, is said to be lacking if it's no Saturday and no Sunday:
--- there a holiday changes no period.
-abbrev pub lacking_told : DaysView → Bool → List (ℤ × Due)
-lacking_told c capital = filter (λ told. not (is_weekend told.0)) (lacking c capital)
-
--- what it means: just the days of the span that are due, no Saturday or Sunday, and not in the list
-abbrev pub LackingIsTold : Type 0
-LackingIsTold = (c : DaysView) (capital : Bool) (d : ℤ) (due : Due) → Contains (lacking_told c capital) (d, due) ↔ ((is_covered c d ≡ true) × (is_among c.federal d ≡ false) × (due_on capital d ≡ Some due) × (is_weekend d ≡ false))
-
--- each once, in the order of the days
-abbrev pub LackingIsToldOnce : Type 0
-LackingIsToldOnce = (c : DaysView) (capital : Bool) → AllPairs (λ a b. a.0 <ℤ b.0) (lacking_told c capital)
 
 -- the days from a first up to another, which isn't one of them, lie in the span
 abbrev pub is_within : DaysView → ℤ → ℤ → Bool

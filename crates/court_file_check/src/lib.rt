@@ -10,12 +10,9 @@ mod warnings;
 
 pub use check::{Checked, check_file};
 pub use faults::{Fault, What};
-pub use laws::{faults_begin_with_the_courts, lacking_is_told, lacking_is_told_once};
+pub use laws::{faults_begin_with_the_courts, review_is_exact, review_is_in_order};
 pub use report::{Report, report_of};
-pub use review::{
-    DayTest, Due, days_that, due_on, lacking_days, lacking_is_exact, review_is_in_order,
-    unknowns_are_exact,
-};
+pub use review::{DayTest, Due, days_that, due_on};
 pub use warnings::names::Alike;
 pub use warnings::slips::Slip;
 pub use warnings::zone::ZoneDoubt;

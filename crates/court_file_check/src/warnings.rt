@@ -5,7 +5,7 @@ ghost use Rattle.toml.specs.View.{table_view};
 ghost use Rattle.court_days.specs.Words.{file_of};
 ghost use Rattle.court_file_check.specs.AreWarnings.{AreWarnings};
 
-use crate::review::{DayTest, Due, days_that};
+use crate::review::{DayTest, days_that};
 use court_clock::Day;
 use court_days::{Court, Days};
 use court_file_text::Key;
@@ -13,14 +13,12 @@ use std::alloc::{AllocError, Global};
 use toml::Table;
 
 mod hours;
-mod lacking;
 pub(crate) mod names;
 pub(crate) mod slips;
 mod years;
 pub(crate) mod zone;
 
 use hours::{closes_early, ends_soon, is_long_day, is_short_span};
-use lacking::lacking_told;
 use names::{Alike, alike_at};
 use slips::{Slip, slips_at};
 use years::bare_years;
@@ -50,8 +48,8 @@ pub struct Warnings {
     pub ends_soon: bool,
     /// The years in the span of which the federal list has no day.
     pub bare_years: Vec<u16>,
-    /// The days that are due in the federal list and that it lacks, but for Saturdays and Sundays, with the reason.
-    pub lacking: Vec<(Day, Due)>,
+    /// The days that are due in the federal list and that it lacks, but for Saturdays and Sundays.
+    pub lacking: Vec<Day>,
     /// The days of the federal list that aren't due.
     pub unknown: Vec<Day>,
     /// The Saturdays and Sundays of the federal list.
@@ -79,6 +77,7 @@ pub(crate) fn warnings_of(
 ) -> Result<Warnings, AllocError>
     ensures { IfOk result (AreWarnings asked.now (table_view file.now) (file_of court.now)) }
 {
+    let capital = asked.capital;
     let clock = court.clock();
     let days: &Days = court.days();
     Ok(Warnings {
@@ -88,14 +87,8 @@ pub(crate) fn warnings_of(
         short_span: is_short_span(days),
         ends_soon: ends_soon(days, asked.today),
         bare_years: bare_years(alloc, days)?,
-        lacking: lacking_told(alloc, days, asked.capital)?,
-        unknown: days_that(
-            alloc,
-            days,
-            DayTest::Unknown {
-                capital: asked.capital,
-            },
-        )?,
+        lacking: days_that(alloc, days, DayTest::Lacking { capital })?,
+        unknown: days_that(alloc, days, DayTest::Unknown { capital })?,
         federal_at_weekend: days_that(alloc, days, DayTest::FederalAtWeekend)?,
         state_at_weekend: days_that(alloc, days, DayTest::StateAtWeekend)?,
         in_both: days_that(alloc, days, DayTest::InBoth)?,

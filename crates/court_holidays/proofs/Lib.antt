@@ -1,2 +1,4 @@
+pub mod DateLemmas
+pub mod WeekdayLemmas
+pub mod EasterLemmas
 pub mod FederalLemmas
-pub mod StatesLemmas

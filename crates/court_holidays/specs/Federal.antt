@@ -1,4 +1,3 @@
-pub mod Weekdays
 pub mod Statute
 pub mod Calendar
 pub mod Observed

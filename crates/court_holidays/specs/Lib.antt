@@ -1,2 +1,4 @@
+pub mod Dates
+pub mod Weekdays
 pub mod Federal
 pub mod States

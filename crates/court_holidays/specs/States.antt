@@ -1,5 +1,5 @@
-pub mod Dates
 pub mod Easter
 pub mod Statute
+pub mod Names
 pub mod Calendar
 pub mod Words

@@ -4,12 +4,11 @@ mod calendar;
 mod laws;
 mod observed;
 mod statute;
-mod weekdays;
 
-pub use calendar::{holiday_on, holidays_of};
+pub use calendar::holiday_on;
 pub use laws::{
     days_are_their_holidays, holidays_lie_in_their_year, labor_day_is_a_monday,
     last_weekdays_are_last, no_two_share_a_day, observed_are_in_place, weekdays_are_counted,
 };
-pub use observed::{observed_for, observed_on};
+pub use observed::{law_in_place, observed_for, observed_on};
 pub use statute::FederalHoliday;

@@ -1,14 +1,12 @@
 //! The days that a state's law sets aside and the federal list lacks.
 
 mod calendar;
-mod dates;
 mod easter;
 mod laws;
 mod state;
 mod statute;
 
 pub use calendar::state_holiday_on;
-pub use dates::on;
 pub use laws::easter_is_a_sunday;
 pub use state::State;
 pub use statute::{StateHoliday, WeekendRule};

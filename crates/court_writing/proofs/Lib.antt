@@ -1,2 +1,3 @@
 pub mod CourtLemmas
+pub mod LinesLemmas
 pub mod SpanLemmas

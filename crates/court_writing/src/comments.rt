@@ -41,10 +41,8 @@ closes = \"17:00\"
     write!(text, "from = \"{from}-01-01\"\nto = \"{to}-12-31\"\n\n")
 }
 
-/// Adds the judges and rooms, and the head of the table of names.
-pub(crate) fn push_names_head(text: &mut String) -> Result<(), AllocError> {
-    text.push_str(
-        "
+/// The judges and rooms, and the head of the table of names.
+pub(crate) const JUDGES_AND_ROOMS: &str = "
 # Judges and rooms: at most 32 names each, of letters, digits, `-`, `_` and `.`.
 judges = [\"Ames\", \"Brandt\", \"Calloway\"]
 rooms = [\"1\", \"2\", \"3\"]
@@ -52,6 +50,4 @@ rooms = [\"1\", \"2\", \"3\"]
 # What each of these holidays is called, with the law that sets its day. `docket memo` prints the names; of a day whose name
 # ends in ' (doubtful)' it also says when the time ends by the reading that the day is no holiday.
 [holiday_names]
-",
-    )
-}
+";

@@ -6,9 +6,11 @@ mod courts;
 mod days;
 mod fault;
 mod holiday;
+mod lines;
 mod listed;
 mod lists;
 mod notes;
+mod sources;
 mod writing;
 mod zones;
 

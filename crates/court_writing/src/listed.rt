@@ -41,7 +41,7 @@ fn is_weekend(day: Day) -> bool
 
 /// Whether courts of the state are in the capital's region, where Inauguration Day is a federal holiday. Of the Eastern
 /// District of Virginia and the District of Maryland, which are there in part, it isn't said.
-fn is_in_capital(state: State) -> bool
+pub(crate) fn is_in_capital(state: State) -> bool
     ensures { result ≡ is_in_capital state }
 {
     matches!(state, State::DistrictOfColumbia)

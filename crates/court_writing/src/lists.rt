@@ -1,134 +1,98 @@
-//! The lists of holidays, and the table of their names.
+//! The lists of holidays.
 
-ghost use Rattle.std.specs.Prelude.{◌≤◌, pos};
+ghost use Rattle.std.specs.Prelude.{◌≡◌, ◌≤◌, ◌+◌, ◌-◌, ◌++◌, OnOk, pos, string_bytes};
 ghost use Rattle.court_holidays.specs.States.Words.{IsStated};
+ghost use Rattle.court_writing.specs.Named.{lines_of_year, list_begin, list_text, year_lines, years_from};
 
-use crate::holiday::{Listed, SetOn, first_listed, listed_on};
-use crate::notes::{FEDERAL_NOTE, STATE_RULE, state_note};
-use court_clock::Day;
+use crate::lines::{Line, push_lines};
+use crate::sources::list_source;
 use court_days::HolidayList;
 use court_holidays::{State, on};
-use std::alloc::AllocError;
+use std::alloc::{AllocError, Global};
 use std::fmt::Write;
 
-/// Adds a list of holidays, with what is said of it.
+/// Adds a list of holidays of the years from the first to the last, with what is said of it.
 pub(crate) fn push_list(
+    alloc: Global,
     text: &mut String,
     state: State,
     list: HolidayList,
+    note: &str,
     from: u16,
     to: u16,
 ) -> Result<(), AllocError>
     requires first { 2016 ≤ from }
+    requires order { from ≤ to }
     requires last { to ≤ 2199 }
+    ensures { OnOk result (string_bytes text.new ≡ string_bytes text.old ++ list_text state list note.now from to) }
+{
+    text.push_str(list_source(state, list))?;
+    text.push_str(note)?;
+    text.push_str(list_begin(list))?;
+    push_years(alloc, text, state, list, from, to + 1 - from)?;
+    text.push_str("]\n")
+}
+
+/// What comes between what is said of the list and its days.
+fn list_begin(list: HolidayList) -> &'static str
+    ensures { result.now ≡ list_begin list }
 {
     match list {
-        HolidayList::Federal => {
-            text.push_str(FEDERAL_NOTE)?;
-            text.push_str("federal = [\n")?;
-        }
+        HolidayList::Federal => "federal = [\n",
         HolidayList::State => {
-            text.push_str("\n")?;
-            text.push_str(state_note(state))?;
-            text.push_str(STATE_RULE)?;
-            text.push_str("state = [\n")?;
+            "# Holidays of the state count only in periods measured after an event, Rule 6(a)(6)(C).\nstate = [\n"
         }
     }
-    for year in from..=to {
-        push_year(text, state, list, year)?;
+}
+
+/// Adds the lines of that many years, from a first one on.
+fn push_years(
+    alloc: Global,
+    text: &mut String,
+    state: State,
+    list: HolidayList,
+    first: u16,
+    count: u16,
+) -> Result<(), AllocError>
+    requires first { 2016 ≤ first }
+    requires last { first + count ≤ 2200 }
+    ensures { OnOk result (string_bytes text.new ≡ string_bytes text.old ++ years_from state list first count) }
+{
+    for place in 0..count {
+        push_year(alloc, text, state, list, first + place)?;
     }
-    text.push_str("]\n")
+    Ok(())
 }
 
 /// Adds the lines of a year's holidays, after a line with the year where it has some.
 fn push_year(
+    alloc: Global,
     text: &mut String,
     state: State,
     list: HolidayList,
     year: u16,
 ) -> Result<(), AllocError>
     requires { IsStated (pos year) }
+    ensures { OnOk result (string_bytes text.new ≡ string_bytes text.old ++ lines_of_year state list year) }
 {
-    let mut begun = false;
-    for place in 0..366u16 {
-        let Some(day) = day_of_year(year, place) else {
-            continue;
-        };
-        if let Some(listed) = listed_on(state, list, day, year) {
-            if !begun {
-                write!(text, "    # {year}\n")?;
-                begun = true;
-            }
-            push_line(text, state, &listed, day)?;
-        }
-    }
-    Ok(())
-}
-
-/// Adds the line of a holiday in its list.
-fn push_line(text: &mut String, state: State, listed: &Listed, day: Day) -> Result<(), AllocError> {
-    let (name, doubt) = (listed.name(), listed.doubt(state));
-    write!(text, "    \"{day}\", # {name}")?;
-    push_set_on(text, listed.set_on())?;
-    write!(text, "{doubt}\n")
-}
-
-/// Adds the day that the law sets for a holiday which is listed on another.
-fn push_set_on(text: &mut String, set_on: SetOn) -> Result<(), AllocError> {
-    match set_on {
-        SetOn::ThatDay => Ok(()),
-        SetOn::Saturday(set) => write!(text, " (for Saturday, {set})"),
-        SetOn::Sunday(set) => write!(text, " (for Sunday, {set})"),
-    }
-}
-
-/// Adds the names of the holidays of both lists, by their days.
-pub(crate) fn push_names(
-    text: &mut String,
-    state: State,
-    from: u16,
-    to: u16,
-) -> Result<(), AllocError>
-    requires first { 2016 ≤ from }
-    requires last { to ≤ 2199 }
-{
-    for year in from..=to {
-        push_names_of(text, state, year)?;
-    }
-    Ok(())
-}
-
-/// Adds the names of a year's holidays.
-fn push_names_of(text: &mut String, state: State, year: u16) -> Result<(), AllocError>
-    requires { IsStated (pos year) }
-{
-    for place in 0..366u16 {
-        let Some(day) = day_of_year(year, place) else {
-            continue;
-        };
-        if let Some(listed) = first_listed(state, day, year) {
-            push_name(text, state, &listed, day)?;
-        }
-    }
-    Ok(())
-}
-
-/// Adds what a holiday is called, and the law that makes its day one.
-fn push_name(text: &mut String, state: State, listed: &Listed, day: Day) -> Result<(), AllocError> {
-    let (name, observed) = (listed.name(), listed.observed());
-    let (mark, law) = (listed.mark(state), listed.law(state));
-    write!(text, "{day} = \"{name}{observed}{mark}\" # {law}\n")
-}
-
-/// The day at a place of the year, counted from 0. None after its end.
-fn day_of_year(year: u16, place: u16) -> Option<Day>
-    requires { IsStated (pos year) }
-{
+    let mut lines = String::new(alloc);
     let first = on(year as i16, 1, 1);
-    let last = on(year as i16, 12, 31);
-    let day = Day::new(first.number() + i32::from(place))?;
-    if day > last {
-        return None;
+    push_lines(
+        &mut lines,
+        state,
+        Line::Listed(list),
+        first,
+        on(year as i16, 12, 31),
+    )?;
+    push_headed(text, year, lines.as_str())
+}
+
+/// Adds these lines after one with the year, if there are some.
+fn push_headed(text: &mut String, year: u16, lines: &str) -> Result<(), AllocError>
+    ensures { OnOk result (string_bytes text.new ≡ string_bytes text.old ++ year_lines year lines.now) }
+{
+    if lines.is_empty() {
+        return Ok(());
     }
-    Some(day)
+    write!(text, "    # {year}\n{lines}")
 }

@@ -6,16 +6,19 @@ ghost use Rattle.toml.specs.View.{table_view};
 ghost use Rattle.jiff_core.specs.Calendar.{days_from_civil};
 ghost use Rattle.court_file_text.specs.Words.{text_at, toml_of};
 ghost use Rattle.court_file_text.specs.declared.key.Key.TheVariants as Key;
-ghost use Rattle.court_holidays.specs.States.Words.{IsStated};
+ghost use Rattle.court_holidays.specs.States.Words.{IsNear, IsStated};
 ghost use Rattle.court_writing.specs.Courts.{zone_text};
+ghost use Rattle.court_writing.specs.Named.{IsTextOf};
 ghost use Rattle.court_writing.specs.Written.{are_years, AreDaysOf, IsDocumentOf, IsFileOf};
 ghost use Rattle.court_writing.specs.declared.fault.WriteFault.TheVariants.{BadYears};
 
-use crate::comments::{push_head, push_names_head};
+use crate::comments::{JUDGES_AND_ROOMS, push_head};
 use crate::courts::CourtName;
 use crate::days::are_listed;
 use crate::fault::WriteFault;
-use crate::lists::{push_list, push_names};
+use crate::lines::{Line, push_lines};
+use crate::lists::push_list;
+use crate::notes::list_note;
 use crate::zones::ZoneName;
 use court_clock::Day;
 use court_days::{Court, Days, HolidayList};
@@ -34,6 +37,7 @@ const CLOSES: u16 = 1020;
 /// their order, or are more than a hundred. The text is read back before it is given, and `NotReadBack` says that it
 /// isn't that court's file; `OutOfMemory` says that memory ran out.
 pub fn court_text(alloc: Global, court: CourtName, from: u16, to: u16) -> Result<String, WriteFault>
+    ensures names { IfOk result (λ text. IsTextOf court.state from to (string_bytes text)) }
     ensures written { IfOk result (λ text. IsFileOf court.state (zone_text court.zone) from to (string_bytes text)) }
     ensures years { (result ≡ Err BadYears) ↔ (are_years from to ≡ false) }
 {
@@ -130,7 +134,8 @@ fn are_days_of(state: State, from: u16, to: u16, days: &Days) -> bool
 /// 1 January of the year.
 fn first_day(year: u16) -> Day
     requires { IsStated (pos year) }
-    ensures { result ≡ days_from_civil (pos year) 1 1 }
+    ensures value { result ≡ days_from_civil (pos year) 1 1 }
+    ensures near { IsNear 0 result }
 {
     on(year as i16, 1, 1)
 }
@@ -138,7 +143,8 @@ fn first_day(year: u16) -> Day
 /// 31 December of the year.
 fn last_day(year: u16) -> Day
     requires { IsStated (pos year) }
-    ensures { result ≡ days_from_civil (pos year) 12 31 }
+    ensures value { result ≡ days_from_civil (pos year) 12 31 }
+    ensures near { IsNear 0 result }
 {
     on(year as i16, 12, 31)
 }
@@ -146,12 +152,33 @@ fn last_day(year: u16) -> Day
 /// The whole text.
 fn text_of(alloc: Global, court: CourtName, from: u16, to: u16) -> Result<String, AllocError>
     requires { are_years from to ≡ true }
+    ensures { IfOk result (λ text. IsTextOf court.state from to (string_bytes text)) }
 {
+    let state = court.state;
     let mut text = String::new(alloc);
     push_head(&mut text, court, from, to)?;
-    push_list(&mut text, court.state, HolidayList::Federal, from, to)?;
-    push_list(&mut text, court.state, HolidayList::State, from, to)?;
-    push_names_head(&mut text)?;
-    push_names(&mut text, court.state, from, to)?;
+    let federal_note = list_note(state, HolidayList::Federal);
+    push_list(
+        alloc,
+        &mut text,
+        state,
+        HolidayList::Federal,
+        federal_note,
+        from,
+        to,
+    )?;
+    text.push_str("\n")?;
+    let state_note = list_note(state, HolidayList::State);
+    push_list(
+        alloc,
+        &mut text,
+        state,
+        HolidayList::State,
+        state_note,
+        from,
+        to,
+    )?;
+    text.push_str(JUDGES_AND_ROOMS)?;
+    push_lines(&mut text, state, Line::Named, first_day(from), last_day(to))?;
     Ok(text)
 }

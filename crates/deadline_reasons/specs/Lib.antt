@@ -3,5 +3,5 @@ pub mod Standing
 pub mod Passing
 pub mod Follows
 pub mod Derivation
-pub mod Leading
 pub mod Words
+pub mod Inside

@@ -9,7 +9,7 @@ ghost use Rattle.deadline_reasons.specs.Follows.{Closes};
 ghost use Rattle.deadline_reasons.specs.Passing.{IsFirstOutage};
 ghost use Rattle.deadline_reasons.specs.Row.{needs_access};
 ghost use Rattle.deadline_reasons.specs.Standing.{Runs, Ended};
-ghost use Rattle.deadline_reasons.specs.Leading.{LeadsOn, with_day};
+ghost use Rattle.deadline_reasons.specs.Inside.Leading.{LeadsOn, with_day};
 
 use crate::look::{day_later, for_access, look_for};
 use crate::reason::{Reason, push};

@@ -8,7 +8,7 @@ ghost use Rattle.rule_periods.specs.declared.period.Length.TheVariants as stated
 ghost use Rattle.rule_periods.specs.Words.{DeadlineRowView, is_grant_length, is_in_hours};
 ghost use Rattle.deadline_reasons.specs.Row.{length_of, adds_three};
 ghost use Rattle.deadline_reasons.specs.Standing.{ToCome, Unstarted, Counting, Ended};
-ghost use Rattle.deadline_reasons.specs.Leading.{LeadsOn, with_day};
+ghost use Rattle.deadline_reasons.specs.Inside.Leading.{LeadsOn, with_day};
 
 use crate::access::close;
 use crate::look::{away_from_event, covered_day, look_for};

@@ -11,7 +11,7 @@ ghost use Rattle.rule_periods.specs.Words.{DeadlineRowView, is_grant_length, is_
 ghost use Rattle.deadline_reasons.specs.Passing.{IsFirstOutage, away_from_event, day_later, for_access};
 ghost use Rattle.deadline_reasons.specs.Row.{length_of, needs_access, access_holidays};
 ghost use Rattle.deadline_reasons.specs.Standing.{Aim, Hour, AccessibleHour, Unstarted, CountingHours, HoursEnd, Looking, RunsUntil, MovedUntil, Nowhere, Ended};
-ghost use Rattle.deadline_reasons.specs.Leading.{LeadsOn, with_instant, moved_to};
+ghost use Rattle.deadline_reasons.specs.Inside.Leading.{LeadsOn, with_instant, moved_to};
 
 use crate::look::{Look, away_from_event, day_later, for_access, look_for};
 use crate::reason::{Reason, push};

@@ -4,7 +4,7 @@ ghost use Rattle.std.specs.Prelude.{IfOk};
 ghost use Rattle.rule_periods.specs.Words.{shown_of};
 ghost use Rattle.rule6.specs.declared.timeliness.Shown.{Shown};
 ghost use Rattle.deadline_reasons.specs.Derivation.{IsDerivation};
-ghost use Rattle.deadline_reasons.specs.Leading.{LeadsOn};
+ghost use Rattle.deadline_reasons.specs.Inside.Leading.{LeadsOn};
 ghost use Rattle.deadline_reasons.specs.Standing.{Unstarted, Ended};
 
 use crate::by_days::push_days;

@@ -7,7 +7,7 @@ ghost use Rattle.rule6.specs.Words.{next_day};
 ghost use Rattle.rule_periods.specs.Words.{DeadlineRowView};
 ghost use Rattle.deadline_reasons.specs.Passing.{away_from_event, for_access, day_later};
 ghost use Rattle.deadline_reasons.specs.Standing.{Aim, Looking};
-ghost use Rattle.deadline_reasons.specs.Leading.{LeadsOn, sought};
+ghost use Rattle.deadline_reasons.specs.Inside.Leading.{LeadsOn, sought};
 
 use crate::cause::cause_of;
 use crate::reason::{Reason, push};

@@ -1,6 +1,6 @@
 -- The cases that entries opened, after one more; and how lines are read.
 use Rattle.std.proofs.Common.{◌≡◌, ◌∙◌, ◌+◌, ◌<◌, ℕ, Bool, true, false, cond, List, [], ◌∷◌, ◌++◌, Option, Some, None, length, refl, sym, ap, add-zero, arith}
-use Rattle.std.specs.Prelude.{◌&&◌, IsSome, codes, is_none}
+use Rattle.std.specs.Prelude.{◌&&◌, IsSome, codes, is_none, option_map}
 use Rattle.std.specs.Str.{bytes_eq}
 use Rattle.case_numbers.specs.Words.{AreApart, CasesView, NameView, after_name, fresh, name_before, no_cases, number_of}
 use Rattle.case_numbers.proofs.CallerLemmas.{names_stay_apart_lem}
@@ -10,11 +10,14 @@ use Rattle.row_forms.specs.Words.{CourtNames, column, names_of}
 use Rattle.row_forms.specs.declared.line.line.Line.{Line}
 use Rattle.row_forms.specs.declared.line.line.Line.TheVariants as line
 use Rattle.row_forms.specs.Line.Words.{fields_read, line_read}
-use Rattle.desk_entries.specs.CaseLines.{Reading, as_it_is, case_in, finds_no_number, fresh_for, lacks_number, lacks_third, named, named_if, newly, opens_too_many, reading_of}
+use Rattle.desk_entries.specs.CaseLines.{Reading, as_it_is, case_in, finds_no_number, fresh_for, lacks_field, lacks_number, named, named_if, newly, opens_too_many, reading_of}
 use Rattle.desk_entries.specs.Cases.{cases_after, cases_of, cases_with, opened_in, with_opened}
 use Rattle.desk_entries.specs.Entries.{most_clerks, next_number, note_in, row_entries}
 use Rattle.desk_entries.specs.Laws.{ACaseNumberIsOneCase, OtherLinesAreReadAsTheyAre}
-use Rattle.desk_entries.specs.Rows.{row_in}
+use Rattle.desk_entries.specs.declared.subject.Named.{Named}
+use Rattle.desk_entries.specs.Rows.{found_text, row_in, special_at, unfound_at, unfound_of, with_subject}
+use Rattle.desk_entries.specs.declared.cause.LineCause.TheVariants.{NotFound, TooManyCases}
+use Rattle.desk_entries.specs.Subjects.{named_in}
 use Rattle.desk_entries.proofs.ListLemmas.{row_entries-note, row_entries-row}
 
 next_place : (number : ℕ) (entry : List ℕ) (entries : List (List ℕ)) → number + 1 + length entries ≡ number + length (entry ∷ entries)
@@ -88,17 +91,31 @@ unfolding cases_of
 one_case under kept = after_apart under no_cases 1 (row_entries kept) none_apart
 
 -- a line that lacks no third field is read as it is
-pub reads_itself : (names : CourtNames) (cases : CasesView) (bytes : List ℕ) → lacks_third (line_read most_clerks names bytes) ≡ false → reading_of names cases bytes ≡ as_it_is bytes
+pub reads_itself : (names : CourtNames) (cases : CasesView) (bytes : List ℕ) → lacks_field 3 (line_read most_clerks names bytes) ≡ false → reading_of names cases bytes ≡ as_it_is bytes
 unfolding reading_of
 reads_itself names cases bytes is = rw is refl
 
+-- a plain text whose fourth field is what it should be names nothing
+pub names_nothing : (names : CourtNames) (text : List ℕ) → lacks_field 4 (line_read most_clerks names text) ≡ false → named_in names text ≡ None
+unfolding named_in
+names_nothing names text is = rw is refl
+
 pub other_lines : OtherLinesAreReadAsTheyAre
-other_lines under kept bytes is = reads_itself (names_of under.court) (cases_of under kept) bytes is
+other_lines under kept bytes third fourth =
+    ap (with_subject under kept) (reads_itself (names_of under.court) (cases_of under kept) bytes third)
+    ∙ ap (λ (named : Option Named). as_it_is (found_text under kept bytes named)) (names_nothing (names_of under.court) bytes fourth)
 
 -- one that lacks no third field opens no case too many
-pub few_enough : (names : CourtNames) (cases : CasesView) (bytes : List ℕ) → lacks_third (line_read most_clerks names bytes) ≡ false → opens_too_many names cases bytes ≡ false
+few_enough : (names : CourtNames) (cases : CasesView) (bytes : List ℕ) → lacks_field 3 (line_read most_clerks names bytes) ≡ false → opens_too_many names cases bytes ≡ false
 unfolding opens_too_many
 few_enough names cases bytes is = rw is refl
+
+-- nothing is wrong with a line but what it says that lacks no third field and no fourth
+pub nothing_special : (under : Standing) (kept : List (List ℕ)) (bytes : List ℕ) → lacks_field 3 (line_read most_clerks (names_of under.court) bytes) ≡ false → lacks_field 4 (line_read most_clerks (names_of under.court) bytes) ≡ false → special_at under kept bytes ≡ None
+nothing_special under kept bytes third fourth =
+    ap (λ (b : Bool). cond b (Some TooManyCases) (option_map NotFound (unfound_at under kept bytes))) (few_enough (names_of under.court) (cases_of under kept) bytes third)
+    ∙ ap (λ (r : Reading). option_map NotFound (unfound_of under kept (named_in (names_of under.court) r.text))) (reads_itself (names_of under.court) (cases_of under kept) bytes third)
+    ∙ ap (λ (named : Option Named). option_map NotFound (unfound_of under kept named)) (names_nothing (names_of under.court) bytes fourth)
 
 -- a line that opens a case too many is read as it is, and lacks its third field
 finds_none : (line : List ℕ) (fields : List (List ℕ)) (name : NameView) (opens : Bool) (free : Option ℕ) → (opens && is_none free) ≡ true → newly line fields name (cond opens free None) ≡ as_it_is line
@@ -114,11 +131,11 @@ named_none : (cases : CasesView) (line : List ℕ) (fields : List (List ℕ)) (n
 named_none cases line fields None none = cc none
 named_none cases line fields (Some name) none = takes_none cases line fields name (number_of cases.named name.key) none
 
-pub too_many_lacks : (names : CourtNames) (cases : CasesView) (line : List ℕ) → opens_too_many names cases line ≡ true → lacks_third (line_read most_clerks names (reading_of names cases line).text) ≡ true
+pub too_many_lacks : (names : CourtNames) (cases : CasesView) (line : List ℕ) → opens_too_many names cases line ≡ true → lacks_field 3 (line_read most_clerks names (reading_of names cases line).text) ≡ true
 unfolding opens_too_many reading_of
-too_many_lacks names cases line too_many = by (lacks_third (line_read most_clerks names line)) refl too_many
+too_many_lacks names cases line too_many = by (lacks_field 3 (line_read most_clerks names line)) refl too_many
   where
-    by : (lacks : Bool) → lacks_third (line_read most_clerks names line) ≡ lacks → (lacks && lacks_number cases (fields_read line) (case_in (fields_read line))) ≡ true
-        → lacks_third (line_read most_clerks names (cond lacks (named_if cases line (fields_read line) (case_in (fields_read line))) (as_it_is line)).text) ≡ true
+    by : (lacks : Bool) → lacks_field 3 (line_read most_clerks names line) ≡ lacks → (lacks && lacks_number cases (fields_read line) (case_in (fields_read line))) ≡ true
+        → lacks_field 3 (line_read most_clerks names (cond lacks (named_if cases line (fields_read line) (case_in (fields_read line))) (as_it_is line)).text) ≡ true
     by false is none = cc none
-    by true is none = ap (λ (r : Reading). lacks_third (line_read most_clerks names r.text)) (named_none cases line (fields_read line) (case_in (fields_read line)) none) ∙ is
+    by true is none = ap (λ (r : Reading). lacks_field 3 (line_read most_clerks names r.text)) (named_none cases line (fields_read line) (case_in (fields_read line)) none) ∙ is

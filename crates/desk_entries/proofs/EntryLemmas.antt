@@ -28,7 +28,7 @@ use Rattle.row_forms.proofs.LineLemmas.CallerLemmas.{has_fields, says_first, say
 use Rattle.case_numbers.specs.Words.{CasesView, NameView, after_name, case_read, name_before, name_line, number_of as number_by}
 use Rattle.case_numbers.proofs.CallerLemmas.{name_of_line, no_name_line, no_name_past, rest_of_line}
 use Rattle.desk_entries.specs.Cases.{cases_of}
-use Rattle.desk_entries.specs.CaseLines.{case_in, fresh_for, lacks_third, named, named_if, newly, reading_of}
+use Rattle.desk_entries.specs.CaseLines.{case_in, fresh_for, lacks_field, named, named_if, newly, reading_of}
 use Rattle.desk_entries.specs.Entries.{most_clerks, most_entries, note_in}
 use Rattle.desk_entries.specs.Rows.{answer_to, entry_of, follows, leaves, left_of, plain_leaves, reading_at, with_name, within}
 use Rattle.desk_entries.specs.Laws.{WhatIsLeftFollows}
@@ -247,7 +247,7 @@ case_in_read fields = by (bytes_eq (column fields 2) (codes "calendar"))
 
 pub reading_read : (names : CourtNames) (cases : CasesView) (line : List ℕ) → WasRead (reading_of names cases line).name
 unfolding reading_of
-reading_read names cases line = by (lacks_third (line_read most_clerks names line))
+reading_read names cases line = by (lacks_field 3 (line_read most_clerks names line))
   where
     by : (third : Bool) → WasRead (cond third (named_if cases line (fields_read line) (case_in (fields_read line))) (record { text = line; name = None })).name
     by true = named_if_read cases line (fields_read line) (case_in (fields_read line)) (case_in_read (fields_read line))

@@ -2,6 +2,7 @@ pub mod CallerLemmas
 pub mod ChangeLemmas
 pub mod CountLemmas
 pub mod CaseLemmas
+pub mod NextLineLemmas
 pub mod DecidedLemmas
 pub mod EntryLemmas
 pub mod ExportLemmas
@@ -18,4 +19,5 @@ pub mod PlaceLemmas
 pub mod QuestionLemmas
 pub mod RegisterLemmas
 pub mod RunLemmas
+pub mod ShiftLemmas
 pub mod StrikingLemmas

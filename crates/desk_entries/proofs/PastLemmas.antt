@@ -1,51 +1,34 @@
 -- The rows that are struck, after one more entry, and the corrections so far.
-use Rattle.std.proofs.Common.{◌≡◌, ◌∙◌, ◌+◌, ◌<◌, ◌≤◌, ◌++◌, ◌∷◌, ℕ, suc, List, [], Option, Some, None, length, length-append, refl, sym, ap, append_assoc, append-nil, arith}
-use Rattle.std.specs.Prelude.{Vec, drop, false, get_or, is_none, true}
+use Rattle.std.proofs.Common.{◌≡◌, ◌∙◌, ◌+◌, ◌<◌, ◌≤◌, ◌++◌, ◌∷◌, ℕ, List, [], Option, Some, None, length, length-append, refl, sym, ap, arith}
+use Rattle.std.specs.Prelude.{Bool, Vec, drop, false, get_or, is_none, option_map, true}
 use Rattle.std.specs.declared.alloc.Global.{Global}
 use Rattle.std.proofs.lemmas.List.{at_drop_all, at_drop_more}
 use Rattle.desk_numbers.specs.declared.moved.Moved.{Moved}
 use Rattle.desk_entries.specs.declared.standing.Standing.{Standing}
-use Rattle.row_forms.specs.declared.numbered.NumberedRow.{NumberedRow}
-use Rattle.desk_entries.specs.Entries.{Note, next_number, note_in, row_entries, row_only}
+use Rattle.case_numbers.specs.Words.{after_name}
+use Rattle.row_forms.specs.Words.{names_of}
+use Rattle.row_forms.specs.Line.Words.{line_read}
+use Rattle.desk_entries.specs.Entries.{Note, most_clerks, next_number, note_in, row_entries, row_only}
 use Rattle.desk_journal.specs.Words.{batch_of}
 use Rattle.desk_entries.specs.declared.past.Corrected.{Corrected}
-use Rattle.desk_entries.specs.Past.{corrected_by, corrected_with, noted_after, row_struck_as, rows_struck, rows_with}
+use Rattle.desk_entries.specs.Past.{corrected_by, corrected_with, is_struck_first, noted_after, row_struck_as, row_struck_said, rows_struck, rows_with, strikes_first, strikes_it}
 use Rattle.desk_entries.proofs.ListLemmas.{row_entries-more}
 
-pub nothing_struck : (under : Standing) (moved : List Moved) (number : ℕ) → rows_struck under moved number [] ≡ []
-unfolding rows_struck
-nothing_struck under moved number = refl
+-- what is struck of an entry that is a row, and of one that is none
+pub one_row_struck : (under : Standing) (moved : List Moved) (number : ℕ) (entry : List ℕ) (later : List (List ℕ)) → is_none (note_in entry) ≡ true
+    → row_struck_said under moved number entry (line_read most_clerks (names_of under.court) (after_name entry)) later ≡ row_struck_as (note_in entry) under moved number entry later
+one_row_struck under moved number entry later row = by (note_in entry) row
+  where
+    by : (n : Option Note) → is_none n ≡ true → row_struck_said under moved number entry (line_read most_clerks (names_of under.court) (after_name entry)) later ≡ row_struck_as n under moved number entry later
+    by None h = refl
+    by (Some note) h = cc h
 
--- the rows that are struck, after others
-rows_struck-append : (under : Standing) (moved : List Moved) (number : ℕ) (some more : List (List ℕ)) → rows_struck under moved number (some ++ more) ≡ rows_struck under moved number some ++ rows_struck under moved (number + length some) more
-unfolding rows_struck
-rows_struck-append under moved number [] more = ap (λ n. rows_struck under moved n more) (none number)
+pub no_row_struck : (under : Standing) (moved : List Moved) (number : ℕ) (entry : List ℕ) (later : List (List ℕ)) → is_none (note_in entry) ≡ false → row_struck_as (note_in entry) under moved number entry later ≡ []
+no_row_struck under moved number entry later noted = by (note_in entry) noted
   where
-    none : (n : ℕ) → n ≡ n + 0
-    none n = omega arith
-rows_struck-append under moved number (entry ∷ some) more =
-    ap (λ (l : List NumberedRow). row_struck_as under moved number entry ++ l) (rows_struck-append under moved (number + 1) some more ∙ ap (λ n. rows_struck under moved (number + 1) some ++ rows_struck under moved n more) (later number (length some)))
-    ∙ sym (append_assoc (row_struck_as under moved number entry) (rows_struck under moved (number + 1) some) (rows_struck under moved (number + length (entry ∷ some)) more))
-  where
-    later : (n m : ℕ) → (n + 1) + m ≡ n + suc m
-    later n m = omega arith
-
--- what is struck of an entry that is no row, and of one that is
-pub no_row_struck : (under : Standing) (moved : List Moved) (number : ℕ) (entry : List ℕ) → is_none (note_in entry) ≡ false → rows_struck under moved number (row_only (note_in entry) entry) ≡ []
-unfolding rows_struck
-no_row_struck under moved number entry noted = by (note_in entry) noted
-  where
-    by : (n : Option Note) → is_none n ≡ false → rows_struck under moved number (row_only n entry) ≡ []
+    by : (n : Option Note) → is_none n ≡ false → row_struck_as n under moved number entry later ≡ []
     by None h = cc h
     by (Some note) h = refl
-
-pub one_row_struck : (under : Standing) (moved : List Moved) (number : ℕ) (entry : List ℕ) → is_none (note_in entry) ≡ true → rows_struck under moved number (row_only (note_in entry) entry) ≡ row_struck_as under moved number entry
-unfolding rows_struck
-one_row_struck under moved number entry row = by (note_in entry) row
-  where
-    by : (n : Option Note) → is_none n ≡ true → rows_struck under moved number (row_only n entry) ≡ row_struck_as under moved number entry
-    by None h = append-nil (row_struck_as under moved number entry)
-    by (Some note) h = cc h
 
 -- and how many rows it is
 pub none_counted : (entry : List ℕ) (number : ℕ) → is_none (note_in entry) ≡ false → number ≡ number + length (row_only (note_in entry) entry)
@@ -67,18 +50,39 @@ pub number_more : (kept : List (List ℕ)) (entry : List ℕ) (number then : ℕ
 number_more kept entry number then begun next is =
     omega (arith, next, is, ap length (row_entries-more kept entry begun), length-append (row_entries kept) (row_only (note_in entry) entry))
 
--- the rows that stand, with one entry more
-pub rows_struck-more : (under : Standing) (moved : List Moved) (rows then : List NumberedRow) (kept : List (List ℕ)) (entry : List ℕ) (number : ℕ) → 0 < length kept → number ≡ next_number kept
-    → rows ≡ rows_struck under moved 1 (row_entries kept) → then ≡ rows ++ rows_struck under moved number (row_only (note_in entry) entry)
-    → then ≡ rows_struck under moved 1 (row_entries (kept ++ entry ∷ []))
-rows_struck-more under moved rows then kept entry number begun next so_far more =
-    let one = row_only (note_in entry) entry in
-    let here : number ≡ 1 + length (row_entries kept) = omega (arith, next) in
-    more
-    ∙ ap (λ (l : List NumberedRow). l ++ rows_struck under moved number one) so_far
-    ∙ ap (λ (n : ℕ). rows_struck under moved 1 (row_entries kept) ++ rows_struck under moved n one) here
-    ∙ sym (rows_struck-append under moved 1 (row_entries kept) one)
-    ∙ ap (rows_struck under moved 1) (sym (row_entries-more kept entry begun))
+-- the first of the entries that are left
+pub rows_struck-next : (under : Standing) (moved : List Moved) (number : ℕ) (entries : List (Vec ℕ Global)) (place : ℕ) (entry : Vec ℕ Global) → place < length entries → entry ≡ get_or entries place entry
+    → rows_struck under moved number (batch_of (drop place entries))
+    ≡ row_struck_as (note_in entry.items) under moved number entry.items (batch_of (drop (place + 1) entries)) ++ rows_struck under moved (rows_with (note_in entry.items) number) (batch_of (drop (place + 1) entries))
+unfolding rows_struck
+rows_struck-next under moved number entries place entry lt is =
+    at_drop_more (λ (l : List (Vec ℕ Global)). rows_struck under moved number (batch_of l)) entries place entry lt
+    ∙ ap (λ (e : Vec ℕ Global). row_struck_as (note_in e.items) under moved number e.items (batch_of (drop (place + 1) entries)) ++ rows_struck under moved (rows_with (note_in e.items) number) (batch_of (drop (place + 1) entries))) (sym is)
+
+pub all_struck : (under : Standing) (moved : List Moved) (number : ℕ) (entries : List (Vec ℕ Global)) (place : ℕ) → length entries ≤ place → rows_struck under moved number (batch_of (drop place entries)) ≡ []
+unfolding rows_struck
+all_struck under moved number entries place le = at_drop_all (λ (l : List (Vec ℕ Global)). rows_struck under moved number (batch_of l)) entries place le
+
+-- whether a row is struck first, by the first of the entries that are left
+pub struck_first_next : (number : ℕ) (entries : List (Vec ℕ Global)) (place : ℕ) (entry : Vec ℕ Global) → place < length entries → entry ≡ get_or entries place entry
+    → is_struck_first number (batch_of (drop place entries)) ≡ strikes_first number (note_in entry.items) (is_struck_first number (batch_of (drop (place + 1) entries)))
+unfolding is_struck_first
+struck_first_next number entries place entry lt is =
+    at_drop_more (λ (l : List (Vec ℕ Global)). is_struck_first number (batch_of l)) entries place entry lt
+    ∙ ap (λ (e : Vec ℕ Global). strikes_first number (note_in e.items) (is_struck_first number (batch_of (drop (place + 1) entries)))) (sym is)
+
+pub none_struck_first : (number : ℕ) (entries : List (Vec ℕ Global)) (place : ℕ) → length entries ≤ place → is_struck_first number (batch_of (drop place entries)) ≡ false
+unfolding is_struck_first
+none_struck_first number entries place le = at_drop_all (λ (l : List (Vec ℕ Global)). is_struck_first number (batch_of l)) entries place le
+
+-- where the first of them is a note, and where it is a row
+pub strikes_found : (number : ℕ) (note : Option Note) (others strikes : Bool) → Some strikes ≡ option_map (strikes_it number) note → strikes_first number note others ≡ strikes
+strikes_found number None others strikes is = cc is
+strikes_found number (Some note) others strikes is = cc is
+
+pub strikes_none : (number : ℕ) (note : Option Note) (others : Bool) → None ≡ option_map (strikes_it number) note → strikes_first number note others ≡ others
+strikes_none number None others is = refl
+strikes_none number (Some note) others is = cc is
 
 -- what is counted of an entry that is a row, and of one that is a note
 pub row_counted : (entry : List ℕ) (rows : ℕ) → is_none (note_in entry) ≡ true → rows + 1 ≡ rows_with (note_in entry) rows

@@ -1,5 +1,5 @@
 -- A line that is answered, and leaves nothing.
-use Rattle.std.proofs.Common.{◌≡◌, ◌≢◌, ◌∙◌, refl, ℕ, Bool, cond, false, List, [], ◌++◌, append-nil, sym, ap, subst}
+use Rattle.std.proofs.Common.{◌≡◌, ◌≢◌, ◌∙◌, refl, ℕ, Option, false, List, [], ◌++◌, append-nil, sym, ap, subst}
 use Rattle.desk_entries.specs.declared.standing.Standing.{Standing}
 use Rattle.desk_session.specs.Words.{TakesLine}
 use Rattle.row_forms.specs.Words.{names_of}
@@ -8,36 +8,35 @@ use Rattle.row_forms.specs.Line.Words.{line_read}
 use Rattle.desk_entries.specs.declared.questions.Questions.{Questions}
 use Rattle.desk_entries.specs.Questions.{AsksOf, shown, shown_to}
 use Rattle.desk_entries.specs.Register.{StandsAt}
-use Rattle.desk_entries.specs.declared.cause.LineCause.TheVariants.{TooManyCases}
-use Rattle.desk_entries.specs.CaseLines.{lacks_third}
-use Rattle.desk_entries.specs.Entries.{most_clerks, next_number}
-use Rattle.desk_entries.specs.LineCauses.{fault_told}
-use Rattle.desk_entries.specs.Rows.{reading_at, too_many_at, within}
-use Rattle.desk_entries.proofs.RegisterLemmas.{not_too_many}
+use Rattle.desk_entries.specs.declared.cause.LineCause.{LineCause}
+use Rattle.desk_entries.specs.CaseLines.{lacks_field}
+use Rattle.desk_entries.specs.Entries.{most_clerks}
+use Rattle.desk_entries.specs.Rows.{reading_at, special_at, told_or, within}
+use Rattle.desk_entries.proofs.RegisterLemmas.{not_special}
 use Rattle.docket_rows.specs.declared.command.Command.{Command as CommandOf}
 use Rattle.desk_numbers.specs.Words.{given_by, numbers_after}
 use Rattle.row_forms.specs.declared.row.Work.{Work}
 use Rattle.row_forms.specs.declared.row.Work.TheVariants.{Command, Query}
 use Rattle.desk_entries.specs.Run.{Run, numbers_with}
 
--- what a line is shown that says this, and opens a case too many or not
-abbrev pub shown_with : Standing → (kept : List (List ℕ)) → (too_many : Bool) → Line → List ℕ
-shown_with under kept too_many said = cond too_many (fault_told (next_number kept) TooManyCases) (shown_to under kept said)
+-- what a line is shown that says this, where this is wrong beside
+abbrev pub shown_with : Standing → (kept : List (List ℕ)) → (special : Option LineCause) → Line → List ℕ
+shown_with under kept special said = told_or under kept special (shown_to under kept said)
 
 pub line_asked : (under : Standing) (questions : Questions) (kept : List (List ℕ)) (bytes : List ℕ) (batch : List (List ℕ)) (text : List ℕ) (said : Line) → within kept (line_read most_clerks (names_of under.court) (reading_at under kept bytes).text) ≡ said
-    → StandsAt under questions.register kept → (text_after : List ℕ) → text_after ≡ text ++ shown_with under kept (too_many_at under kept bytes) said
+    → StandsAt under questions.register kept → (text_after : List ℕ) → text_after ≡ text ++ shown_with under kept (special_at under kept bytes) said
     → TakesLine (λ k l. []) (shown under) (AsksOf under questions) kept bytes batch batch text text_after
 unfolding shown
 line_asked under questions kept bytes batch text said is stands text_after told = record {
   stands = subst (AsksOf under questions) (sym (append-nil kept)) stands;
   left = sym (append-nil batch);
-  told = told ∙ ap (λ (l : Line). text ++ shown_with under kept (too_many_at under kept bytes) l) (sym is);
+  told = told ∙ ap (λ (l : Line). text ++ shown_with under kept (special_at under kept bytes) l) (sym is);
 }
 
--- a line that lacks no third field
-pub shown_plain : (under : Standing) (kept : List (List ℕ)) (bytes text : List ℕ) (said : Line) → within kept (line_read most_clerks (names_of under.court) (reading_at under kept bytes).text) ≡ said → lacks_third said ≡ false
-    → text ++ shown_to under kept said ≡ text ++ shown_with under kept (too_many_at under kept bytes) said
-shown_plain under kept bytes text said is third = ap (λ (b : Bool). text ++ shown_with under kept b said) (sym (not_too_many under kept bytes said is third))
+-- a line that lacks no third field and no fourth
+pub shown_plain : (under : Standing) (kept : List (List ℕ)) (bytes text : List ℕ) (said : Line) → within kept (line_read most_clerks (names_of under.court) (reading_at under kept bytes).text) ≡ said → lacks_field 3 said ≡ false → lacks_field 4 said ≡ false
+    → text ++ shown_to under kept said ≡ text ++ shown_with under kept (special_at under kept bytes) said
+shown_plain under kept bytes text said is third fourth = ap (λ (special : Option LineCause). text ++ shown_with under kept special said) (sym (not_special under kept bytes said is third fourth))
 
 -- a question gives no number
 pub question_moves_nothing : (under : Standing) (run : Run) (number : ℕ) (asked : Work) → ((command : CommandOf) → asked ≢ Command command) → (numbers_with under run number asked).moved ≡ run.numbers.moved

@@ -8,30 +8,40 @@ use Rattle.row_forms.specs.declared.line.line.Line.{Line}
 use Rattle.row_forms.specs.declared.line.line.Line.TheVariants as line
 use Rattle.row_forms.specs.declared.row.Row.{Row}
 use Rattle.row_forms.specs.declared.row.Work.{Work}
-use Rattle.row_forms.specs.Words.{names_of, row_of}
+use Rattle.row_forms.specs.Words.{CourtNames, names_of, row_of}
 use Rattle.row_forms.specs.Line.Words.{fields_read, line_read}
 use Rattle.row_forms.proofs.LineLemmas.CallerLemmas.{says_row}
 use Rattle.office_texts.specs.Run.Words.{Holds}
 use Rattle.desk_numbers.specs.declared.given.Given.{Given}
 use Rattle.desk_numbers.specs.Words.{NumbersView, given_by, numbers_after, passed}
 use Rattle.desk_session.specs.Words.{TakesLine}
-use Rattle.std.specs.Prelude.{IsSome, None}
+use Rattle.std.specs.Prelude.{IsSome, None, Some, option_map}
 use Rattle.case_numbers.specs.Words.{NameView, after_name, name_before, name_line}
 use Rattle.row_forms.specs.declared.fault.RowCause.{RowCause}
-use Rattle.desk_entries.specs.declared.cause.LineCause.TheVariants.{TooManyCases}
+use Rattle.row_forms.specs.declared.fault.RowCause.TheVariants.{BadClerk, BadField, NotText, TooManyRows, UnknownCommand, WrongCount}
+use Rattle.desk_numbers.specs.declared.subjects.Found.{Found}
+use Rattle.desk_numbers.specs.declared.subjects.Found.TheVariants as found
+use Rattle.desk_numbers.specs.declared.subjects.SubjectName.{SubjectName}
+use Rattle.desk_numbers.specs.declared.subjects.SubjectName.TheVariants.{Newest, Under}
+use Rattle.desk_entries.specs.declared.cause.LineCause.{LineCause}
+use Rattle.desk_entries.specs.declared.cause.LineCause.TheVariants.{NotFound, TooManyCases}
+use Rattle.desk_entries.specs.declared.subject.Named.{Named}
+use Rattle.desk_entries.specs.Subjects.{named_in, with_found}
 use Rattle.desk_entries.specs.declared.standing.Standing.{Standing}
-use Rattle.desk_entries.specs.CaseLines.{lacks_third}
-use Rattle.desk_entries.specs.LineCauses.{cause_as, fault_told}
+use Rattle.desk_entries.specs.CaseLines.{is_field, lacks_field}
+use Rattle.desk_entries.specs.LineCauses.{cause_or, fault_told, unfound_as}
 use Rattle.desk_entries.specs.Cases.{cases_of, opened_as, opened_in, with_opened}
 use Rattle.desk_entries.specs.Entries.{most_clerks, most_entries, next_number, note_in}
-use Rattle.desk_entries.specs.Rows.{answer_to, answers, entry_of, follows, leaves, left_again, left_of, plain_answers, plain_leaves, reading_at, row_in, told_of, too_many_at, with_name, within}
+use Rattle.desk_entries.specs.Rows.{answer_to, answers, cased_at, entry_of, follows, found_at, found_text, leaves, left_again, left_of, plain_answers, plain_leaves, reading_at, row_in, special_at, told_of, told_or, too_many_at, unfound_at, unfound_of, with_name, within}
 use Rattle.desk_entries.specs.Run.{Run, docketed_by, docketed_with, numbers_with, reply_by_places, run_by, run_past}
 use Rattle.desk_entries.specs.Register.{IsDone, IsReadyAt, StandsAt}
+use Rattle.desk_entries.specs.Shifts.{shifts_by, shifts_said, told}
 use Rattle.desk_entries.specs.declared.register.Done.{Done}
 use Rattle.desk_entries.specs.declared.register.DocketRegister.{DocketRegister}
-use Rattle.desk_entries.proofs.CaseLemmas.{cases_of-live, cases_of-note, cases_of-struck, none_opened, too_many_lacks}
+use Rattle.desk_entries.proofs.CaseLemmas.{cases_of-live, cases_of-note, cases_of-struck, names_nothing, none_opened, too_many_lacks}
 use Rattle.desk_entries.proofs.EntryLemmas.{WasRead, is_no_note_named, its_name, past_its_name, reading_read, says_its_row, within_row}
 use Rattle.desk_entries.proofs.DecidedLemmas.{run_by-more, run_by-none, run_by-note, run_by-struck}
+use Rattle.desk_entries.proofs.ShiftLemmas.{just_answered, none_said}
 use Rattle.desk_entries.proofs.ListLemmas.{before-row, next_number-note, next_number-row, not_struck}
 
 -- the numbers after a row, by what they are made of
@@ -157,50 +167,94 @@ none_left under kept fields line.Blank none = refl
 none_left under kept fields (line.Fault cause) none = refl
 none_left under kept fields (line.Row row) none = cc none
 
--- what a line is answered that says this, and opens a case too many or not
-abbrev pub told_with : Standing → (kept : List (List ℕ)) → (too_many : Bool) → Line → List ℕ
-told_with under kept too_many said = cond too_many (fault_told (next_number kept) TooManyCases) (told_of under kept said)
+-- what a line is answered that says this, where this is wrong beside
+abbrev pub told_with : Standing → (kept : List (List ℕ)) → (special : Option LineCause) → Line → List ℕ
+told_with under kept special said = told_or under kept special (told_of under kept said)
 
--- a line that lacks no third field opens no case too many
-lacks_it : (kept : List (List ℕ)) (said then : Line) → within kept said ≡ then → lacks_third then ≡ false → lacks_third said ≡ false
-lacks_it kept line.Blank then is none = refl
-lacks_it kept (line.Fault cause) then is none = ap lacks_third is ∙ none
-lacks_it kept (line.Row row) then is none = refl
+-- a line that lacks no third field and no fourth opens no case too many, and names nothing that isn't found
+lacks_it : (number : ℕ) (kept : List (List ℕ)) (said then : Line) → within kept said ≡ then → lacks_field number then ≡ false → lacks_field number said ≡ false
+lacks_it number kept line.Blank then is none = refl
+lacks_it number kept (line.Fault cause) then is none = ap (lacks_field number) is ∙ none
+lacks_it number kept (line.Row row) then is none = refl
 
-pub not_too_many : (under : Standing) (kept : List (List ℕ)) (bytes : List ℕ) (said : Line) → within kept (line_read most_clerks (names_of under.court) (reading_at under kept bytes).text) ≡ said → lacks_third said ≡ false → too_many_at under kept bytes ≡ false
-not_too_many under kept bytes said is none = by (too_many_at under kept bytes) refl
+one_field : (cause : RowCause) → is_field 3 cause ≡ true → is_field 4 cause ≡ false
+one_field (BadField column) so = grind (arith, nat_tests)
+one_field BadClerk so = refl
+one_field UnknownCommand so = refl
+one_field WrongCount so = refl
+one_field NotText so = refl
+one_field TooManyRows so = refl
+
+one_lack : (said : Line) → lacks_field 3 said ≡ true → lacks_field 4 said ≡ false
+one_lack line.Blank so = refl
+one_lack (line.Fault cause) so = one_field cause so
+one_lack (line.Row row) so = refl
+
+one_found : (name : SubjectName) (number : ℕ) → unfound_as name (found.One number) ≡ None
+one_found (Under rule) number = refl
+one_found Newest number = refl
+
+all_found : (under : Standing) (kept : List (List ℕ)) (text : List ℕ) (named : Option Named) → named_in (names_of under.court) text ≡ named → lacks_field 4 (line_read most_clerks (names_of under.court) (found_text under kept text named)) ≡ false → unfound_of under kept named ≡ None
+all_found under kept text None is none = refl
+all_found under kept text (Some named) is none = by (found_at under kept named) none
   where
-    by : (too_many : Bool) → too_many_at under kept bytes ≡ too_many → too_many ≡ false
-    by false so = refl
-    by true so = sym (too_many_lacks (names_of under.court) (cases_of under kept) bytes so) ∙ lacks_it kept (line_read most_clerks (names_of under.court) (reading_at under kept bytes).text) said is none
+    nothing : lacks_field 4 (line_read most_clerks (names_of under.court) text) ≡ false → ⊥
+    nothing fourth = let no : ◌≡◌ {A = Option Named} (Some named) None = sym is ∙ names_nothing (names_of under.court) text fourth in cc no
+
+    by : (there : Found) → lacks_field 4 (line_read most_clerks (names_of under.court) (with_found text there)) ≡ false → unfound_as named.name there ≡ None
+    by (found.One number) fourth = one_found named.name number
+    by found.None fourth = absurd (nothing fourth)
+    by (found.Two number other) fourth = absurd (nothing fourth)
+
+pub not_special : (under : Standing) (kept : List (List ℕ)) (bytes : List ℕ) (said : Line) → within kept (line_read most_clerks (names_of under.court) (reading_at under kept bytes).text) ≡ said → lacks_field 3 said ≡ false → lacks_field 4 said ≡ false → special_at under kept bytes ≡ None
+not_special under kept bytes said is third fourth = by (too_many_at under kept bytes) refl
+  where
+    names : CourtNames
+    names = names_of under.court
+
+    cased : List ℕ
+    cased = (cased_at under kept bytes).text
+
+    reads : List ℕ → Line
+    reads text = line_read most_clerks names text
+
+    by : (too_many : Bool) → too_many_at under kept bytes ≡ too_many → cond too_many (Some TooManyCases) (option_map NotFound (unfound_at under kept bytes)) ≡ None
+    by false so = ap (option_map NotFound) (all_found under kept cased (named_in names cased) refl (lacks_it 4 kept (reads (reading_at under kept bytes).text) said is fourth))
+    by true so =
+        let lacks : lacks_field 3 (reads cased) ≡ true = too_many_lacks names (cases_of under kept) bytes so in
+        let none = names_nothing names cased (one_lack (reads cased) lacks) in
+        let same : lacks_field 3 (reads (reading_at under kept bytes).text) ≡ lacks_field 3 (reads cased) = ap (λ (named : Option Named). lacks_field 3 (reads (found_text under kept cased named))) none in
+        let no : true ≡ false = sym lacks ∙ sym same ∙ lacks_it 3 kept (reads (reading_at under kept bytes).text) said is third in
+        cc no
 
 -- what is told of a fault, by its cause
-pub cause_told : (under : Standing) (kept : List (List ℕ)) (too_many : Bool) (cause : RowCause) → fault_told (next_number kept) (cause_as too_many cause) ≡ told_with under kept too_many (line.Fault cause)
-cause_told under kept true cause = refl
-cause_told under kept false cause = refl
+pub cause_told : (under : Standing) (kept : List (List ℕ)) (special : Option LineCause) (cause : RowCause) → fault_told (next_number kept) (cause_or special cause) ≡ told_with under kept special (line.Fault cause)
+cause_told under kept None cause = refl
+cause_told under kept (Some special) cause = refl
 
 -- what lines leave and are answered, by what they say
 module _ (under : Standing) (register : DocketRegister) (kept : List (List ℕ)) (bytes : List ℕ) (batch : List (List ℕ)) (text : List ℕ) where
   -- a line that leaves nothing
   pub nothing_left : (said : Line) → within kept (line_read most_clerks (names_of under.court) (reading_at under kept bytes).text) ≡ said → row_in said ≡ [] → IsReadyAt under register kept → (text_after : List ℕ)
-      → text_after ≡ text ++ told_with under kept (too_many_at under kept bytes) said → TakesLine (leaves under) (answers under) (IsReadyAt under register) kept bytes batch batch text text_after
-  unfolding leaves answers plain_leaves plain_answers
-  nothing_left said is none stands text_after told =
+      → text_after ≡ text ++ told_with under kept (special_at under kept bytes) said → TakesLine (leaves under) (told under) (IsReadyAt under register) kept bytes batch batch text text_after
+  unfolding leaves answers plain_leaves plain_answers told
+  nothing_left said is none stands text_after added =
       let plain = (reading_at under kept bytes).text in
       let name = (reading_at under kept bytes).name in
       let left : leaves under kept bytes ≡ [] = ap (λ (l : Line). with_name name (left_of under kept (fields_read plain) l)) is ∙ ap (with_name name) (none_left under kept (fields_read plain) said none) in
       record {
         stands = subst (IsReadyAt under register) (sym (ap (λ (l : List (List ℕ)). kept ++ l) left ∙ append-nil kept)) stands;
         left = sym (append-nil batch) ∙ ap (λ (l : List (List ℕ)). batch ++ l) (sym left);
-        told = told ∙ ap (λ l. text ++ told_with under kept (too_many_at under kept bytes) l) (sym is);
+        told = added ∙ ap (λ l. text ++ told_with under kept (special_at under kept bytes) l) (sym is)
+            ∙ ap (λ (l : List ℕ). text ++ l) (sym (just_answered under kept bytes _ (ap (shifts_said under kept) is ∙ none_said under kept said none)));
       }
 
   -- a line that says a row, which is done
   pub row_left : (row : Row) → within kept (line_read most_clerks (names_of under.court) (reading_at under kept bytes).text) ≡ line.Row row → 0 < length kept → all_before under.corrections (next_number kept) ≡ true → (fields : List (List ℕ)) → fields ≡ fields_read (reading_at under kept bytes).text
       → (name : Option NameView) → name ≡ (reading_at under kept bytes).name → (made : Done)
-      → IsDone under kept fields row name register made → (batch_after : List (List ℕ)) (text_after : List ℕ) → batch_after ≡ batch ++ made.entry.items ∷ [] → text_after ≡ text ++ string_bytes made.answer
-      → TakesLine (leaves under) (answers under) (IsReadyAt under register) kept bytes batch batch_after text text_after
-  unfolding leaves answers plain_leaves plain_answers
+      → IsDone under kept fields row name register made → (batch_after : List (List ℕ)) (text_after : List ℕ) → batch_after ≡ batch ++ made.entry.items ∷ [] → text_after ≡ text ++ (answer_to under kept row ++ shifts_by under kept row)
+      → TakesLine (leaves under) (told under) (IsReadyAt under register) kept bytes batch batch_after text text_after
+  unfolding leaves answers plain_leaves plain_answers told
   row_left row is begun before fields fields_are name name_is made done batch_after text_after batch_is text_is =
       let plain = (reading_at under kept bytes).text in
       let (said, room) = within_row kept (line_read most_clerks (names_of under.court) plain) row is in
@@ -216,8 +270,9 @@ module _ (under : Standing) (register : DocketRegister) (kept : List (List ℕ))
           before = before-row under.corrections kept entry begun (is_no_note_named (names_of under.court) (fields_read plain) row (answer_to under kept row) spelled name) before;
         });
         left = batch_is ∙ ap (λ (e : List ℕ). batch ++ e ∷ []) made_is ∙ ap (λ (l : List (List ℕ)). batch ++ l) (sym left);
-        told = text_is ∙ ap (λ (l : List ℕ). text ++ l) done.answer ∙ ap (λ l. text ++ told_of under kept l) (sym is)
-            ∙ ap (λ (b : Bool). text ++ cond b (fault_told (next_number kept) TooManyCases) (plain_answers under kept plain)) (sym (not_too_many under kept bytes (line.Row row) is refl));
+        told = text_is ∙ ap (λ l. text ++ (told_of under kept l ++ shifts_said under kept l)) (sym is)
+            ∙ ap (λ (special : Option LineCause). text ++ (told_or under kept special (plain_answers under kept plain) ++ shifts_said under kept (within kept (line_read most_clerks (names_of under.court) plain))))
+            (sym (not_special under kept bytes (line.Row row) is refl refl));
       }
 
 -- an entry that says a row is the next one where the row leaves it

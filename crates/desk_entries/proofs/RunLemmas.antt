@@ -26,14 +26,14 @@ use Rattle.office_texts.specs.Named.Words.{named_line_of}
 use Rattle.office_texts.proofs.NamedLemmas.CallerLemmas.{without_names_as_before_lem}
 use Rattle.desk_entries.specs.declared.cause.LineCause.TheVariants.{TooManyCases}
 use Rattle.desk_entries.specs.declared.standing.Standing.{Standing}
-use Rattle.desk_entries.specs.LineCauses.{fault_told}
-use Rattle.desk_entries.specs.CaseLines.{Reading, as_it_is, lacks_third}
+use Rattle.desk_entries.specs.declared.cause.LineCause.{LineCause}
+use Rattle.desk_entries.specs.CaseLines.{Reading, as_it_is, lacks_field}
 use Rattle.desk_entries.specs.Cases.{cases_after, cases_of, opened_in, with_opened}
 use Rattle.desk_entries.specs.Entries.{most_clerks, most_entries, next_number, row_entries, rows_among}
 use Rattle.desk_entries.specs.Laws.{AnswersAreTheRuns, HasNoFault, plain}
-use Rattle.desk_entries.specs.Rows.{answer_to, answers, entry_of, leaves, left_of, plain_answers, plain_leaves, reading_at, row_in, rows_in, told_of, with_name, within}
+use Rattle.desk_entries.specs.Rows.{answer_to, answers, entry_of, leaves, left_of, plain_answers, plain_leaves, reading_at, row_in, rows_in, told_of, told_or, with_name, within}
 use Rattle.desk_entries.specs.Run.{Run, docketed_by, docketed_with, numbers_with, opening_run, reply_by_places, reply_under, run_after, run_by, run_entry, run_said}
-use Rattle.desk_entries.proofs.CaseLemmas.{cases_of-live, few_enough, reads_itself}
+use Rattle.desk_entries.proofs.CaseLemmas.{cases_of-live, nothing_special, other_lines}
 use Rattle.desk_entries.proofs.EntryLemmas.{is_no_note, its_name, past_its_name, says_its_row}
 use Rattle.desk_entries.proofs.ListLemmas.{next_number-row}
 use Rattle.desk_entries.proofs.DecidedLemmas.{first_run, run_by-more}
@@ -48,24 +48,24 @@ unfolding told_to left_by lines_from rows_in docketed_after
 none_run court kept = record { told = refl; docket = ap (docketed_by (plain court)) (append-nil kept) }
 
 -- a line in which there is no fault is read as it is
-reads_plain : (court : CourtView) (kept : List (List ℕ)) (bytes : List ℕ) (said : Line) → line_read most_clerks (names_of court) bytes ≡ said → lacks_third said ≡ false → reading_at (plain court) kept bytes ≡ as_it_is bytes
-reads_plain court kept bytes said is third = reads_itself (names_of court) (cases_of (plain court) kept) bytes (ap lacks_third is ∙ third)
+reads_plain : (court : CourtView) (kept : List (List ℕ)) (bytes : List ℕ) (said : Line) → line_read most_clerks (names_of court) bytes ≡ said → lacks_field 3 said ≡ false → lacks_field 4 said ≡ false → reading_at (plain court) kept bytes ≡ as_it_is bytes
+reads_plain court kept bytes said is third fourth = other_lines (plain court) kept bytes (ap (lacks_field 3) is ∙ third) (ap (lacks_field 4) is ∙ fourth)
 
--- a line that lacks no third field is answered as its plain line is
-answered_plain : (under : Standing) (kept : List (List ℕ)) (bytes : List ℕ) (said : Line) → line_read most_clerks (names_of under.court) bytes ≡ said → lacks_third said ≡ false → answers under kept bytes ≡ plain_answers under kept (reading_at under kept bytes).text
+-- a line that lacks no third field and no fourth is answered as its plain line is
+answered_plain : (under : Standing) (kept : List (List ℕ)) (bytes : List ℕ) (said : Line) → line_read most_clerks (names_of under.court) bytes ≡ said → lacks_field 3 said ≡ false → lacks_field 4 said ≡ false → answers under kept bytes ≡ plain_answers under kept (reading_at under kept bytes).text
 unfolding answers
-answered_plain under kept bytes said is third =
-    ap (λ (b : Bool). cond b (fault_told (next_number kept) TooManyCases) (plain_answers under kept (reading_at under kept bytes).text))
-    (few_enough (names_of under.court) (cases_of under kept) bytes (ap lacks_third is ∙ third))
+answered_plain under kept bytes said is third fourth =
+    ap (λ (special : Option LineCause). told_or under kept special (plain_answers under kept (reading_at under kept bytes).text))
+    (nothing_special under kept bytes (ap (lacks_field 3) is ∙ third) (ap (lacks_field 4) is ∙ fourth))
 
 -- a line that says nothing
 blank_run : (court : CourtView) (kept lines : List (List ℕ)) (bytes : List ℕ) → line_read most_clerks (names_of court) bytes ≡ line.Blank → IsRun court kept lines → IsRun court kept (bytes ∷ lines)
 unfolding told_to left_by rows_in leaves answers plain_leaves plain_answers
 blank_run court kept lines bytes blank run =
-    let as_is = reads_plain court kept bytes line.Blank blank refl in
+    let as_is = reads_plain court kept bytes line.Blank blank refl refl in
     let left : leaves (plain court) kept bytes ≡ [] =
     ap (λ (r : Reading). with_name r.name (plain_leaves (plain court) kept r.text)) as_is ∙ ap (λ (l : Line). with_name None (left_of (plain court) kept (fields_read bytes) (within kept l))) blank in
-    let told : answers (plain court) kept bytes ≡ [] = answered_plain (plain court) kept bytes line.Blank blank refl ∙ ap (λ (r : Reading). plain_answers (plain court) kept r.text) as_is ∙ ap (λ (l : Line). told_of (plain court) kept (within kept l)) blank in
+    let told : answers (plain court) kept bytes ≡ [] = answered_plain (plain court) kept bytes line.Blank blank refl refl ∙ ap (λ (r : Reading). plain_answers (plain court) kept r.text) as_is ∙ ap (λ (l : Line). told_of (plain court) kept (within kept l)) blank in
     let rows : rows_in (names_of court) (bytes ∷ lines) ≡ rows_in (names_of court) lines = ap (λ (l : Line). row_in l ++ rows_in (names_of court) lines) blank in
     let same : kept ++ leaves (plain court) kept bytes ≡ kept = ap (λ (l : List (List ℕ)). kept ++ l) left ∙ append-nil kept in
     record {
@@ -128,7 +128,7 @@ row_run : (court : CourtView) (kept lines : List (List ℕ)) (bytes : List ℕ) 
     → IsRun court (kept ++ entry_of (plain court) kept (fields_read bytes) row ∷ []) lines → IsRun court kept (bytes ∷ lines)
 unfolding told_to left_by rows_in leaves answers plain_leaves plain_answers lines_from docketed_after
 row_run court kept lines bytes row begun room said names run =
-    let as_is = reads_plain court kept bytes (line.Row row) said refl in
+    let as_is = reads_plain court kept bytes (line.Row row) said refl refl in
     let entry = entry_of (plain court) kept (fields_read bytes) row in
     let spelled = says_row most_clerks (names_of court) bytes row said in
     let none = is_no_note (names_of court) (fields_read bytes) row (answer_to (plain court) kept row) spelled in
@@ -139,7 +139,7 @@ row_run court kept lines bytes row begun room said names run =
     let is : within kept (line_read most_clerks (names_of court) bytes) ≡ line.Row row = ap (within kept) said ∙ rw room refl in
     let left : leaves (plain court) kept bytes ≡ entry ∷ [] = ap (λ (r : Reading). with_name r.name (plain_leaves (plain court) kept r.text)) as_is ∙ ap (λ (l : Line). with_name None (left_of (plain court) kept (fields_read bytes) l)) is in
     let told : answers (plain court) kept bytes ≡ line_of court (next_number kept) row.clerk (reply_to (setup_of court) (docketed_by (plain court) kept) row.work) =
-    answered_plain (plain court) kept bytes (line.Row row) said refl ∙ ap (λ (r : Reading). plain_answers (plain court) kept r.text) as_is ∙ ap (told_of (plain court) kept) is ∙ no_names_answer court kept row names in
+    answered_plain (plain court) kept bytes (line.Row row) said refl refl ∙ ap (λ (r : Reading). plain_answers (plain court) kept r.text) as_is ∙ ap (told_of (plain court) kept) is ∙ no_names_answer court kept row names in
     let rows : rows_in (names_of court) (bytes ∷ lines) ≡ row ∷ rows_in (names_of court) lines = ap (λ (l : Line). row_in l ++ rows_in (names_of court) lines) said in
     let then = docketed_by (plain court) (kept ++ entry ∷ []) in
     let others = rows_in (names_of court) lines in

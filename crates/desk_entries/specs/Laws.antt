@@ -1,5 +1,5 @@
 -- What these definitions come to.
-use Rattle.std.specs.Prelude.{◌≡◌, ◌≢◌, ◌<◌, ⊤, ℕ, true, false, List, [], ◌∷◌, ◌++◌, Option, length, map, None, Some, All}
+use Rattle.std.specs.Prelude.{◌≡◌, ◌≢◌, ◌<◌, ◌⊎◌, ⊤, ℕ, true, false, IsSome, List, [], ◌∷◌, ◌++◌, Option, length, map, None, Some, All}
 use Rattle.case_numbers.specs.Words.{AreApart, after_name}
 use Rattle.court_days.specs.Words.{CourtView}
 use Rattle.docket_rows.specs.Words.{parts_of}
@@ -12,16 +12,17 @@ use Rattle.office_texts.specs.Run.Words.{closing_text, run_text}
 use Rattle.desk_session.specs.Words.{left_by, told_to}
 use Rattle.desk_numbers.specs.Strikes.Words.{is_struck, no_corrections}
 use Rattle.desk_entries.specs.Cases.{cases_of}
-use Rattle.desk_entries.specs.CaseLines.{as_it_is, lacks_third}
+use Rattle.desk_entries.specs.CaseLines.{as_it_is, lacks_field}
 use Rattle.desk_numbers.specs.declared.given.Given.{Given}
 use Rattle.desk_numbers.specs.Words.{given_by, kept_of, number_for}
 use Rattle.desk_entries.specs.declared.standing.Standing.{Standing}
 use Rattle.desk_entries.specs.Entries.{most_clerks, most_entries, next_number, note_in}
-use Rattle.desk_entries.specs.Rows.{answers, follows, leaves, reading_at, rows_in}
+use Rattle.desk_entries.specs.Rows.{answers, cased_at, follows, leaves, reading_at, rows_in}
 use Rattle.desk_entries.specs.Run.{docketed_by, reply_by_places, reply_under, run_by}
 use Rattle.desk_entries.specs.Export.{row_written, shown_as}
 use Rattle.desk_entries.specs.History.{IsHistory, StandsAfter}
-use Rattle.desk_entries.specs.LineFaults.{faults_of}
+use Rattle.desk_entries.specs.LineFaults.{faults_of, left_before}
+use Rattle.desk_entries.specs.Subjects.{named_in}
 
 -- What a line leaves may follow when the journal is opened again, and is no court's file and no strike.
 abbrev pub WhatIsLeftFollows : Type 0
@@ -47,12 +48,18 @@ AnswersAreTheRuns = (court : CourtView) (file : List ℕ) (lines : List (List �
     → run_text court (rows_in (names_of court) lines)
     ≡ told_to (leaves (plain court)) (answers (plain court)) (file ∷ []) lines ++ closing_text court (parts_of (docketed_by (plain court) (file ∷ left_by (leaves (plain court)) (file ∷ []) lines)))
 
--- lines that are blank or say rows, each after what those before it leave
+-- a line names a deadline or a motion without its number
+abbrev pub NamesSubject : Standing → (kept : List (List ℕ)) → (line : List ℕ) → Type 0
+NamesSubject under kept line = IsSome (named_in (names_of under.court) (cased_at under kept line).text)
+
+-- Lines that are blank, or say rows, or name a deadline or a motion without its number, which only the docket tells; each after what
+-- those before it leave, with the number 1 in place of such a name.
 unfoldable pub AllSayRows : Standing → (kept : List (List ℕ)) → (lines : List (List ℕ)) → Type 0
 AllSayRows under kept [] = ⊤
-AllSayRows under kept (bytes ∷ lines) = HasNoFault (names_of under.court) (reading_at under kept bytes).text × AllSayRows under (kept ++ leaves under kept bytes) lines
+AllSayRows under kept (bytes ∷ lines) =
+    (HasNoFault (names_of under.court) (reading_at under kept bytes).text ⊎ NamesSubject under kept bytes) × AllSayRows under (kept ++ left_before under kept bytes) lines
 
--- Lines in which no fault is found are blank or say rows.
+-- Lines in which no fault is found are blank, or say rows, or name a deadline or a motion.
 abbrev pub FaultlessLinesSayRows : Type 0
 FaultlessLinesSayRows = (under : Standing) (kept : List (List ℕ)) (lines : List (ℕ × List ℕ)) → faults_of under kept lines ≡ [] → AllSayRows under kept (map (λ line. line.1) lines)
 
@@ -60,9 +67,11 @@ FaultlessLinesSayRows = (under : Standing) (kept : List (List ℕ)) (lines : Lis
 abbrev pub ACaseNumberIsOneCase : Type 0
 ACaseNumberIsOneCase = (under : Standing) (kept : List (List ℕ)) → AreApart (cases_of under kept).named
 
--- A line that says a row, or has another fault than in its third field, is read as it is.
+-- A line that says a row, or has another fault than in its third or its fourth field, is read as it is.
 abbrev pub OtherLinesAreReadAsTheyAre : Type 0
-OtherLinesAreReadAsTheyAre = (under : Standing) (kept : List (List ℕ)) (bytes : List ℕ) → lacks_third (line_read most_clerks (names_of under.court) bytes) ≡ false → reading_at under kept bytes ≡ as_it_is bytes
+OtherLinesAreReadAsTheyAre = (under : Standing) (kept : List (List ℕ)) (bytes : List ℕ) →
+    let said = line_read most_clerks (names_of under.court) bytes in
+    lacks_field 3 said ≡ false → lacks_field 4 said ≡ false → reading_at under kept bytes ≡ as_it_is bytes
 
 -- A row that is struck is left out: its entry changes neither what is docketed nor the cases.
 abbrev pub AStruckRowIsLeftOut : Type 0

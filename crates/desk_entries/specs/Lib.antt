@@ -1,6 +1,7 @@
 pub mod Entries
 pub mod Cases
 pub mod CaseLines
+pub mod Subjects
 pub mod LineCauses
 pub mod Run
 pub mod Rows
@@ -13,6 +14,7 @@ pub mod Register
 pub mod Differences
 pub mod Docketed
 pub mod LineFaults
+pub mod Shifts
 pub mod Laws
 pub mod Questions
 pub mod Words

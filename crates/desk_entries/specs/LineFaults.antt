@@ -12,7 +12,9 @@ use Rattle.desk_entries.specs.declared.standing.Standing.{Standing}
 use Rattle.desk_entries.specs.Cases.{cases_of}
 use Rattle.desk_entries.specs.Entries.{most_clerks, next_number}
 use Rattle.desk_entries.specs.LineCauses.{cause_as}
-use Rattle.desk_entries.specs.Rows.{leaves, reading_at, too_many_at, within}
+use Rattle.desk_entries.specs.CaseLines.{Reading}
+use Rattle.desk_entries.specs.Subjects.{read_apart}
+use Rattle.desk_entries.specs.Rows.{plain_leaves, too_many_at, with_name, within}
 
 -- a line that has a fault: its number, what is wrong with it, and the line
 pub record FaultyLine : Type 0 where
@@ -36,8 +38,17 @@ pub record CountsAs (under : Standing) (kept : List (List ℕ)) (count : ℕ) (c
   pub begun : 0 < length kept
   pub before : all_before under.corrections (next_number kept) ≡ true
 
--- the faults of lines with their numbers, each line after what those before it leave
+-- how a line is read before the docket is known by which it will be decided: with the number 1 in place of the name of a deadline
+-- or a motion
+abbrev pub read_before : Standing → (kept : List (List ℕ)) → (line : List ℕ) → Reading
+read_before under kept line = read_apart (names_of under.court) (cases_of under kept) line
+
+-- what it then leaves: as many entries as when it is decided, and the same cases are opened
+abbrev pub left_before : Standing → (kept : List (List ℕ)) → (line : List ℕ) → List (List ℕ)
+left_before under kept line = let reading = read_before under kept line in with_name reading.name (plain_leaves under kept reading.text)
+
+-- the faults of lines with their numbers, each line after what those before it then leave
 unfoldable pub faults_of : Standing → (kept : List (List ℕ)) → List (ℕ × List ℕ) → List FaultyLine
 faults_of under kept [] = []
 faults_of under kept (line ∷ lines) =
-    fault_as line.0 line.1 (too_many_at under kept line.1) (within kept (line_read most_clerks (names_of under.court) (reading_at under kept line.1).text)) ++ faults_of under (kept ++ leaves under kept line.1) lines
+    fault_as line.0 line.1 (too_many_at under kept line.1) (within kept (line_read most_clerks (names_of under.court) (read_before under kept line.1).text)) ++ faults_of under (kept ++ left_before under kept line.1) lines

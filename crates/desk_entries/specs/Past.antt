@@ -1,27 +1,84 @@
--- What a docket's entries say beside the rows that stand: the rows that are struck, and when rows were struck or another court's
--- file was taken. A calendar program needs both, so that what it shows never goes back.
-use Rattle.std.specs.Prelude.{ℕ, ◌+◌, ◌&&◌, Bool, List, [], ◌∷◌, ◌++◌, Option, Some, None, drop, if◌then◌else◌}
+-- What a docket's entries say beside what it has now: the rows that are struck, those that were done and are refused now, and when rows
+-- were struck or another court's file was taken. A calendar program needs all of it, so that what it shows never goes back.
+use Rattle.std.specs.Prelude.{ℕ, ◌+◌, ◌&&◌, Bool, false, not, List, [], ◌∷◌, ◌++◌, Option, Some, None, codes, drop, nat_eq, if◌then◌else◌}
+use Rattle.std.specs.List.{flat_map, starts_with}
 use Rattle.case_numbers.specs.Words.{after_name}
 use Rattle.row_forms.specs.declared.numbered.NumberedRow.{NumberedRow}
 use Rattle.row_forms.specs.Words.{names_of}
+use Rattle.row_forms.specs.declared.line.line.Line.{Line}
+use Rattle.row_forms.specs.declared.line.line.Line.TheVariants as line
 use Rattle.row_forms.specs.Line.Words.{line_read}
+use Rattle.office_texts.specs.Run.Words.{row_numbers}
 use Rattle.desk_numbers.specs.declared.moved.Moved.{Moved}
-use Rattle.desk_numbers.specs.Strikes.Words.{is_struck}
+use Rattle.desk_numbers.specs.Strikes.Words.{is_struck, remark_in}
 use Rattle.desk_entries.specs.declared.past.Corrected.{Corrected}
 use Rattle.desk_entries.specs.declared.standing.Standing.{Standing}
-use Rattle.desk_entries.specs.Entries.{Note, most_clerks, note_in}
+use Rattle.desk_entries.specs.Differences.{Change}
+use Rattle.desk_entries.specs.Entries.{Note, court_file, most_clerks, note_in, row_struck}
 use Rattle.desk_entries.specs.Reported.{said_standing}
 
--- the row of that number, whose entry this is, if it is struck, where this is what isn't at the place of its number
-unfoldable pub row_struck_as : Standing → List Moved → (number : ℕ) → (entry : List ℕ) → List NumberedRow
-row_struck_as under moved number entry =
-    if is_struck under.corrections number then said_standing moved number (line_read most_clerks (names_of under.court) (after_name entry))
+-- how many rows there are with an entry more, which is a note or a row
+abbrev pub rows_with : Option Note → (rows : ℕ) → ℕ
+rows_with (Some note) rows = rows
+rows_with None rows = rows + 1
+
+-- the answer that the entry of a row keeps, after the line of the row
+abbrev pub answer_in : (entry : List ℕ) → List ℕ
+answer_in entry = remark_in (after_name entry)
+
+-- the answer refuses the row of that number, which says this: `7 1 refused 15 JudgeBusy 3 2`
+abbrev pub refuses : (number : ℕ) → (answer : List ℕ) → Line → Bool
+refuses number answer (line.Row row) = starts_with nat_eq answer (row_numbers number row.clerk ++ codes "refused ")
+refuses number answer said = false
+
+-- a note strikes the row of that number
+abbrev pub strikes_it : (number : ℕ) → Note → Bool
+strikes_it number (court_file file) = false
+strikes_it number (row_struck struck) = nat_eq struck.row number
+
+-- the first note of these entries does so: no correction came before that strike
+abbrev pub strikes_first : (number : ℕ) → Option Note → (others : Bool) → Bool
+strikes_first number None others = others
+strikes_first number (Some note) others = strikes_it number note
+
+unfoldable pub is_struck_first : (number : ℕ) → (later : List (List ℕ)) → Bool
+is_struck_first number [] = false
+is_struck_first number (entry ∷ later) = strikes_first number (note_in entry) (is_struck_first number later)
+
+-- The row of that number has docketed nothing ever: it was refused, and struck before other corrections could let it be done.
+abbrev pub was_never_done : (number : ℕ) → (entry : List ℕ) → Line → (later : List (List ℕ)) → Bool
+was_never_done number entry said later = refuses number (answer_in entry) said && is_struck_first number later
+
+-- the row of that number, whose entry this is and says this, if it is struck and has docketed something, where this is what isn't
+-- at the place of its number
+abbrev pub row_struck_said : Standing → List Moved → (number : ℕ) → (entry : List ℕ) → Line → (later : List (List ℕ)) → List NumberedRow
+row_struck_said under moved number entry said later =
+    if is_struck under.corrections number && not (was_never_done number entry said later) then said_standing moved number said
     else []
 
--- those of rows of which the first has this number
+-- of an entry that comes before these: none where it is no row
+abbrev pub row_struck_as : Option Note → Standing → List Moved → (number : ℕ) → (entry : List ℕ) → (later : List (List ℕ)) → List NumberedRow
+row_struck_as (Some note) under moved number entry later = []
+row_struck_as None under moved number entry later = row_struck_said under moved number entry (line_read most_clerks (names_of under.court) (after_name entry)) later
+
+-- those of entries of which the first that is a row has this number
 unfoldable pub rows_struck : Standing → List Moved → (number : ℕ) → (entries : List (List ℕ)) → List NumberedRow
 rows_struck under moved number [] = []
-rows_struck under moved number (entry ∷ entries) = row_struck_as under moved number entry ++ rows_struck under moved (number + 1) entries
+rows_struck under moved number (entry ∷ later) = row_struck_as (note_in entry) under moved number entry later ++ rows_struck under moved (rows_with (note_in entry) number) later
+
+-- The row of a change, which says this, if it was done once and is refused now: another was struck on which it rests, or the court's
+-- file is another.
+abbrev pub row_refused_said : List Moved → Change → Line → List NumberedRow
+row_refused_said moved change said =
+    if refuses change.number change.answer said && not (refuses change.number (answer_in change.entry) said) then said_standing moved change.number said
+    else []
+
+abbrev pub row_refused : Standing → List Moved → Change → List NumberedRow
+row_refused under moved change = row_refused_said moved change (line_read most_clerks (names_of under.court) (after_name change.entry))
+
+-- those of some changes
+abbrev pub rows_refused : Standing → List Moved → List Change → List NumberedRow
+rows_refused under moved changes = flat_map (row_refused under moved) changes
 
 -- after these rows a note came: one correction more
 abbrev pub noted_after : (rows : ℕ) → Corrected → Corrected
@@ -31,10 +88,6 @@ noted_after rows before = record { rows_before = rows; count = before.count + 1 
 abbrev pub corrected_with : Option Note → (rows : ℕ) → Corrected → Corrected
 corrected_with (Some note) rows before = noted_after rows before
 corrected_with None rows before = before
-
-abbrev pub rows_with : Option Note → (rows : ℕ) → ℕ
-rows_with (Some note) rows = rows
-rows_with None rows = rows + 1
 
 unfoldable pub corrected_by : (rows : ℕ) → Corrected → (later : List (List ℕ)) → Corrected
 corrected_by rows before [] = before

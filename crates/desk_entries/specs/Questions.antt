@@ -1,5 +1,5 @@
 -- What lines are answered by a docket of which only questions are asked.
-use Rattle.std.specs.Prelude.{ℕ, List, [], ◌++◌, codes, if◌then◌else◌}
+use Rattle.std.specs.Prelude.{ℕ, List, [], ◌++◌, codes}
 use Rattle.std.specs.Fmt.{decimal}
 use Rattle.row_forms.specs.declared.line.line.Line.{Line}
 use Rattle.row_forms.specs.declared.line.line.Line.TheVariants as line
@@ -10,13 +10,11 @@ use Rattle.row_forms.specs.Words.{names_of}
 use Rattle.row_forms.specs.Line.Words.{line_read}
 use Rattle.desk_session.specs.declared.outcome.Outcome.{Outcome}
 use Rattle.desk_session.specs.declared.outcome.Outcome.TheVariants.{Blank, Fault, Taken}
-use Rattle.desk_entries.specs.declared.cause.LineCause.TheVariants.{TooManyCases}
 use Rattle.desk_entries.specs.declared.questions.Questions.{Questions}
 use Rattle.desk_entries.specs.declared.standing.Standing.{Standing}
 use Rattle.desk_entries.specs.Entries.{most_clerks, next_number}
 use Rattle.desk_entries.specs.Register.{StandsAt}
-use Rattle.desk_entries.specs.LineCauses.{fault_told}
-use Rattle.desk_entries.specs.Rows.{answer_to, reading_at, told_of, too_many_at, within}
+use Rattle.desk_entries.specs.Rows.{answer_to, reading_at, special_at, told_of, told_or, within}
 
 -- the line that tells that a row asks for a change, where the next row has this number
 abbrev pub command_text : (number : ℕ) → List ℕ
@@ -33,7 +31,7 @@ shown_to under kept (line.Fault cause) = told_of under kept (line.Fault cause)
 shown_to under kept (line.Row row) = shown_for under kept row row.work
 
 unfoldable pub shown : Standing → (kept : List (List ℕ)) → (line : List ℕ) → List ℕ
-shown under kept line = if too_many_at under kept line then fault_told (next_number kept) TooManyCases else shown_to under kept (within kept (line_read most_clerks (names_of under.court) (reading_at under kept line).text))
+shown under kept line = told_or under kept (special_at under kept line) (shown_to under kept (within kept (line_read most_clerks (names_of under.court) (reading_at under kept line).text)))
 
 -- what comes of a line: whatever is answered is taken
 abbrev pub came_to : Line → Outcome

@@ -1,9 +1,11 @@
 -- What rows leave in a journal and what they are answered, under what stands.
-use Rattle.std.specs.Prelude.{◌≡◌, ℕ, Bool, List, [], ◌∷◌, ◌++◌, Option, length, map, nat_lt, if◌then◌else◌}
+use Rattle.std.specs.Prelude.{◌≡◌, ℕ, Bool, List, [], ◌∷◌, ◌++◌, Option, Some, None, length, map, nat_lt, option_map, if◌then◌else◌}
 use Rattle.csv.specs.Writing.{default_writer, row_text}
 use Rattle.case_numbers.specs.Words.{NameView, after_name, name_before, name_line}
 use Rattle.docket_rows.specs.declared.answer.Answer.{Answer}
 use Rattle.docket_rows.specs.declared.answer.Answer.TheVariants as answer
+use Rattle.docket_rows.specs.Words.{setup_of}
+use Rattle.desk_numbers.specs.declared.subjects.Found.{Found}
 use Rattle.desk_session.specs.declared.outcome.Outcome.{Outcome}
 use Rattle.desk_session.specs.declared.outcome.Outcome.TheVariants.{Blank, Fault, Refused, Taken}
 use Rattle.row_forms.specs.declared.fault.RowCause.TheVariants.{TooManyRows}
@@ -15,14 +17,18 @@ use Rattle.row_forms.specs.declared.row.Row.{Row}
 use Rattle.row_forms.specs.Words.{CourtNames, names_of}
 use Rattle.row_forms.specs.Line.Words.{fields_read, line_read}
 use Rattle.office_texts.specs.Named.Words.{named_line_of}
-use Rattle.program_streams.specs.declared.fault.OfficeFault.TheVariants.{Row as RowFault}
-use Rattle.program_streams.specs.Words.{told_line}
+use Rattle.program_runs.specs.declared.fault.OfficeFault.TheVariants.{Row as RowFault}
+use Rattle.program_runs.specs.Words.{told_line}
 use Rattle.desk_entries.specs.declared.standing.Standing.{Standing}
 use Rattle.desk_entries.specs.Cases.{cases_of}
-use Rattle.desk_entries.specs.declared.cause.LineCause.TheVariants.{TooManyCases}
+use Rattle.desk_entries.specs.declared.cause.LineCause.{LineCause}
+use Rattle.desk_entries.specs.declared.cause.LineCause.TheVariants.{NotFound, TooManyCases}
+use Rattle.desk_entries.specs.declared.cause.Unfound.{Unfound}
+use Rattle.desk_entries.specs.declared.subject.Named.{Named}
 use Rattle.desk_entries.specs.CaseLines.{Reading, opens_too_many, reading_of}
 use Rattle.desk_entries.specs.Entries.{most_clerks, most_entries, next_number}
-use Rattle.desk_entries.specs.LineCauses.{fault_told}
+use Rattle.desk_entries.specs.LineCauses.{fault_told, unfound_as}
+use Rattle.desk_entries.specs.Subjects.{found_for, named_in, with_found}
 use Rattle.desk_entries.specs.Run.{docketed_by, reply_by_places, reply_under, run_by}
 
 -- the row of a line that says one
@@ -73,21 +79,59 @@ plain_answers under kept line = told_of under kept (within kept (line_read most_
 abbrev pub with_name : Option NameView → (entries : List (List ℕ)) → List (List ℕ)
 with_name name entries = map (λ entry. name_line name ++ entry) entries
 
--- how a line is read after entries
+-- how a line is read by its case alone, after entries
+abbrev pub cased_at : Standing → (kept : List (List ℕ)) → (line : List ℕ) → Reading
+cased_at under kept line = reading_of (names_of under.court) (cases_of under kept) line
+
+-- what has that name in what entries docketed
+abbrev pub found_at : Standing → (kept : List (List ℕ)) → Named → Found
+found_at under kept named = found_for (setup_of under.court) (docketed_by under kept) (run_by under kept).numbers.moved named
+
+-- a plain text, with a number in place of what it names, where just one is so named
+abbrev pub found_text : Standing → (kept : List (List ℕ)) → (text : List ℕ) → Option Named → List ℕ
+found_text under kept text None = text
+found_text under kept text (Some named) = with_found text (found_at under kept named)
+
+abbrev pub with_subject : Standing → (kept : List (List ℕ)) → (cased : Reading) → Reading
+with_subject under kept cased = record { text = found_text under kept cased.text (named_in (names_of under.court) cased.text); name = cased.name }
+
+-- how a line is read after entries: with the number of its case, and with that of the deadline or the motion that it names
 abbrev pub reading_at : Standing → (kept : List (List ℕ)) → (line : List ℕ) → Reading
-reading_at under kept line = reading_of (names_of under.court) (cases_of under kept) line
+reading_at under kept line = with_subject under kept (cased_at under kept line)
+
+-- a line is read after entries: this is what its plain line says and its new name, and where it says a row these are its fields
+pub record IsReadAt (under : Standing) (kept : List (List ℕ)) (bytes : List ℕ) (fields : List (List ℕ)) (read : Line × Option NameView) : Type 0 where
+  pub said : read.0 ≡ line_read most_clerks (names_of under.court) (reading_at under kept bytes).text
+  pub name : read.1 ≡ (reading_at under kept bytes).name
+  pub fields_are : (row : Row) → read.0 ≡ line.Row row → fields ≡ fields_read (reading_at under kept bytes).text
+
+-- why the deadline or the motion isn't found that a plain text names, if it isn't
+abbrev pub unfound_of : Standing → (kept : List (List ℕ)) → Option Named → Option Unfound
+unfound_of under kept None = None
+unfound_of under kept (Some named) = unfound_as named.name (found_at under kept named)
+
+abbrev pub unfound_at : Standing → (kept : List (List ℕ)) → (line : List ℕ) → Option Unfound
+unfound_at under kept line = unfound_of under kept (named_in (names_of under.court) (cased_at under kept line).text)
 
 -- after entries, a line opens a case too many
 abbrev pub too_many_at : Standing → (kept : List (List ℕ)) → (line : List ℕ) → Bool
 too_many_at under kept line = opens_too_many (names_of under.court) (cases_of under kept) line
 
+-- what else is wrong with a line than what its plain line says
+abbrev pub special_at : Standing → (kept : List (List ℕ)) → (line : List ℕ) → Option LineCause
+special_at under kept line = if too_many_at under kept line then Some TooManyCases else option_map NotFound (unfound_at under kept line)
+
 -- A line leaves what the plain line leaves that stands for it, after the line of its name where that is new; and it is
--- answered as that one is, except where it opens a case too many.
+-- answered as that one is, except where it opens a case too many, or names a deadline or a motion that isn't found.
 unfoldable pub leaves : Standing → (kept : List (List ℕ)) → (line : List ℕ) → List (List ℕ)
 leaves under kept line = let reading = reading_at under kept line in with_name reading.name (plain_leaves under kept reading.text)
 
+abbrev pub told_or : Standing → (kept : List (List ℕ)) → Option LineCause → (answer : List ℕ) → List ℕ
+told_or under kept None answer = answer
+told_or under kept (Some cause) answer = fault_told (next_number kept) cause
+
 unfoldable pub answers : Standing → (kept : List (List ℕ)) → (line : List ℕ) → List ℕ
-answers under kept line = if too_many_at under kept line then fault_told (next_number kept) TooManyCases else plain_answers under kept (reading_at under kept line).text
+answers under kept line = told_or under kept (special_at under kept line) (plain_answers under kept (reading_at under kept line).text)
 
 -- what comes of a row of which this is the docket's answer: it is refused, or it is done
 abbrev pub came_of : Answer → Outcome

@@ -2,12 +2,14 @@
 pub use Rattle.desk_entries.specs.Entries.{Note, can_strike, court_file, court_line, file_with, most_clerks, later_file, most_entries, next_number, note_in, note_of, row_entries, row_only, row_struck, standing_file, struck_in}
 pub use Rattle.desk_entries.specs.Run.{Run, corrections_then, docketed_by, docketed_with, numbers_with, reply_under}
 unfoldable pub use Rattle.desk_entries.specs.Run.{run_by}
-pub use Rattle.desk_entries.specs.Rows.{came_of, entry_of, follows, outcome_by, outcome_of, reading_at, too_many_at, with_name, within}
+pub use Rattle.desk_entries.specs.Rows.{IsReadAt, came_of, entry_of, follows, outcome_by, outcome_of, reading_at, too_many_at, with_name, within}
 unfoldable pub use Rattle.desk_entries.specs.Rows.{answer_to, answers, leaves, outcome, plain_answers, plain_leaves, rows_in}
 unfoldable pub use Rattle.desk_entries.specs.Cases.{cases_of}
-pub use Rattle.desk_entries.specs.CaseLines.{Reading, as_it_is, lacks_third}
+pub use Rattle.desk_entries.specs.Shifts.{OthersAreToldTheirAnswers, RefusedAreToldTheirAnswers, changes_days, shifts, shifts_by, shifts_said, shifts_since}
+unfoldable pub use Rattle.desk_entries.specs.Shifts.{told}
+pub use Rattle.desk_entries.specs.CaseLines.{Reading, as_it_is, lacks_field}
 unfoldable pub use Rattle.desk_entries.specs.CaseLines.{opens_too_many, reading_of}
-pub use Rattle.desk_entries.specs.LineCauses.{cause_as, fault_told, line_cause_text}
+pub use Rattle.desk_entries.specs.LineCauses.{cause_as, fault_told, line_cause_text, unfound_words}
 unfoldable pub use Rattle.desk_entries.specs.LineCauses.{too_many_words}
 pub use Rattle.desk_entries.specs.History.{IsHistory, Keep, SaysCourt, StandsAfter}
 pub use Rattle.desk_entries.specs.Register.{IsReadyAt, StandsAt}
@@ -23,4 +25,4 @@ unfoldable pub use Rattle.desk_entries.specs.Striking.{strike_for}
 unfoldable pub use Rattle.desk_entries.specs.Export.{row_written, rows_written}
 pub use Rattle.desk_entries.specs.Reported.{ReportsAreOfTheDocket, rows_standing}
 unfoldable pub use Rattle.desk_entries.specs.Past.{rows_struck}
-pub use Rattle.desk_entries.specs.Past.{corrections_in}
+pub use Rattle.desk_entries.specs.Past.{corrections_in, rows_refused}

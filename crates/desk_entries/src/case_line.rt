@@ -3,7 +3,7 @@ ghost use Rattle.std.specs.Prelude.{◌≡◌, ◌≤◌, ◌+◌, ◌++◌, ◌
 ghost use Rattle.std.specs.Fmt.{decimal};
 ghost use Rattle.csv.specs.Records.{field_at, fields_of, partial_of};
 ghost use Rattle.csv.specs.Writing.{default_writer, row_text};
-ghost use Rattle.desk_entries.specs.CaseLines.{IsRead, case_in, finds_no_number, fresh_for, lacks_number, lacks_third, named, named_if, newly, opens_too_many, read_as, with_number};
+ghost use Rattle.desk_entries.specs.CaseLines.{IsRead, case_in, finds_no_number, fresh_for, lacks_number, lacks_field, named, named_if, newly, opens_too_many, read_as, with_number};
 ghost use Rattle.case_numbers.specs.Words.{number_of};
 ghost use Rattle.row_forms.specs.Words.{names_of};
 ghost use Rattle.desk_entries.specs.Cases.{opened_as, with_opened};
@@ -27,7 +27,7 @@ pub struct CaseLine {
 
 /// Reads a line in which a case may have its number as the court writes it, after rows that opened these cases: gives what
 /// the plain line says that stands for it, and the name that no case has yet. The fields of the plain line are put into
-/// `fields` where it says a row. `Err` says that memory ran out.
+/// `fields` where it says a row, and where one of them isn't what it should be. `Err` says that memory ran out.
 #[tactic(auto, unfolding(crate::specs::CaseLines::reading_of))]
 pub fn read_named(
     alloc: Global,
@@ -40,7 +40,7 @@ pub fn read_named(
 {
     let _types: RowTypes = None;
     let said = read_line(alloc, line, MOST_CLERKS, court, fields)?;
-    if !lacks_third(&said) {
+    if !lacks_field(&said, 3) {
         return Ok((said, None));
     }
     match case_line(alloc, cases, fields)? {
@@ -66,7 +66,7 @@ pub(crate) fn opens_too_many(
     let _types: RowTypes = None;
     let mut fields = StringRecord::new(alloc);
     let said = read_line(alloc, line, MOST_CLERKS, court, &mut fields)?;
-    if !lacks_third(&said) {
+    if !lacks_field(&said, 3) {
         return Ok(false);
     }
     match case_in(alloc, &fields)? {
@@ -97,12 +97,12 @@ fn finds_no_number(cases: &Cases, fields: &StringRecord) -> bool
     }
 }
 
-// Whether the third field of a line that says this isn't what it should be.
-fn lacks_third(said: &Line) -> bool
-    ensures { result ≡ lacks_third said.now }
+// Whether the field of that number, counted from 1, isn't what it should be in a line that says this.
+pub(crate) fn lacks_field(said: &Line, number: u8) -> bool
+    ensures { result ≡ lacks_field number said.now }
 {
     match said {
-        Line::Fault(RowCause::BadField(column)) => *column == 3,
+        Line::Fault(RowCause::BadField(column)) => *column == number,
         _ => false,
     }
 }
@@ -122,7 +122,7 @@ fn case_line(
 }
 
 // The field at a place, counted from 0.
-fn field_at(fields: &StringRecord, place: usize) -> &str
+pub(crate) fn field_at(fields: &StringRecord, place: usize) -> &str
     ensures { result.now ≡ unwrap_or (field_at (fields_of fields.now) place) [] }
 {
     match fields.get(place) {
@@ -153,7 +153,7 @@ fn named(
 {
     match cases.number_of(name.key()) {
         Some(number) => {
-            let text = numbered(alloc, fields, number)?;
+            let text = numbered(alloc, fields, 2, number)?;
             Ok(Some(CaseLine { text, name: None }))
         }
         None => newly(alloc, fields, name, fresh_for(cases, fields)),
@@ -182,7 +182,7 @@ fn newly(
 {
     match number {
         Some(number) => {
-            let text = numbered(alloc, fields, number)?;
+            let text = numbered(alloc, fields, 2, number)?;
             Ok(Some(CaseLine {
                 text,
                 name: Some(name),
@@ -192,12 +192,17 @@ fn newly(
     }
 }
 
-// The row with this number in its third field.
-fn numbered(alloc: Global, fields: &StringRecord, number: u32) -> Result<Vec<u8>, AllocError>
-    ensures { IfOk result (λ text. text.items ≡ row_text default_writer (with_number (fields_of fields.now) number)) }
+// The row with this number in the field at a place, counted from 0.
+pub(crate) fn numbered(
+    alloc: Global,
+    fields: &StringRecord,
+    place: u8,
+    number: u32,
+) -> Result<Vec<u8>, AllocError>
+    ensures { IfOk result (λ text. text.items ≡ row_text default_writer (with_number place (fields_of fields.now) number)) }
 {
     let mut text = Vec::new(alloc);
-    push_row_text(&mut text, &with_field(alloc, fields, 2, number)?)?;
+    push_row_text(&mut text, &with_field(alloc, fields, place, number)?)?;
     Ok(text)
 }
 
@@ -208,7 +213,7 @@ pub(crate) fn with_field(
     place: u8,
     number: u32,
 ) -> Result<StringRecord, AllocError>
-    ensures { IfOk result (λ row. fields_of row ≡ take place (fields_of fields.now) ++ decimal number ∷ drop (place + 1) (fields_of fields.now)) }
+    ensures { IfOk result (λ row. fields_of row ≡ with_number place (fields_of fields.now) number) }
 {
     let place = usize::from(place);
     let digits = format!(in alloc; "{number}")?;

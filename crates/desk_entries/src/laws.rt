@@ -1,5 +1,6 @@
 //! Laws of the definitions, the contracts of functions that do nothing.
 ghost use Rattle.desk_entries.specs.Reported.{ReportsAreOfTheDocket};
+ghost use Rattle.desk_entries.specs.Shifts.{OthersAreToldTheirAnswers, RefusedAreToldTheirAnswers};
 ghost use Rattle.desk_entries.specs.Laws.{ACaseNumberIsOneCase, AStruckRowIsLeftOut, AnAnswerShowsItsNumber, AnswersAreTheRuns, FaultlessLinesSayRows, OtherLinesAreReadAsTheyAre, RowsAreWrittenAsTheyAre, RowsKeepTheirNumbers, WhatIsLeftFollows, WhatIsLeftIsHistory};
 
 /// What a line leaves may follow when the journal is opened again, and is no court's file and no strike.
@@ -20,7 +21,7 @@ pub fn answers_are_the_runs()
     ensures { AnswersAreTheRuns }
 {}
 
-/// Lines in which no fault is found are blank or say rows.
+/// Lines in which no fault is found are blank, or say rows, or name a deadline or a motion without its number.
 #[tactic(auto, using(crate::proofs::LineFaultLemmas::faultless_lines_say_rows_lem))]
 pub fn faultless_lines_say_rows()
     ensures { FaultlessLinesSayRows }
@@ -32,7 +33,7 @@ pub fn a_case_number_is_one_case()
     ensures { ACaseNumberIsOneCase }
 {}
 
-/// A line that says a row, or has another fault than in its third field, is read as it is.
+/// A line that says a row, or has another fault than in its third or its fourth field, is read as it is.
 #[tactic(auto, using(crate::proofs::CaseLemmas::other_lines))]
 pub fn other_lines_are_read_as_they_are()
     ensures { OtherLinesAreReadAsTheyAre }
@@ -65,4 +66,16 @@ pub fn an_answer_shows_its_number()
 #[tactic(auto, using(crate::proofs::ReportedLemmas::of_the_docket))]
 pub fn reports_are_of_the_docket()
     ensures { ReportsAreOfTheDocket }
+{}
+
+/// A line whose row enters no holiday and no outage, or which says no row, is told just its answer.
+#[tactic(auto, using(crate::proofs::ShiftLemmas::others_told))]
+pub fn others_are_told_their_answers()
+    ensures { OthersAreToldTheirAnswers }
+{}
+
+/// A row that is refused is told just its answer.
+#[tactic(auto, using(crate::proofs::ShiftLemmas::refused_told))]
+pub fn refused_are_told_their_answers()
+    ensures { RefusedAreToldTheirAnswers }
 {}

@@ -4,11 +4,12 @@ ghost use Rattle.row_forms.specs.Words.{names_of};
 ghost use Rattle.row_forms.specs.Line.Words.{line_read};
 ghost use Rattle.desk_session.specs.Words.{numbered_lines, unmarked_lines};
 ghost use Rattle.desk_entries.specs.Entries.{most_clerks};
-ghost use Rattle.desk_entries.specs.LineFaults.{CountsAs, fault_as, fault_in, faults_of};
-ghost use Rattle.desk_entries.specs.Rows.{leaves, reading_at, too_many_at, within};
+ghost use Rattle.desk_entries.specs.LineFaults.{CountsAs, fault_as, fault_in, faults_of, left_before, read_before};
+ghost use Rattle.desk_entries.specs.Rows.{too_many_at, within};
 
-use crate::case_line::{note_case, opens_too_many, read_named};
+use crate::case_line::{note_case, opens_too_many};
 use crate::cause::{LineCause, cause_as};
+use crate::next_line::read_apart;
 use crate::outcome::within;
 use crate::register::{DocketRegister, RowTypes};
 use crate::standing::Standing;
@@ -73,11 +74,11 @@ impl Reading {
         line: &[u8],
     ) -> Result<(), AllocError>
         ensures faults { (kept : List (List ℕ)) → CountsAs under.now kept self.old.count self.old.cases → OnOk result
-            (map fault_in self.new.faults.items ≡ map fault_in self.old.faults.items ++ fault_as number line.now (too_many_at under.now kept line.now) (within kept (line_read most_clerks (names_of under.now.court) (reading_at under.now kept line.now).text))) }
-        ensures counts { (kept : List (List ℕ)) → CountsAs under.now kept self.old.count self.old.cases → OnOk result (CountsAs under.now (kept ++ leaves under.now kept line.now) self.new.count self.new.cases) }
+            (map fault_in self.new.faults.items ≡ map fault_in self.old.faults.items ++ fault_as number line.now (too_many_at under.now kept line.now) (within kept (line_read most_clerks (names_of under.now.court) (read_before under.now kept line.now).text))) }
+        ensures counts { (kept : List (List ℕ)) → CountsAs under.now kept self.old.count self.old.cases → OnOk result (CountsAs under.now (kept ++ left_before under.now kept line.now) self.new.count self.new.cases) }
     {
         let _types: RowTypes = None;
-        let (said, name) = read_named(alloc, &under.court, &self.cases, line, &mut self.fields)?;
+        let (said, name) = read_apart(alloc, &under.court, &self.cases, line, &mut self.fields)?;
         match within(said, self.count) {
             Line::Blank => Ok(()),
             Line::Fault(cause) => {

@@ -1,17 +1,23 @@
-//! What a docket's entries say beside the rows that stand.
-ghost use Rattle.std.specs.Prelude.{◌≡◌, ◌<◌, ◌≤◌, ◌+◌, ◌++◌, length, IfOk, OnOk};
+//! What a docket's entries say beside what it has now.
+ghost use Rattle.std.specs.Prelude.{◌≡◌, ◌<◌, ◌≤◌, ◌++◌, drop, length, map, option_map, IfOk, OnOk};
+ghost use Rattle.case_numbers.specs.Words.{after_name as row_part};
 ghost use Rattle.desk_journal.specs.Words.{batch_of};
-ghost use Rattle.desk_entries.specs.Entries.{most_entries, note_in, row_entries, row_only};
-ghost use Rattle.desk_entries.specs.Past.{corrected_with, corrections_in, row_struck_as, rows_struck, rows_with};
+ghost use Rattle.row_forms.specs.Words.{names_of};
+ghost use Rattle.row_forms.specs.Line.Words.{line_read};
+ghost use Rattle.desk_entries.specs.Differences.{change_in};
+ghost use Rattle.desk_entries.specs.Entries.{most_clerks, most_entries, note_in};
+ghost use Rattle.desk_entries.specs.Past.{corrected_with, corrections_in, is_struck_first, refuses, row_refused, row_struck_as, row_struck_said, rows_refused, rows_struck, rows_with, strikes_it};
 
-use crate::entry::is_row;
+use crate::entry::{is_row, later_file};
 use crate::register::{MOST_CLERKS, RowTypes};
 use crate::reported::push_said;
+use crate::review::Difference;
 use crate::standing::Standing;
 use case_numbers::after_name;
 use csv::StringRecord;
-use desk_numbers::MovedNumbers;
-use row_forms::{NumberedRow, read_line};
+use desk_numbers::{MovedNumbers, remark_in, strike_in};
+use office_texts::push_numbers;
+use row_forms::{Line, NumberedRow, read_line};
 use std::alloc::{AllocError, Global};
 
 /// How often rows were struck or another court's file was taken.
@@ -23,51 +29,95 @@ pub struct Corrected {
     pub count: u32,
 }
 
-// Adds the row of that number, whose entry this is, if it is struck.
-#[tactic(auto, unfolding(crate::specs::Past::row_struck_as))]
+// Whether an answer refuses the row of that number, which says this.
+fn refuses(alloc: Global, number: u32, answer: &[u8], said: &Line) -> Result<bool, AllocError>
+    ensures { IfOk result (λ refuses_it. refuses_it ≡ refuses number answer.now said.now) }
+{
+    let _types: RowTypes = None;
+    let Line::Row(row) = said else {
+        return Ok(false);
+    };
+    let mut refused = String::new(alloc);
+    push_numbers(&mut refused, u64::from(number), row.clerk)?;
+    refused.push_str("refused ")?;
+    Ok(answer.starts_with(refused.as_bytes()))
+}
+
+// Whether an entry that is no row strikes the row of that number.
+fn strikes_it(number: u32, entry: &[u8]) -> Option<bool>
+    ensures { result ≡ option_map (strikes_it number) (note_in entry.now) }
+{
+    if later_file(entry).is_some() {
+        return Some(false);
+    }
+    let strike = strike_in(entry)?;
+    Some(strike.row == number)
+}
+
+// Whether the first of these entries that is no row strikes the row of that number.
+fn is_struck_first(number: u32, later: &[Vec<u8>]) -> bool
+    ensures { result ≡ is_struck_first number (batch_of later.now) }
+{
+    for place in 0..later.len() {
+        if let Some(strikes) = strikes_it(number, &later[place]) {
+            return strikes;
+        }
+    }
+    false
+}
+
+// Adds the row of that number, whose entry this is and comes before these, if it is struck and has docketed something.
 fn push_struck(
     alloc: Global,
     under: &Standing,
     moved: &MovedNumbers,
     number: u32,
     entry: &[u8],
+    later: &[Vec<u8>],
     fields: &mut StringRecord,
     rows: &mut Vec<NumberedRow>,
 ) -> Result<(), AllocError>
-    ensures { OnOk result (rows.new.items ≡ rows.old.items ++ row_struck_as under.now moved.now number entry.now) }
+    ensures { OnOk result (rows.new.items ≡ rows.old.items ++ row_struck_said under.now moved.now number entry.now (line_read most_clerks (names_of under.now.court) (row_part entry.now)) (batch_of later.now)) }
 {
     let _types: RowTypes = None;
     if !under.corrections.is_struck(number) {
         return Ok(());
     }
     let said = read_line(alloc, after_name(entry), MOST_CLERKS, &under.court, fields)?;
+    if refuses(alloc, number, remark_in(after_name(entry)), &said)?
+        && is_struck_first(number, later)
+    {
+        return Ok(());
+    }
     push_said(rows, moved, number, &said)
 }
 
-// Adds the row that an entry is, which has this number if it is one, where it is struck, and gives the number of the next.
+// Adds the row that an entry is which comes before these, and which has this number if it is one, where it is struck and has
+// docketed something. Gives the number of the next.
 fn push_if_row(
     alloc: Global,
     under: &Standing,
     moved: &MovedNumbers,
     number: u32,
     entry: &[u8],
+    later: &[Vec<u8>],
     fields: &mut StringRecord,
     rows: &mut Vec<NumberedRow>,
 ) -> Result<u32, AllocError>
     requires few { number ≤ most_entries }
-    ensures rows { OnOk result (rows.new.items ≡ rows.old.items ++ rows_struck under.now moved.now number (row_only (note_in entry.now) entry.now)) }
-    ensures next { IfOk result (λ next. next ≡ number + length (row_only (note_in entry.now) entry.now)) }
+    ensures rows { OnOk result (rows.new.items ≡ rows.old.items ++ row_struck_as (note_in entry.now) under.now moved.now number entry.now (batch_of later.now)) }
+    ensures next { IfOk result (λ next. next ≡ rows_with (note_in entry.now) number) }
 {
     if !is_row(entry) {
         return Ok(number);
     }
-    push_struck(alloc, under, moved, number, entry, fields, rows)?;
+    push_struck(alloc, under, moved, number, entry, later, fields, rows)?;
     Ok(number + 1)
 }
 
 /// The rows of a docket that are struck, each with the number that it was answered with, counted from 1. What a row names by a
-/// number is named by its place among those that stand, which is 0 where nothing has the number any more. `Err` says that memory
-/// ran out.
+/// number is named by its place among those that stand, which is 0 where nothing has the number any more. A row that was refused
+/// and never done is left out. `Err` says that memory ran out.
 pub fn struck_rows(
     alloc: Global,
     under: &Standing,
@@ -75,7 +125,7 @@ pub fn struck_rows(
     entries: &[Vec<u8>],
 ) -> Result<Vec<NumberedRow>, AllocError>
     requires few { length entries.now ≤ most_entries }
-    ensures { IfOk result (λ rows. rows.items ≡ rows_struck under.now moved.now 1 (row_entries (batch_of entries.now))) }
+    ensures { IfOk result (λ rows. rows.items ≡ rows_struck under.now moved.now 1 (drop 1 (batch_of entries.now))) }
 {
     let _types: RowTypes = None;
     let mut rows = Vec::new(alloc);
@@ -88,9 +138,51 @@ pub fn struck_rows(
             moved,
             number,
             &entries[place],
+            entries.split_at(place + 1).1,
             &mut fields,
             &mut rows,
         )?;
+    }
+    Ok(rows)
+}
+
+// Adds the row that is answered otherwise, if it was done once and is refused now.
+fn push_refused(
+    alloc: Global,
+    under: &Standing,
+    moved: &MovedNumbers,
+    difference: &Difference,
+    fields: &mut StringRecord,
+    rows: &mut Vec<NumberedRow>,
+) -> Result<(), AllocError>
+    ensures { OnOk result (rows.new.items ≡ rows.old.items ++ row_refused under.now moved.now (change_in difference.now)) }
+{
+    let _types: RowTypes = None;
+    let number = difference.number;
+    let row = after_name(&difference.entry);
+    let said = read_line(alloc, row, MOST_CLERKS, &under.court, fields)?;
+    if refuses(alloc, number, &difference.answer, &said)?
+        && !refuses(alloc, number, remark_in(row), &said)?
+    {
+        return push_said(rows, moved, number, &said);
+    }
+    Ok(())
+}
+
+/// Of rows that are answered otherwise than they were, those that were done once and are refused now, each with its number and by
+/// places as the struck ones are. `Err` says that memory ran out.
+pub fn refused_rows(
+    alloc: Global,
+    under: &Standing,
+    moved: &MovedNumbers,
+    differences: &[Difference],
+) -> Result<Vec<NumberedRow>, AllocError>
+    ensures { IfOk result (λ rows. rows.items ≡ rows_refused under.now moved.now (map change_in differences.now)) }
+{
+    let mut rows = Vec::new(alloc);
+    let mut fields = StringRecord::new(alloc);
+    for difference in differences {
+        push_refused(alloc, under, moved, difference, &mut fields, &mut rows)?;
     }
     Ok(rows)
 }

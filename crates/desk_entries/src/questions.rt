@@ -2,8 +2,7 @@
 ghost use Rattle.std.specs.Prelude.{◌≡◌, ◌++◌, ℕ, List, OnOk};
 ghost use Rattle.desk_entries.specs.Questions.{command_text};
 
-use crate::case_line::opens_too_many;
-use crate::cause::{cause_as, push_cause};
+use crate::cause::push_cause;
 use crate::register::{DocketRegister, RowTypes};
 use crate::standing::Standing;
 use desk_session::{Outcome, Register};
@@ -53,9 +52,7 @@ impl Register for Questions {
         match said {
             Line::Blank => Ok(Outcome::Blank),
             Line::Fault(cause) => {
-                let cases = self.register.cases();
-                let too_many = opens_too_many(alloc, &under.court, cases, line)?;
-                let cause = cause_as(too_many, cause);
+                let cause = self.register.cause_of(alloc, under, line, cause)?;
                 push_cause(alloc, text, self.register.next_number(), cause)?;
                 Ok(Outcome::Fault)
             }

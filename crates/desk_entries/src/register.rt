@@ -12,16 +12,18 @@ ghost use Rattle.desk_entries.specs.Cases.{cases_of};
 ghost use Rattle.desk_entries.specs.declared.standing.Standing.{Standing as StandingOf};
 ghost use Rattle.docket_rows.specs.Words.{setup_of};
 ghost use Rattle.office_texts.specs.Run.Words.{Holds};
-ghost use Rattle.desk_entries.specs.Rows.{answer_to, follows, outcome_by, within};
+ghost use Rattle.desk_entries.specs.LineCauses.{cause_or};
+ghost use Rattle.desk_entries.specs.Rows.{IsReadAt, answer_to, follows, outcome_by, special_at, within};
 ghost use Rattle.desk_entries.specs.Run.{corrections_then, docketed_by, docketed_with, numbers_with, reply_by_places, run_by};
 ghost use Rattle.docket_rows.specs.declared.command.Command.{Command as CommandOf};
 ghost use Rattle.row_forms.specs.declared.row.Work.TheVariants as work;
 ghost use Rattle.desk_numbers.specs.Words.{numbered, passed};
 ghost use Rattle.office_texts.specs.Named.Words.{named_line_of};
 
-use crate::case_line::{note_case, opens_too_many, read_named};
-use crate::cause::{cause_as, push_cause, push_fault};
+use crate::case_line::{note_case, opens_too_many};
+use crate::cause::{LineCause, push_cause, push_fault};
 use crate::entry::{answer_of, entry_of};
+use crate::next_line::{read_next, unfound_in};
 use crate::outcome::{outcome_of, within};
 use crate::standing::Standing;
 use case_numbers::{CaseName, Cases, after_name, name_before};
@@ -127,8 +129,36 @@ impl DocketRegister {
         ensures number { self.new.number ≡ self.old.number }
         ensures room { IfOk result (λ heard. (row : RowOf) → heard.0 ≡ says.Row row → self.old.count < most_entries) }
     {
-        let (said, name) = read_named(alloc, &under.court, &self.cases, line, &mut self.fields)?;
+        let (said, name) = read_next(
+            alloc,
+            under,
+            &self.docket,
+            self.numbers.moved(),
+            &self.cases,
+            line,
+            &mut self.fields,
+        )?;
         Ok((within(said, self.count), name))
+    }
+
+    // What is wrong with a line that says no row for this cause.
+    pub(crate) fn cause_of(
+        &self,
+        alloc: Global,
+        under: &Standing,
+        line: &[u8],
+        cause: RowCause,
+    ) -> Result<LineCause, AllocError>
+        ensures { (kept : List (List ℕ)) → StandsAt under.now self.now kept → IfOk result (λ wrong. wrong ≡ cause_or (special_at under.now kept line.now) cause) }
+    {
+        if opens_too_many(alloc, &under.court, &self.cases, line)? {
+            return Ok(LineCause::TooManyCases);
+        }
+        let moved = self.numbers.moved();
+        match unfound_in(alloc, under, &self.docket, moved, &self.cases, line)? {
+            Some(why) => Ok(LineCause::NotFound(why)),
+            None => Ok(LineCause::Row(cause)),
+        }
     }
 
     // The docket's reply to what a row asks for, in which things are named by their places.
@@ -218,7 +248,7 @@ impl DocketRegister {
     }
 
     // Does a row, perhaps with a new name.
-    fn done(
+    pub(crate) fn done(
         &mut self,
         alloc: Global,
         under: &Standing,
@@ -239,6 +269,21 @@ impl DocketRegister {
             entry,
             outcome,
         })
+    }
+
+    /// Reads a line as the one that comes next. The fields of its plain line are put into `fields` where it says a row. `Err`
+    /// says that memory ran out.
+    pub fn read(
+        &self,
+        alloc: Global,
+        under: &Standing,
+        line: &[u8],
+        fields: &mut StringRecord,
+    ) -> Result<(Line, Option<CaseName>), AllocError>
+        ensures { (kept : List (List ℕ)) → StandsAt under.now self.now kept → IfOk result (IsReadAt under.now kept line.now (fields_of fields.new)) }
+    {
+        let moved = self.numbers.moved();
+        read_next(alloc, under, &self.docket, moved, &self.cases, line, fields)
     }
 
     /// The number of the next row, counted from 1.
@@ -353,13 +398,14 @@ impl Register for DocketRegister {
     type Setup = Standing;
 
     ghost use Rattle.desk_entries.specs.Register.{IsReadyAt};
-    ghost use Rattle.desk_entries.specs.Rows.{answers, leaves, outcome};
+    ghost use Rattle.desk_entries.specs.Rows.{leaves, outcome};
+    ghost use Rattle.desk_entries.specs.Shifts.{told};
 
     ghost stands = { λ under register kept. IsReadyAt under register kept };
 
     ghost leaves = { λ under kept line. leaves under kept line };
 
-    ghost answers = { λ under kept line. answers under kept line };
+    ghost answers = { λ under kept line. told under kept line };
 
     ghost outcome = { λ under kept line. outcome under kept line };
 
@@ -376,17 +422,12 @@ impl Register for DocketRegister {
         match said {
             Line::Blank => Ok(Outcome::Blank),
             Line::Fault(cause) => {
-                let too_many = opens_too_many(alloc, &under.court, &self.cases, line)?;
-                push_cause(alloc, text, self.number, cause_as(too_many, cause))?;
+                let cause = self.cause_of(alloc, under, line, cause)?;
+                push_cause(alloc, text, self.number, cause)?;
                 Ok(Outcome::Fault)
             }
             Line::Row(row) => {
-                let Done {
-                    answer,
-                    entry,
-                    outcome,
-                } = self.done(alloc, under, &row, name)?;
-                text.extend_from_slice(answer.as_bytes())?;
+                let Done { entry, outcome, .. } = self.tell(alloc, under, &row, name, text)?;
                 batch.push(entry)?;
                 Ok(outcome)
             }

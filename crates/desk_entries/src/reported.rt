@@ -1,9 +1,10 @@
 //! The rows that stand, as reports take them.
-ghost use Rattle.std.specs.Prelude.{◌≡◌, ◌<◌, ◌≤◌, ◌++◌, ◌∷◌, [], ℕ, List, length, IfOk, OnOk};
+ghost use Rattle.std.specs.Prelude.{◌≡◌, ◌<◌, ◌≤◌, ◌++◌, ◌∷◌, [], ℕ, List, length, map, IfOk, OnOk};
 ghost use Rattle.row_forms.specs.Words.{names_of};
 ghost use Rattle.row_forms.specs.Line.Words.{line_read};
 ghost use Rattle.case_numbers.specs.Words.{after_name};
 ghost use Rattle.desk_journal.specs.Words.{batch_of};
+ghost use Rattle.desk_entries.specs.Differences.{change_in, changes_by};
 ghost use Rattle.desk_entries.specs.Entries.{most_clerks, most_entries, note_in};
 ghost use Rattle.desk_entries.specs.Register.{StandsAt};
 ghost use Rattle.desk_entries.specs.Reported.{rows_standing, said_standing, standing_as};
@@ -17,6 +18,15 @@ use csv::StringRecord;
 use desk_numbers::MovedNumbers;
 use row_forms::{Line, NumberedRow, Row, read_line};
 use std::alloc::{AllocError, Global};
+
+/// The rows that stand, and which of them are answered otherwise than they were.
+#[derive(Drop)]
+pub struct Reported {
+    /// The rows, each with the number that it was answered with.
+    pub rows: Vec<NumberedRow>,
+    /// Those that are answered otherwise, in their order.
+    pub differences: Vec<Difference>,
+}
 
 // Adds the row of a line that says this, with its number, where this is what isn't at the place of its number.
 pub(crate) fn push_said(
@@ -92,16 +102,16 @@ pub fn standing_rows(
     alloc: Global,
     under: &Standing,
     entries: &[Vec<u8>],
-) -> Result<Vec<NumberedRow>, AllocError>
+) -> Result<Reported, AllocError>
     requires some { 0 < length entries.now }
     requires few { length entries.now ≤ most_entries }
-    ensures { IfOk result (λ rows. rows.items ≡ rows_standing under.now (batch_of entries.now)) }
+    ensures rows { IfOk result (λ reported. reported.rows.items ≡ rows_standing under.now (batch_of entries.now)) }
+    ensures changes { IfOk result (λ reported. map change_in reported.differences.items ≡ changes_by under.now (batch_of entries.now)) }
 {
     let mut register = DocketRegister::new(alloc, under)?;
     let mut fields = StringRecord::new(alloc);
     let mut rows = Vec::new(alloc);
-    // What is answered otherwise than it was is no concern of a report.
-    let mut passed: Vec<Difference> = Vec::new(alloc);
+    let mut differences = Vec::new(alloc);
     for place in 1..entries.len() {
         push_standing(
             alloc,
@@ -111,8 +121,13 @@ pub fn standing_rows(
             &mut fields,
             &mut rows,
         )?;
-        decide_entry(alloc, under, &mut register, &entries[place], &mut passed)?;
-        passed.clear();
+        decide_entry(
+            alloc,
+            under,
+            &mut register,
+            &entries[place],
+            &mut differences,
+        )?;
     }
-    Ok(rows)
+    Ok(Reported { rows, differences })
 }

@@ -4,6 +4,7 @@ pub mod Tops
 pub mod Moved
 pub mod Numbers
 pub mod Numbered
+pub mod Subjects
 pub mod Laws
 pub mod Words
 pub mod Strikes

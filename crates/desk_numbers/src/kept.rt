@@ -41,6 +41,16 @@ fn tops_of(alloc: Global, rows: &[Option<Given>]) -> Result<Tops, AllocError>
     Ok(tops)
 }
 
+/// The number that the row of that number, counted from 1, gave, where these are by row what rows gave.
+pub fn given_at(rows: &[Option<Given>], row: u64) -> Option<Given>
+    ensures { result ≡ kept_of rows.now row }
+{
+    match rows.get(row.saturating_sub(1) as usize) {
+        Some(given) => *given,
+        None => None,
+    }
+}
+
 impl KeptNumbers {
     /// None, before the first correction.
     pub fn new(alloc: Global) -> KeptNumbers
@@ -67,10 +77,7 @@ impl KeptNumbers {
     pub(crate) fn at(&self, row: u32) -> Option<Given>
         ensures { result ≡ kept_of self.now row }
     {
-        match self.rows.get(row.saturating_sub(1) as usize) {
-            Some(given) => *given,
-            None => None,
-        }
+        given_at(&self.rows, u64::from(row))
     }
 
     // The least number after all that were given in a case to that kind, or 0 where none was.

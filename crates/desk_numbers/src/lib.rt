@@ -10,10 +10,11 @@ mod numbers;
 mod placed;
 mod shown;
 mod strikes;
+mod subjects;
 mod tops;
 
 pub use given::{Given, given_by};
-pub use kept::KeptNumbers;
+pub use kept::{KeptNumbers, given_at};
 pub use laws::{
     a_number_is_given_once, a_row_keeps_its_number, nothing_moves_at_first,
     number_and_place_go_together, others_are_at_their_places, with_none_moved_nothing_changes,
@@ -21,3 +22,4 @@ pub use laws::{
 pub use moved::{Moved, MovedNumbers};
 pub use numbers::RowNumbers;
 pub use strikes::{Corrections, Strike, remark_in, strike_entry, strike_in, strikes_are_read_back};
+pub use subjects::{Found, SubjectName};

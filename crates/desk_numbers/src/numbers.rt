@@ -50,6 +50,13 @@ impl RowNumbers {
         &self.moved
     }
 
+    /// By row, the number that it gave so far. A row that is struck or refused since keeps the one that it gave before.
+    pub fn given(&self) -> &[Option<Given>]
+        ensures { result.now ≡ self.now.given }
+    {
+        &self.given
+    }
+
     /// The numbers that rows keep from here on. `Err` says that memory ran out.
     pub fn kept(&self, alloc: Global) -> Result<KeptNumbers, AllocError>
         ensures { IfOk result (λ kept. kept ≡ self.now.given) }

@@ -6,7 +6,7 @@ use Rattle.desk_entries.specs.declared.docketed.Docketed.{Docketed}
 use Rattle.desk_entries.specs.declared.standing.Standing.{Standing}
 use Rattle.desk_entries.specs.Words.{IsDocketed, SaysCourt, StandsAt, can_strike, corrections_then, court_file, later_file, note_in, note_of, row_struck, standing_file}
 use Rattle.desk_entries.proofs.CallerLemmas.{docketed_file, docketed_strike}
-use Rattle.desk_program.specs.Note.{ComesTo}
+use Rattle.desk_program.specs.Inside.Note.{ComesTo}
 
 pub file_noted : (entry file : List ℕ) → later_file entry ≡ Some file → note_in entry ≡ Some (court_file file)
 file_noted entry file is = ap (λ (f : Option (List ℕ)). note_of f (strike_in entry)) is

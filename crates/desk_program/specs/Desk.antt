@@ -9,7 +9,7 @@ use Rattle.desk_session.specs.declared.outcome.Outcome.{Outcome}
 use Rattle.desk_entries.specs.Words.{IsDocketed, IsHistory, StandsAfter}
 use Rattle.desk_warnings.specs.declared.register.HeldBack.{HeldBack}
 use Rattle.desk_warnings.specs.Words.{careful_answers, careful_leaves, careful_outcome}
-use Rattle.program_streams.specs.Words.{court_part}
+use Rattle.program_runs.specs.Words.{court_part}
 use Rattle.desk_program.specs.declared.desk.Desk.{Desk}
 use Rattle.desk_program.specs.declared.fault.DeskFault.{DeskFault}
 use Rattle.desk_program.specs.declared.fault.DeskFault.TheVariants.{BadStrike, Busy, Court, Differs, Divided, Faults, Faulty, File, Foreign, Held, Journal, KeptCourt, LongInput, NoJournal, Other, OutOfMemory, Refused, Session, Taken, Unkept, Unstruck, Write}

@@ -7,7 +7,7 @@ use Rattle.row_forms.specs.declared.fault.RowCause.{RowCause}
 use Rattle.row_forms.specs.declared.fault.RowCause.TheVariants.{BadClerk, BadField, NotText, TooManyRows, UnknownCommand, WrongCount}
 use Rattle.desk_entries.specs.declared.cause.LineCause.{LineCause}
 use Rattle.desk_entries.specs.declared.cause.LineCause.TheVariants as lines
-use Rattle.desk_entries.specs.Words.{too_many_words}
+use Rattle.desk_entries.specs.Words.{too_many_words, unfound_words}
 use Rattle.row_forms.specs.declared.headings.columns.Column.{Column}
 use Rattle.row_forms.specs.declared.headings.columns.Column.TheVariants.{Case, Deadline, Motion, Date, Notice, SecondOrNone, Time, From, TimeOrNone, Start, To, Period, ServiceOrNone, Means, Grant, ByMotion, Cause, Neglect, Need, Judge, Judges, Slots, Holidays, Clerk, Command, Room}
 use Rattle.row_forms.specs.Headings.Words.{column_at, columns_of, commands_listed, mark_of}
@@ -101,3 +101,4 @@ fault_words cause line = if is_utf8 line then line_words cause line else not_tex
 abbrev pub cause_words : LineCause → List ℕ → List ℕ
 cause_words (lines.Row cause) line = fault_words cause line
 cause_words lines.TooManyCases line = too_many_words
+cause_words (lines.NotFound why) line = unfound_words why

@@ -5,6 +5,7 @@ use Rattle.std.specs.declared.io.Error.{Error}
 use Rattle.court_file_text.specs.declared.fault.CourtFault.TheVariants as court
 use Rattle.desk_journal.specs.declared.fault.JournalFault.{JournalFault}
 use Rattle.desk_journal.specs.declared.fault.JournalFault.TheVariants as journal
+use Rattle.desk_session.specs.declared.fault.SessionFault.{SessionFault}
 use Rattle.desk_session.specs.declared.fault.SessionFault.TheVariants as session
 use Rattle.desk_entries.specs.declared.fault.HistoryFault.{HistoryFault}
 use Rattle.desk_entries.specs.declared.fault.HistoryFault.TheVariants as history
@@ -30,36 +31,39 @@ history_fault history.OutOfMemory = OutOfMemory
 abbrev pub IsNamed : (name : List ℕ) → Error → DeskFault → Type 0
 IsNamed name error fault = (held : String Global) × (string_bytes held ≡ name) × (fault ≡ File held error)
 
--- the status of a fault: 2 for the court's file, 3 for rows, and for one that can't be struck, 4 for files and streams, 5 for want of memory, 6 for the journal,
--- 7 for a court's file or a strike that isn't taken since answers would differ, 8 for rows that had faults among others that were taken
+-- the status of a session that ended early: 4 for its input and output, 5 for want of memory, 10 for the journal
+abbrev pub session_status : SessionFault → ℕ
+session_status (session.Journal fault) = 10
+session_status session.Read = 4
+session_status session.Write = 4
+session_status session.LongLine = 4
+session_status session.Unfinished = 4
+session_status session.OutOfMemory = 5
+
+-- the status of a fault: 2 for the court's file, 3 for rows, and for one that can't be struck, 4 for files and streams, 5 for want of memory,
+-- 7 for a court's file or a strike that isn't taken since answers would differ, 8 for rows that had faults among others that were taken, 10 for the journal
 abbrev pub desk_status : DeskFault → ℕ
 desk_status (Court court.OutOfMemory) = 5
 desk_status (Court _) = 2
 desk_status (Divided line) = 2
-desk_status Taken = 6
-desk_status NoJournal = 6
-desk_status (KeptCourt number cause) = 6
-desk_status (Other number) = 6
-desk_status (BadStrike number) = 6
+desk_status Taken = 10
+desk_status NoJournal = 10
+desk_status (KeptCourt number cause) = 10
+desk_status (Other number) = 10
+desk_status (BadStrike number) = 10
 desk_status (Differs count) = 7
 desk_status (Unstruck fault) = 3
 desk_status (Journal journal.OutOfMemory) = 5
-desk_status (Journal _) = 6
-desk_status (Session session.Read) = 4
-desk_status (Session session.Write) = 4
-desk_status (Session session.OutOfMemory) = 5
-desk_status (Session _) = 6
-desk_status (Unkept session.Read) = 4
-desk_status (Unkept session.Write) = 4
-desk_status (Unkept session.OutOfMemory) = 5
-desk_status (Unkept _) = 6
+desk_status (Journal _) = 10
+desk_status (Session fault) = session_status fault
+desk_status (Unkept fault) = session_status fault
 desk_status (Faults count) = 3
 desk_status (Refused line) = 3
 desk_status (Held line) = 3
 desk_status (Faulty tally) = 8
 desk_status LongInput = 4
-desk_status Busy = 6
-desk_status Foreign = 6
+desk_status Busy = 10
+desk_status Foreign = 10
 desk_status (File name error) = 4
 desk_status Write = 4
 desk_status OutOfMemory = 5

@@ -1,14 +1,13 @@
-pub mod Ask
 pub mod Cases
 pub mod Change
 pub mod Desk
 pub mod FaultWords
 pub mod Faults
 pub mod File
-pub mod Note
 pub mod Rows
 pub mod Strike
 pub mod Struck
 pub mod Together
 pub mod Trial
 pub mod Words
+pub mod Inside

@@ -1,5 +1,5 @@
 -- The words for the crates above, from one place.
-pub use Rattle.desk_program.specs.Ask.{AnswersQuestions}
+pub use Rattle.desk_program.specs.Inside.Ask.{AnswersQuestions}
 pub use Rattle.desk_program.specs.Cases.{cases_text}
 pub use Rattle.desk_program.specs.Change.{RefusesFile, TakesFile}
 pub use Rattle.desk_program.specs.Desk.{IsPromisedDocket, KeepsDocket, answers_at, disk_under, held_at, leaves_at, outcome_at, standing_at}

@@ -3,7 +3,7 @@ ghost use Rattle.std.specs.Prelude.{ℕ, List, ◌≡◌, false, IfOk, IfSome};
 ghost use Rattle.desk_session.specs.Words.{lines_of};
 ghost use Rattle.desk_entries.specs.Words.{IsDocketed};
 ghost use Rattle.program_streams.specs.Words.{has_failed, watched};
-ghost use Rattle.desk_program.specs.Ask.{AnswersQuestions};
+ghost use Rattle.desk_program.specs.Inside.Ask.{AnswersQuestions};
 
 use crate::fault::DeskFault;
 use desk_entries::{Docketed, Questions};

@@ -2,13 +2,13 @@
 ghost use Rattle.std.specs.Prelude.{◌≡◌, IfErr, IfOk, OnOk};
 ghost use Rattle.court_days.specs.Words.{CourtView};
 ghost use Rattle.desk_entries.specs.Words.{SaysCourt};
-ghost use Rattle.program_streams.specs.Words.{court_part};
+ghost use Rattle.program_runs.specs.Words.{court_part};
 ghost use Rattle.desk_program.specs.Desk.{HasCourtFault};
 
 use crate::fault::DeskFault;
 use court_days::Court;
 use court_file_text::CourtFault;
-use program_streams::divide;
+use program_runs::divide;
 use std::alloc::Global;
 
 // The number of the line that comes after these bytes, counted from 1.

@@ -38,7 +38,7 @@ pub enum DeskFault {
     Unkept(SessionFault),
     /// This many lines have a fault, and none of the rows that were to be kept together is kept.
     Faults(usize),
-    /// The command in this line would be refused, and none of the rows that were to be kept together is kept.
+    /// The command in this line would be refused, or names what isn't found, and none of the rows that were to be kept together is kept.
     Refused(usize),
     /// The row in this line draws a warning, and none of the rows that were to be kept together is kept.
     Held(usize),

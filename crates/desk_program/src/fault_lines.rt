@@ -1,12 +1,13 @@
 //! The lines and the statuses that tell of a desk's faults.
 ghost use Rattle.std.specs.Prelude.{◌≡◌, ◌⊎◌};
-ghost use Rattle.desk_program.specs.Faults.{desk_status};
+ghost use Rattle.desk_program.specs.Faults.{desk_status, session_status};
 
 use crate::fault::DeskFault;
 use court_file_text::{CourtFault, NumberedFault};
 use desk_journal::JournalFault;
 use desk_session::{SessionFault, Tally};
-use program_streams::{Watched, refused};
+use program_runs::refused;
+use program_streams::Watched;
 use std::alloc::Global;
 use std::fmt;
 use std::io::Write;
@@ -19,16 +20,25 @@ pub fn status_of(fault: &DeskFault) -> u8
         DeskFault::Court(CourtFault::OutOfMemory) => 5,
         DeskFault::Court(_) | DeskFault::Divided(_) => 2,
         DeskFault::File(_, _) | DeskFault::Write => 4,
-        DeskFault::Session(SessionFault::Read | SessionFault::Write) => 4,
-        DeskFault::Unkept(SessionFault::Read | SessionFault::Write) | DeskFault::LongInput => 4,
-        DeskFault::Session(SessionFault::OutOfMemory) => 5,
-        DeskFault::Unkept(SessionFault::OutOfMemory) => 5,
+        DeskFault::Session(fault) | DeskFault::Unkept(fault) => session_status(fault),
+        DeskFault::LongInput => 4,
         DeskFault::Faults(_) | DeskFault::Refused(_) | DeskFault::Held(_) => 3,
         DeskFault::Unstruck(_) => 3,
         DeskFault::Journal(JournalFault::OutOfMemory) | DeskFault::OutOfMemory => 5,
         DeskFault::Differs(_) => 7,
         DeskFault::Faulty(_) => 8,
-        _ => 6,
+        _ => 10,
+    }
+}
+
+// The status of a session that ended early.
+fn session_status(fault: &SessionFault) -> u8
+    ensures { result ≡ session_status fault.now }
+{
+    match fault {
+        SessionFault::Journal(_) => 10,
+        SessionFault::OutOfMemory => 5,
+        _ => 4,
     }
 }
 
@@ -89,7 +99,7 @@ fn write_row_fault<W: fmt::Write>(fault: &DeskFault, f: &mut fmt::Formatter<W>) 
         ),
         DeskFault::Refused(line) => write!(
             f,
-            "the command in line {line} would be refused, so nothing is kept: mend the list and enter all of it again, or give --keep-refused"
+            "line {line} wouldn't be done, so nothing is kept: mend the list and enter all of it again, or give --keep-refused, which keeps a refused command"
         ),
         DeskFault::Held(line) => write!(
             f,

@@ -3,7 +3,7 @@ ghost use Rattle.std.specs.Prelude.{◌≡◌, ◌==◌, ◌++◌, List, OnOk, o
 ghost use Rattle.std.specs.List.{after_first, before_first};
 ghost use Rattle.desk_program.specs.FaultWords.{cause_words, expected, expected_at, fault_words, field_words, form_said, form_words, found_text, line_words, marks, not_text, part};
 
-use desk_entries::{LineCause, too_many_words};
+use desk_entries::{LineCause, push_unfound, too_many_words};
 use row_forms::{Column, RowCause, column_at, columns_of, commands_listed, mark_of};
 use std::alloc::{AllocError, Global};
 
@@ -205,5 +205,6 @@ pub(crate) fn push_cause_words(
     match cause {
         LineCause::Row(cause) => push_fault_words(alloc, text, cause, line),
         LineCause::TooManyCases => text.extend_from_slice(too_many_words().as_bytes()),
+        LineCause::NotFound(why) => push_unfound(alloc, text, why),
     }
 }

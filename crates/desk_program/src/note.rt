@@ -13,7 +13,7 @@ use std::mem;
 
 impl<D: Disk> Desk<D> {
     ghost use Rattle.desk_program.specs.Desk.{KeepsDocket, disk_under};
-    ghost use Rattle.desk_program.specs.Note.{ComesTo};
+    ghost use Rattle.desk_program.specs.Inside.Note.{ComesTo};
 
     // Keeps a court's file or a strike as the next entry. After it this stands, and this is the docket.
     pub(crate) fn take_note(

@@ -123,7 +123,7 @@ impl<D: Disk> Desk<D> {
 
     /// Keeps the rows of an input together, one in a line, and then answers them. If a line has a fault, each fault is written;
     /// then, and where the last line has no end, nothing is kept and the docket is as it was. The list stops at the first row that
-    /// is held back and, unless commands that are refused are to be kept too, at the first command that is refused: its answer is
+    /// is held back or names what isn't found and, unless commands that are refused are to be kept too, at the first command that is refused: its answer is
     /// written, and nothing is kept. The desk is then to be opened anew, since it has decided the rows before it.
     pub fn enter_together<W: Write>(
         &mut self,

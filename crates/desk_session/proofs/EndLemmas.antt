@@ -5,8 +5,7 @@ use Rattle.std.specs.Io.KnownBytes.{Consumes}
 use Rattle.std.specs.Result.{is_err}
 use Rattle.std.proofs.lemmas.Result.{IfErr-weaker}
 use Rattle.program_streams.specs.declared.watched.Watched.{Watched}
-use Rattle.program_streams.specs.Watched.{moved_nothing}
-use Rattle.program_streams.specs.Words.{counted, has_ended}
+use Rattle.program_streams.specs.Words.{counted, has_ended, moved_nothing}
 use Rattle.desk_session.specs.declared.fault.SessionFault.{SessionFault}
 use Rattle.desk_session.specs.declared.fault.SessionFault.TheVariants.{Unfinished}
 use Rattle.desk_session.specs.Faults.{EndsSession}

@@ -1,13 +1,12 @@
 -- Why sessions end early, led from one batch of bytes to the next.
 use Rattle.std.proofs.Common.{◌≡◌, ◌∙◌, ◌+◌, ◌<◌, inl, inr, ℕ, Bool, List, [], ◌∷◌, ◌++◌, length, refl, sym, ap, subst, arith, append_assoc, append-nil}
 use Rattle.std.proofs.lemmas.List.{length-append}
-use Rattle.desk_journal.specs.declared.fault.JournalFault.{JournalFault}
 use Rattle.desk_journal.specs.declared.fault.JournalFault.TheVariants as journal
 use Rattle.program_streams.specs.declared.watched.Watched.{Watched}
 use Rattle.program_streams.specs.Words.{has_failed}
 use Rattle.desk_session.specs.declared.fault.SessionFault.{SessionFault}
 use Rattle.desk_session.specs.declared.fault.SessionFault.TheVariants.{Journal, LongLine, OutOfMemory, Read, Unfinished, Write}
-use Rattle.desk_session.specs.Faults.{EndsSession, HasLongLine, IsUnpublished, StopsBytes, fault_from}
+use Rattle.desk_session.specs.Faults.{EndsSession, HasLongLine, IsUnpublished, StopsBytes}
 use Rattle.desk_session.specs.Lines.{ends_line, unfinished_from, unfinished_of}
 use Rattle.desk_session.proofs.LineLemmas.{line_goes_on, unfinished_from-append}
 use Rattle.std.specs.Prelude.{◌⊎◌, ◌≤◌, false}
@@ -54,15 +53,6 @@ stops_ends reader writer bytes more begun Write is why = why
 stops_ends reader writer bytes more begun LongLine is why = long_later [] bytes more [] (bytes ++ more) begun (sym (append-nil (bytes ++ more))) is why
 stops_ends reader writer bytes more begun Unfinished is why = absurd why
 stops_ends reader writer bytes more begun OutOfMemory is why = why
-
--- a fault of the journal isn't a write of answers that failed, nor a line that is too long
-pub no_write : (fault : JournalFault) → fault_from fault ≡ Write → ⊥
-no_write (journal.Damaged number) is = cc is
-no_write journal.Full is = cc is
-no_write journal.Read is = cc is
-no_write journal.Write is = cc is
-no_write journal.Sync is = cc is
-no_write journal.OutOfMemory is = cc is
 
 -- what stops a line that came together with others stops all of them
 pub line_stops : (input line : List ℕ) (fault : SessionFault) → (65_536 < length line → HasLongLine [] input) → (fault ≡ OutOfMemory) ⊎ ((fault ≡ LongLine) × (65_536 < length line)) → StopsBytes false [] input fault

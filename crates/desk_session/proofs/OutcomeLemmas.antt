@@ -1,9 +1,9 @@
 -- What comes of lines that are taken one after another.
-use Rattle.std.proofs.Common.{◌≡◌, ◌∙◌, ℕ, Bool, cond, true, false, List, [], ◌∷◌, ◌++◌, Option, None, Some, refl, sym, ap, append_assoc, append-nil}
+use Rattle.std.proofs.Common.{◌≡◌, ◌∙◌, ℕ, Bool, List, [], ◌∷◌, ◌++◌, None, refl, sym, ap, append_assoc, append-nil}
 use Rattle.desk_session.specs.declared.outcome.Outcome.{Outcome}
 use Rattle.desk_session.specs.declared.outcome.Tally.{Tally}
 use Rattle.desk_session.specs.Outcomes.{counted_with, tally_after}
-use Rattle.desk_session.specs.Stopped.{Stopped, first_stopped, or_later, stopped_as}
+use Rattle.desk_session.specs.Stopped.{first_stopped, or_later, stopped_as}
 use Rattle.desk_session.specs.Taken.{left_by}
 
 module _ (leaves : List (List ℕ) → List ℕ → List (List ℕ)) (outcome : List (List ℕ) → List ℕ → Outcome) where

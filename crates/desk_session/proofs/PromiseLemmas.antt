@@ -1,5 +1,5 @@
 -- What a session promises, led from one batch of lines to the next.
-use Rattle.std.proofs.Common.{◌≡◌, ◌∙◌, ◌⊎◌, inl, inr, ℕ, ◌+◌, ◌≤◌, List, [], ◌++◌, Option, None, Some, IfSome, length, take, refl, sym, ap, subst, arith, append_assoc, append-nil}
+use Rattle.std.proofs.Common.{◌≡◌, ◌∙◌, ◌⊎◌, inl, inr, ℕ, ◌+◌, ◌≤◌, List, [], ◌++◌, Option, None, Some, IfSome, drop, length, take, take-append-drop, refl, sym, ap, subst, arith, append_assoc, append-nil}
 use Rattle.std.proofs.Math.Seq.{take-append-add, take-length}
 use Rattle.std.proofs.KnownBytes.{Appends-nil, Appends-trans, Consumes-trans, starts_with_rest}
 use Rattle.std.proofs.Transfers.{starts_with_of_append, starts_with_of_eq}
@@ -47,6 +47,30 @@ module _ (leaves : List (List ℕ) → List ℕ → List (List ℕ)) (answers : 
   -- the whole of a text, as a beginning of it
   pub whole_front : (before after : Option (List ℕ)) (text : List ℕ) → Appends before after text → AppendsFront before after text
   whole_front before after text written = (text, written, starts_with_of_eq text text refl)
+
+  -- the answers to the lines of an input, where these are served
+  pub all_told : (Keeps Stands : List (List ℕ) → Type 0) (kept : List (List ℕ)) (lines : List ℕ → List (List ℕ)) (before after input : Option (List ℕ))
+      → IfSome input (λ bytes. IsServed leaves answers Keeps Stands kept (lines bytes) before after) → IfSome input (λ bytes. Appends before after (told_to leaves answers kept (lines bytes)))
+  all_told Keeps Stands kept lines before after None served = tt
+  all_told Keeps Stands kept lines before after (Some bytes) served = served.told
+
+  -- a beginning of the answers to lines, where what is promised of them is kept
+  pub front_of_all : (kept lines : List (List ℕ)) (before after : Option (List ℕ)) (HasWritten : Type 0) (MayLeave : List ℕ → Type 0) → IsPromised leaves answers kept lines before after HasWritten MayLeave → AppendsFront before after (told_to leaves answers kept lines)
+  front_of_all kept lines before after HasWritten MayLeave promised =
+      let (front, written, starts) = promised.written in
+      (front, written, starts_with_of_append _ _ _ (all ∙ ap (λ (l : List ℕ). l ++ later) (starts_with_rest _ _ starts) ∙ append_assoc front _ later))
+    where
+      some : List (List ℕ)
+      some = take promised.told lines
+
+      rest : List (List ℕ)
+      rest = drop promised.told lines
+
+      later : List ℕ
+      later = told_to leaves answers (kept ++ left_by leaves kept some) rest
+
+      all : told_to leaves answers kept lines ≡ told_to leaves answers kept some ++ later
+      all = ap (told_to leaves answers kept) (sym (take-append-drop promised.told lines)) ∙ told_to-append leaves answers kept some rest
 
   -- no line is served yet
   pub none_served : (Keeps Stands : List (List ℕ) → Type 0) (kept : List (List ℕ)) (before : Option (List ℕ)) → Keeps kept → Stands kept → IsServed leaves answers Keeps Stands kept [] before before
@@ -109,13 +133,3 @@ none_read a b c bytes buffer n so_far last none =
 pub whole_input : (input : Option (List ℕ)) (IsSo : List ℕ → Type 0) (bytes : List ℕ) → IfSome input (λ all. bytes ≡ all) → IsSo bytes → IfSome input IsSo
 whole_input None IsSo bytes all so = tt
 whole_input (Some xs) IsSo bytes all so = subst IsSo all so
-
--- what is written of some lines, and then a beginning of what comes of others
-pub front_more : (leaves : List (List ℕ) → List ℕ → List (List ℕ)) (answers : List (List ℕ) → List ℕ → List ℕ) (kept some more : List (List ℕ)) (before between after : Option (List ℕ))
-    → Appends before between (told_to leaves answers kept some) → AppendsFront between after (told_to leaves answers (kept ++ left_by leaves kept some) more)
-    → AppendsFront before after (told_to leaves answers kept (some ++ more))
-front_more leaves answers kept some more before between after first second = (
-  told_to leaves answers kept some ++ second.0,
-  Appends-trans before between after _ _ first second.1,
-  starts_with_of_append _ _ _ (told_to-append leaves answers kept some more ∙ ap (λ (l : List ℕ). told_to leaves answers kept some ++ l) (starts_with_rest _ _ second.2) ∙ sym (append_assoc (told_to leaves answers kept some) second.0 _)),
-)

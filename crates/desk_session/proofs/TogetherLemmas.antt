@@ -1,14 +1,12 @@
 -- Lines that came together, taken one after another.
-use Rattle.std.proofs.Common.{◌≡◌, ◌∙◌, ◌+◌, ◌<◌, ◌≤◌, ◌==◌, ℕ, Bool, true, false, cond, List, [], ◌∷◌, ◌++◌, Option, None, Some, length, refl, sym, ap, subst, arith, append_assoc, append-nil}
+use Rattle.std.proofs.Common.{◌≡◌, ◌∙◌, ◌+◌, ◌<◌, ◌≤◌, ◌==◌, ℕ, Bool, true, false, cond, List, [], ◌∷◌, ◌++◌, Option, None, Some, length, sym, ap, subst, arith, append_assoc, append-nil}
 use Rattle.std.proofs.lemmas.List.{length-append}
 use Rattle.desk_session.specs.declared.outcome.Outcome.{Outcome}
 use Rattle.desk_session.specs.Faults.{HasLongLine}
 use Rattle.desk_session.specs.Lines.{HasNoEnd, IsFirstLine, lines_from, lines_of, number_after, numbered_from, unfinished_from, unfinished_of}
 use Rattle.desk_session.specs.Stopped.{Stopped, first_stopped, or_later, stopped_as}
-use Rattle.desk_session.specs.Taken.{TakesLine, TakesLines, left_by}
 use Rattle.desk_session.proofs.LineLemmas.{finished_by, lines_from-append, lines_of_first, lines_of_none, numbered_from-first, numbered_from-none, unfinished_from-append, unfinished_within}
 use Rattle.desk_session.proofs.OutcomeLemmas.{first_stopped-none, first_stopped-one}
-use Rattle.desk_session.proofs.TakenLemmas.{all_left, more_taken, one_taken}
 
 -- the front of an input with one line more
 pub front_with : (input front rest line : List ℕ) (end : ℕ) (after : List ℕ) → input ≡ front ++ rest → IsFirstLine rest line end after → input ≡ (front ++ (line ++ end ∷ [])) ++ after

@@ -5,7 +5,7 @@ use Rattle.desk_session.specs.declared.outcome.Outcome.TheVariants.{Blank, Fault
 use Rattle.desk_session.specs.declared.together.StoppedLine.{StoppedLine}
 use Rattle.desk_session.specs.Outcomes.{is_held}
 
--- a line at which a list stops: its number in the list, its answer, and whether it is held back, or else refused
+-- a line at which a list stops: its number in the list, its answer, and whether it is held back, or else is refused or has a fault
 pub record Stopped : Type 0 where
   pub number : ℕ
   pub answer : List ℕ
@@ -14,10 +14,11 @@ pub record Stopped : Type 0 where
 abbrev pub stopped_in : StoppedLine → Stopped
 stopped_in line = record { number = line.number; answer = line.answer.items; held = line.held }
 
--- A list stops at a line of which this comes: at one that is held back, and at one that is refused unless those are kept too.
+-- A list stops at a line of which this comes: at one that has a fault or is held back, and at one that is refused unless those are
+-- kept too.
 abbrev pub stops : (keep_refused : Bool) → Outcome → Bool
 stops keep_refused Blank = false
-stops keep_refused Fault = false
+stops keep_refused Fault = true
 stops keep_refused Refused = not keep_refused
 stops keep_refused Held = true
 stops keep_refused Taken = false

@@ -1,6 +1,5 @@
-//! The lines that bytes end: their entries are made durable together, and then they are answered.
+//! The lines that bytes end: their entries are kept together, and then they are answered.
 ghost use Rattle.std.specs.Prelude.{◌≡◌, ℕ, List, false, IfErr, OnOk};
-ghost use Rattle.desk_journal.specs.Words.{IsKept, disk_of};
 ghost use Rattle.program_streams.specs.Words.{has_failed, watched};
 ghost use Rattle.desk_session.specs.Faults.{StopsBytes};
 ghost use Rattle.desk_session.specs.Lines.{lines_from, unfinished_from};
@@ -9,20 +8,19 @@ ghost use Rattle.desk_session.specs.Served.{IsPromised, IsServed};
 
 use crate::fault::SessionFault;
 use crate::gather::gather;
+use crate::keeper::Keeper;
 use crate::outcome::Tally;
 use crate::publish::publish;
 use crate::register::Register;
-use desk_journal::Journal;
 use program_streams::Watched;
-use sqlite_disk::Disk;
 use std::alloc::Global;
 use std::io::Write;
 
-// Takes the lines that these bytes end: their entries are made durable together, and then their answers are written.
-pub(crate) fn serve_bytes<D: Disk, O: Register, W: Write>(
+// Takes the lines that these bytes end: their entries are kept together, and then their answers are written.
+pub(crate) fn serve_bytes<K: Keeper, O: Register, W: Write>(
     setup: &O::Setup,
     alloc: Global,
-    journal: &mut Journal<D>,
+    keeper: &mut K,
     register: &mut O,
     writer: &mut Watched<W>,
     begun: &mut Vec<u8>,
@@ -33,10 +31,10 @@ pub(crate) fn serve_bytes<D: Disk, O: Register, W: Write>(
     ensures begun { OnOk result (begun.new.items ≡ unfinished_from begun.old.items bytes.now) }
     ensures fault { IfErr result (StopsBytes (has_failed writer.new) begun.old.items bytes.now) }
     ensures working { OnOk result (has_failed writer.new ≡ false) }
-    ensures served { (kept : List (List ℕ)) → IsKept D.Disk.seen D.Disk.may_leave D.Disk.is_usable kept journal.old → O.stands setup.now register.old kept → OnOk result
-        (IsServed (O.leaves setup.now) (O.answers setup.now) (λ entries. IsKept D.Disk.seen D.Disk.may_leave D.Disk.is_usable entries journal.new) (O.stands setup.now register.new) kept (lines_from begun.old.items bytes.now) (W.contents (watched writer.old)) (W.contents (watched writer.new))) }
-    ensures promised { (kept : List (List ℕ)) → IsKept D.Disk.seen D.Disk.may_leave D.Disk.is_usable kept journal.old → O.stands setup.now register.old kept →
-        IsPromised (O.leaves setup.now) (O.answers setup.now) kept (lines_from begun.old.items bytes.now) (W.contents (watched writer.old)) (W.contents (watched writer.new)) (has_failed writer.new ≡ false) (D.Disk.may_leave (disk_of journal.new)) }
+    ensures served { (kept : List (List ℕ)) → K.keeps keeper.old kept → O.stands setup.now register.old kept → OnOk result
+        (IsServed (O.leaves setup.now) (O.answers setup.now) (K.keeps keeper.new) (O.stands setup.now register.new) kept (lines_from begun.old.items bytes.now) (W.contents (watched writer.old)) (W.contents (watched writer.new))) }
+    ensures promised { (kept : List (List ℕ)) → K.keeps keeper.old kept → O.stands setup.now register.old kept →
+        IsPromised (O.leaves setup.now) (O.answers setup.now) kept (lines_from begun.old.items bytes.now) (W.contents (watched writer.old)) (W.contents (watched writer.new)) (has_failed writer.new ≡ false) (K.may_leave keeper.new) }
     ensures tally { (kept : List (List ℕ)) → O.stands setup.now register.old kept → OnOk result
         (tally.new ≡ tally_after (O.leaves setup.now) (O.outcome setup.now) tally.old kept (lines_from begun.old.items bytes.now)) }
 {
@@ -45,6 +43,6 @@ pub(crate) fn serve_bytes<D: Disk, O: Register, W: Write>(
     gather(
         setup, alloc, register, begun, bytes, &mut batch, &mut text, tally,
     )?;
-    publish(journal, writer, &batch, &text)?;
+    publish(keeper, writer, &batch, &text)?;
     Ok(())
 }

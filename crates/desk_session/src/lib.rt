@@ -5,6 +5,7 @@ mod asking;
 mod batch;
 mod fault;
 mod gather;
+mod keeper;
 mod lines;
 mod outcome;
 mod publish;

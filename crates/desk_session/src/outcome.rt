@@ -35,7 +35,7 @@ impl Outcome {
     {
         match self {
             Outcome::Refused => !keep_refused,
-            Outcome::Held => true,
+            Outcome::Fault | Outcome::Held => true,
             _ => false,
         }
     }

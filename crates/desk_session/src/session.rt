@@ -9,6 +9,7 @@ ghost use Rattle.desk_session.specs.Served.{AfterBytes, IsPromised, IsServed};
 
 use crate::batch::serve_bytes;
 use crate::fault::SessionFault;
+use crate::keeper::Keeper;
 use crate::outcome::Tally;
 use crate::register::Register;
 use desk_journal::Journal;
@@ -18,10 +19,10 @@ use std::alloc::Global;
 use std::io::{Read, Write};
 
 // How many bytes are asked for at once.
-pub(crate) const CHUNK: usize = 65_536;
+const CHUNK: usize = 65_536;
 
 // How a session ends whose input has ended, after lines of this tally.
-pub(crate) fn ended(begun: &Vec<u8>, tally: Tally) -> Result<Tally, SessionFault>
+fn ended(begun: &Vec<u8>, tally: Tally) -> Result<Tally, SessionFault>
     ensures finished { OnOk result (begun.now.items ≡ []) }
     ensures tally { IfOk result (λ t. t ≡ tally) }
     ensures fault { IfErr result (λ fault. (fault ≡ SessionFault.Unfinished) × (begun.now.items ≢ [])) }
@@ -31,6 +32,55 @@ pub(crate) fn ended(begun: &Vec<u8>, tally: Tally) -> Result<Tally, SessionFault
     } else {
         Err(SessionFault::Unfinished)
     }
+}
+
+// Takes the lines of an input until it ends. The entries of those that one read gives are kept together, and then they are answered.
+pub(crate) fn serve_lines<K: Keeper, O: Register, R: Read, W: Write>(
+    setup: &O::Setup,
+    alloc: Global,
+    keeper: &mut K,
+    register: &mut O,
+    reader: &mut Watched<R>,
+    writer: &mut Watched<W>,
+) -> Result<Tally, SessionFault>
+    requires writer_works { has_failed writer.old ≡ false }
+    ensures promised { (kept : List (List ℕ)) → K.keeps keeper.old kept → O.stands setup.now register.old kept →
+        AfterBytes (R.remaining (watched reader.old)) (R.remaining (watched reader.new)) (λ bytes.
+        IsPromised (O.leaves setup.now) (O.answers setup.now) kept (lines_of bytes) (W.contents (watched writer.old)) (W.contents (watched writer.new)) (has_failed writer.new ≡ false) (K.may_leave keeper.new)) }
+    ensures served { (kept : List (List ℕ)) → K.keeps keeper.old kept → O.stands setup.now register.old kept → OnOk result
+        (IfSome (R.remaining (watched reader.old)) (λ input.
+        IsServed (O.leaves setup.now) (O.answers setup.now) (K.keeps keeper.new) (O.stands setup.now register.new) kept (lines_of input) (W.contents (watched writer.old)) (W.contents (watched writer.new)))) }
+    ensures finished { OnOk result (IfSome (R.remaining (watched reader.old)) (λ input. unfinished_of input ≡ [])) }
+    ensures tally { (kept : List (List ℕ)) → K.keeps keeper.old kept → O.stands setup.now register.old kept → IfOk result (λ tally.
+        IfSome (R.remaining (watched reader.old)) (λ input. tally ≡ tally_of (O.leaves setup.now) (O.outcome setup.now) kept (lines_of input))) }
+    ensures fault { IfErr result (λ fault. AfterBytes (R.remaining (watched reader.old)) (R.remaining (watched reader.new)) (λ bytes. EndsSession reader.new writer.new bytes fault)) }
+    ensures working { OnOk result (has_failed writer.new ≡ false) }
+{
+    let mut begun = Vec::new(alloc);
+    let mut buffer = vec![in alloc; 0u8; CHUNK]?;
+    let chunk = buffer.as_mut_slice();
+    let mut tally = Tally::new();
+    'reads: for _ in 0..u64::MAX {
+        match reader.read(chunk) {
+            Err(_) => return Err(SessionFault::Read),
+            Ok(count) => {
+                if count == 0 {
+                    return ended(&begun, tally);
+                }
+                serve_bytes(
+                    setup,
+                    alloc,
+                    keeper,
+                    register,
+                    writer,
+                    &mut begun,
+                    &chunk[..count],
+                    &mut tally,
+                )?;
+            }
+        }
+    }
+    Err(SessionFault::Read)
 }
 
 /// Serves the lines of an input until it ends. The lines that one read gives are made durable together, and then they are
@@ -56,29 +106,5 @@ pub fn serve<D: Disk, O: Register, R: Read, W: Write>(
     ensures fault { IfErr result (λ fault. AfterBytes (R.remaining (watched reader.old)) (R.remaining (watched reader.new)) (λ bytes. EndsSession reader.new writer.new bytes fault)) }
     ensures working { OnOk result (has_failed writer.new ≡ false) }
 {
-    let mut begun = Vec::new(alloc);
-    let mut buffer = vec![in alloc; 0u8; CHUNK]?;
-    let chunk = buffer.as_mut_slice();
-    let mut tally = Tally::new();
-    'reads: for _ in 0..u64::MAX {
-        match reader.read(chunk) {
-            Err(_) => return Err(SessionFault::Read),
-            Ok(count) => {
-                if count == 0 {
-                    return ended(&begun, tally);
-                }
-                serve_bytes(
-                    setup,
-                    alloc,
-                    journal,
-                    register,
-                    writer,
-                    &mut begun,
-                    &chunk[..count],
-                    &mut tally,
-                )?;
-            }
-        }
-    }
-    Err(SessionFault::Read)
+    serve_lines(setup, alloc, journal, register, reader, writer)
 }

@@ -26,7 +26,7 @@ pub struct StoppedLine {
     pub number: usize,
     /// Its answer.
     pub answer: Vec<u8>,
-    /// Whether it is held back with a warning; otherwise it is refused.
+    /// Whether it is held back with a warning; otherwise it is refused or has a fault.
     pub held: bool,
 }
 
@@ -112,8 +112,8 @@ fn take_lines<O: Register>(
 }
 
 /// Keeps the lines of an input together, and then answers them. Whatever a crash leaves has what all of them leave, or nothing
-/// of it. A last line that has no end isn't taken. The list stops at the first line that is held back or, unless lines that are
-/// refused are to be kept too, at the first that is refused: that line is given, and nothing is written to the disk or answered.
+/// of it. A last line that has no end isn't taken. The list stops at the first line that has a fault or is held back or, unless
+/// lines that are refused are to be kept too, that is refused: that line is given, and nothing is written to the disk or answered.
 pub fn serve_together<D: Disk, O: Register, W: Write>(
     setup: &O::Setup,
     alloc: Global,

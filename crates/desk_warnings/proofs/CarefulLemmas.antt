@@ -5,7 +5,7 @@ use Rattle.docket_rows.specs.declared.command.Command.{Command as CommandOf}
 use Rattle.docket_rows.specs.declared.refusal.Refusal.{Refusal}
 use Rattle.docket_rows.specs.Words.{Parts, parts_of, refusal, setup_of}
 use Rattle.desk_session.specs.Words.{TakesLine, after_mark, left_by}
-use Rattle.desk_entries.specs.Words.{IsHistory, IsReadyAt, StandsAfter, answers, cases_of, docketed_by, leaves, next_number, run_by}
+use Rattle.desk_entries.specs.Words.{IsHistory, IsReadyAt, StandsAfter, cases_of, docketed_by, leaves, next_number, run_by, told}
 use Rattle.desk_entries.specs.declared.register.DocketRegister.{DocketRegister}
 use Rattle.desk_entries.specs.declared.standing.Standing.{Standing}
 use Rattle.court_days.specs.Words.{CourtView}
@@ -40,15 +40,15 @@ careful_history under held kept lines history stands =
 module _ (under : Standing) (held : HeldBack) (register : DocketRegister) (kept : List (List ℕ)) (line : List ℕ) (batch batch_after : List (List ℕ)) (text text_after : List ℕ) where
   -- the line that is taken is taken as without warnings
   pub as_taken : (taken : List ℕ) → taken_at under held kept line ≡ Some taken
-      → TakesLine (leaves under) (answers under) (IsReadyAt under register) kept taken batch batch_after text text_after
+      → TakesLine (leaves under) (told under) (IsReadyAt under register) kept taken batch batch_after text text_after
       → TakesLine (careful_leaves under held) (careful_answers under held) (IsReadyAt under register) kept line batch batch_after text text_after
   as_taken taken is takes =
       let left : careful_leaves under held kept line ≡ leaves under kept taken = ap (left_by_taken under kept) is in
-      let told : careful_answers under held kept line ≡ answers under kept taken = ap (told_of_taken under kept (warned_at under held kept line)) is in
+      let same : careful_answers under held kept line ≡ told under kept taken = ap (told_of_taken under kept (warned_at under held kept line)) is in
       record {
         stands = subst (λ (l : List (List ℕ)). IsReadyAt under register (kept ++ l)) (sym left) takes.stands;
         left = takes.left ∙ ap (λ (l : List (List ℕ)). batch ++ l) (sym left);
-        told = takes.told ∙ ap (λ (l : List ℕ). text ++ l) (sym told);
+        told = takes.told ∙ ap (λ (l : List ℕ). text ++ l) (sym same);
       }
 
   -- a line that is held back changes nothing

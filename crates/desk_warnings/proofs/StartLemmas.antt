@@ -8,7 +8,7 @@ use Rattle.docket_rows.specs.declared.query.Query.TheVariants as query
 use Rattle.docket_rows.specs.declared.view.View.{View}
 use Rattle.docket_rows.specs.Words.{CaseRecordView, CourtSetup, Parts, has_case, is_case_number, query_refusal, seen_by, setup_of, start_deadline_checks, start_deadline_refusal, started}
 use Rattle.docket_laws.proofs.CallerLemmas.{none_of, option_map-None, when-not-None}
-use Rattle.desk_warnings.specs.Start.{on_view}
+use Rattle.desk_warnings.specs.Inside.Start.{on_view}
 use Rattle.desk_warnings.specs.Warnings.{at_start}
 
 not_both : (b : Bool) → (b && false) ≡ true → ⊥

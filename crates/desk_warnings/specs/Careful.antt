@@ -10,7 +10,7 @@ use Rattle.desk_session.specs.Words.{after_mark}
 use Rattle.desk_session.specs.declared.outcome.Outcome.{Outcome}
 use Rattle.desk_session.specs.declared.outcome.Outcome.TheVariants.{Held}
 use Rattle.desk_entries.specs.declared.standing.Standing.{Standing}
-use Rattle.desk_entries.specs.Words.{answers, cases_of, docketed_by, leaves, most_clerks, next_number, outcome, reading_at, run_by, within}
+use Rattle.desk_entries.specs.Words.{cases_of, docketed_by, leaves, most_clerks, next_number, outcome, reading_at, run_by, told, within}
 use Rattle.desk_warnings.specs.declared.register.HeldBack.{HeldBack}
 use Rattle.desk_warnings.specs.declared.register.HeldBack.TheVariants.{Nothing, Warned}
 use Rattle.desk_warnings.specs.Warnings.{warnings_on}
@@ -66,10 +66,10 @@ left_by_taken under kept (Some line) = leaves under kept line
 abbrev pub careful_leaves : Standing → HeldBack → (kept : List (List ℕ)) → (line : List ℕ) → List (List ℕ)
 careful_leaves under held kept line = left_by_taken under kept (taken_at under held kept line)
 
--- what it is answered: as that line, or its warnings
+-- what is told of it: what is told of that line, or its warnings
 abbrev pub told_of_taken : Standing → (kept : List (List ℕ)) → (warnings : List ℕ) → Option (List ℕ) → List ℕ
 told_of_taken under kept warnings None = held_text (next_number kept) warnings
-told_of_taken under kept warnings (Some line) = answers under kept line
+told_of_taken under kept warnings (Some line) = told under kept line
 
 abbrev pub careful_answers : Standing → HeldBack → (kept : List (List ℕ)) → (line : List ℕ) → List ℕ
 careful_answers under held kept line = told_of_taken under kept (warned_at under held kept line) (taken_at under held kept line)

@@ -11,7 +11,7 @@ use Rattle.row_forms.specs.Line.Words.{line_read}
 use Rattle.desk_session.specs.Words.{after_mark, left_by}
 use Rattle.desk_numbers.specs.Words.{placed_command}
 use Rattle.desk_entries.specs.declared.standing.Standing.{Standing}
-use Rattle.desk_entries.specs.Words.{IsHistory, StandsAfter, answers, docketed_by, leaves, most_clerks, outcome, reading_at, run_by, within}
+use Rattle.desk_entries.specs.Words.{IsHistory, StandsAfter, docketed_by, leaves, most_clerks, outcome, reading_at, run_by, told, within}
 use Rattle.desk_warnings.specs.declared.register.HeldBack.{HeldBack}
 use Rattle.desk_warnings.specs.declared.register.HeldBack.TheVariants.{Nothing, Warned}
 use Rattle.desk_warnings.specs.Careful.{careful_answers, careful_leaves, careful_outcome, taken_at}
@@ -46,4 +46,4 @@ RefusedAreHeld = (under : Standing) (today : Option ℤ) (kept : List (List ℕ)
 -- Where nothing is held back, a line leaves what it leaves without warnings, and is answered so.
 abbrev pub NothingIsHeldBack : Type 0
 NothingIsHeldBack = (under : Standing) (kept : List (List ℕ)) (line : List ℕ)
-    → (careful_leaves under Nothing kept line ≡ leaves under kept line) × (careful_answers under Nothing kept line ≡ answers under kept line) × (careful_outcome under Nothing kept line ≡ outcome under kept line)
+    → (careful_leaves under Nothing kept line ≡ leaves under kept line) × (careful_answers under Nothing kept line ≡ told under kept line) × (careful_outcome under Nothing kept line ≡ outcome under kept line)

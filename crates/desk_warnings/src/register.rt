@@ -2,14 +2,16 @@
 ghost use Rattle.std.specs.Prelude.{◌≡◌, ◌≢◌, ◌++◌, [], ℕ, List, true, false, IfOk, OnOk, string_bytes};
 ghost use Rattle.desk_journal.specs.Words.{batch_of};
 ghost use Rattle.desk_session.specs.Words.{TakesLine};
-ghost use Rattle.desk_entries.specs.Words.{IsReadyAt, StandsAt};
+ghost use Rattle.row_forms.specs.Words.{names_of};
+ghost use Rattle.row_forms.specs.Line.Words.{line_read};
+ghost use Rattle.desk_entries.specs.Words.{IsReadyAt, StandsAt, most_clerks, reading_at, within};
 ghost use Rattle.desk_warnings.specs.declared.register.HeldBack.TheVariants.{Warned};
-ghost use Rattle.desk_warnings.specs.Careful.{are_marked, careful_answers, careful_leaves, careful_outcome, held_first, held_last, held_text, warnings_at};
+ghost use Rattle.desk_warnings.specs.Careful.{are_marked, careful_answers, careful_leaves, careful_outcome, held_first, held_last, held_text, warnings_at, warnings_said};
 
 use crate::warnings::warnings_on;
 use court_clock::Day;
 use csv::StringRecord;
-use desk_entries::{DocketRegister, Standing, read_named};
+use desk_entries::{DocketRegister, Standing};
 use desk_session::{Outcome, Register, after_mark};
 use docket_rows::{Command, Query};
 use row_forms::{Line, Row, RowCause, Work};
@@ -69,6 +71,47 @@ type RowTypes = Option<
 >;
 
 impl CarefulRegister {
+    // What a line says as the one that comes next.
+    fn said(&self, alloc: Global, standing: &Standing, line: &[u8]) -> Result<Line, AllocError>
+        ensures { (kept : List (List ℕ)) → StandsAt standing.now self.now.register kept → IfOk result (λ said. said ≡ line_read most_clerks (names_of standing.now.court) (reading_at standing.now kept line.now).text) }
+    {
+        let _types: RowTypes = None;
+        let mut fields = StringRecord::new(alloc);
+        let (said, _) = self.register.read(alloc, standing, line, &mut fields)?;
+        Ok(said)
+    }
+
+    // What a clerk is warned of a line that says this.
+    fn warned_said(
+        &self,
+        alloc: Global,
+        standing: &Standing,
+        today: Option<Day>,
+        said: &Line,
+    ) -> Result<String, AllocError>
+        ensures { (kept : List (List ℕ)) → StandsAt standing.now self.now.register kept → IfOk result (λ text. string_bytes text ≡ warnings_said standing.now today kept (within kept said.now)) }
+    {
+        let _types: RowTypes = None;
+        match said {
+            Line::Row(row) => {
+                if self.register.has_room() {
+                    warnings_on(
+                        alloc,
+                        &standing.court,
+                        self.register.numbers().moved(),
+                        self.register.cases(),
+                        self.register.docket(),
+                        today,
+                        &row.work,
+                    )
+                } else {
+                    Ok(String::new(alloc))
+                }
+            }
+            Line::Blank | Line::Fault(_) => Ok(String::new(alloc)),
+        }
+    }
+
     // What a clerk is warned of a line.
     #[tactic(auto, unfolding(crate::specs::Careful::warnings_at))]
     fn warnings_at(
@@ -81,21 +124,8 @@ impl CarefulRegister {
         ensures { (kept : List (List ℕ)) → StandsAt standing.now self.now.register kept → IfOk result (λ text. string_bytes text ≡ warnings_at standing.now today kept line.now) }
     {
         let _types: RowTypes = None;
-        let mut fields = StringRecord::new(alloc);
-        let cases = self.register.cases();
-        let (said, _) = read_named(alloc, &standing.court, cases, line, &mut fields)?;
-        match said {
-            Line::Row(row) if self.register.has_room() => warnings_on(
-                alloc,
-                &standing.court,
-                self.register.numbers().moved(),
-                cases,
-                self.register.docket(),
-                today,
-                &row.work,
-            ),
-            _ => Ok(String::new(alloc)),
-        }
+        let said = self.said(alloc, standing, line)?;
+        self.warned_said(alloc, standing, today, &said)
     }
 }
 

@@ -4,7 +4,7 @@ ghost use Rattle.std.specs.Prelude.{◌≡◌, ◌++◌, None, IfNone, IfSome, O
 ghost use Rattle.rule_periods.specs.Words.{has_length, start_refusal, suits};
 ghost use Rattle.docket_rows.specs.Words.{setup_of, start_deadline_refusal, started};
 ghost use Rattle.docket_core.specs.Words.{parts_held};
-ghost use Rattle.desk_warnings.specs.Start.{on_view};
+ghost use Rattle.desk_warnings.specs.Inside.Start.{on_view};
 ghost use Rattle.desk_warnings.specs.Warnings.{at_start};
 
 use court_clock::Day;

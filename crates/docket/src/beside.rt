@@ -1,50 +1,64 @@
 //! What the program does beside another one that may enter rows.
-ghost use Rattle.std.specs.Prelude.{◌≡◌, false};
-ghost use Rattle.program_streams.specs.Words.{has_failed};
+ghost use Rattle.std.specs.Prelude.{◌≡◌, ℕ, List, false, IfSome, OnOk};
+ghost use Rattle.desk_session.specs.declared.outcome.Tally.{Tally};
+ghost use Rattle.desk_entries.specs.Words.{IsDocketed};
+ghost use Rattle.desk_program.specs.Words.{AnswersQuestions, IsTried, KeepsDocket, held_at, leaves_at, outcome_at, standing_at};
+ghost use Rattle.desk_session.specs.Words.{lines_of, tally_of};
+ghost use Rattle.docket.specs.Sessions.{WithTally};
+ghost use Rattle.program_streams.specs.Words.{has_failed, watched};
 
-use crate::fault::Fault;
+use crate::fault::{Fault, taken};
 use crate::folder::{copied_beside, entries_beside, put};
-use crate::input::{held_back, reading_of, rows_of};
+use crate::input::{reading_of, rows_of};
+use crate::progress::told_while;
 use desk_entries::Docketed;
-use desk_program::{Desk, DeskFault, all_taken, ask as answer, write_cases, write_struck};
+use desk_program::{Desk, DeskFault, ask as answer, write_cases, write_struck};
+use desk_warnings::HeldBack;
 use program_streams::Watched;
-use program_words::{Lines, Style, Warnings};
-use sqlite_disk::Memory;
+use program_words::{Lines, Style};
+use sqlite_disk::Disk;
 use std::alloc::Global;
 use std::io::{Read, Write};
+use std::sync::Wait;
+use std::thread::Threads;
 
 // Answers rows as they would be answered if they were entered.
-fn tried<R: Read + Drop, W: Write>(
+fn tried<D: Disk + Drop, R: Read + Drop, W: Write>(
     alloc: Global,
     reader: R,
     writer: &mut Watched<W>,
-    desk: Desk<Memory>,
+    desk: Desk<D>,
 ) -> Result<(), Fault>
     requires { has_failed writer.old ≡ false }
+    ensures tally { (kept : List (List ℕ)) → KeepsDocket D.Disk.seen D.Disk.may_leave D.Disk.is_usable kept desk → IfSome (R.remaining reader) (λ input.
+        WithTally (λ tally. tally ≡ tally_of (leaves_at desk) (outcome_at desk) kept (lines_of input)) result) }
+    ensures tried { (kept : List (List ℕ)) → KeepsDocket D.Disk.seen D.Disk.may_leave D.Disk.is_usable kept desk → OnOk result (IfSome (R.remaining reader) (λ input.
+        IsTried (standing_at desk) (held_at desk) kept (lines_of input) (W.contents (watched writer.old)) (W.contents (watched writer.new)))) }
 {
     let mut reader = Watched::new(reader);
     let (ended, disk) = desk.try_rows(alloc, &mut reader, writer);
     drop(disk);
     match ended {
-        Ok(tally) => Ok(all_taken(tally)?),
+        Ok(tally) => taken(tally),
         Err(fault) => Err(Fault::Desk(DeskFault::Unkept(fault))),
     }
 }
 
 /// Answers rows as they would be answered if they were entered, on a copy of the journal.
-pub fn try_rows<W: Write, E: Write>(
+pub fn try_rows<H: Threads + Wait + Sync, W: Write, E: Write>(
     rt: &HostRuntime,
+    threads: &H,
     writer: &mut Watched<W>,
     errors: &mut Watched<E>,
     folder: &str,
     lines: Lines,
-    warnings: Option<Warnings>,
+    held_back: HeldBack,
 ) -> Result<(), Fault>
     requires { has_failed writer.old ≡ false }
 {
-    let mut desk = copied_beside(rt, folder)?;
-    desk.hold_back(held_back(warnings));
-    match rows_of(rt, errors, desk.court(), lines, warnings.is_some()) {
+    let mut desk = copied_beside(rt, threads, folder)?;
+    desk.hold_back(held_back);
+    match rows_of(rt, errors, desk.court(), lines, held_back.are_marked()) {
         Ok(None) => tried(rt.alloc(), rt.stdin(), writer, desk),
         Ok(Some(rows)) => tried(rt.alloc(), rows.as_slice(), writer, desk),
         Err(fault) => Err(fault),
@@ -52,9 +66,16 @@ pub fn try_rows<W: Write, E: Write>(
 }
 
 // A court and its docket, as the folder's journal has them at that moment.
-fn docketed_beside(rt: &HostRuntime, folder: &str) -> Result<Docketed, Fault> {
+fn docketed_beside<H: Threads + Wait + Sync>(
+    rt: &HostRuntime,
+    threads: &H,
+    folder: &str,
+) -> Result<Docketed, Fault> {
     let entries = entries_beside(rt, folder)?;
-    Ok(Docketed::of(rt.alloc(), &entries)?)
+    let docketed = told_while(threads, rt.stderr(), "reading", folder, || {
+        Docketed::of(rt.alloc(), &entries)
+    });
+    Ok(docketed?)
 }
 
 // Answers questions.
@@ -65,14 +86,20 @@ fn answered<R: Read + Drop, W: Write>(
     docketed: Docketed,
 ) -> Result<(), Fault>
     requires { has_failed writer.old ≡ false }
+    ensures { (entries : List (List ℕ)) → IsDocketed docketed entries → OnOk result (IfSome (R.remaining reader) (λ input.
+        (tally : Tally) × (tally.faults ≡ 0) × AnswersQuestions entries (lines_of input) tally (W.contents (watched writer.old)) (W.contents (watched writer.new)))) }
 {
     let mut reader = Watched::new(reader);
-    Ok(all_taken(answer(alloc, docketed, &mut reader, writer)?)?)
+    match answer(alloc, docketed, &mut reader, writer) {
+        Ok(tally) => taken(tally),
+        Err(fault) => Err(Fault::Desk(fault)),
+    }
 }
 
 /// Answers questions.
-pub fn ask<W: Write, E: Write>(
+pub fn ask<H: Threads + Wait + Sync, W: Write, E: Write>(
     rt: &HostRuntime,
+    threads: &H,
     writer: &mut Watched<W>,
     errors: &mut Watched<E>,
     folder: &str,
@@ -80,7 +107,7 @@ pub fn ask<W: Write, E: Write>(
 ) -> Result<(), Fault>
     requires { has_failed writer.old ≡ false }
 {
-    let docketed = docketed_beside(rt, folder)?;
+    let docketed = docketed_beside(rt, threads, folder)?;
     match rows_of(rt, errors, &docketed.standing.court, lines, false) {
         Ok(None) => answered(rt.alloc(), rt.stdin(), writer, docketed),
         Ok(Some(rows)) => answered(rt.alloc(), rows.as_slice(), writer, docketed),
@@ -89,8 +116,9 @@ pub fn ask<W: Write, E: Write>(
 }
 
 /// Writes the plain rows that standard input is.
-pub fn plain<W: Write, E: Write>(
+pub fn plain<H: Threads + Wait + Sync, W: Write, E: Write>(
     rt: &HostRuntime,
+    threads: &H,
     writer: &mut Watched<W>,
     errors: &mut Watched<E>,
     folder: &str,
@@ -98,16 +126,21 @@ pub fn plain<W: Write, E: Write>(
 ) -> Result<(), Fault>
     requires { has_failed writer.old ≡ false }
 {
-    let Docketed { standing, .. } = docketed_beside(rt, folder)?;
+    let Docketed { standing, .. } = docketed_beside(rt, threads, folder)?;
     let reading = reading_of(rt, errors, &standing.court, style, false)?;
     Ok(put(writer, &reading.rows)?)
 }
 
 /// Writes the cases that have names.
-pub fn cases<W: Write>(rt: &HostRuntime, writer: &mut Watched<W>, folder: &str) -> Result<(), Fault>
+pub fn cases<H: Threads + Wait + Sync, W: Write>(
+    rt: &HostRuntime,
+    threads: &H,
+    writer: &mut Watched<W>,
+    folder: &str,
+) -> Result<(), Fault>
     requires { has_failed writer.old ≡ false }
 {
-    let desk = copied_beside(rt, folder)?;
+    let desk = copied_beside(rt, threads, folder)?;
     Ok(write_cases(rt.alloc(), desk.cases(), writer)?)
 }
 

@@ -1,9 +1,16 @@
 //! Why the program ends early, what is said of that, and with which status.
+ghost use Rattle.std.specs.Prelude.{◌≡◌, ◌⊎◌, IfErr, OnOk};
+ghost use Rattle.docket.specs.Endings.{IsTold, write_status};
+ghost use Rattle.docket.specs.declared.fault.Fault.TheVariants.{Desk, Input};
+ghost use Rattle.desk_program.specs.declared.fault.DeskFault.TheVariants.{Faulty, OutOfMemory};
+ghost use Rattle.program_streams.specs.Words.{IsGiven};
 
 use court_writing::WriteFault;
 use desk_entries::HistoryFault;
-use desk_program::{DeskFault, ended_by};
-use program_streams::{self as streams, OfficeFault, Watched, missing, refused};
+use desk_program::{DeskFault, all_taken, ended_by};
+use desk_session::Tally;
+use program_runs::{self as runs, OfficeFault, missing, refused};
+use program_streams::Watched;
 use std::alloc::{AllocError, AllocFailed, Global};
 use std::io::Write;
 
@@ -23,37 +30,62 @@ pub enum Fault {
 }
 
 impl From<DeskFault> for Fault {
+    ghost from_gives = { λ fault e. e ≡ Desk fault };
+
     fn from(fault: DeskFault) -> Fault {
         Fault::Desk(fault)
     }
 }
 
 impl From<HistoryFault> for Fault {
+    ghost use Rattle.desk_program.specs.Faults.{history_fault};
+
+    ghost from_gives = { λ fault e. e ≡ Desk (history_fault fault) };
+
     fn from(fault: HistoryFault) -> Fault {
         Fault::Desk(DeskFault::from(fault))
     }
 }
 
 impl From<OfficeFault> for Fault {
+    ghost from_gives = { λ fault e. e ≡ Input fault };
+
     fn from(fault: OfficeFault) -> Fault {
         Fault::Input(fault)
     }
 }
 
 impl From<AllocError> for Fault {
+    ghost from_gives = { λ _ e. e ≡ Desk OutOfMemory };
+
     fn from(_: AllocError) -> Fault {
         Fault::Desk(DeskFault::OutOfMemory)
     }
 }
 
 impl<T: Drop> From<AllocFailed<T>> for Fault {
+    ghost from_gives = { λ _ e. e ≡ Desk OutOfMemory };
+
     fn from(_: AllocFailed<T>) -> Fault {
         Fault::Desk(DeskFault::OutOfMemory)
     }
 }
 
+/// Whether all lines were taken, by their tally.
+pub fn taken(tally: Tally) -> Result<(), Fault>
+    ensures none { OnOk result (tally.faults ≡ 0) }
+    ensures some { IfErr result (λ fault. fault ≡ Desk (Faulty tally)) }
+{
+    match all_taken(tally) {
+        Ok(()) => Ok(()),
+        Err(fault) => Err(Fault::Desk(fault)),
+    }
+}
+
 // Why no court's file is written.
-fn not_written<E: Write>(alloc: Global, errors: &mut Watched<E>, fault: &WriteFault) -> u8 {
+fn not_written<E: Write>(alloc: Global, errors: &mut Watched<E>, fault: &WriteFault) -> u8
+    ensures { (result ≡ write_status fault.now) ⊎ (result ≡ 5) }
+{
     let status = match fault {
         WriteFault::BadYears => 1,
         WriteFault::NotReadBack => 2,
@@ -69,10 +101,12 @@ fn not_written<E: Write>(alloc: Global, errors: &mut Watched<E>, fault: &WriteFa
 }
 
 /// Says on standard error why the program ends, as far as it can be written, and gives the status.
-pub fn told<E: Write>(alloc: Global, errors: &mut Watched<E>, fault: &Fault) -> u8 {
+pub fn told<E: Write>(alloc: Global, errors: &mut Watched<E>, fault: &Fault) -> u8
+    ensures { IsTold fault.now result (IsGiven E.contents errors.old errors.new) }
+{
     match fault {
         Fault::Desk(fault) => ended_by(alloc, errors, fault),
-        Fault::Input(fault) => streams::ended_by(alloc, errors, fault),
+        Fault::Input(fault) => runs::ended_by(alloc, errors, fault),
         Fault::Missing(line) => missing(errors, line.as_str()),
         Fault::NotWritten(fault) => not_written(alloc, errors, fault),
         Fault::Told(status) => *status,

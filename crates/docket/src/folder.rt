@@ -1,14 +1,20 @@
 //! A folder with a journal.
-ghost use Rattle.std.specs.Prelude.{◌≡◌, ◌<◌, ◌≤◌, length, false, IfOk};
-ghost use Rattle.program_streams.specs.Words.{has_failed};
+ghost use Rattle.std.specs.Prelude.{◌≡◌, ◌<◌, ◌≤◌, Err, length, false, string_bytes, IfOk, OnErr, OnOk};
+ghost use Rattle.std.specs.Io.KnownBytes.{Appends};
+ghost use Rattle.docket.specs.Folder.{fault_in_memory, journal_name};
+ghost use Rattle.program_streams.specs.Words.{has_failed, watched};
 
+use crate::progress::told_while;
 use desk_journal::{JournalFault, entries_in};
 use desk_program::{Desk, DeskFault, file_fault, open_file};
 use program_streams::{Watched, write_all};
 use sqlite_disk::Memory;
 use sqlite_std_file::{FileFrom, Wary};
+use std::alloc::{AllocError, Global};
 use std::fs;
 use std::io::{ErrorKind, Write};
+use std::sync::Wait;
+use std::thread::Threads;
 
 /// A docket over the journal of a folder.
 pub type FolderDesk = Desk<FileFrom<Wary>>;
@@ -16,6 +22,8 @@ pub type FolderDesk = Desk<FileFrom<Wary>>;
 /// Writes bytes, in full.
 pub fn put<W: Write>(writer: &mut Watched<W>, bytes: &[u8]) -> Result<(), DeskFault>
     requires { has_failed writer.old ≡ false }
+    ensures written { OnOk result (Appends (W.contents (watched writer.old)) (W.contents (watched writer.new)) bytes.now) }
+    ensures fault { OnErr result (result ≡ Err DeskFault.Write) }
 {
     if write_all(writer, bytes).is_err() {
         return Err(DeskFault::Write);
@@ -32,8 +40,10 @@ pub fn read_file(rt: &HostRuntime, name: &str) -> Result<Vec<u8>, DeskFault> {
 }
 
 /// The name of a folder's journal.
-pub fn journal_name(rt: &HostRuntime, folder: &str) -> Result<String, DeskFault> {
-    Ok(format!(in rt.alloc(); "{folder}/journal")?)
+pub fn journal_name(alloc: Global, folder: &str) -> Result<String, AllocError>
+    ensures { IfOk result (λ name. string_bytes name ≡ journal_name folder.now) }
+{
+    format!(in alloc; "{folder}/journal")
 }
 
 /// Makes a folder, unless there is one of that name.
@@ -54,15 +64,22 @@ fn find_journal(rt: &HostRuntime, name: &str) -> Result<(), DeskFault> {
     }
 }
 
-/// Opens the docket of a folder, and gives the entries of its journal.
-pub fn opened(rt: &HostRuntime, folder: &str) -> Result<(FolderDesk, Vec<Vec<u8>>), DeskFault>
+/// Opens the docket of a folder, and gives the entries of its journal. What takes long is told at a terminal.
+pub fn opened<H: Threads + Wait + Sync>(
+    rt: &HostRuntime,
+    threads: &H,
+    folder: &str,
+) -> Result<(FolderDesk, Vec<Vec<u8>>), DeskFault>
     ensures some { IfOk result (λ opened. 0 < length opened.1.items) }
     ensures few { IfOk result (λ opened. length opened.1.items ≤ 1000000) }
 {
-    let name = journal_name(rt, folder)?;
+    let name = journal_name(rt.alloc(), folder)?;
     find_journal(rt, name.as_str())?;
     let file = open_file(rt, name.as_str(), Wary)?;
-    match Desk::open(rt.alloc(), file) {
+    let opened = told_while(threads, rt.stderr(), "opening", folder, || {
+        Desk::open(rt.alloc(), file)
+    });
+    match opened {
         Ok(opened) => Ok(opened),
         Err((fault, _)) => Err(fault),
     }
@@ -92,7 +109,7 @@ fn read_again(
 pub fn entries_beside(rt: &HostRuntime, folder: &str) -> Result<Vec<Vec<u8>>, DeskFault>
     ensures { IfOk result (λ entries. length entries.items ≤ 1000000) }
 {
-    let name = journal_name(rt, folder)?;
+    let name = journal_name(rt.alloc(), folder)?;
     find_journal(rt, name.as_str())?;
     let mut bytes = read_file(rt, name.as_str())?;
     for _ in 0..TRIES {
@@ -105,7 +122,9 @@ pub fn entries_beside(rt: &HostRuntime, folder: &str) -> Result<Vec<Vec<u8>>, De
 }
 
 // The fault of a desk on a disk in memory, which fails only for want of memory.
-fn fault_in_memory(fault: DeskFault) -> DeskFault {
+fn fault_in_memory(fault: DeskFault) -> DeskFault
+    ensures { result ≡ fault_in_memory fault }
+{
     match fault {
         DeskFault::Journal(JournalFault::Read) => DeskFault::OutOfMemory,
         DeskFault::Journal(JournalFault::Write) => DeskFault::OutOfMemory,
@@ -114,9 +133,24 @@ fn fault_in_memory(fault: DeskFault) -> DeskFault {
     }
 }
 
-/// Opens the docket of a folder on a copy of its journal in memory, beside a program that may append to it, as above.
-pub fn copied_beside(rt: &HostRuntime, folder: &str) -> Result<Desk<Memory>, DeskFault> {
-    let name = journal_name(rt, folder)?;
+/// Opens the docket of a folder on a copy of its journal in memory, beside a program that may append to it, as above. What takes
+/// long is told at a terminal.
+pub fn copied_beside<H: Threads + Wait + Sync>(
+    rt: &HostRuntime,
+    threads: &H,
+    folder: &str,
+) -> Result<Desk<Memory>, DeskFault> {
+    told_while(
+        threads,
+        rt.stderr(),
+        "reading",
+        folder,
+        || copied(rt, folder),
+    )
+}
+
+fn copied(rt: &HostRuntime, folder: &str) -> Result<Desk<Memory>, DeskFault> {
+    let name = journal_name(rt.alloc(), folder)?;
     find_journal(rt, name.as_str())?;
     let mut bytes = read_file(rt, name.as_str())?;
     for _ in 0..TRIES {

@@ -1,25 +1,33 @@
 //! Standard input, and the lines in it as people write them.
+ghost use Rattle.std.specs.Prelude.{◌≡◌, [], None, length, IfOk, IfSome, OnOk};
+ghost use Rattle.csv.specs.Reading.{is_bom, strip_bom};
+ghost use Rattle.desk_session.specs.Words.{numbered_lines, unfinished_of};
+ghost use Rattle.docket.specs.Lines.{lines_fault};
+ghost use Rattle.row_forms.specs.Words.{names_of};
+ghost use Rattle.row_input.specs.Words.{placed_from, rows_of};
 
 use crate::fault::Fault;
 use court_days::Court;
 use desk_program::DeskFault;
 use desk_session::{SessionFault, is_finished};
-use desk_warnings::HeldBack;
-use program_streams::{OfficeFault, Watched, read_all, refused};
-use program_words::{Lines, Style, Warnings};
+use program_runs::refused;
+use program_streams::{StreamFault, Watched, read_all};
+use program_words::{Lines, Style};
 use row_input::{Reading, json_of, read_input, report_of};
-use std::alloc::Global;
-use std::io::Write;
+use std::alloc::{AllocError, Global};
+use std::io::{Read, Write};
 
 // How many clerks may enter rows.
 const MOST_CLERKS: u8 = 64;
 
-/// All of standard input.
-pub fn whole_input(rt: &HostRuntime) -> Result<Vec<u8>, DeskFault> {
-    let mut reader = Watched::new(rt.stdin());
-    match read_all(rt.alloc(), &mut reader) {
+/// All of an input.
+pub fn whole<R: Read + Drop>(alloc: Global, reader: R) -> Result<Vec<u8>, DeskFault>
+    ensures { IfOk result (λ input. IfSome (R.remaining reader) (λ bytes. input.items ≡ bytes)) }
+{
+    let mut reader = Watched::new(reader);
+    match read_all(alloc, &mut reader) {
         Ok(input) => Ok(input),
-        Err(OfficeFault::OutOfMemory) => Err(DeskFault::OutOfMemory),
+        Err(StreamFault::OutOfMemory) => Err(DeskFault::OutOfMemory),
         Err(_) => {
             if reader.failed() {
                 Err(DeskFault::Unkept(SessionFault::Read))
@@ -27,14 +35,6 @@ pub fn whole_input(rt: &HostRuntime) -> Result<Vec<u8>, DeskFault> {
                 Err(DeskFault::LongInput)
             }
         }
-    }
-}
-
-/// What is held back of rows.
-pub fn held_back(warnings: Option<Warnings>) -> HeldBack {
-    match warnings {
-        Some(warnings) => HeldBack::Warned(warnings.today),
-        None => HeldBack::Nothing,
     }
 }
 
@@ -52,15 +52,35 @@ fn told_faults<E: Write>(
     court: &Court,
     style: Style,
     reading: &Reading,
-) -> Result<Fault, Fault> {
-    let fault = DeskFault::Faults(reading.faulty.len());
+) -> Result<Fault, AllocError>
+    ensures { IfOk result (λ fault. fault ≡ lines_fault style.json (length reading.now.faulty.items)) }
+{
     if style.json {
-        say(errors, &json_of(alloc, court, style.order, reading)?);
+        let json = json_of(alloc, court, style.order, reading)?;
+        say(errors, &json);
         return Ok(Fault::Told(3));
     }
     let report = report_of(alloc, court, style.order, reading)?;
     say(errors, report.as_bytes());
-    Ok(Fault::Desk(fault))
+    Ok(Fault::Desk(DeskFault::Faults(reading.faulty.len())))
+}
+
+// An input without the mark of UTF-8 at its beginning, where it has one.
+#[tactic(auto, unfolding(csv::specs::Reading::strip_bom))]
+fn without_mark(input: &[u8]) -> &[u8]
+    ensures { result.now ≡ strip_bom input.now }
+{
+    match input {
+        [first, second, third, rest @ ..] if is_mark(*first, *second, *third) => rest,
+        _ => input,
+    }
+}
+
+// Whether three bytes are the mark of UTF-8.
+fn is_mark(first: u8, second: u8, third: u8) -> bool
+    ensures { result ≡ is_bom first second third }
+{
+    first == 0xEF && second == 0xBB && third == 0xBF
 }
 
 // What an input is read as for that court. If lines have faults, standard error says which.
@@ -71,8 +91,13 @@ fn faultless<E: Write>(
     style: Style,
     marked: bool,
     input: &[u8],
-) -> Result<Reading, Fault> {
-    let input = input.strip_prefix(b"\xEF\xBB\xBF").unwrap_or(input);
+) -> Result<Reading, Fault>
+    ensures rows { IfOk result (λ reading. reading.rows.items ≡ rows_of 64 (names_of court.now) style.order marked None (numbered_lines (strip_bom input.now))) }
+    ensures placed { IfOk result (λ reading. reading.placed.items ≡ placed_from 64 (names_of court.now) style.order marked None [] (strip_bom input.now)) }
+    ensures faultless { IfOk result (λ reading. reading.faulty.items ≡ []) }
+    ensures finished { OnOk result (unfinished_of (strip_bom input.now) ≡ []) }
+{
+    let input = without_mark(input);
     if !is_finished(input) {
         return Err(Fault::Desk(DeskFault::Unkept(SessionFault::Unfinished)));
     }
@@ -92,7 +117,7 @@ pub fn reading_of<E: Write>(
     style: Style,
     marked: bool,
 ) -> Result<Reading, Fault> {
-    let input = whole_input(rt)?;
+    let input = whole(rt.alloc(), rt.stdin())?;
     faultless(rt.alloc(), errors, court, style, marked, &input)
 }
 

@@ -9,13 +9,15 @@ mod enter;
 mod fault;
 mod folder;
 mod input;
+mod progress;
 mod reports;
 mod tasks;
 
 use desk_program::{DeskFault, ended_by};
 use fault::told;
 use program_main::{OptionsFault, argument_texts, arguments_of};
-use program_streams::{Watched, helped, refused, unread};
+use program_runs::{helped, refused, unread};
+use program_streams::Watched;
 use program_words::{Task, asked_of};
 use report_program::clock_time;
 use std::io;

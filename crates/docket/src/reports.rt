@@ -1,29 +1,30 @@
 //! Reports and the memo: of a folder, beside another program that may enter rows, or of an input that clerk_office reads.
-ghost use Rattle.std.specs.Prelude.{◌≡◌, ◌<◌, ◌≤◌, length, false};
-ghost use Rattle.program_streams.specs.Words.{has_failed};
+ghost use Rattle.std.specs.Prelude.{◌≡◌, ◌<◌, ◌≤◌, ℕ, List, String, length, map, string_bytes, false, Err, IfErr, IfOk, IfSome, OnOk};
+ghost use Rattle.std.specs.Io.KnownBytes.{Appends};
+ghost use Rattle.std.specs.declared.alloc.Global.{Global};
+ghost use Rattle.desk_entries.specs.Words.{IsDocketed, change_in, changes_by, most_entries};
+ghost use Rattle.desk_journal.specs.Words.{batch_of};
+ghost use Rattle.desk_program.specs.declared.fault.DeskFault.{DeskFault as DeskFaultOf};
+ghost use Rattle.docket.specs.Reports.{EndsRun, IsMemo, IsNoMemo, IsNoReport, IsReport, past_of};
+ghost use Rattle.program_streams.specs.Words.{has_failed, watched};
+ghost use Rattle.program_runs.specs.Words.{IsFinding, IsReportRun};
 
 use crate::fault::Fault;
 use crate::folder::{entries_beside, put, read_file};
-use desk_entries::{Docketed, corrections_in, standing_file, standing_rows, struck_rows};
+use crate::progress::told_while;
+use desk_entries::{
+    Difference, Docketed, corrections_in, refused_rows, standing_file, standing_rows, struck_rows,
+};
 use desk_program::DeskFault;
-use program_streams::{Finding, Report, Watched, run_report};
+use program_runs::{Finding, Report, run_report};
+use program_streams::Watched;
 use program_words::Source;
 use report_memo::{Asked as MemoAsked, memo_of};
 use report_program::{Asked as ReportAsked, Past, report_of};
 use std::alloc::{AllocError, Global};
-use std::io::{Read, Write};
+use std::io::{IsTerminal, Read, Write};
 use std::sync::Wait;
 use std::thread::Threads;
-
-// Writes what was found, unless it isn't there.
-fn put_found<W: Write>(writer: &mut Watched<W>, found: Finding<Vec<u8>>) -> Result<(), Fault>
-    requires { has_failed writer.old ≡ false }
-{
-    match found {
-        Finding::Text(text) => Ok(put(writer, &text)?),
-        Finding::Missing(line) => Err(Fault::Missing(line)),
-    }
-}
 
 // Writes a report of an input.
 fn of_input<H: Threads + Wait + Sync, R: Read + Drop, W: Write, P: Report>(
@@ -43,29 +44,46 @@ fn of_input<H: Threads + Wait + Sync, R: Read + Drop, W: Write, P: Report>(
     }
 }
 
-// Writes a report of a folder, as its journal is at that moment.
-fn report_of_folder<W: Write>(
-    rt: &HostRuntime,
+// Writes a report of a folder with these entries.
+fn put_report<H: Threads + Wait + Sync, E: Write + IsTerminal + Send + Drop, W: Write>(
+    threads: &H,
+    alloc: Global,
+    errors: E,
     writer: &mut Watched<W>,
     folder: &str,
+    entries: &[Vec<u8>],
     asked: &ReportAsked,
 ) -> Result<(), Fault>
-    requires { has_failed writer.old ≡ false }
+    requires works { has_failed writer.old ≡ false }
+    requires few { length entries.now ≤ most_entries }
 {
-    let entries = entries_beside(rt, folder)?;
-    let found = report_found(rt.alloc(), &entries, asked)?;
-    put_found(writer, found)
+    let found = told_while(threads, errors, "reading", folder, || {
+        report_found(alloc, entries, asked)
+    })?;
+    match found {
+        Finding::Text(text) => Ok(put(writer, &text)?),
+        Finding::Missing(line) => Err(Fault::Missing(line)),
+    }
 }
 
-// What entries say beside the rows that stand.
-fn past_of(alloc: Global, docketed: &Docketed, entries: &[Vec<u8>]) -> Result<Past, AllocError>
-    requires few { length entries.now ≤ 1000000 }
+// What entries say beside what the docket has now, where these of its rows are answered otherwise.
+fn past_of<'a>(
+    alloc: Global,
+    docketed: &'a Docketed,
+    entries: &[Vec<u8>],
+    differences: &[Difference],
+) -> Result<Past<'a>, AllocError>
+    requires few { length entries.now ≤ most_entries }
 {
-    let moved = docketed.register.numbers().moved();
+    let numbers = docketed.register.numbers();
+    let moved = numbers.moved();
     let struck = struck_rows(alloc, &docketed.standing, moved, entries)?;
+    let refused = refused_rows(alloc, &docketed.standing, moved, differences)?;
     let corrected = corrections_in(entries);
     Ok(Past::of(
         struck,
+        refused,
+        numbers.given(),
         u64::from(corrected.rows_before),
         u64::from(corrected.count),
     ))
@@ -79,14 +97,23 @@ fn report_on(
     asked: &ReportAsked,
 ) -> Result<Finding<Vec<u8>>, AllocError>
     requires some { 0 < length entries.now }
-    requires few { length entries.now ≤ 1000000 }
+    requires few { length entries.now ≤ most_entries }
 {
-    let past = past_of(alloc, docketed, entries)?;
-    let rows = standing_rows(alloc, &docketed.standing, entries)?;
+    let reported = standing_rows(alloc, &docketed.standing, entries)?;
+    let past = past_of(alloc, docketed, entries, &reported.differences)?;
     let register = &docketed.register;
     let moved = register.numbers().moved();
     let court = &docketed.standing.court;
-    report_of(alloc, asked, court, register.cases(), moved, &past, &rows)
+    report_of(
+        alloc,
+        asked,
+        standing_file(entries),
+        court,
+        register.cases(),
+        moved,
+        &past,
+        &reported.rows,
+    )
 }
 
 // What a report finds after entries.
@@ -95,7 +122,7 @@ fn report_found(
     entries: &[Vec<u8>],
     asked: &ReportAsked,
 ) -> Result<Finding<Vec<u8>>, Fault>
-    requires few { length entries.now ≤ 1000000 }
+    requires few { length entries.now ≤ most_entries }
 {
     if entries.is_empty() {
         return Err(Fault::Desk(DeskFault::NoJournal));
@@ -104,18 +131,26 @@ fn report_found(
     Ok(report_on(alloc, &docketed, entries, asked)?)
 }
 
-// Writes the memo of a folder, as its journal is at that moment.
-fn memo_of_folder<W: Write>(
-    rt: &HostRuntime,
+// Writes the memo of a folder with these entries.
+fn put_memo<H: Threads + Wait + Sync, E: Write + IsTerminal + Send + Drop, W: Write>(
+    threads: &H,
+    alloc: Global,
+    errors: E,
     writer: &mut Watched<W>,
     folder: &str,
+    entries: &[Vec<u8>],
     asked: &MemoAsked,
 ) -> Result<(), Fault>
-    requires { has_failed writer.old ≡ false }
+    requires works { has_failed writer.old ≡ false }
+    requires few { length entries.now ≤ most_entries }
 {
-    let entries = entries_beside(rt, folder)?;
-    let found = memo_found(rt.alloc(), &entries, asked)?;
-    put_found(writer, found)
+    let found = told_while(threads, errors, "reading", folder, || {
+        memo_found(alloc, entries, asked)
+    })?;
+    match found {
+        Finding::Text(text) => Ok(put(writer, &text)?),
+        Finding::Missing(line) => Err(Fault::Missing(line)),
+    }
 }
 
 // What the memo finds of a docket with these entries.
@@ -126,9 +161,9 @@ fn memo_on(
     asked: &MemoAsked,
 ) -> Result<Finding<Vec<u8>>, AllocError>
     requires some { 0 < length entries.now }
-    requires few { length entries.now ≤ 1000000 }
+    requires few { length entries.now ≤ most_entries }
 {
-    let rows = standing_rows(alloc, &docketed.standing, entries)?;
+    let rows = standing_rows(alloc, &docketed.standing, entries)?.rows;
     let register = &docketed.register;
     let moved = register.numbers().moved();
     let court = &docketed.standing.court;
@@ -142,7 +177,7 @@ fn memo_found(
     entries: &[Vec<u8>],
     asked: &MemoAsked,
 ) -> Result<Finding<Vec<u8>>, Fault>
-    requires few { length entries.now ≤ 1000000 }
+    requires few { length entries.now ≤ most_entries }
 {
     if entries.is_empty() {
         return Err(Fault::Desk(DeskFault::NoJournal));
@@ -162,7 +197,18 @@ pub fn report<H: Threads + Wait + Sync, W: Write>(
     requires { has_failed writer.old ≡ false }
 {
     match source {
-        Source::Folder(folder) => report_of_folder(rt, writer, folder.as_str(), asked),
+        Source::Folder(folder) => {
+            let entries = entries_beside(rt, folder.as_str())?;
+            put_report(
+                threads,
+                rt.alloc(),
+                rt.stderr(),
+                writer,
+                folder.as_str(),
+                &entries,
+                asked,
+            )
+        }
         Source::File(name) => {
             let bytes = read_file(rt, name.as_str())?;
             of_input(threads, rt.alloc(), bytes.as_slice(), writer, asked)
@@ -182,7 +228,18 @@ pub fn memo<H: Threads + Wait + Sync, W: Write>(
     requires { has_failed writer.old ≡ false }
 {
     match source {
-        Source::Folder(folder) => memo_of_folder(rt, writer, folder.as_str(), asked),
+        Source::Folder(folder) => {
+            let entries = entries_beside(rt, folder.as_str())?;
+            put_memo(
+                threads,
+                rt.alloc(),
+                rt.stderr(),
+                writer,
+                folder.as_str(),
+                &entries,
+                asked,
+            )
+        }
         Source::File(name) => {
             let bytes = read_file(rt, name.as_str())?;
             of_input(threads, rt.alloc(), bytes.as_slice(), writer, asked)

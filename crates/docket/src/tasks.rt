@@ -26,31 +26,40 @@ pub fn done<H: Threads + Wait + Sync, W: Write, E: Write>(
 {
     match task {
         Task::Init(folder, court) => init(rt, folder.as_str(), court.as_str())?,
-        Task::Enter(folder, lines, warnings, keeping) => enter(
+        Task::Enter(folder, lines, held_back, keeping) => enter(
             rt,
+            threads,
             writer,
             errors,
             folder.as_str(),
             *lines,
-            *warnings,
+            *held_back,
             *keeping,
         )?,
-        Task::Try(folder, lines, warnings) => {
-            try_rows(rt, writer, errors, folder.as_str(), *lines, *warnings)?
+        Task::Try(folder, lines, held_back) => {
+            try_rows(
+                rt,
+                threads,
+                writer,
+                errors,
+                folder.as_str(),
+                *lines,
+                *held_back,
+            )?
         }
-        Task::Ask(folder, lines) => ask(rt, writer, errors, folder.as_str(), *lines)?,
-        Task::Plain(folder, style) => plain(rt, writer, errors, folder.as_str(), *style)?,
-        Task::Strike(folder, striking) => strike(rt, writer, folder.as_str(), striking)?,
+        Task::Ask(folder, lines) => ask(rt, threads, writer, errors, folder.as_str(), *lines)?,
+        Task::Plain(folder, style) => plain(rt, threads, writer, errors, folder.as_str(), *style)?,
+        Task::Strike(folder, striking) => strike(rt, threads, writer, folder.as_str(), striking)?,
         Task::Struck(folder) => struck(rt, writer, folder.as_str())?,
-        Task::Cases(folder) => cases(rt, writer, folder.as_str())?,
-        Task::Check(folder) => check(rt, writer, folder.as_str())?,
-        Task::Rows(folder) => rows(rt, writer, folder.as_str())?,
+        Task::Cases(folder) => cases(rt, threads, writer, folder.as_str())?,
+        Task::Check(folder) => check(rt, threads, writer, folder.as_str())?,
+        Task::Rows(folder) => rows(rt, threads, writer, folder.as_str())?,
         Task::Report(source, asked) => report(rt, threads, writer, source, asked)?,
         Task::Memo(source, asked) => memo(rt, threads, writer, source, asked)?,
         Task::CourtCheck(file, asked) => return check_file(rt, writer, file.as_str(), asked),
-        Task::CourtWrite(court, from, to) => write_file(rt, writer, *court, *from, *to)?,
+        Task::CourtWrite(court, from, to) => write_file(rt.alloc(), writer, *court, *from, *to)?,
         Task::CourtChange(folder, file, accept) => {
-            change(rt, writer, folder.as_str(), file.as_str(), *accept)?
+            change(rt, threads, writer, folder.as_str(), file.as_str(), *accept)?
         }
     }
     Ok(0)

@@ -16,8 +16,8 @@ use Rattle.rule_periods.specs.Words.{first_of}
 use Rattle.hearing_slots.specs.declared.booking.Booking.{Booking}
 use Rattle.docket_laws.proofs.CallerLemmas.{none_of, when-not-None}
 use Rattle.docket_core.specs.Docket.{DocketView, parts_held}
-use Rattle.docket_core.specs.Changes.{IsAfter, rebooked_docket}
-use Rattle.docket_core.specs.Rebooking.{calendar_after}
+use Rattle.docket_core.specs.Inside.Changes.{IsAfter, rebooked_docket}
+use Rattle.docket_core.specs.Inside.Rebooking.{calendar_after}
 use Rattle.docket_core.proofs.CaseLemmas.{case_changed}
 use Rattle.docket_core.proofs.RebookingLemmas.{calendar_of, nothing_to_take, nothing_taken, same_rebooking, to_set}
 

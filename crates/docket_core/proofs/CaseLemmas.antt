@@ -9,7 +9,7 @@ use Rattle.docket_rows.specs.declared.part.PartValue.TheVariants as value
 use Rattle.docket_rows.specs.Words.{CourtSetup, Parts, CaseRecordView, refusal, case_of, case_after}
 use Rattle.docket_laws.proofs.CallerLemmas.{can_start, can_start_in, can_enter_in, can_extend_in, can_book, can_move, count_of}
 use Rattle.docket_decisions.specs.Words.{CanChangeRecord}
-use Rattle.docket_core.specs.Changes.{CanChangeCase}
+use Rattle.docket_core.specs.Inside.Changes.{CanChangeCase}
 
 -- there is room for what a command adds that isn't refused, which suits the case
 pub can_change_record : (setup : CourtSetup) (parts : Parts) (command : Command) (case : Option CaseRecordView) → refusal setup parts command ≡ None → option_and_then parts.case (case_of command) ≡ case → IfSome case (CanChangeRecord command)

@@ -12,7 +12,7 @@ use Rattle.docket_rows.specs.declared.rebooking.Rebooking.{Rebooking}
 use Rattle.docket_rows.specs.Words.{CourtSetup, Parts, refusal, case_of, booking_of, placement_of, rebooking_of, change_to, judge_change, room_change, first_judge, sits}
 use Rattle.docket_laws.specs.Words.{CanSet}
 use Rattle.docket_laws.proofs.CallerLemmas.{can_book, can_move, slots_of}
-use Rattle.docket_core.specs.Rebooking.{CanRebook, calendar_after, calendars_after, CanChange, CanChangeAll}
+use Rattle.docket_core.specs.Inside.Rebooking.{CanRebook, calendar_after, calendars_after, CanChange, CanChangeAll}
 
 -- the hearing of a command that isn't refused can be set
 pub can_rebook : (setup : CourtSetup) (parts : Parts) (command : Command) → refusal setup parts command ≡ None → CanRebook parts command

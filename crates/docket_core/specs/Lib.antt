@@ -1,6 +1,4 @@
-pub mod Changes
 pub mod Docket
 pub mod Memory
-pub mod Rebooking
 pub mod Words
-pub mod Written
+pub mod Inside

@@ -3,7 +3,7 @@
 ghost use Rattle.std.specs.Prelude.{◌≡◌, ◌++◌, true, None, IfOk, IfErr, OnOk, filter_map, option_map, option_to_list};
 ghost use Rattle.docket_rows.specs.Words.{refusal, parts_read, next_part, answered, changed, written_on};
 ghost use Rattle.docket_core.specs.Memory.{decision_takes_memory};
-ghost use Rattle.docket_core.specs.Written.{written_into};
+ghost use Rattle.docket_core.specs.Inside.Written.{written_into};
 
 use crate::writes::changed;
 use docket_decisions::{DocketRules, Seen, answer_if_made, refusal};

@@ -2,7 +2,7 @@
 
 ghost use Rattle.std.specs.Prelude.{◌≡◌, ◌≤◌};
 ghost use Rattle.docket_rows.specs.Words.{hearing_asked, booking_of, placement_of, rebooking_of, judge_change, room_change};
-ghost use Rattle.docket_core.specs.Rebooking.{CanRebook};
+ghost use Rattle.docket_core.specs.Inside.Rebooking.{CanRebook};
 
 use docket_decisions::{Sight, hearing_asked, hearing_in, later, motion_in, sits};
 use docket_rows::{CalendarChange, Command, Placement, Rebooking, Setting};

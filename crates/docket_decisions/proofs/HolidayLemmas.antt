@@ -7,7 +7,7 @@ use Rattle.std.proofs.lemmas.List.Elements.{filter-append}
 use Rattle.hearing_slots.specs.declared.booking.Booking.{Booking}
 use Rattle.hearing_slots.specs.Words.{BlockView, all_in}
 use Rattle.docket_rows.specs.Words.{least, lesser}
-use Rattle.docket_decisions.specs.Holidays.{least_before}
+use Rattle.docket_decisions.specs.Inside.Holidays.{least_before}
 
 pub least_before-append : (xs ys : List Booking) (o : Option Booking) → least_before (xs ++ ys) o ≡ least_before xs (least_before ys o)
 least_before-append [] ys o = refl

@@ -1,5 +1,4 @@
 pub mod Changes
-pub mod Holidays
 pub mod Memory
-pub mod Next
 pub mod Words
+pub mod Inside

@@ -4,7 +4,7 @@ ghost use Rattle.std.specs.Prelude.{◌≡◌, true, Some, filter, IfOk, IfErr};
 ghost use Rattle.std.specs.Option.{option_map_or};
 ghost use Rattle.hearing_slots.specs.Words.{all_in, bookings_seen};
 ghost use Rattle.docket_rows.specs.Words.{lesser, comes_first, least, lacks_notice, all_booked, hearing_that_day, notice_lost, holiday_refusal};
-ghost use Rattle.docket_decisions.specs.Holidays.{least_before, sought_test};
+ghost use Rattle.docket_decisions.specs.Inside.Holidays.{least_before, sought_test};
 ghost use Rattle.docket_decisions.specs.Memory.{takes_memory};
 ghost use Rattle.docket_rows.specs.declared.command.Command.TheVariants as command;
 

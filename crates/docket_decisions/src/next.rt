@@ -4,7 +4,7 @@ ghost use Rattle.std.specs.Prelude.{◌≡◌, ◌≤◌, ◌+◌, ◌++◌, ◌
 ghost use Rattle.std.specs.List.{range_with_len};
 ghost use Rattle.docket_rows.specs.Words.{is_read, about_case, calendars_of, calendars_now, parts_read};
 ghost use Rattle.docket_rows.specs.declared.part.PartId.TheVariants.{Court, Judge};
-ghost use Rattle.docket_decisions.specs.Next.{first_unread, judges_of, rooms_of};
+ghost use Rattle.docket_decisions.specs.Inside.Next.{first_unread, judges_of, rooms_of};
 
 use crate::reads::{Seen, is_same_part};
 use crate::rules::DocketRules;

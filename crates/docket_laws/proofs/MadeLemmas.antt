@@ -16,7 +16,7 @@ use Rattle.hearing_slots.proofs.CallerLemmas.{find-None, test_from_SharesSlot}
 use Rattle.docket_rows.specs.declared.hearing.Setting.{Setting}
 use Rattle.docket_rows.specs.declared.refusal.Refusal.{Refusal}
 use Rattle.docket_rows.specs.declared.refusal.Refusal.TheVariants.{NoSuchDeadline}
-use Rattle.docket_laws.specs.CanSet.{CanSet}
+use Rattle.docket_laws.specs.Inside.CanSet.{CanSet}
 use Rattle.docket_rows.specs.Words.{CourtSetup, Parts, CaseRecordView, NumberedDeadline, most_deadlines, most_motions, refusal_of, deadlines_in, deadline_in, motions_in, hearing_in, fits_day, sits, start_deadline_refusal, start_deadline_checks, extend_refusal, extend_checks, motion_refusal, motion_checks, hearing_checks, book_checks, book_refusal, move_refusal, outage_refusal, outage_checks}
 
 -- no line of the list applies

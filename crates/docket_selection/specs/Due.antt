@@ -1,5 +1,5 @@
 -- What is due: the deadlines that end within the chosen days, those with no timely act or all, and the hearings within them.
-use Rattle.std.specs.Prelude.{◌≡◌, ℕ, ◌<◌, ◌≤◌, ◌≤ℤ◌, Bool, ◌&&◌, ◌||◌, not, List, ◌++◌, length, filter, slice_index_or, option_map, Option, Some, None, if◌then◌else◌}
+use Rattle.std.specs.Prelude.{◌≡◌, ℕ, ℤ, ◌<◌, ◌≤◌, ◌≤ℤ◌, Bool, ◌&&◌, ◌||◌, not, List, ◌++◌, length, filter, slice_index_or, option_map, Option, Some, None, if◌then◌else◌}
 use Rattle.std.specs.List.{filter_map, flat_map}
 use Rattle.std.specs.List.Sorted.{IsPermutation}
 use Rattle.std.specs.Option.{option_and_then}
@@ -34,22 +34,22 @@ abbrev pub due_only : Choice → (before : Bool) → Option DueItem → Option D
 due_only choice before item = option_and_then (λ (x : DueItem). if is_due choice before x then Some x else None) item
 
 -- the item of a deadline, with the end by another reading, and that of a motion's hearing, where it is due
-abbrev pub due_deadline : DaysView → ClockView → (case : ℕ) → Choice → (before : Bool) → SheetDeadline → Option DueItem
-due_deadline days clock case choice before d =
-    option_map (with_other (other_end days clock d.row)) (due_only choice before (deadline_item clock case d))
+abbrev pub due_deadline : DaysView → ClockView → (doubtful : List ℤ) → (case : ℕ) → Choice → (before : Bool) → SheetDeadline → Option DueItem
+due_deadline days clock doubtful case choice before d =
+    option_map (with_other (other_end days clock doubtful d.row)) (due_only choice before (deadline_item clock case d))
 
 abbrev pub due_hearing : (case : ℕ) → Choice → (before : Bool) → SheetMotion → Option DueItem
 due_hearing case choice before m = due_only choice before (hearing_item case m)
 
 -- what is due of the case of a sheet: its deadlines, and then its hearings, each by number
-unfoldable pub due_in : DaysView → ClockView → Choice → Sheet → List DueItem
-due_in days clock choice sheet =
+unfoldable pub due_in : DaysView → ClockView → (doubtful : List ℤ) → Choice → Sheet → List DueItem
+due_in days clock doubtful choice sheet =
     let before = is_before choice sheet.motions in
-    filter_map (due_deadline days clock sheet.case choice before) sheet.deadlines ++ filter_map (due_hearing sheet.case choice before) sheet.motions
+    filter_map (due_deadline days clock doubtful sheet.case choice before) sheet.deadlines ++ filter_map (due_hearing sheet.case choice before) sheet.motions
 
 -- what is due of all open cases, by their numbers
-abbrev pub all_due : CourtSetup → Rows → Choice → List DueItem
-all_due setup docketed choice = flat_map (due_in docketed.days setup.clock choice) (open_sheets setup docketed)
+abbrev pub all_due : CourtSetup → Rows → (doubtful : List ℤ) → Choice → List DueItem
+all_due setup docketed doubtful choice = flat_map (due_in docketed.days setup.clock doubtful choice) (open_sheets setup docketed)
 
 -- the two have the same time
 abbrev pub is_at_time_of : DueItem → DueItem → Bool
@@ -62,6 +62,6 @@ pub record AreInOrder (items list : List DueItem) : Type 0 where
   pub by_time : (i j : ℕ) (d : DueItem) → i ≤ j → j < length list → time_of (slice_index_or list i d) ≤ℤ time_of (slice_index_or list j d)
   pub ties : (x : DueItem) → filter (is_at_time_of x) list ≡ filter (is_at_time_of x) items
 
--- the list of what is due
-abbrev pub IsDue : CourtSetup → Rows → Choice → List DueItem → Type 0
-IsDue setup docketed choice list = AreInOrder (all_due setup docketed choice) list
+-- the list of what is due, where these days are doubtful
+abbrev pub IsDue : CourtSetup → Rows → (doubtful : List ℤ) → Choice → List DueItem → Type 0
+IsDue setup docketed doubtful choice list = AreInOrder (all_due setup docketed doubtful choice) list

@@ -13,27 +13,36 @@ use crate::item::{
 };
 use crate::lists::push_if;
 use crate::sheets::sheets_of;
-use court_clock::Clock;
+use court_clock::{Clock, Day};
 use court_days::{Court, Days};
 use docket_core::Docket;
 use docket_rows::{Sheet, SheetDeadline, SheetMotion};
 use reason_notes::other_end;
 use std::alloc::{AllocError, Global};
 
-/// The deadlines that end within the chosen days, those with no timely act or all, and the hearings within them, by time.
+/// The deadlines that end within the chosen days, those with no timely act or all, and the hearings within them, by time. Each
+/// deadline has its end by another reading, where these days are doubtful.
 /// `Err` says that memory ran out.
 pub fn due_of(
     alloc: Global,
     court: &Court,
     docket: &Docket,
+    doubtful: &[Day],
     choice: &Choice,
 ) -> Result<Vec<DueItem>, AllocError>
     requires court { docket.now.setup ≡ setup_of court.now }
-    ensures { (docketed : Rows) → StandsFor docket.now docketed → IfOk result (λ list. IsDue (setup_of court.now) docketed choice.now list.items) }
+    ensures { (docketed : Rows) → StandsFor docket.now docketed → IfOk result (λ list. IsDue (setup_of court.now) docketed doubtful.now choice.now list.items) }
 {
     let _types: DueTypes = None;
     let sheets = sheets_of(alloc, docket)?;
-    let items = due_among(alloc, docket.days(), court.clock(), &sheets, choice)?;
+    let items = due_among(
+        alloc,
+        docket.days(),
+        court.clock(),
+        doubtful,
+        &sheets,
+        choice,
+    )?;
     in_order(items)
 }
 
@@ -51,15 +60,16 @@ fn due_among(
     alloc: Global,
     days: &Days,
     clock: &Clock,
+    doubtful: &[Day],
     sheets: &[Sheet],
     choice: &Choice,
 ) -> Result<Vec<DueItem>, AllocError>
-    ensures { IfOk result (λ list. list.items ≡ flat_map (due_in days.now clock.now choice.now) sheets.now) }
+    ensures { IfOk result (λ list. list.items ≡ flat_map (due_in days.now clock.now doubtful.now choice.now) sheets.now) }
 {
     let _types: DueTypes = None;
     let mut list = Vec::new(alloc);
     for sheet in sheets {
-        push_due_in(alloc, &mut list, days, clock, sheet, choice)?;
+        push_due_in(alloc, &mut list, days, clock, doubtful, sheet, choice)?;
     }
     Ok(list)
 }
@@ -71,10 +81,11 @@ fn push_due_in(
     list: &mut Vec<DueItem>,
     days: &Days,
     clock: &Clock,
+    doubtful: &[Day],
     sheet: &Sheet,
     choice: &Choice,
 ) -> Result<(), AllocError>
-    ensures { OnOk result (list.new.items ≡ list.old.items ++ due_in days.now clock.now choice.now sheet.now) }
+    ensures { OnOk result (list.new.items ≡ list.old.items ++ due_in days.now clock.now doubtful.now choice.now sheet.now) }
 {
     let _types: DueTypes = None;
     let before = is_before(choice, sheet.motions.as_slice());
@@ -83,6 +94,7 @@ fn push_due_in(
         list,
         days,
         clock,
+        doubtful,
         sheet.case,
         sheet.deadlines.as_slice(),
         choice,
@@ -97,16 +109,17 @@ fn push_deadlines(
     list: &mut Vec<DueItem>,
     days: &Days,
     clock: &Clock,
+    doubtful: &[Day],
     case: u32,
     deadlines: &[SheetDeadline],
     choice: &Choice,
     before: bool,
 ) -> Result<(), AllocError>
-    ensures { OnOk result (list.new.items ≡ list.old.items ++ filter_map (due_deadline days.now clock.now case choice.now before) deadlines.now) }
+    ensures { OnOk result (list.new.items ≡ list.old.items ++ filter_map (due_deadline days.now clock.now doubtful.now case choice.now before) deadlines.now) }
 {
     let _types: DueTypes = None;
     for deadline in deadlines {
-        let due = due_deadline(alloc, days, clock, case, deadline, choice, before)?;
+        let due = due_deadline(alloc, days, clock, doubtful, case, deadline, choice, before)?;
         push_if(list, due)?;
     }
     Ok(())
@@ -117,16 +130,17 @@ fn due_deadline(
     alloc: Global,
     days: &Days,
     clock: &Clock,
+    doubtful: &[Day],
     case: u32,
     deadline: &SheetDeadline,
     choice: &Choice,
     before: bool,
 ) -> Result<Option<DueItem>, AllocError>
-    ensures { IfOk result (λ item. item ≡ due_deadline days.now clock.now case choice.now before deadline.now) }
+    ensures { IfOk result (λ item. item ≡ due_deadline days.now clock.now doubtful.now case choice.now before deadline.now) }
 {
     match due_only(choice, before, deadline_item(clock, case, deadline)) {
         Some(item) => {
-            let other = other_end(alloc, days, clock, &deadline.row)?;
+            let other = other_end(alloc, days, clock, doubtful, &deadline.row)?;
             Ok(Some(with_other(item, other)))
         }
         None => Ok(None),

@@ -8,8 +8,8 @@ use Rattle.std.proofs.lemmas.List.Elements.{All-append, All-cons, All-filter, fi
 use Rattle.hearing_slots.specs.declared.booking.Booking.{Booking}
 use Rattle.hearing_slots.specs.Booking.{is_of, is_on, begins_before}
 use Rattle.hearing_slots.specs.Calendar.{IsCalendar, IsConflict, IsFree, conflicts, first_conflict, in_place, on_day, with_booking, without_motion}
-use Rattle.hearing_slots.specs.Blocks.{LiesIn, block_of}
-use Rattle.hearing_slots.specs.DayNotes.{booked_day}
+use Rattle.hearing_slots.specs.Inside.Blocks.{LiesIn, block_of}
+use Rattle.hearing_slots.specs.Inside.DayNotes.{booked_day}
 use Rattle.hearing_slots.proofs.Filters.{filter_all, filter_none, find-filter}
 use Rattle.hearing_slots.proofs.Finds.{filter_absent, find-None}
 use Rattle.hearing_slots.proofs.Order.{conflicts-on_day}

@@ -9,7 +9,7 @@ use Rattle.std.proofs.lemmas.List.Elements.{All-append, All-head, All-nil, All-s
 use Rattle.hearing_slots.specs.declared.booking.Booking.{Booking}
 use Rattle.hearing_slots.specs.Booking.{IsWithinDay}
 use Rattle.hearing_slots.specs.Calendar.{IsCalendar, IsConflict, IsFree, on_day, with_booking, without_motion}
-use Rattle.hearing_slots.specs.Blocks.{AreBlocks, BlockView, IsBlockAt, IsGapForBlock, LiesIn, all_in, block_of}
+use Rattle.hearing_slots.specs.Inside.Blocks.{AreBlocks, BlockView, IsBlockAt, IsGapForBlock, LiesIn, all_in, block_of}
 use Rattle.hearing_slots.proofs.Filters.{All-front, All-back}
 use Rattle.hearing_slots.proofs.Inserts.{All-insert, AllPairs-insert}
 use Rattle.hearing_slots.proofs.BlockDays.{all_here, on_day-around, own-with_booking, own-without_motion, with_booking-around, without_motion-around}

@@ -7,7 +7,7 @@ use Rattle.std.proofs.lemmas.List.Elements.{filter_passes}
 use Rattle.hearing_slots.specs.declared.booking.Booking.{Booking}
 use Rattle.hearing_slots.specs.declared.day_notes.NotedDay.{NotedDay}
 use Rattle.hearing_slots.specs.Calendar.{IsCalendar, with_booking, without_motion}
-use Rattle.hearing_slots.specs.DayNotes.{NotesDays, NotesOneDay, NotesOneDayOf, booked_day, is_noted, noted_day, noted_in}
+use Rattle.hearing_slots.specs.Inside.DayNotes.{NotesDays, NotesOneDay, NotesOneDayOf, booked_day, is_noted, noted_day, noted_in}
 use Rattle.hearing_slots.proofs.Filters.{find-filter}
 use Rattle.hearing_slots.proofs.Finds.{find_absent, find_here, find_other}
 use Rattle.hearing_slots.proofs.MotionLemmas.{noted_again, with_booking-finds, with_booking-finds_other, without_motion-finds, without_motion-finds_other}

@@ -5,7 +5,7 @@ use Rattle.std.specs.List.Sorted.{IsPartitionPoint, IsPartitionedBy}
 use Rattle.std.proofs.lemmas.Int.{ints}
 use Rattle.std.proofs.lemmas.Bool.{cases_eq}
 use Rattle.std.proofs.lemmas.List.{get_or_default}
-use Rattle.hearing_slots.specs.Places.{IsAt, IsGapAt}
+use Rattle.hearing_slots.specs.Inside.Places.{IsAt, IsGapAt}
 use Rattle.hearing_slots.proofs.Filters.{parted}
 
 -- what has a lesser number than a lesser number is less too

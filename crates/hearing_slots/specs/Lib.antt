@@ -1,14 +1,12 @@
-pub mod Blocks
 pub mod Booking
 pub mod Calendar
 pub mod CalendarRef
-pub mod DayNotes
 pub mod Holder
 pub mod Laws
 pub mod Motions
 pub mod Panel
-pub mod Places
 pub mod SharedCalendar
 pub mod Slots
 pub mod Timetable
 pub mod Words
+pub mod Inside

@@ -4,7 +4,7 @@ use Rattle.std.specs.Ordering.{int_eq}
 use Rattle.hearing_slots.specs.declared.booking.Booking.{Booking}
 use Rattle.hearing_slots.specs.declared.day_slots.DaySlots.{DaySlots}
 use Rattle.hearing_slots.specs.Calendar.{on_day}
-use Rattle.hearing_slots.specs.Places.{IsAt, IsGapAt}
+use Rattle.hearing_slots.specs.Inside.Places.{IsAt, IsGapAt}
 
 -- `count` slots from the first on
 abbrev pub slots_from : (first count : ℕ) → ℕ

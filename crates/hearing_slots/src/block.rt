@@ -3,7 +3,7 @@
 ghost use Rattle.std.specs.Prelude.{◌≡◌, [], Some, IfOk};
 ghost use Rattle.hearing_slots.specs.Booking.{IsWithinDay};
 ghost use Rattle.hearing_slots.specs.Calendar.{IsFree, with_booking, without_motion};
-ghost use Rattle.hearing_slots.specs.Blocks.{block_of};
+ghost use Rattle.hearing_slots.specs.Inside.Blocks.{block_of};
 
 use crate::agenda::Agenda;
 use crate::booking::Booking;
@@ -31,7 +31,7 @@ pub struct Block {
 
 impl Model for Block {
     ghost use Rattle.std.specs.Arc.{arc_value};
-    ghost use Rattle.hearing_slots.specs.Blocks.{BlockView};
+    ghost use Rattle.hearing_slots.specs.Inside.Blocks.{BlockView};
 
     ghost Value = { BlockView };
 

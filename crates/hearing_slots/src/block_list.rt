@@ -4,7 +4,7 @@ ghost use Rattle.std.specs.Prelude.{◌≡◌, Some, IfOk, IfErr, OnOk};
 ghost use Rattle.std.specs.Option.{option_copied};
 ghost use Rattle.hearing_slots.specs.Booking.{IsWithinDay};
 ghost use Rattle.hearing_slots.specs.Calendar.{IsFree, on_day, with_booking, without_motion};
-ghost use Rattle.hearing_slots.specs.Blocks.{AreBlocks, IsBlockAt, IsGapForBlock, LiesIn, all_in, block_of, booked_in};
+ghost use Rattle.hearing_slots.specs.Inside.Blocks.{AreBlocks, IsBlockAt, IsGapForBlock, LiesIn, all_in, block_of, booked_in};
 
 use crate::agenda::Agenda;
 use crate::block::{Block, block_of};

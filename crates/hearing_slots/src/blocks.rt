@@ -4,8 +4,8 @@ ghost use Rattle.std.specs.Prelude.{◌≡◌, ◌⊎◌, [], Some, IfOk};
 ghost use Rattle.std.specs.Option.{option_copied};
 ghost use Rattle.hearing_slots.specs.Booking.{IsWithinDay};
 ghost use Rattle.hearing_slots.specs.Calendar.{IsCalendar, IsFree, on_day, with_booking, without_motion};
-ghost use Rattle.hearing_slots.specs.Blocks.{AreBlocks, LiesIn, all_in, block_of, booked_in};
-ghost use Rattle.hearing_slots.specs.DayNotes.{booked_day};
+ghost use Rattle.hearing_slots.specs.Inside.Blocks.{AreBlocks, LiesIn, all_in, block_of, booked_in};
+ghost use Rattle.hearing_slots.specs.Inside.DayNotes.{booked_day};
 
 use crate::agenda::Agenda;
 use crate::block::{Block, block_of};
@@ -26,9 +26,9 @@ pub(crate) struct Blocks {
 impl Model for Blocks {
     ghost use Rattle.std.specs.Prelude.{List};
     ghost use Rattle.hearing_slots.specs.declared.booking.Booking.{Booking};
-    ghost use Rattle.hearing_slots.specs.Blocks.{AreBlocks, all_in};
+    ghost use Rattle.hearing_slots.specs.Inside.Blocks.{AreBlocks, all_in};
     ghost use Rattle.hearing_slots.specs.Calendar.{IsCalendar};
-    ghost use Rattle.hearing_slots.specs.DayNotes.{NotesDays};
+    ghost use Rattle.hearing_slots.specs.Inside.DayNotes.{NotesDays};
 
     ghost Value = { List Booking };
 

@@ -1,7 +1,7 @@
 //! The day of the booking of each motion.
 
 ghost use Rattle.std.specs.Prelude.{◌≡◌, [], IfOk, filter, find, not, replicate};
-ghost use Rattle.hearing_slots.specs.DayNotes.{NotesOneDay, NotesOneDayOf, is_noted, noted_day, noted_in};
+ghost use Rattle.hearing_slots.specs.Inside.DayNotes.{NotesOneDay, NotesOneDayOf, is_noted, noted_day, noted_in};
 
 use court_clock::Day;
 use std::alloc::{AllocError, Global};

@@ -4,8 +4,8 @@ ghost use Rattle.std.specs.Prelude.{◌≡◌, ◌+◌, ◌++◌, ◌≤◌, [],
 ghost use Rattle.std.specs.Option.{option_copied};
 ghost use Rattle.hearing_slots.specs.Booking.{IsWithinDay};
 ghost use Rattle.hearing_slots.specs.Calendar.{IsCalendar, IsFree, IsLeastConflict, HoldsWith, HoldsWithout, HoldsDay, on_day, without_motion, with_booking, first_conflict};
-ghost use Rattle.hearing_slots.specs.Blocks.{all_in, booked_in};
-ghost use Rattle.hearing_slots.specs.DayNotes.{booked_day};
+ghost use Rattle.hearing_slots.specs.Inside.Blocks.{all_in, booked_in};
+ghost use Rattle.hearing_slots.specs.Inside.DayNotes.{booked_day};
 
 use crate::agenda::Agenda;
 use crate::block::Block;

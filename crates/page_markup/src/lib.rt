@@ -6,6 +6,7 @@ mod escaping;
 mod frame;
 mod laws;
 mod page;
+mod style;
 mod tag;
 
 pub use frame::{begin_page, end_page};

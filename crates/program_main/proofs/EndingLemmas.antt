@@ -1,10 +1,10 @@
 -- How the program ends that has a fault.
 use Rattle.std.proofs.Common.{◌≡◌, ◌≢◌, ◌<◌, ◌⊎◌, ℕ, Bool, List, [], Option, Some, None, Err, IfSome, inl, inr, arith}
 use Rattle.clap.specs.Words.{Kinds, Text}
-use Rattle.program_streams.specs.declared.fault.OfficeFault.{OfficeFault}
-use Rattle.program_streams.specs.declared.fault.OfficeFault.TheVariants.{Court, Row, ReadFault, WriteFault, OutOfMemory}
-use Rattle.program_streams.specs.Words.{HasFaultTold, Input, IsReportRun, IsTold, IsToldAs, input_of}
-use Rattle.program_streams.proofs.CallerLemmas.{told_as, told_is_below_6, told_is_past_1}
+use Rattle.program_runs.specs.declared.fault.OfficeFault.{OfficeFault}
+use Rattle.program_runs.specs.declared.fault.OfficeFault.TheVariants.{Court, Row, ReadFault, WriteFault, OutOfMemory}
+use Rattle.program_runs.specs.Words.{HasFaultTold, Input, IsReportRun, IsTold, IsToldAs, input_of}
+use Rattle.program_runs.proofs.CallerLemmas.{told_as, told_is_below_6, told_is_past_1}
 use Rattle.program_main.specs.Program.{IsEnding, WithReport}
 
 module _ {R : Type 0} (faults_of : List Text → Kinds) (takes : List Text → Bool) (IsChosen : List Text → R → Type 0) (clerk_count : R → ℕ) (IsText IsMissing : R → (file : List ℕ) → Input → List ℕ → Type 0) (words : List Text) (report : R) (faultless : faults_of words ≡ []) (chosen : IsChosen words report) (old new : Option (List ℕ)) (G : List ℕ → Type 0) (status : ℕ) where

@@ -4,7 +4,8 @@ use Rattle.std.specs.Io.KnownBytes.{Appends}
 use Rattle.std.specs.declared.alloc.Global.{Global}
 use Rattle.clap.specs.Words.{Kinds, Text}
 use Rattle.program_main.specs.declared.options.fault.OptionsFault.TheVariants.{Help}
-use Rattle.program_streams.specs.Words.{AppendsFront, Input}
+use Rattle.program_streams.specs.Words.{AppendsFront}
+use Rattle.program_runs.specs.Words.{Input}
 use Rattle.program_main.specs.Program.{AnswersWords, IsEnding}
 
 -- what is so of all is so of what there is

@@ -6,8 +6,9 @@ use Rattle.clap.specs.Words.{Kinds, Text}
 use Rattle.program_main.specs.declared.options.fault.OptionsFault.{OptionsFault}
 use Rattle.program_main.specs.declared.options.fault.OptionsFault.TheVariants.{Help, OutOfMemory}
 use Rattle.program_main.specs.Options.Words.{IsAnswerFor}
-use Rattle.program_streams.specs.declared.fault.OfficeFault.TheVariants.{WriteFault}
-use Rattle.program_streams.specs.Words.{AppendsFront, HasFaultTold, Input, IsReportRun, court_part, input_of}
+use Rattle.program_streams.specs.Words.{AppendsFront}
+use Rattle.program_runs.specs.declared.fault.OfficeFault.TheVariants.{WriteFault}
+use Rattle.program_runs.specs.Words.{HasFaultTold, Input, IsReportRun, court_part, input_of}
 
 -- what reading the words answers: a report that they choose, or one of their faults, unless memory runs out; help and version
 -- are among the faults

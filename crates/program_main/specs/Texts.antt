@@ -1,3 +1,5 @@
 pub mod Argument
+pub mod Days
+pub mod Numbers
 pub mod Taken
 pub mod Words

@@ -12,4 +12,7 @@ pub use options::{Options, OptionsFault, argument_texts, arguments_of, fault_fro
 pub use process::{Ended, run_on_process};
 pub use program::Program;
 pub use run::run_program;
-pub use texts::{case_option, day_option, text_argument, with_text};
+pub use texts::{
+    DaySaid, case_option, case_said, day_option, day_said, number_of, said_option, text_argument,
+    today_by, weekdays_come_next, with_needed, with_source, with_subcommand, with_text,
+};

@@ -6,7 +6,7 @@ ghost use Rattle.clap.specs.Words.{Kinds, Text};
 ghost use Rattle.program_main.specs.Options.Words.{IsAnswerFor};
 
 use crate::options::OptionsFault;
-use program_streams::Report;
+use program_runs::Report;
 use std::alloc::Global;
 
 /// A program: it reads the words of its command line, which choose what is written of a run.

@@ -3,15 +3,15 @@
 ghost use Rattle.std.specs.Prelude.{◌≡◌, ◌≢◌, ◌≤◌, ◌⊎◌, [], true, false, map, string_bytes, IfErr, IfOk, IfSome};
 ghost use Rattle.std.specs.IoError.{error_kind};
 ghost use Rattle.program_main.specs.Options.Words.{HasMistake, IsRefused, arguments_in};
-ghost use Rattle.program_streams.specs.Words.{IsGiven, IsToldAs, WasCutShort, has_ended, has_failed, no_text_line, told_line, was_called_again, watched};
+ghost use Rattle.program_streams.specs.Words.{IsGiven, WasCutShort, has_ended, has_failed, was_called_again, watched};
+ghost use Rattle.program_runs.specs.Words.{IsToldAs, no_text_line, told_line};
 ghost use Rattle.program_main.specs.Program.{IsEnding, NeverMiss, WithText};
 
 use crate::options::OptionsFault;
 use crate::program::Program;
 use crate::words::report_behind;
-use program_streams::{
-    OfficeFault, Watched, ended_by, helped, missing, refused, run_report, unread,
-};
+use program_runs::{OfficeFault, ended_by, helped, missing, refused, run_report, unread};
+use program_streams::Watched;
 use std::alloc::Global;
 use std::io;
 use std::io::{ErrorKind, Read, Write};

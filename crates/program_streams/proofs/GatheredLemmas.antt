@@ -1,5 +1,5 @@
 -- Pieces that are handed over one after another.
-use Rattle.std.proofs.Common.{◌≡◌, ◌++◌, ◌∙◌, ℕ, List, Option, [], true, false, length, take, subst, sym, ap, refl, append_assoc, append-nil, length-append}
+use Rattle.std.proofs.Common.{◌≡◌, ◌++◌, ◌∙◌, ℕ, List, Option, [], false, length, take, subst, sym, ap, refl, append_assoc, append-nil, length-append}
 use Rattle.std.proofs.KnownBytes.{Appends-nil, Appends-trans}
 use Rattle.std.proofs.Math.Seq.{take-append-add}
 use Rattle.std.proofs.Transfers.{starts_with_of_append, starts_with_trans}
@@ -36,15 +36,6 @@ module _ {W : Type 0} (contents : W → Option (List ℕ)) where
     failing = λ failed. let (front, given, starts) = gathered.failing failed in (front, given, starts_with_trans (text ++ piece) text front (starts_with_of_append (text ++ piece) text piece refl) starts);
     again = gathered.again;
   }
-
-  -- nothing more is written once a write has failed
-  pub adds_failed : (writer : Watched W) (waiting : List ℕ) → has_failed writer ≡ true → Adds contents writer waiting writer [] []
-  adds_failed writer waiting failed = λ old text gathered.
-      subst (λ (t : List ℕ). IsGathered contents old writer [] t) (sym (append-nil text)) (record {
-        working = λ well. cc (failed, well);
-        failing = gathered.failing;
-        again = gathered.again;
-      })
 
   -- what waits is written
   pub adds_given : (writer after : Watched W) (waiting : List ℕ) → has_failed writer ≡ false → IsGiven contents writer after waiting → Adds contents writer waiting after [] []

@@ -1,10 +1,4 @@
 pub mod Watched
 pub mod Limits
-pub mod Division
-pub mod Divider
-pub mod Fault
 pub mod Gathered
-pub mod Office
-pub mod Report
 pub mod Words
-pub mod Parallel

@@ -1,23 +1,23 @@
--- The limits of the input, and what a run of the office may leave unread or unwritten.
+-- The limits of an input, and what may be left unread or unwritten.
 use Rattle.std.specs.Prelude.{◌≡◌, ◌+◌, ◌≤◌, ◌⊎◌, ℕ, true, false, List, Option}
 use Rattle.std.specs.Io.{StartsWith}
 use Rattle.std.specs.Io.KnownBytes.{Appends}
 use Rattle.program_streams.specs.declared.watched.Watched.{Watched}
 use Rattle.program_streams.specs.Watched.{watched, has_failed, has_ended, was_called_again, read_calls, bytes_given, counted}
 
--- how many bytes of input the office takes, and how often it reads: both are its own choice
+-- how many bytes of input are taken, and how often it is read from: both are our own choice
 abbrev pub most_bytes : ℕ
 most_bytes = 16_777_216
 
 abbrev pub most_reads : ℕ
 most_reads = 17_000_000
 
--- no more was read than the office takes
+-- no more was read than is taken
 pub record IsWithinLimits {R : Type 0} (old new : Watched R) : Type 0 where
   pub bytes : bytes_given new ≤ bytes_given old + most_bytes
   pub calls : read_calls new ≤ read_calls old + most_reads
 
--- a byte too many came, or the end didn't come within the reads that the office makes
+-- a byte too many came, or the end didn't come within the most reads
 abbrev pub IsPastLimits : {R : Type 0} → Watched R → Watched R → Type 0
 IsPastLimits old new = (counted (bytes_given old) (most_bytes + 1) ≤ bytes_given new)
     ⊎ ((counted (read_calls old) most_reads ≤ read_calls new) × (has_ended new ≡ false))
@@ -25,6 +25,12 @@ IsPastLimits old new = (counted (bytes_given old) (most_bytes + 1) ≤ bytes_giv
 -- why the input can't be read to its end
 abbrev pub WasCutShort : {R : Type 0} → Watched R → Watched R → Type 0
 WasCutShort old new = (has_failed new ≡ true) ⊎ IsPastLimits old new
+
+-- the reader was read to its end, no read failed, and no limit was passed
+pub record WasReadWhole {R : Type 0} (old new : Watched R) : Type 0 where
+  pub ended : has_ended new ≡ true
+  pub worked : has_failed new ≡ false
+  pub within : IsWithinLimits old new
 
 -- known bytes grow by a beginning of the text
 abbrev pub AppendsFront : Option (List ℕ) → Option (List ℕ) → List ℕ → Type 0

@@ -1,22 +1,17 @@
-//! Why a run of the office stopped.
+//! Why a stream isn't read or written to its end.
 
-use crate::fault_lines::FaultLine;
-use court_file_text::CourtFault;
-use row_forms::RowCause;
 use thiserror::Error;
 
-/// Why a run of the office stopped. Its message is its line.
-#[derive(Debug, Drop, Error)]
-#[error("{}", FaultLine {fault: self})]
-pub enum OfficeFault {
-    /// The court's file has this fault, its first.
-    Court(CourtFault),
-    /// The row of this number, counted from 1, has this fault. The rows before it have none.
-    Row(u32, RowCause),
-    /// A read answered with an error, or the input is longer than the office takes.
-    ReadFault,
+/// Why a stream isn't read or written to its end.
+#[derive(Clone, Copy, Debug, PartialEq, Eq, Error)]
+pub enum StreamFault {
+    /// A read answered with an error, or there is more to read than is taken.
+    #[error("read fault")]
+    Read,
     /// A write answered with an error, or took none of some bytes.
-    WriteFault,
+    #[error("write fault")]
+    Write,
     /// No memory was left.
+    #[error("out of memory")]
     OutOfMemory,
 }

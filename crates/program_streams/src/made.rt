@@ -5,7 +5,7 @@ ghost use Rattle.std.specs.Io.KnownBytes.{Appends};
 ghost use Rattle.program_streams.specs.Watched.{has_failed, was_called_again, watched};
 ghost use Rattle.program_streams.specs.Limits.{AppendsFront};
 
-use crate::fault::OfficeFault;
+use crate::fault::StreamFault;
 use crate::gathered::Gathered;
 use crate::watched::Watched;
 use std::alloc::Global;
@@ -31,28 +31,28 @@ impl MadeText for Vec<u8> {
     }
 }
 
-/// Writes all of the text. `WriteFault` where a write answers with an error or takes no byte; what was written until then is
+/// Writes all of the text. `Write` where a write answers with an error or takes no byte; what was written until then is
 /// a beginning of the text. `OutOfMemory` comes before the first write.
 pub fn write_text<W: Write, T: MadeText>(
     alloc: Global,
     writer: &mut Watched<W>,
     text: T,
-) -> Result<(), OfficeFault>
+) -> Result<(), StreamFault>
     requires { has_failed writer.old ≡ false }
     ensures written { OnOk result (Appends (W.contents (watched writer.old)) (W.contents (watched writer.new)) (T.bytes text)) }
     ensures worked { OnOk result (has_failed writer.new ≡ false) }
-    ensures front { result ≡ Err OfficeFault.WriteFault → AppendsFront (W.contents (watched writer.old)) (W.contents (watched writer.new)) (T.bytes text) }
-    ensures failed { result ≡ Err OfficeFault.WriteFault → has_failed writer.new ≡ true }
-    ensures fault { OnErr result (result ≢ Err OfficeFault.WriteFault → (result ≡ Err OfficeFault.OutOfMemory) × (writer.new ≡ writer.old)) }
+    ensures front { result ≡ Err StreamFault.Write → AppendsFront (W.contents (watched writer.old)) (W.contents (watched writer.new)) (T.bytes text) }
+    ensures failed { result ≡ Err StreamFault.Write → has_failed writer.new ≡ true }
+    ensures fault { OnErr result (result ≢ Err StreamFault.Write → (result ≡ Err StreamFault.OutOfMemory) × (writer.new ≡ writer.old)) }
     ensures again { was_called_again writer.new ≡ was_called_again writer.old }
 {
     let Ok(mut gathered) = Gathered::new(alloc) else {
-        return Err(OfficeFault::OutOfMemory);
+        return Err(StreamFault::OutOfMemory);
     };
     text.hand_over(&mut gathered, writer);
     gathered.flush(writer);
     if writer.failed() {
-        return Err(OfficeFault::WriteFault);
+        return Err(StreamFault::Write);
     }
     Ok(())
 }

@@ -3,7 +3,7 @@ use Rattle.std.specs.Prelude.{Some, true, [], codes}
 use Rattle.clap.specs.Words.{App, Rule, Text, new_app, new_rule, with_rule, with_subcommand}
 use Rattle.clap.specs.Simple.{new_shape}
 use Rattle.clap.specs.declared.builder.action.ArgAction.TheVariants.{Set, SetTrue}
-use Rattle.program_main.specs.Texts.Words.{text_rule}
+use Rattle.program_main.specs.Texts.Words.{needed_rule, text_rule, with_source}
 use Rattle.report_program.specs.CommandLine.{with_reports}
 use Rattle.report_memo.specs.CommandLine.{with_memo}
 
@@ -11,13 +11,13 @@ use Rattle.report_memo.specs.CommandLine.{with_memo}
 abbrev pub flag_rule : (name : Text) → Rule
 flag_rule name = record (new_rule name) { long = Some name; action = Some SetTrue }
 
--- `--NAME TEXT`, once, as it has to be given
-abbrev pub needed_rule : (name : Text) → Rule
-needed_rule name = record (text_rule name) { required = true }
+-- a text that is known by its place, once at most
+abbrev pub option_place_rule : (name : Text) → Rule
+option_place_rule name = record (new_rule name) { action = Some Set; value_names = 1 }
 
--- a text that is known by its place, once, as it has to be given
+-- the same, once, as it has to be given
 abbrev pub place_rule : (name : Text) → Rule
-place_rule name = record (new_rule name) { action = Some Set; value_names = 1; required = true }
+place_rule name = record (option_place_rule name) { required = true }
 
 -- ---- the subcommands of a folder
 
@@ -51,6 +51,10 @@ strike_line =
     with_rule (with_rule (with_rule (with_rule (with_rule (folder_line (codes "strike")) (place_rule (codes "row"))) (needed_rule (codes "reason"))) (needed_rule (codes "by"))) (needed_rule (codes "today")))
     (flag_rule (codes "accept"))
 
+-- where a docket is, and a case
+abbrev pub sheet_line : App
+sheet_line = with_rule (with_source (new_app (codes "sheet"))) (option_place_rule (codes "case"))
+
 -- ---- the subcommands of a court's file, which come after the word `court`
 
 abbrev pub check_line : App
@@ -81,7 +85,7 @@ with_kept line =
 
 -- the command line of `docket`: its subcommands, of which `court` has a command line of its own
 abbrev pub command_line : App
-command_line = with_subcommand (with_memo (with_reports (with_kept (with_rows (bare_line (codes "docket")))))) (new_app (codes "court")).top
+command_line = with_subcommand (with_subcommand (with_memo (with_reports (with_kept (with_rows (bare_line (codes "docket")))))) sheet_line.top) (new_app (codes "court")).top
 
 -- the words after `court`
 abbrev pub court_line : App

@@ -1,15 +1,13 @@
 -- What texts that were given say, and the fault of one that is missing or says nothing.
 use Rattle.std.specs.Prelude.{ℕ, ◌&&◌, Bool, true, false, not, List, [], ◌∷◌, Option, None, Some, codes, is_some, length, nat_le, if◌then◌else◌}
 use Rattle.std.specs.Option.{option_and_then}
-use Rattle.std.specs.Char.{is_ascii_digit}
 use Rattle.std.specs.List.{list_all}
 use Rattle.std.specs.Str.{bytes_eq}
-use Rattle.std.specs.Str.Parse.{digits_value}
 use Rattle.clap.specs.Words.{Kinds, Text}
 use Rattle.clap.specs.declared.error.kind.ErrorKind.TheVariants.{MissingRequiredArgument}
 use Rattle.row_fields.specs.declared.dates.DateOrder.{DateOrder}
 use Rattle.row_fields.specs.declared.dates.DateOrder.TheVariants.{DayFirst, MonthFirst}
-use Rattle.program_main.specs.Texts.Words.{faults_unless}
+use Rattle.program_main.specs.Texts.Words.{faults_unless, number_of}
 
 -- whether a flag is given: its text is `true`
 abbrev pub is_flag : Option Text → Bool
@@ -38,14 +36,6 @@ faults_reading read (Some text) = faults_unless (is_some (read text))
 -- which comes first in a date in numbers
 abbrev pub order_of : Text → Option DateOrder
 order_of text = if bytes_eq text (codes "month-first") then Some MonthFirst else if bytes_eq text (codes "day-first") then Some DayFirst else None
-
--- one to nine decimal digits
-abbrev pub is_digits : Text → Bool
-is_digits text = nat_le 1 (length text) && (nat_le (length text) 9 && list_all is_ascii_digit text)
-
--- the number that one to nine digits say
-abbrev pub number_of : Text → Option ℕ
-number_of text = if is_digits text then Some (digits_value 10 text) else None
 
 -- a year of at most four digits' worth
 abbrev pub at_most_9999 : ℕ → Option ℕ

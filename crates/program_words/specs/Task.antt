@@ -8,7 +8,13 @@ use Rattle.clap.specs.Words.{Kinds, Row, Text, first_of}
 use Rattle.clap.specs.declared.error.kind.ErrorKind.TheVariants.{ArgumentConflict, MissingRequiredArgument}
 use Rattle.court_clock.specs.Words.{day_of_text}
 use Rattle.court_writing.specs.Words.{district_named, of_district, zone_text}
-use Rattle.program_main.specs.Texts.Words.{faults_unless, is_day_taken}
+use Rattle.desk_warnings.specs.declared.register.HeldBack.{HeldBack}
+use Rattle.desk_warnings.specs.declared.register.HeldBack.TheVariants.{Nothing, Warned}
+use Rattle.program_main.specs.Texts.Words.{day_said, faults_unless, is_day_taken, number_of}
+use Rattle.office_texts.specs.Names.Words.{case_called}
+use Rattle.office_texts.specs.declared.names.called.CaseCalled.{CaseCalled}
+use Rattle.report_program.specs.declared.asked.Asked.{Asked}
+use Rattle.report_program.specs.declared.asked.Task.TheVariants.{Sheet}
 use Rattle.report_program.specs.Words.{IsAskedBy as IsReportAsked, faults_given as report_faults}
 use Rattle.report_memo.specs.Words.{IsAskedBy as IsMemoAsked, faults_given as memo_faults}
 use Rattle.program_words.specs.declared.subcommand.Subcommand.{Subcommand}
@@ -22,8 +28,7 @@ use Rattle.program_words.specs.declared.task.Source.TheVariants as source
 use Rattle.program_words.specs.declared.task.Style.{Style}
 use Rattle.program_words.specs.declared.task.Task.{Task}
 use Rattle.program_words.specs.declared.task.Task.TheVariants as task
-use Rattle.program_words.specs.declared.task.Warnings.{Warnings}
-use Rattle.program_words.specs.Given.{faults_beside, faults_if_given, faults_reading, faults_without, is_flag, line_of, number_of, order_of, year_of}
+use Rattle.program_words.specs.Given.{faults_beside, faults_if_given, faults_reading, faults_without, is_flag, line_of, order_of, year_of}
 
 -- ---- which subcommand a name means
 
@@ -40,6 +45,7 @@ meant name =
     else if bytes_eq name (codes "check") then sub.Check
     else if bytes_eq name (codes "rows") then sub.Rows
     else if bytes_eq name (codes "memo") then sub.Memo
+    else if bytes_eq name (codes "sheet") then sub.Sheet
     else if bytes_eq name (codes "court") then sub.Court
     else sub.Report
 
@@ -79,12 +85,12 @@ abbrev pub lines_faults : List Row → Kinds
 lines_faults given = or_else (beside_faults given) (style_faults given)
 
 -- whether rows are held back that draw a warning, and which day counts as today
-abbrev pub warnings_of : List Row → Option Warnings
-warnings_of given = if has (codes "warn") given then Some (record { today = option_and_then day_of_text (first_of (codes "today") given) }) else None
+abbrev pub held_back_of : List Row → HeldBack
+held_back_of given = if has (codes "warn") given then Warned (option_and_then day_of_text (first_of (codes "today") given)) else Nothing
 
 -- `--today` counts beside `--warn` alone
-abbrev pub warnings_faults : List Row → Kinds
-warnings_faults given =
+abbrev pub held_back_faults : List Row → Kinds
+held_back_faults given =
     or_else (faults_beside (is_some (first_of (codes "today") given)) (has (codes "warn") given)) (faults_unless (is_day_taken (first_of (codes "today") given)))
 
 -- which rows are kept
@@ -95,11 +101,14 @@ keeping_of given = if has (codes "all-or-nothing") given then Together (has (cod
 abbrev pub keeping_faults : List Row → Kinds
 keeping_faults given = faults_beside (has (codes "keep-refused") given) (has (codes "all-or-nothing") given)
 
--- of what a report is: a folder, or an input, which `-` says is standard input
+-- of what a report is, by the texts of FOLDER and `--input`: a folder, or an input, which `-` says is standard input
+abbrev pub IsSourceOf : (folder input : Option Text) → Source → Type 0
+IsSourceOf folder input (source.Folder name) = (folder ≡ Some (string_bytes name)) × (input ≡ None)
+IsSourceOf folder input (source.File name) = (input ≡ Some (string_bytes name)) × (bytes_eq (string_bytes name) (codes "-") ≡ false) × (folder ≡ None)
+IsSourceOf folder input source.StandardInput = (input ≡ Some (codes "-")) × (folder ≡ None)
+
 abbrev pub IsSource : List Row → Source → Type 0
-IsSource given (source.Folder folder) = (first_of (codes "folder") given ≡ Some (string_bytes folder)) × (first_of (codes "input") given ≡ None)
-IsSource given (source.File file) = (first_of (codes "input") given ≡ Some (string_bytes file)) × (bytes_eq (string_bytes file) (codes "-") ≡ false) × (first_of (codes "folder") given ≡ None)
-IsSource given source.StandardInput = (first_of (codes "input") given ≡ Some (codes "-")) × (first_of (codes "folder") given ≡ None)
+IsSource given = IsSourceOf (first_of (codes "folder") given) (first_of (codes "input") given)
 
 -- it is one of the two, and not both
 abbrev pub source_faults : (folder input : Option Text) → Kinds
@@ -108,26 +117,58 @@ source_faults (Some folder) None = []
 source_faults None (Some input) = []
 source_faults None None = MissingRequiredArgument ∷ []
 
+-- The places of a sheet are those of a folder and a case; where an input is given, the first is that of the case.
+abbrev pub sheet_folder : (first second input : Option Text) → Option Text
+sheet_folder first second None = first
+sheet_folder first second (Some input) = second
+
+abbrev pub sheet_case : (first second input : Option Text) → Option Text
+sheet_case first second None = second
+sheet_case first second (Some input) = first
+
+abbrev pub folder_given : List Row → Option Text
+folder_given given = sheet_folder (first_of (codes "folder") given) (first_of (codes "case") given) (first_of (codes "input") given)
+
+abbrev pub case_given : List Row → Option Text
+case_given given = sheet_case (first_of (codes "folder") given) (first_of (codes "case") given) (first_of (codes "input") given)
+
+-- the sheet of that case, and no more
+abbrev pub sheet_asked : (clock_time : ℤ) → (case : Option CaseCalled) → Asked
+sheet_asked clock_time case = record {
+  task = Sheet;
+  judge = None;
+  case = case;
+  from = None;
+  to = None;
+  of = None;
+  today = None;
+  stamp = None;
+  clock_time = clock_time;
+  lines = false;
+}
+
 -- ---- the subcommands
 
 -- the subcommand asks for that, by the clock's time
 abbrev pub IsTask : (clock_time : ℤ) → Subcommand → (name : Text) → List Row → Task → Type 0
 IsTask clock_time sub.Init name given (task.Init folder court) = IsText (codes "folder") given folder × IsText (codes "court") given court
-IsTask clock_time sub.Enter name given (task.Enter folder lines warnings keeping) =
-    IsText (codes "folder") given folder × (lines ≡ lines_of given) × (warnings ≡ warnings_of given) × (keeping ≡ keeping_of given)
-IsTask clock_time sub.Try name given (task.Try folder lines warnings) = IsText (codes "folder") given folder × (lines ≡ lines_of given) × (warnings ≡ warnings_of given)
+IsTask clock_time sub.Enter name given (task.Enter folder lines held_back keeping) =
+    IsText (codes "folder") given folder × (lines ≡ lines_of given) × (held_back ≡ held_back_of given) × (keeping ≡ keeping_of given)
+IsTask clock_time sub.Try name given (task.Try folder lines held_back) = IsText (codes "folder") given folder × (lines ≡ lines_of given) × (held_back ≡ held_back_of given)
 IsTask clock_time sub.Ask name given (task.Ask folder lines) = IsText (codes "folder") given folder × (lines ≡ lines_of given)
 IsTask clock_time sub.Plain name given (task.Plain folder style) = IsText (codes "folder") given folder × (style ≡ style_of given)
 IsTask clock_time sub.Strike name given (task.Strike folder striking) =
     IsText (codes "folder") given folder × (option_and_then number_of (first_of (codes "row") given) ≡ Some striking.row)
     × (option_and_then line_of (first_of (codes "reason") given) ≡ Some (string_bytes striking.reason)) × (option_and_then line_of (first_of (codes "by") given) ≡ Some (string_bytes striking.by))
-    × (option_and_then day_of_text (first_of (codes "today") given) ≡ Some striking.today) × (striking.accept ≡ has (codes "accept") given)
+    × (option_and_then day_said (first_of (codes "today") given) ≡ Some striking.today) × (striking.clock_time ≡ clock_time) × (striking.accept ≡ has (codes "accept") given)
 IsTask clock_time sub.Struck name given (task.Struck folder) = IsText (codes "folder") given folder
 IsTask clock_time sub.Cases name given (task.Cases folder) = IsText (codes "folder") given folder
 IsTask clock_time sub.Check name given (task.Check folder) = IsText (codes "folder") given folder
 IsTask clock_time sub.Rows name given (task.Rows folder) = IsText (codes "folder") given folder
 IsTask clock_time sub.Report name given (task.Report of asked) = IsSource given of × IsReportAsked name given asked × (asked.clock_time ≡ clock_time)
 IsTask clock_time sub.Memo name given (task.Memo of asked) = IsSource given of × IsMemoAsked given asked
+IsTask clock_time sub.Sheet name given (task.Report of asked) =
+    IsSourceOf (folder_given given) (first_of (codes "input") given) of × (asked ≡ sheet_asked clock_time (option_and_then case_called (case_given given)))
 IsTask clock_time sub.CourtCheck name given (task.CourtCheck file asked) =
     IsText (codes "file") given file × (asked.today ≡ option_and_then day_of_text (first_of (codes "today") given)) × (asked.capital ≡ has (codes "capital") given)
 IsTask clock_time sub.CourtWrite name given (task.CourtWrite court from to) =
@@ -141,19 +182,20 @@ IsTask clock_time subcommand name given other = ⊥
 abbrev pub faults_given : Subcommand → List Row → Kinds
 faults_given sub.Init given = or_else (faults_without (first_of (codes "folder") given)) (faults_without (first_of (codes "court") given))
 faults_given sub.Enter given =
-    or_else (faults_without (first_of (codes "folder") given)) (or_else (lines_faults given) (or_else (warnings_faults given) (keeping_faults given)))
-faults_given sub.Try given = or_else (faults_without (first_of (codes "folder") given)) (or_else (lines_faults given) (warnings_faults given))
+    or_else (faults_without (first_of (codes "folder") given)) (or_else (lines_faults given) (or_else (held_back_faults given) (keeping_faults given)))
+faults_given sub.Try given = or_else (faults_without (first_of (codes "folder") given)) (or_else (lines_faults given) (held_back_faults given))
 faults_given sub.Ask given = or_else (faults_without (first_of (codes "folder") given)) (lines_faults given)
 faults_given sub.Plain given = or_else (faults_without (first_of (codes "folder") given)) (style_faults given)
 faults_given sub.Strike given =
     or_else (or_else (faults_without (first_of (codes "folder") given)) (faults_reading number_of (first_of (codes "row") given)))
-    (or_else (or_else (faults_reading line_of (first_of (codes "reason") given)) (faults_reading line_of (first_of (codes "by") given))) (faults_reading day_of_text (first_of (codes "today") given)))
+    (or_else (or_else (faults_reading line_of (first_of (codes "reason") given)) (faults_reading line_of (first_of (codes "by") given))) (faults_reading day_said (first_of (codes "today") given)))
 faults_given sub.Struck given = faults_without (first_of (codes "folder") given)
 faults_given sub.Cases given = faults_without (first_of (codes "folder") given)
 faults_given sub.Check given = faults_without (first_of (codes "folder") given)
 faults_given sub.Rows given = faults_without (first_of (codes "folder") given)
 faults_given sub.Report given = or_else (source_faults (first_of (codes "folder") given) (first_of (codes "input") given)) (report_faults given)
 faults_given sub.Memo given = or_else (source_faults (first_of (codes "folder") given) (first_of (codes "input") given)) (memo_faults given)
+faults_given sub.Sheet given = or_else (source_faults (folder_given given) (first_of (codes "input") given)) (faults_reading case_called (case_given given))
 faults_given sub.Court given = MissingRequiredArgument ∷ []
 faults_given sub.CourtCheck given = or_else (faults_without (first_of (codes "file") given)) (faults_unless (is_day_taken (first_of (codes "today") given)))
 faults_given sub.CourtWrite given =

@@ -1,12 +1,15 @@
 //! The command line, as `clap` takes it.
 
-ghost use Rattle.std.specs.Prelude.{◌≡◌, IfOk, IsOkAnd};
-ghost use Rattle.clap.specs.Words.{AddsSubcommand, app_of};
+ghost use Rattle.std.specs.Prelude.{◌≡◌, IfOk};
+ghost use Rattle.clap.specs.Words.{app_of};
 ghost use Rattle.program_words.specs.CommandLine.{bare_line, command_line, with_kept, with_rows};
 
 use crate::court_commands::court;
-use crate::folder_commands::{ask, cases, check, enter, init, plain, rows, strike, struck, trial};
+use crate::folder_commands::{
+    ask, cases, check, enter, init, plain, rows, sheet, strike, struck, trial,
+};
 use clap::Command;
+use program_main::with_subcommand;
 use report_memo::with_memo;
 use report_program::with_reports;
 use std::alloc::{AllocError, Global};
@@ -27,10 +30,11 @@ It ends with a status, which is the same in every command:
   3  a row has a fault, is held back or would be refused, and none is kept
   4  a file, the input or the output can't be read or written
   5  there is no memory
-  6  the folder's journal can't be used, or what is asked for isn't there
+  6  what is asked for isn't there: a judge, a case, or a day
   7  answers would change, so nothing is
   8  some rows had faults, and the others were taken
   9  the court's file has no fault, but something may be wrong with it
+  10 the folder's journal can't be used, or another program has it open
 What is wrong goes to standard error. Nothing but what was asked for goes to
 standard output.";
 
@@ -50,18 +54,6 @@ pub(crate) fn bare<'a>(
         .after_help(more)
         .subcommand_required(true)
         .bin_name(name)
-}
-
-/// The command with one more subcommand, where there was memory for that one. It takes what came of making the subcommand,
-/// so that the command is dropped here alone if there was none.
-pub(crate) fn with_subcommand<'a>(
-    command: Command<'a>,
-    subcommand: Result<Command<'a>, AllocError>,
-) -> Result<Command<'a>, AllocError>
-    ensures { IfOk result (λ whole. IsOkAnd subcommand.entry (λ added. AddsSubcommand command.entry added whole)) }
-{
-    let added = subcommand?;
-    command.subcommand(added)
 }
 
 /// The command with the subcommands by which a folder is made, and by which rows are read.
@@ -95,5 +87,6 @@ pub(crate) fn command<'a>(alloc: Global) -> Result<Command<'a>, AllocError>
     let kept = with_kept(alloc, rows)?;
     let reports = with_reports(alloc, kept)?;
     let memo = with_memo(alloc, reports)?;
-    memo.subcommand(court(alloc))
+    let sheet = with_subcommand(memo, sheet(alloc))?;
+    sheet.subcommand(court(alloc))
 }

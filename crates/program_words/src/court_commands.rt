@@ -4,11 +4,11 @@ ghost use Rattle.std.specs.Prelude.{◌≡◌, codes, IfOk};
 ghost use Rattle.clap.specs.Words.{app_of, new_app};
 ghost use Rattle.program_words.specs.CommandLine.{change_line, check_line, court_line, write_line};
 
-use crate::command::{bare, with_subcommand};
+use crate::command::bare;
 use crate::folder_commands::of_folder;
-use crate::options::{with_flag, with_needed, with_place};
+use crate::options::{with_flag, with_place};
 use clap::Command;
-use program_main::with_text;
+use program_main::{with_needed, with_subcommand, with_text};
 use std::alloc::{AllocError, Global};
 
 const COURT: &str = "Check a court's file, write one, or give a folder another";

@@ -2,11 +2,11 @@
 
 ghost use Rattle.std.specs.Prelude.{◌≡◌, codes, IfOk};
 ghost use Rattle.clap.specs.Words.{app_of};
-ghost use Rattle.program_words.specs.CommandLine.{enter_line, folder_line, init_line, lines_line, plain_line, rows_line, strike_line, with_style};
+ghost use Rattle.program_words.specs.CommandLine.{enter_line, folder_line, init_line, lines_line, plain_line, rows_line, sheet_line, strike_line, with_style};
 
-use crate::options::{with_flag, with_needed, with_place};
+use crate::options::{with_flag, with_option_place, with_place};
 use clap::Command;
-use program_main::with_text;
+use program_main::{with_needed, with_source, with_text};
 use std::alloc::{AllocError, Global};
 
 // What is said of arguments that several subcommands have.
@@ -89,7 +89,11 @@ there are none, or with --accept. It stays in the journal, with why, by whom and
 when it was struck.
 
 Example:
-  docket strike cases 17 --reason 'entered twice' --by Ortiz --today 2025-09-15";
+  docket strike cases 17 --reason 'entered twice' --by Ortiz --today today
+
+DAY may also be yesterday, or monday to sunday, the next such day from today on,
+or so many days from today, as (with =) -3d. Today is the clock's, in the court's
+zone.";
 
 const ROW: &str = "The row's number, with which its answer begins";
 
@@ -97,7 +101,7 @@ const REASON: &str = "Why it is struck, in one line";
 
 const BY: &str = "Who strikes it, in one line";
 
-const STRIKE_DAY: &str = "The day on which it is struck, as 2025-09-15";
+const STRIKE_DAY: &str = "The day on which it is struck: a date, as 2025-09-15, or today";
 
 const STRIKE_ACCEPT: &str = "Strike it though answers change";
 
@@ -131,6 +135,17 @@ const ROWS_MORE: &str = "Rows that are struck are left out.
 
 Example:
   docket rows cases > day.txt";
+
+const SHEET: &str = "The sheet of one case: its deadlines and motions, after all rows";
+
+const SHEET_MORE: &str = "Another program may enter rows meanwhile. Of an input:
+
+  docket sheet --input day.txt 7
+
+Example:
+  docket sheet cases 1:25-cv-01234";
+
+const SHEET_CASE: &str = "The case: its number, or the number that the court gives it";
 
 /// A subcommand of that name, which takes a folder.
 pub(crate) fn of_folder<'a>(
@@ -263,4 +278,15 @@ pub(crate) fn rows<'a>(alloc: Global) -> Result<Command<'a>, AllocError>
     ensures { IfOk result (λ command. app_of command ≡ folder_line (codes "rows")) }
 {
     of_folder(alloc, "rows", ROWS, ROWS_MORE)
+}
+
+/// The subcommand by which the sheet of a case is written.
+pub(crate) fn sheet<'a>(alloc: Global) -> Result<Command<'a>, AllocError>
+    ensures { IfOk result (λ command. app_of command ≡ sheet_line) }
+{
+    let command = Command::new(alloc, "sheet")
+        .about(SHEET)
+        .after_help(SHEET_MORE);
+    let command = with_source(alloc, command)?;
+    with_option_place(alloc, command, "case", "CASE", SHEET_CASE)
 }

@@ -4,12 +4,13 @@ ghost use Rattle.std.specs.Prelude.{◌≡◌, codes, IfOk, ℤ};
 ghost use Rattle.clap.specs.Words.{Text, first_of, found_of, rows_of};
 ghost use Rattle.program_main.specs.Options.Words.{IsAnswerFor};
 ghost use Rattle.program_words.specs.declared.subcommand.Subcommand.{Subcommand};
-ghost use Rattle.program_words.specs.Task.{IsTask, beside_faults, faults_given, keeping_faults, keeping_of, lines_faults, lines_of, style_faults, style_of, warnings_faults, warnings_of};
+ghost use Rattle.program_words.specs.Task.{IsTask, beside_faults, faults_given, held_back_faults, held_back_of, keeping_faults, keeping_of, lines_faults, lines_of, style_faults, style_of};
 
 use crate::given::{beside, both, has_flag, is_given, needed};
-use crate::task::{Keeping, Lines, Style, Task, Warnings};
+use crate::task::{Keeping, Lines, Style, Task};
 use crate::values::{day_if_given, order_in};
 use clap::ArgMatches;
+use desk_warnings::HeldBack;
 use program_main::OptionsFault;
 use std::alloc::Global;
 
@@ -50,9 +51,9 @@ fn lines_in(alloc: Global, given: &ArgMatches<'_>) -> Result<Lines, OptionsFault
 }
 
 /// Whether rows are held back that draw a warning.
-fn warnings_in(alloc: Global, given: &ArgMatches<'_>) -> Result<Option<Warnings>, OptionsFault>
-    ensures warnings { IfOk result (λ warnings. warnings ≡ warnings_of (rows_of (found_of given.now))) }
-    ensures faults { IsAnswerFor (warnings_faults (rows_of (found_of given.now))) result }
+fn held_back_in(alloc: Global, given: &ArgMatches<'_>) -> Result<HeldBack, OptionsFault>
+    ensures held { IfOk result (λ held. held ≡ held_back_of (rows_of (found_of given.now))) }
+    ensures faults { IsAnswerFor (held_back_faults (rows_of (found_of given.now))) result }
 {
     let warn = has_flag(given, "warn");
     let has_day = is_given(given, "today");
@@ -61,9 +62,9 @@ fn warnings_in(alloc: Global, given: &ArgMatches<'_>) -> Result<Option<Warnings>
         day_if_given(alloc, given),
     )?;
     if warn {
-        Ok(Some(Warnings { today }))
+        Ok(HeldBack::Warned(today))
     } else {
-        Ok(None)
+        Ok(HeldBack::Nothing)
     }
 }
 
@@ -93,14 +94,14 @@ pub(crate) fn enter(alloc: Global, given: &ArgMatches<'_>) -> Result<Task, Optio
     ensures task { (clock_time : ℤ) (name : Text) → IfOk result (IsTask clock_time Subcommand.Enter name (rows_of (found_of given.now))) }
     ensures faults { IsAnswerFor (faults_given Subcommand.Enter (rows_of (found_of given.now))) result }
 {
-    let (folder, (lines, (warnings, keeping))) = both(
+    let (folder, (lines, (held_back, keeping))) = both(
         needed(alloc, given, "folder", "<FOLDER>"),
         both(
             lines_in(alloc, given),
-            both(warnings_in(alloc, given), keeping_in(alloc, given)),
+            both(held_back_in(alloc, given), keeping_in(alloc, given)),
         ),
     )?;
-    Ok(Task::Enter(folder, lines, warnings, keeping))
+    Ok(Task::Enter(folder, lines, held_back, keeping))
 }
 
 /// Rows that are answered and not kept.
@@ -108,11 +109,11 @@ pub(crate) fn trial(alloc: Global, given: &ArgMatches<'_>) -> Result<Task, Optio
     ensures task { (clock_time : ℤ) (name : Text) → IfOk result (IsTask clock_time Subcommand.Try name (rows_of (found_of given.now))) }
     ensures faults { IsAnswerFor (faults_given Subcommand.Try (rows_of (found_of given.now))) result }
 {
-    let (folder, (lines, warnings)) = both(
+    let (folder, (lines, held_back)) = both(
         needed(alloc, given, "folder", "<FOLDER>"),
-        both(lines_in(alloc, given), warnings_in(alloc, given)),
+        both(lines_in(alloc, given), held_back_in(alloc, given)),
     )?;
-    Ok(Task::Try(folder, lines, warnings))
+    Ok(Task::Try(folder, lines, held_back))
 }
 
 /// Questions that are answered.

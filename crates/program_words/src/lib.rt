@@ -15,5 +15,5 @@ mod tasks;
 mod values;
 mod words;
 
-pub use task::{Keeping, Lines, Source, Striking, Style, Task, Warnings};
+pub use task::{Keeping, Lines, Source, Striking, Style, Task};
 pub use words::asked_of;

@@ -30,6 +30,8 @@ pub(crate) enum Subcommand {
     Report,
     /// `memo`.
     Memo,
+    /// `sheet`.
+    Sheet,
     /// `court`, with no word after it.
     Court,
     /// `court check`.
@@ -56,6 +58,7 @@ pub(crate) fn meant(name: &str) -> Subcommand
         "check" => Subcommand::Check,
         "rows" => Subcommand::Rows,
         "memo" => Subcommand::Memo,
+        "sheet" => Subcommand::Sheet,
         "court" => Subcommand::Court,
         _ => Subcommand::Report,
     }

@@ -1,8 +1,10 @@
 //! What words ask for.
 
-use court_clock::Day;
+use court_clock::Instant;
 use court_file_check::Asked as CheckAsked;
 use court_writing::CourtName;
+use desk_warnings::HeldBack;
+use program_main::DaySaid;
 use report_memo::Asked as MemoAsked;
 use report_program::Asked as ReportAsked;
 use row_fields::DateOrder;
@@ -14,9 +16,9 @@ pub enum Task {
     /// `init`: a new folder, and the court's file that it begins with.
     Init(String, String),
     /// `enter`: rows, which are kept in the folder and answered.
-    Enter(String, Lines, Option<Warnings>, Keeping),
+    Enter(String, Lines, HeldBack, Keeping),
     /// `try`: rows, which are answered as `enter` would, and not kept.
-    Try(String, Lines, Option<Warnings>),
+    Try(String, Lines, HeldBack),
     /// `ask`: questions, which are answered.
     Ask(String, Lines),
     /// `plain`: rows as people write them, which are written as plain rows.
@@ -31,7 +33,7 @@ pub enum Task {
     Check(String),
     /// `rows`: the court's file and the rows, as clerk_office reads them.
     Rows(String),
-    /// `due`, `week`, `page`, `ics`, `json` or `sql`.
+    /// `due`, `week`, `page`, `ics`, `json`, `sql` or `sheet`.
     Report(Source, ReportAsked),
     /// `memo`.
     Memo(Source, MemoAsked),
@@ -72,13 +74,6 @@ pub struct Style {
     pub json: bool,
 }
 
-/// Rows that draw a warning are held back.
-#[derive(Clone, Copy, Debug)]
-pub struct Warnings {
-    /// The day that counts as today, if there is one.
-    pub today: Option<Day>,
-}
-
 /// Which rows are kept.
 #[derive(Clone, Copy, Debug)]
 pub enum Keeping {
@@ -98,7 +93,9 @@ pub struct Striking {
     /// By whom, in one line.
     pub by: String,
     /// On which day.
-    pub today: Day,
+    pub today: DaySaid,
+    /// The instant that the clock shows, by which it is today.
+    pub clock_time: Instant,
     /// Whether it is struck though answers differ.
     pub accept: bool,
 }

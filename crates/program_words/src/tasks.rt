@@ -1,18 +1,20 @@
 //! The other subcommands of a folder, and those of reports.
 
-ghost use Rattle.std.specs.Prelude.{◌≡◌, ℤ, List, Some, codes, option_map, string_bytes, IfOk};
-ghost use Rattle.clap.specs.Words.{Row, Text, first_of, found_of, rows_of};
+ghost use Rattle.std.specs.Prelude.{◌≡◌, ℤ, Some, codes, option_map, string_bytes, IfOk};
+ghost use Rattle.clap.specs.Words.{Text, first_of, found_of, rows_of};
 ghost use Rattle.program_main.specs.Options.Words.{IsAnswerFor};
 ghost use Rattle.program_words.specs.declared.subcommand.Subcommand.{Subcommand};
 ghost use Rattle.program_words.specs.Given.{faults_without};
-ghost use Rattle.program_words.specs.Task.{IsSource, IsTask, faults_given, source_faults};
+ghost use Rattle.program_words.specs.Task.{IsSource, IsSourceOf, IsTask, faults_given, sheet_asked, sheet_case, sheet_folder, source_faults};
 
 use crate::given::{both, has_flag, mistake, needed, text_in};
 use crate::task::{Source, Striking, Task};
-use crate::values::{day_in, line_in, row_in};
+use crate::values::{case_in, day_in, line_in, row_in};
 use clap::ArgMatches;
 use court_clock::Instant;
+use office_texts::CaseCalled;
 use program_main::OptionsFault;
+use report_program::{Asked, Task as Written};
 use std::alloc::Global;
 
 /// The folder.
@@ -35,9 +37,13 @@ pub(crate) fn init(alloc: Global, given: &ArgMatches<'_>) -> Result<Task, Option
     Ok(Task::Init(folder, court))
 }
 
-/// A row that is struck.
-pub(crate) fn strike(alloc: Global, given: &ArgMatches<'_>) -> Result<Task, OptionsFault>
-    ensures task { (clock_time : ℤ) (name : Text) → IfOk result (IsTask clock_time Subcommand.Strike name (rows_of (found_of given.now))) }
+/// A row that is struck, at the clock's time.
+pub(crate) fn strike(
+    alloc: Global,
+    clock_time: Instant,
+    given: &ArgMatches<'_>,
+) -> Result<Task, OptionsFault>
+    ensures task { (name : Text) → IfOk result (IsTask clock_time Subcommand.Strike name (rows_of (found_of given.now))) }
     ensures faults { IsAnswerFor (faults_given Subcommand.Strike (rows_of (found_of given.now))) result }
 {
     let of = both(folder_in(alloc, given), row_in(alloc, given));
@@ -53,6 +59,7 @@ pub(crate) fn strike(alloc: Global, given: &ArgMatches<'_>) -> Result<Task, Opti
         reason,
         by,
         today,
+        clock_time,
         accept,
     };
     Ok(Task::Strike(folder, striking))
@@ -64,8 +71,7 @@ fn source_of(
     folder: Option<&str>,
     input: Option<&str>,
 ) -> Result<Source, OptionsFault>
-    ensures source { (given : List Row) → first_of (codes "folder") given ≡ option_map (λ text. text.now) folder.entry → first_of (codes "input") given ≡ option_map (λ text. text.now) input.entry
-        → IfOk result (IsSource given) }
+    ensures source { IfOk result (IsSourceOf (option_map (λ text. text.now) folder.entry) (option_map (λ text. text.now) input.entry)) }
     ensures faults { IsAnswerFor (source_faults (option_map (λ text. text.now) folder.entry) (option_map (λ text. text.now) input.entry)) result }
 {
     match (folder, input) {
@@ -115,4 +121,68 @@ pub(crate) fn memo(alloc: Global, given: &ArgMatches<'_>) -> Result<Task, Option
 {
     let (source, asked) = both(source_in(alloc, given), report_memo::asked_by(alloc, given))?;
     Ok(Task::Memo(source, asked))
+}
+
+/// The sheet of that case, at the clock's time.
+fn sheet_asked(clock_time: Instant, case: CaseCalled) -> Asked
+    ensures { result ≡ sheet_asked clock_time (Some case) }
+{
+    Asked {
+        task: Written::Sheet,
+        judge: None,
+        case: Some(case),
+        from: None,
+        to: None,
+        of: None,
+        today: None,
+        stamp: None,
+        clock_time,
+        lines: false,
+    }
+}
+
+/// The folder of a sheet, by its places: where an input is given, the first is that of the case.
+fn sheet_folder<'a>(
+    first: Option<&'a str>,
+    second: Option<&'a str>,
+    input: Option<&str>,
+) -> Option<&'a str>
+    ensures { option_map (λ text. text.now) result ≡ sheet_folder (option_map (λ text. text.now) first.entry) (option_map (λ text. text.now) second.entry) (option_map (λ text. text.now) input.entry) }
+{
+    match input {
+        Some(_) => second,
+        None => first,
+    }
+}
+
+/// The case of a sheet, by the same.
+fn sheet_case<'a>(
+    first: Option<&'a str>,
+    second: Option<&'a str>,
+    input: Option<&str>,
+) -> Option<&'a str>
+    ensures { option_map (λ text. text.now) result ≡ sheet_case (option_map (λ text. text.now) first.entry) (option_map (λ text. text.now) second.entry) (option_map (λ text. text.now) input.entry) }
+{
+    match input {
+        Some(_) => first,
+        None => second,
+    }
+}
+
+/// The sheet of a case, at the clock's time.
+pub(crate) fn sheet(
+    alloc: Global,
+    clock_time: Instant,
+    given: &ArgMatches<'_>,
+) -> Result<Task, OptionsFault>
+    ensures task { (name : Text) → IfOk result (IsTask clock_time Subcommand.Sheet name (rows_of (found_of given.now))) }
+    ensures faults { IsAnswerFor (faults_given Subcommand.Sheet (rows_of (found_of given.now))) result }
+{
+    let (first, second) = (text_in(given, "folder"), text_in(given, "case"));
+    let input = text_in(given, "input");
+    let (source, case) = both(
+        source_of(alloc, sheet_folder(first, second, input), input),
+        case_in(alloc, sheet_case(first, second, input)),
+    )?;
+    Ok(Task::Report(source, sheet_asked(clock_time, case)))
 }

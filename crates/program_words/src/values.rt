@@ -1,7 +1,6 @@
-//! What texts say that have to say something: an order of dates, a row, a line, a year, a court and a day.
+//! What texts say that have to say something: an order of dates, a row, a line, a year, a court, a case and a day.
 
-ghost use Rattle.std.specs.Prelude.{◌≡◌, ◌∷◌, [], Some, codes, nat_le, string_bytes, IfOk};
-ghost use Rattle.std.specs.Char.{is_ascii_digit};
+ghost use Rattle.std.specs.Prelude.{◌≡◌, ◌∷◌, [], Some, codes, nat_le, option_map, string_bytes, IfOk};
 ghost use Rattle.std.specs.List.{list_all};
 ghost use Rattle.std.specs.Option.{option_and_then};
 ghost use Rattle.clap.specs.declared.error.kind.ErrorKind.{ErrorKind};
@@ -9,17 +8,22 @@ ghost use Rattle.clap.specs.Words.{first_of, found_of, rows_of};
 ghost use Rattle.court_clock.specs.Words.{day_of_text};
 ghost use Rattle.court_writing.specs.Words.{district_named, of_district, zone_text};
 ghost use Rattle.program_main.specs.Options.Words.{IsAnswerFor, IsFaultAmong};
-ghost use Rattle.program_main.specs.Texts.Words.{faults_unless, is_day_taken};
-ghost use Rattle.program_words.specs.Given.{faults_if_given, faults_reading, is_digits, is_line, line_of, number_of, order_of, year_of};
+ghost use Rattle.office_texts.specs.Names.Words.{case_called};
+ghost use Rattle.program_main.specs.Texts.Words.{day_said, faults_unless, is_day_taken, number_of};
+ghost use Rattle.program_words.specs.Given.{faults_if_given, faults_reading, is_line, line_of, order_of, year_of};
 
 use crate::courts::nearest_names;
 use crate::given::{missing, mistake, text_in};
 use clap::ArgMatches;
 use court_clock::Day;
 use court_writing::CourtName;
-use program_main::{OptionsFault, day_option};
+use office_texts::CaseCalled;
+use program_main::{DaySaid, OptionsFault, case_said, day_option, day_said, number_of};
 use row_fields::DateOrder;
 use std::alloc::Global;
+
+/// How a day is written that may be said by a word.
+const HOW_SAID: &str = "write a day as 2025-09-15, today, yesterday, monday to sunday or -3d";
 
 /// The order that a text names.
 fn order_of(text: &str) -> Option<DateOrder>
@@ -62,30 +66,6 @@ fn unread(alloc: Global, text: &str, shown: &str, advice: &str) -> OptionsFault
         Ok(text) => mistake(alloc, text.as_str()),
         Err(_) => OptionsFault::OutOfMemory,
     }
-}
-
-/// The number of a row that a text writes: one to nine digits.
-pub(crate) fn number_of(text: &str) -> Option<u32>
-    ensures { result ≡ number_of text.now }
-{
-    if is_digits(text.as_bytes()) {
-        text.parse::<u32>().ok()
-    } else {
-        None
-    }
-}
-
-/// Whether a text is one to nine decimal digits.
-fn is_digits(text: &[u8]) -> bool
-    ensures { result ≡ is_digits text.now }
-{
-    !text.is_empty() && text.len() <= 9 && are_digits(text)
-}
-
-fn are_digits(text: &[u8]) -> bool
-    ensures { result ≡ list_all is_ascii_digit text.now }
-{
-    text.iter().all(|byte| byte.is_ascii_digit())
 }
 
 /// The number of a row, which has to be given. BadWords where it isn't, or where its text is no number.
@@ -179,16 +159,30 @@ pub(crate) fn day_if_given(
     day_option(alloc, "today", text_in(given, "today"))
 }
 
-/// The day of that name, which has to be given. BadWords where it isn't, or where its text writes none.
-pub(crate) fn day_in(alloc: Global, given: &ArgMatches<'_>) -> Result<Day, OptionsFault>
-    ensures day { IfOk result (λ day. option_and_then day_of_text (first_of (codes "today") (rows_of (found_of given.now))) ≡ Some day) }
-    ensures faults { IsAnswerFor (faults_reading day_of_text (first_of (codes "today") (rows_of (found_of given.now)))) result }
+/// The day of `--today`, by its date or by a word, which has to be given. BadWords where it isn't, or where its text says none.
+pub(crate) fn day_in(alloc: Global, given: &ArgMatches<'_>) -> Result<DaySaid, OptionsFault>
+    ensures day { IfOk result (λ day. option_and_then day_said (first_of (codes "today") (rows_of (found_of given.now))) ≡ Some day) }
+    ensures faults { IsAnswerFor (faults_reading day_said (first_of (codes "today") (rows_of (found_of given.now)))) result }
 {
     match text_in(given, "today") {
         None => Err(missing(alloc, "--today <DAY>")),
-        Some(text) => match Day::from_text(text) {
+        Some(text) => match day_said(text) {
             Some(day) => Ok(day),
-            None => Err(unread(alloc, text, "--today <DAY>", "write a day as 2025-09-15")),
+            None => Err(unread(alloc, text, "--today <DAY>", HOW_SAID)),
+        },
+    }
+}
+
+/// The case that a text calls, which has to be given. BadWords where it isn't, or where it calls none.
+pub(crate) fn case_in(alloc: Global, text: Option<&str>) -> Result<CaseCalled, OptionsFault>
+    ensures case { IfOk result (λ case. option_and_then case_called (option_map (λ text. text.now) text.entry) ≡ Some case) }
+    ensures faults { IsAnswerFor (faults_reading case_called (option_map (λ text. text.now) text.entry)) result }
+{
+    match text {
+        None => Err(missing(alloc, "<CASE>")),
+        Some(text) => match case_said(alloc, "<CASE>", text) {
+            Ok(case) => Ok(case),
+            Err(fault) => Err(fault),
         },
     }
 }

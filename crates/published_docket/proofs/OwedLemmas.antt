@@ -8,7 +8,7 @@ use Rattle.published_docket.specs.declared.change.BoardChange.TheVariants.{Grow}
 use Rattle.published_docket.specs.Trails.{TrailView}
 use Rattle.published_docket.specs.Boards.{BoardView, known_of}
 use Rattle.published_docket.specs.Changes.{applied_to, puts_of}
-use Rattle.published_docket.specs.Held.{HeldView, AllShown, ShownOrOwed, board_then}
+use Rattle.published_docket.specs.Inside.Held.{HeldView, AllShown, ShownOrOwed, board_then}
 use Rattle.published_docket.specs.Published.{MayShow}
 use Rattle.published_docket.proofs.ChangeLemmas.{fill_more, grown_trail}
 use Rattle.published_docket.proofs.PublishedLemmas.{stays_same}

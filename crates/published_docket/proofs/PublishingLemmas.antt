@@ -19,7 +19,7 @@ use Rattle.published_docket.specs.Trails.{TrailView}
 use Rattle.published_docket.specs.Boards.{BoardView, known_of}
 use Rattle.published_docket.specs.Changes.{applied_to, puts_of, put_all}
 use Rattle.published_docket.specs.Counted.{head_of}
-use Rattle.published_docket.specs.Held.{HeldView, AllShown, ShownOrOwed, Keeps, board_then}
+use Rattle.published_docket.specs.Inside.Held.{HeldView, AllShown, ShownOrOwed, Keeps, board_then}
 use Rattle.published_docket.specs.Published.{MayShow}
 use Rattle.published_docket.specs.Cells.{IsSmall}
 use Rattle.published_docket.proofs.ChangeLemmas.{grown_made}

@@ -1,10 +1,10 @@
 pub mod Boards
 pub mod Changes
 pub mod Counted
-pub mod Held
 pub mod Published
 pub mod Reading
 pub mod Sights
 pub mod Cells
 pub mod Trails
 pub mod Words
+pub mod Inside

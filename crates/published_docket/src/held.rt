@@ -5,7 +5,7 @@ ghost use Rattle.left_right.specs.Sides.{view};
 ghost use Rattle.published_docket.specs.declared.change.BoardChange.TheVariants.{Grow};
 ghost use Rattle.published_docket.specs.Boards.{IsShown, known_of};
 ghost use Rattle.published_docket.specs.Changes.{applied_to, puts_of};
-ghost use Rattle.published_docket.specs.Held.{AllShown, ShownOrOwed, board_then};
+ghost use Rattle.published_docket.specs.Inside.Held.{AllShown, ShownOrOwed, board_then};
 ghost use Rattle.published_docket.specs.Published.{MayShow};
 
 use crate::board::Board;
@@ -29,7 +29,7 @@ impl Model for Held {
     ghost use Rattle.std.specs.Prelude.{drop};
     ghost use Rattle.left_right.specs.Sides.{view as known_by};
     ghost use Rattle.published_docket.specs.Boards.{IsShown};
-    ghost use Rattle.published_docket.specs.Held.{HeldView};
+    ghost use Rattle.published_docket.specs.Inside.Held.{HeldView};
 
     ghost Value = { HeldView };
 

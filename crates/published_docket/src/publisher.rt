@@ -36,7 +36,7 @@ pub struct Publisher {
 
 impl Model for Publisher {
     ghost use Rattle.published_docket.specs.declared.known.Known.{Known};
-    ghost use Rattle.published_docket.specs.Held.{Keeps};
+    ghost use Rattle.published_docket.specs.Inside.Held.{Keeps};
 
     ghost Value = { Known };
 

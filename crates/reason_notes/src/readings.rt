@@ -1,6 +1,8 @@
 //! Other readings of what the Rules leave open, and the days that they give.
 
 mod changed;
+mod counted;
+mod doubtful;
 mod friday;
 mod laws;
 mod lines;

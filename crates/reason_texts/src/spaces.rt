@@ -7,8 +7,8 @@ use std::alloc::AllocError;
 /// How wide what happened is, with the spaces after it.
 pub(crate) const WIDTH: usize = 50;
 
-/// Adds this number of spaces.
-pub(crate) fn push_spaces(text: &mut String, count: usize) -> Result<(), AllocError>
+/// Adds this number of spaces. `Err` says that memory ran out.
+pub fn push_spaces(text: &mut String, count: usize) -> Result<(), AllocError>
     ensures { OnOk result (string_bytes text.new ≡ string_bytes text.old ++ replicate count 32) }
 {
     let mut left = count;

@@ -18,9 +18,9 @@ pub fn push_time_at(text: &mut String, clock: &Clock, instant: Instant) -> Resul
     }
 }
 
-/// Adds the second of a day, counted from midnight, as hours, minutes and seconds.
+/// Adds the second of a day, counted from midnight, as hours, minutes and seconds. `Err` says that memory ran out.
 #[tactic(auto, unfolding(crate::specs::Times::second_time))]
-fn push_second(text: &mut String, second: u32) -> Result<(), AllocError>
+pub fn push_second(text: &mut String, second: u32) -> Result<(), AllocError>
     ensures { OnOk result (string_bytes text.new ≡ string_bytes text.old ++ second_time second) }
 {
     push_two_digits(text, second / 3600)?;

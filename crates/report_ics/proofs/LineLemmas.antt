@@ -43,10 +43,10 @@ one name value is = more (property name value) [] (named name value is) refl
 
 head_are : are_lines head_lines
 unfolding head_lines
-head_are = both (property (codes "BEGIN") (codes "VCALENDAR") ∷ []) (property (codes "VERSION") (codes "2.0") ∷ property (codes "PRODID") (codes "-//Jerghuma//court_calendar//EN") ∷ [])
+head_are = both (property (codes "BEGIN") (codes "VCALENDAR") ∷ []) (property (codes "VERSION") (codes "2.0") ∷ property (codes "PRODID") (codes "-//Jerghuma//docket//EN") ∷ [])
     (one (codes "BEGIN") (codes "VCALENDAR") refl)
-    (both (property (codes "VERSION") (codes "2.0") ∷ []) (property (codes "PRODID") (codes "-//Jerghuma//court_calendar//EN") ∷ [])
-    (one (codes "VERSION") (codes "2.0") refl) (one (codes "PRODID") (codes "-//Jerghuma//court_calendar//EN") refl))
+    (both (property (codes "VERSION") (codes "2.0") ∷ []) (property (codes "PRODID") (codes "-//Jerghuma//docket//EN") ∷ [])
+    (one (codes "VERSION") (codes "2.0") refl) (one (codes "PRODID") (codes "-//Jerghuma//docket//EN") refl))
 
 begin_are : (stamp : ℤ) (item : DueItem) → are_lines (begin_lines stamp item)
 unfolding begin_lines

@@ -1,5 +1,5 @@
 -- What a calendar program shows: what is selected of the docket, and what was taken off the calendar.
-use Rattle.std.specs.Prelude.{ℕ, Bool, true, false, ◌&&◌, List, ◌++◌, Option, Some, None, is_some, map, option_to_list, if◌then◌else◌}
+use Rattle.std.specs.Prelude.{ℕ, ℤ, ◌==◌, Bool, true, false, ◌&&◌, ◌||◌, not, List, ◌++◌, Option, Some, None, is_some, length, map, option_to_list, if◌then◌else◌}
 use Rattle.std.specs.List.{flat_map, list_all, list_any, range_with_len}
 use Rattle.std.specs.Option.{option_and_then}
 use Rattle.docket_rows.specs.Words.{last_case, most_motions}
@@ -73,7 +73,26 @@ off_item followed item = off_matter followed item item.matter
 unfoldable pub off_deadlines : FollowedChanges → List DueItem → List Appointment
 off_deadlines followed others = flat_map (λ item. option_to_list (off_item followed item)) others
 
+-- any judge is followed, or the one who is had a hearing in the case
+abbrev pub has_had : FollowedChanges → (case : ℕ) → Bool
+has_had followed case = not (is_some followed.judge) || not (length (histories_in followed case 1 most_motions) == 0)
+
+-- the same choice, of that day alone
+abbrev pub of_day : Choice → (day : ℤ) → Choice
+of_day choice day = record choice { from = day; to = day }
+
+-- A deadline that no row starts any more, if its case is chosen and the judge may have had it. The day on which its time ended isn't
+-- known any more, so whichever days are chosen it is.
+abbrev pub lost_only : Choice → FollowedChanges → DueItem → Option Appointment
+lost_only choice followed item =
+    if is_due (of_day choice item.day) true item && has_had followed item.case then Some (record { item = item; revision = revision_of item.case followed.changes; cancelled = true })
+    else None
+
+unfoldable pub lost_deadlines : Choice → FollowedChanges → (lost : List DueItem) → List Appointment
+lost_deadlines choice followed lost = flat_map (λ item. option_to_list (lost_only choice followed item)) lost
+
 -- The items, in their order; then the deadlines, among what is due before any judge, of cases in which the chosen judge has no hearing
--- any more; and then the chosen hearings that are off.
-unfoldable pub appointments_of : Choice → FollowedChanges → (items others : List DueItem) → List Appointment
-appointments_of choice followed items others = map (appointment_of followed) items ++ off_deadlines followed others ++ off_hearings choice followed
+-- any more; the chosen hearings that are off; and the chosen ones of the deadlines that no row starts any more.
+unfoldable pub appointments_of : Choice → FollowedChanges → (items others lost : List DueItem) → List Appointment
+appointments_of choice followed items others lost =
+    map (appointment_of followed) items ++ off_deadlines followed others ++ off_hearings choice followed ++ lost_deadlines choice followed lost

@@ -11,7 +11,7 @@ unfoldable pub head_lines : List (List ℕ)
 head_lines =
     property (codes "BEGIN") (codes "VCALENDAR")
     ∷ property (codes "VERSION") (codes "2.0")
-    ∷ property (codes "PRODID") (codes "-//Jerghuma//court_calendar//EN")
+    ∷ property (codes "PRODID") (codes "-//Jerghuma//docket//EN")
     ∷ []
 
 -- the lines of a calendar: an event for each appointment, in their order

@@ -23,7 +23,8 @@ use Rattle.docket_selection.specs.declared.item.Matter.TheVariants.{Deadline, He
 use Rattle.content_lines.specs.Words.{date_digits, property, utc_text}
 use Rattle.office_texts.specs.Words.{name_of}
 use Rattle.reason_texts.specs.Periods.Words.{event_words, rule_section, rule_words}
-use Rattle.report_texts.specs.Words.{given_words, matter_words, minute_time, period_words, second_time}
+use Rattle.reason_texts.specs.Words.{minute_time, second_time}
+use Rattle.report_texts.specs.Words.{given_words, matter_words, period_words}
 use Rattle.report_ics.specs.declared.appointment.Appointment.{Appointment}
 use Rattle.report_ics.specs.Times.{slot_begins, utc_if_any}
 
@@ -81,10 +82,15 @@ abbrev pub time_lines : ClockView → (day : ℤ) → Matter → List (List ℕ)
 time_lines clock day (Deadline d) = end_lines day d.shown
 time_lines clock day (Hearing h) = span_lines clock h.hearing
 
--- a program that doesn't know the status of an event shows its summary all the same; a deadline that is off this calendar runs on
+-- a deadline that is off this calendar runs on; one that no row starts any more ends on no day
+abbrev pub off_deadline : Shown → List ℕ
+off_deadline shown.Beyond = codes "Cancelled: "
+off_deadline end = codes "Off this calendar: "
+
+-- a program that doesn't know the status of an event shows its summary all the same
 abbrev pub off_words : (cancelled : Bool) → Matter → List ℕ
 off_words true (Hearing h) = codes "Cancelled: "
-off_words true (Deadline d) = codes "Off this calendar: "
+off_words true (Deadline d) = off_deadline d.shown
 off_words false matter = []
 
 -- what is to be done within a period of the Rules, or an entered period in words
@@ -149,11 +155,14 @@ until_front = codes "The time ends at "
 unfoldable pub until_back : List ℕ
 until_back = codes " on the court's clock"
 
--- when the time of a deadline ends
+unfoldable pub lost_words : List ℕ
+lost_words = codes "It was taken off the docket"
+
+-- when the time of a deadline ends, if a row starts it
 abbrev pub end_words : ClockView → (second : ℕ) → Shown → List ℕ
 end_words clock second (shown.Last day act) = midnight_words ++ closing_words clock act
 end_words clock second (shown.Until end) = until_front ++ second_time second ++ until_back
-end_words clock second shown.Beyond = midnight_words
+end_words clock second shown.Beyond = lost_words
 
 unfoldable pub rule_front : List ℕ
 rule_front = codes " (Fed. R. Civ. P. "

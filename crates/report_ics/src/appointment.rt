@@ -5,6 +5,7 @@ ghost use Rattle.report_ics.specs.Appointments.{appointment_of, appointments_of}
 
 use crate::cancelled::push_off;
 use crate::left::push_off_deadlines;
+use crate::lost::push_lost;
 use court_clock::{Day, Instant};
 use docket_rows::Hearing;
 use docket_selection::{Choice, DueItem, DueTypes, HearingHistories};
@@ -14,7 +15,8 @@ use std::alloc::{AllocError, Global};
 /// A deadline or a hearing, as an event of a calendar.
 #[derive(Clone, Copy, Debug, PartialEq, Eq)]
 pub struct Appointment {
-    /// The deadline or the hearing; a hearing that is off as it was set last.
+    /// The deadline or the hearing; a hearing that is off as it was set last, and a deadline that no row starts any more with the day
+    /// from which it ran and an end beyond all days.
     pub item: DueItem,
     /// The number of the last row that changed its case or the court's days.
     pub revision: u64,
@@ -27,8 +29,8 @@ pub struct Appointment {
 pub(crate) type AppointmentTypes = Option<(DueTypes, DueItem, Hearing, Panel, Day, Instant)>;
 
 /// The items; then the deadlines, among what is due before any judge, of cases in which the chosen judge has no hearing any more;
-/// and then the chosen hearings that are off, by case and motion. The histories are as that judge saw them. `Err` says that memory
-/// ran out.
+/// the chosen hearings that are off, by case and motion; and those of the deadlines that no row starts any more which that judge may
+/// have had. The histories are as that judge saw them. `Err` says that memory ran out.
 #[tactic(auto, unfolding(crate::specs::Appointments::appointments_of))]
 pub fn appointments_of(
     alloc: Global,
@@ -36,14 +38,16 @@ pub fn appointments_of(
     histories: &HearingHistories,
     items: &[DueItem],
     others: &[DueItem],
+    lost: &[DueItem],
 ) -> Result<Vec<Appointment>, AllocError>
-    ensures { IfOk result (λ list. list.items ≡ appointments_of choice.now histories.now items.now others.now) }
+    ensures { IfOk result (λ list. list.items ≡ appointments_of choice.now histories.now items.now others.now lost.now) }
 {
     let _types: DueTypes = None;
     let mut list = Vec::new(alloc);
     push_items(&mut list, histories, items)?;
     push_off_deadlines(alloc, &mut list, histories, others)?;
     push_off(&mut list, choice, histories)?;
+    push_lost(alloc, &mut list, choice, histories, lost)?;
     Ok(list)
 }
 

@@ -9,10 +9,10 @@ ghost use Rattle.report_ics.specs.Events.{event_lines};
 
 use crate::appointment::Appointment;
 use crate::events::push_event;
-use case_numbers::Cases;
 use content_lines::push_property;
 use court_clock::Instant;
 use court_days::Court;
+use report_texts::Labels;
 use std::alloc::{AllocError, Global};
 
 /// The appointments as a calendar. `cases` has the names of cases, and `stamp` is when it is written, for each event. `Err`
@@ -20,15 +20,15 @@ use std::alloc::{AllocError, Global};
 pub fn icalendar(
     alloc: Global,
     court: &Court,
-    cases: &Cases,
+    labels: &Labels<'_>,
     stamp: Instant,
     appointments: &[Appointment],
 ) -> Result<String, AllocError>
-    ensures text { IfOk result (λ text. string_bytes text ≡ icalendar_text court.now cases.now.named stamp appointments.now) }
+    ensures text { IfOk result (λ text. string_bytes text ≡ icalendar_text court.now labels.now.cases stamp appointments.now) }
     ensures short { IfOk result (λ text. HasShortLines (string_bytes text)) }
 {
     let mut text = String::new(alloc);
-    push_icalendar(alloc, &mut text, court, cases, stamp, appointments)?;
+    push_icalendar(alloc, &mut text, court, labels, stamp, appointments)?;
     let _text = text.as_str();
     Ok(text)
 }
@@ -38,11 +38,11 @@ fn push_icalendar(
     alloc: Global,
     text: &mut String,
     court: &Court,
-    cases: &Cases,
+    labels: &Labels<'_>,
     stamp: Instant,
     appointments: &[Appointment],
 ) -> Result<(), AllocError>
-    ensures { OnOk result (AddsText text.old text.new (icalendar_text court.now cases.now.named stamp appointments.now)) }
+    ensures { OnOk result (AddsText text.old text.new (icalendar_text court.now labels.now.cases stamp appointments.now)) }
 {
     let mut line = String::new(alloc);
     let mut value = String::new(alloc);
@@ -52,7 +52,7 @@ fn push_icalendar(
         &mut line,
         &mut value,
         court,
-        cases,
+        labels,
         stamp,
         appointments,
     )?;
@@ -66,7 +66,7 @@ fn push_head(text: &mut String, line: &mut String) -> Result<(), AllocError>
 {
     push_property(text, line, "BEGIN", "VCALENDAR")?;
     push_property(text, line, "VERSION", "2.0")?;
-    push_property(text, line, "PRODID", "-//Jerghuma//court_calendar//EN")?;
+    push_property(text, line, "PRODID", "-//Jerghuma//docket//EN")?;
     Ok(())
 }
 
@@ -76,14 +76,14 @@ fn push_events(
     line: &mut String,
     value: &mut String,
     court: &Court,
-    cases: &Cases,
+    labels: &Labels<'_>,
     stamp: Instant,
     appointments: &[Appointment],
 ) -> Result<(), AllocError>
-    ensures { OnOk result (AddsText text.old text.new (sent (flat_map (event_lines court.now cases.now.named stamp) appointments.now))) }
+    ensures { OnOk result (AddsText text.old text.new (sent (flat_map (event_lines court.now labels.now.cases stamp) appointments.now))) }
 {
     for appointment in appointments {
-        push_event(text, line, value, court, cases, stamp, appointment)?;
+        push_event(text, line, value, court, labels, stamp, appointment)?;
     }
     Ok(())
 }

@@ -9,13 +9,13 @@ ghost use Rattle.report_ics.specs.Events.{begin_lines, day_lines, end_lines, eve
 use crate::appointment::Appointment;
 use crate::times::push_slot;
 use crate::words::push_words;
-use case_numbers::Cases;
 use content_lines::{push_date, push_property, push_utc};
 use court_clock::{Clock, Day, Instant};
 use court_days::Court;
 use docket_rows::Hearing;
 use docket_selection::{DueItem, Matter};
 use office_texts::push_number;
+use report_texts::Labels;
 use rule6::Shown;
 use std::alloc::AllocError;
 
@@ -25,18 +25,18 @@ pub(crate) fn push_event(
     line: &mut String,
     value: &mut String,
     court: &Court,
-    cases: &Cases,
+    labels: &Labels<'_>,
     stamp: Instant,
     appointment: &Appointment,
 ) -> Result<(), AllocError>
-    ensures { OnOk result (AddsText text.old text.new (sent (event_lines court.now cases.now.named stamp appointment.now))) }
+    ensures { OnOk result (AddsText text.old text.new (sent (event_lines court.now labels.now.cases stamp appointment.now))) }
 {
     let item = &appointment.item;
     push_begin(text, line, value, stamp, item)?;
     push_sequence(text, line, value, appointment.revision)?;
     push_status(text, line, appointment.cancelled)?;
     push_times(text, line, value, court.clock(), item.day, &item.matter)?;
-    push_words(text, line, value, court, cases, appointment)?;
+    push_words(text, line, value, court, labels, appointment)?;
     push_property(text, line, "END", "VEVENT")?;
     Ok(())
 }

@@ -82,7 +82,7 @@ fn are_all_off(had: &[HearingHistory]) -> bool
 }
 
 /// The hearings that the judge had, of some motions of a case, from the first number on.
-fn histories_in(
+pub(crate) fn histories_in(
     alloc: Global,
     histories: &HearingHistories,
     case: u32,

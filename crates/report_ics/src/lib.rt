@@ -8,10 +8,12 @@ mod events;
 mod laws;
 mod left;
 mod lists;
+mod lost;
 mod times;
 mod words;
 
 pub use appointment::{Appointment, appointments_of};
 pub use calendar::icalendar;
 pub use laws::calendars_are_sent_whole;
+pub use lists::push_if;
 pub use times::slot_begins;

@@ -6,7 +6,7 @@ use std::alloc::AllocError;
 
 /// Adds the item, if there is one. `Err` says that memory ran out.
 #[tactic(auto, using(docket_selection::proofs::CallerLemmas::nothing_more))]
-pub(crate) fn push_if<T: Drop>(list: &mut Vec<T>, item: Option<T>) -> Result<(), AllocError>
+pub fn push_if<T: Drop>(list: &mut Vec<T>, item: Option<T>) -> Result<(), AllocError>
     ensures { OnOk result (list.new.items ≡ list.old.items ++ option_to_list item) }
 {
     match item {

@@ -1,21 +1,21 @@
 //! The words of an event.
 
 ghost use Rattle.std.specs.Prelude.{◌≡◌, ◌++◌, OnOk, codes};
-ghost use Rattle.report_texts.specs.Words.{second_time};
+ghost use Rattle.reason_texts.specs.Words.{second_time};
 ghost use Rattle.content_lines.specs.Words.{property, sent, sent_line};
 ghost use Rattle.office_texts.specs.Words.{AddsText};
-ghost use Rattle.report_ics.specs.Events.{affidavits_back, affidavits_front, affidavits_words, closing_words, deadline_name, deadline_words, described, description, end_words, hearing_words, midnight_words, name_words, notice_front, off_words, paper_words, place_lines, reading_front, reading_words, rule_front, rule_period_words, state_words, summary, until_back, until_front, what_words, word_lines};
+ghost use Rattle.report_ics.specs.Events.{affidavits_back, affidavits_front, affidavits_words, closing_words, deadline_name, deadline_words, described, description, end_words, hearing_words, lost_words, midnight_words, name_words, notice_front, off_deadline, off_words, paper_words, place_lines, reading_front, reading_words, rule_front, rule_period_words, state_words, summary, until_back, until_front, what_words, word_lines};
 
 use crate::appointment::Appointment;
-use case_numbers::{Cases, push_case_text};
+use case_numbers::push_case_text;
 use content_lines::push_property;
 use court_clock::{Clock, Day};
 use court_days::Court;
 use docket_rows::{SheetHearing, State};
 use docket_selection::{DueDeadline, Matter};
 use office_texts::{push_number, room_name};
-use reason_texts::{event_words, rule_section, rule_words};
-use report_texts::{push_given, push_matter, push_minute, push_period, push_second};
+use reason_texts::{event_words, push_minute, push_second, rule_section, rule_words};
+use report_texts::{Labels, push_given, push_matter, push_period};
 use rule_periods::{Period, RulePeriod};
 use rule6::{Act, Shown};
 use std::alloc::AllocError;
@@ -28,13 +28,13 @@ pub(crate) fn push_words(
     line: &mut String,
     value: &mut String,
     court: &Court,
-    cases: &Cases,
+    labels: &Labels<'_>,
     appointment: &Appointment,
 ) -> Result<(), AllocError>
-    ensures { OnOk result (AddsText text.old text.new (sent (word_lines court.now cases.now.named appointment.now))) }
+    ensures { OnOk result (AddsText text.old text.new (sent (word_lines court.now labels.now.cases appointment.now))) }
 {
     let item = &appointment.item;
-    push_name(text, line, value, court, cases, appointment)?;
+    push_name(text, line, value, court, labels, appointment)?;
     push_place(text, line, value, court, &item.matter)?;
     push_details(text, line, value, court.clock(), item.second, &item.matter)
 }
@@ -45,13 +45,13 @@ fn push_name(
     line: &mut String,
     value: &mut String,
     court: &Court,
-    cases: &Cases,
+    labels: &Labels<'_>,
     appointment: &Appointment,
 ) -> Result<(), AllocError>
-    ensures { OnOk result (AddsText text.old text.new (sent_line (property (codes "SUMMARY") (summary court.now cases.now.named appointment.now)))) }
+    ensures { OnOk result (AddsText text.old text.new (sent_line (property (codes "SUMMARY") (summary court.now labels.now.cases appointment.now)))) }
 {
     value.clear();
-    push_summary(value, court, cases, appointment)?;
+    push_summary(value, court, labels, appointment)?;
     push_property(text, line, "SUMMARY", value.as_str())
 }
 
@@ -76,15 +76,15 @@ fn push_details(
 fn push_summary(
     value: &mut String,
     court: &Court,
-    cases: &Cases,
+    labels: &Labels<'_>,
     appointment: &Appointment,
 ) -> Result<(), AllocError>
-    ensures { OnOk result (AddsText value.old value.new (summary court.now cases.now.named appointment.now)) }
+    ensures { OnOk result (AddsText value.old value.new (summary court.now labels.now.cases appointment.now)) }
 {
     let item = &appointment.item;
     value.push_str(off_words(appointment.cancelled, &item.matter))?;
     value.push_str("Case ")?;
-    push_case_text(value, cases, item.case)?;
+    push_case_text(value, labels.cases, item.case)?;
     push_called(value, court, item.number, &item.matter)
 }
 
@@ -96,7 +96,16 @@ fn off_words(cancelled: bool, matter: &Matter) -> &'static str
     }
     match matter {
         Matter::Hearing(_) => "Cancelled: ",
-        Matter::Deadline(_) => "Off this calendar: ",
+        Matter::Deadline(due) => off_deadline(&due.shown),
+    }
+}
+
+fn off_deadline(shown: &Shown) -> &'static str
+    ensures { result.now ≡ off_deadline shown.now }
+{
+    match *shown {
+        Shown::Beyond => "Cancelled: ",
+        _ => "Off this calendar: ",
     }
 }
 
@@ -295,7 +304,7 @@ fn push_rule_front(value: &mut String) -> Result<(), AllocError>
     value.push_str(" (Fed. R. Civ. P. ")
 }
 
-/// Adds when the time of a deadline ends.
+/// Adds when the time of a deadline ends, if a row starts it.
 fn push_end(value: &mut String, clock: &Clock, second: u32, shown: &Shown) -> Result<(), AllocError>
     ensures { OnOk result (AddsText value.old value.new (end_words clock.now second shown.now)) }
 {
@@ -305,7 +314,7 @@ fn push_end(value: &mut String, clock: &Clock, second: u32, shown: &Shown) -> Re
             push_closing(value, clock, act)
         }
         Shown::Until(_) => push_until(value, second),
-        Shown::Beyond => push_midnight(value),
+        Shown::Beyond => push_lost(value),
     }
 }
 
@@ -339,6 +348,13 @@ fn push_midnight(value: &mut String) -> Result<(), AllocError>
     value.push_str("The time ends with this day, at midnight")
 }
 
+#[tactic(auto, unfolding(crate::specs::Events::lost_words))]
+fn push_lost(value: &mut String) -> Result<(), AllocError>
+    ensures { OnOk result (AddsText value.old value.new lost_words) }
+{
+    value.push_str("It was taken off the docket")
+}
+
 /// Adds when the clerk's office closes, for a filing.
 fn push_closing(value: &mut String, clock: &Clock, act: Act) -> Result<(), AllocError>
     ensures { OnOk result (AddsText value.old value.new (closing_words clock.now act)) }
@@ -346,7 +362,7 @@ fn push_closing(value: &mut String, clock: &Clock, act: Act) -> Result<(), Alloc
     match act {
         Act::Filing => {
             push_paper(value)?;
-            push_minute(value, u32::from(clock.closes()))
+            push_minute(value, clock.closes())
         }
         Act::Service => Ok(()),
     }

@@ -1,8 +1,8 @@
 -- How deep the values of a docket nest.
-use Rattle.std.proofs.Common.{◌≤◌, ◌+◌, ℕ, List, [], ◌∷◌, ◌++◌, length, map, codes, slice_get, arith}
+use Rattle.std.proofs.Common.{◌≤◌, ◌+◌, ℕ, ℤ, List, [], ◌∷◌, ◌++◌, length, map, codes, slice_get, arith}
 use Rattle.std.specs.List.{range_with_len}
 use Rattle.std.specs.Option.{option_and_then}
-use Rattle.json.specs.Json.{string, max_depth}
+use Rattle.json.specs.Json.{Json, string, max_depth}
 use Rattle.json.specs.Tree.{depth}
 use Rattle.jiff_tz.specs.declared.timezone.TimeZone.{TimeZone}
 use Rattle.case_numbers.specs.Words.{name_of}
@@ -39,8 +39,7 @@ use Rattle.row_forms.specs.Words.{rows_of}
 use Rattle.office_texts.specs.declared.run.reply.Reply.{Reply}
 use Rattle.office_texts.specs.declared.run.reply.Reply.TheVariants.{Made, Viewed}
 use Rattle.office_texts.specs.Run.Words.{docketed_after, docketed_then}
-use Rattle.desk_numbers.specs.declared.moved.Moved.{Moved as MovedOf}
-use Rattle.report_texts.specs.Words.{numbered_calendar}
+use Rattle.report_texts.specs.Words.{LabelsView, numbered_calendar}
 use Rattle.report_json.specs.declared.answers.AnsweredRow.{AnsweredRow}
 use Rattle.report_json.specs.Answers.{answer_fields, answered_value, case_named, day_named, motion_named, refusal_fields, refusal_front, refusal_value, reply_fields, row_fields, view_fields}
 use Rattle.report_json.specs.Bookings.{booked_fields, booking_fields, booking_value, calendar_fields, calendar_value}
@@ -50,8 +49,8 @@ use Rattle.report_json.specs.Document.{answers_from, court_value, court_fields, 
 use Rattle.report_json.specs.Motions.{hearing_fields, hearing_value, motion_fields, motion_value, notice_days_of}
 use Rattle.report_json.specs.Names.{judges_value, name_value, names_from}
 use Rattle.report_json.specs.Periods.{code_of, day_of_grant, days_of_grant, days_of_length, entered_fields, entered_of, entered_value, grant_fields, grant_value, hours_of_grant, hours_of_length, service_value}
-use Rattle.report_json.specs.Reasons.{case_value, explained_docketed, explained_fields, explained_sheet_fields, explained_value, instant_shown, reason_fields, reason_value, reason_values, reasons_field, why_fields}
-use Rattle.report_json.specs.Sheets.{sheet_docketed, sheet_fields, sheet_value}
+use Rattle.report_json.specs.Reasons.{case_value, explained_fields, explained_sheet_fields, explained_value, instant_shown, reason_fields, reason_value, reason_values, reasons_field, why_fields}
+use Rattle.report_json.specs.Sheets.{sheet_docketed, sheet_fields, sheet_value, sheet_with}
 use Rattle.report_json.specs.Times.{day_value, happened_fields, instant_value}
 use Rattle.report_json.specs.Values.{amount, field, or_null}
 use Rattle.report_json.proofs.DepthLemmas.{AllWithin, FieldsWithin, append_within, array_within, deeper_within, happened_within, instant_within, list_within, name_within, nullable, object_within, span_within}
@@ -132,12 +131,17 @@ named_within : (n : ℕ) (named : List NamedCase) (case : ℕ) → FieldsWithin 
 unfolding case_fields
 named_within n named case = (omega arith, name_within n (name_of named case))
 
+sheet_with_within : {D : Type 0} (value : D → Json) → ((d : D) → depth (value d) ≤ 3) → (court : CourtView) (named : List NamedCase) (case : ℕ) (filed : ℤ) (deadlines : List D) (motions : List SheetMotion)
+    → FieldsWithin 4 (sheet_with value court named case filed deadlines motions)
+unfolding sheet_docketed
+sheet_with_within value within court named case filed deadlines motions =
+    append_within 4 (case_fields named case) (sheet_docketed value court filed deadlines motions) (named_within 4 named case)
+    (omega arith, (array_within value 3 within deadlines, (array_within _ 3 (motion_within court) motions, tt)))
+
 sheet_within : (court : CourtView) (named : List NamedCase) (s : Sheet) → depth (sheet_value court named s) ≤ 5
-unfolding sheet_value sheet_docketed
+unfolding sheet_value
 sheet_within court named s =
-    object_within 4 (sheet_fields court named s)
-    (append_within 4 (case_fields named s.case) (sheet_docketed court s) (named_within 4 named s.case)
-    (omega arith, (array_within _ 3 (deadline_within court.clock.zone) s.deadlines, (array_within _ 3 (motion_within court) s.motions, tt))))
+    object_within 4 (sheet_fields court named s) (sheet_with_within (deadline_value court.clock.zone) (deadline_within court.clock.zone) court named s.case s.filed s.deadlines s.motions)
 
 reason_within : (clock : ClockView) (course : Course) (r : Reason) → depth (reason_value clock course r) ≤ 1
 unfolding reason_value
@@ -158,11 +162,9 @@ explained_within clock e =
     (nullable (shown_value clock.zone) 2 (λ end. let h = shown_object_within clock.zone end in omega arith) e.other, (list_within 1 _ (reasons_within clock (course_of e.deadline.row.period) e.reasons.items), tt)))
 
 case_within : (court : CourtView) (named : List NamedCase) (e : ExplainedSheet) → depth (case_value court named e) ≤ 5
-unfolding case_value explained_docketed
+unfolding case_value
 case_within court named e =
-    object_within 4 (explained_sheet_fields court named e)
-    (append_within 4 (case_fields named e.case) (explained_docketed court e) (named_within 4 named e.case)
-    (omega arith, (array_within _ 3 (explained_within court.clock) e.deadlines.items, (array_within _ 3 (motion_within court) e.motions, tt))))
+    object_within 4 (explained_sheet_fields court named e) (sheet_with_within (explained_value court.clock) (explained_within court.clock) court named e.case e.filed e.deadlines.items e.motions)
 
 booking_within : (court : CourtView) (named : List NamedCase) (b : Booking) → depth (booking_value court named b) ≤ 1
 unfolding booking_value booked_fields
@@ -229,10 +231,10 @@ answered_within court named r = object_within 5 _ (append_within 5 (row_fields r
 pub answered_reads_within : (court : CourtView) (named : List NamedCase) (r : AnsweredRow) → depth (answered_value court named r) ≤ max_depth
 answered_reads_within court named r = let h = answered_within court named r in omega arith
 
-answers_within : (court : CourtView) (named : List NamedCase) (moved : List MovedOf) (docketed : Rows) (rows : List NumberedRow) → AllWithin 6 (answers_from court named moved docketed rows)
+answers_within : (court : CourtView) (labels : LabelsView) (docketed : Rows) (rows : List NumberedRow) → AllWithin 6 (answers_from court labels docketed rows)
 unfolding answers_from
-answers_within court named moved docketed [] = tt
-answers_within court named moved docketed (n ∷ rows) = (answered_within court named _, answers_within court named moved (docketed_then (setup_of court) docketed n.row.work) rows)
+answers_within court labels docketed [] = tt
+answers_within court labels docketed (n ∷ rows) = (answered_within court labels.cases _, answers_within court labels (docketed_then (setup_of court) docketed n.row.work) rows)
 
 judges_within : (court : CourtView) → depth (judges_value court) ≤ 1
 unfolding names_from
@@ -248,13 +250,13 @@ calendar_within court named c =
     object_within 2 (calendar_fields court named c)
     (nullable string 2 (λ _. omega arith) _, (array_within (booking_value court named) 1 (booking_within court named) c.bookings, tt))
 
-pub document_within : (court : CourtView) (named : List NamedCase) (moved : List MovedOf) (choice : Choice) (rows : List NumberedRow) (sheets : List ExplainedSheet) → depth (document_value court named moved choice rows sheets) ≤ max_depth
+pub document_within : (court : CourtView) (labels : LabelsView) (choice : Choice) (rows : List NumberedRow) (sheets : List ExplainedSheet) → depth (document_value court labels choice rows sheets) ≤ max_depth
 unfolding document_value
-document_within court named moved choice rows sheets =
+document_within court labels choice rows sheets =
     let docketed = docketed_after (setup_of court) (opening_rows (setup_of court)) (rows_of rows) in
     let here : depth (court_value court) ≤ 7 = let h = court_within court in omega arith in
-    let answers = list_within 6 _ (answers_within court named moved (opening_rows (setup_of court)) rows) in
-    let cases = array_within (case_value court named) 5 (case_within court named) sheets in
-    let calendars = array_within (calendar_value court named) 3 (calendar_within court named) (map (numbered_calendar moved) (chosen_calendars (setup_of court) docketed choice)) in
-    let whole = object_within 7 (document_fields court named moved choice rows sheets) (here, (answers, (omega arith, (omega arith, tt)))) in
+    let answers = list_within 6 _ (answers_within court labels (opening_rows (setup_of court)) rows) in
+    let cases = array_within (case_value court labels.cases) 5 (case_within court labels.cases) sheets in
+    let calendars = array_within (calendar_value court labels.cases) 3 (calendar_within court labels.cases) (map (numbered_calendar labels.moved) (chosen_calendars (setup_of court) docketed choice)) in
+    let whole = object_within 7 (document_fields court labels choice rows sheets) (here, (answers, (omega arith, (omega arith, tt)))) in
     omega arith

@@ -14,9 +14,8 @@ use Rattle.docket_selection.specs.Explained.Words.{AreExplained}
 use Rattle.row_forms.specs.declared.numbered.NumberedRow.{NumberedRow}
 use Rattle.row_forms.specs.Words.{rows_of}
 use Rattle.office_texts.specs.Run.Words.{docketed_after, docketed_then, reply_to}
-use Rattle.desk_numbers.specs.declared.moved.Moved.{Moved}
 use Rattle.desk_numbers.specs.Words.{numbered, numbered_sheet}
-use Rattle.report_texts.specs.Words.{numbered_calendar}
+use Rattle.report_texts.specs.Words.{LabelsView, numbered_calendar}
 use Rattle.report_json.specs.Answers.{answered_value}
 use Rattle.report_json.specs.Bookings.{calendar_value}
 use Rattle.report_json.specs.Names.{judges_value}
@@ -38,11 +37,11 @@ unfoldable pub court_value : CourtView → Json
 court_value court = object_of (court_fields court)
 
 -- what each row is answered, with its number; deadlines and motions have the numbers that they keep
-unfoldable pub answers_from : CourtView → List NamedCase → List Moved → (docketed : Rows) → List NumberedRow → List Json
-answers_from court named moved docketed [] = []
-answers_from court named moved docketed (n ∷ rows) =
-    answered_value court named (record { number = n.number; clerk = n.row.clerk; reply = numbered moved n.row.work (reply_to (setup_of court) docketed n.row.work) })
-    ∷ answers_from court named moved (docketed_then (setup_of court) docketed n.row.work) rows
+unfoldable pub answers_from : CourtView → LabelsView → (docketed : Rows) → List NumberedRow → List Json
+answers_from court labels docketed [] = []
+answers_from court labels docketed (n ∷ rows) =
+    answered_value court labels.cases (record { number = n.number; clerk = n.row.clerk; reply = numbered labels.moved n.row.work (reply_to (setup_of court) docketed n.row.work) })
+    ∷ answers_from court labels (docketed_then (setup_of court) docketed n.row.work) rows
 
 -- the sheets of cases, with the reasons of each deadline
 abbrev pub cases_field : CourtView → List NamedCase → List ExplainedSheet → Field
@@ -50,31 +49,31 @@ cases_field court named sheets = field (codes "cases") (array_of (map (case_valu
 
 -- the calendars of the chosen judges, with the bookings that are chosen and the numbers of their motions, in the order of the
 -- court's file
-abbrev pub calendars_field : CourtView → List NamedCase → List Moved → Choice → (docketed : Rows) → Field
-calendars_field court named moved choice docketed =
-    field (codes "calendars") (array_of (map (calendar_value court named) (map (numbered_calendar moved) (chosen_calendars (setup_of court) docketed choice))))
+abbrev pub calendars_field : CourtView → LabelsView → Choice → (docketed : Rows) → Field
+calendars_field court labels choice docketed =
+    field (codes "calendars") (array_of (map (calendar_value court labels.cases) (map (numbered_calendar labels.moved) (chosen_calendars (setup_of court) docketed choice))))
 
 -- what is docketed after all rows
 abbrev pub docketed_by : CourtView → List NumberedRow → Rows
 docketed_by court rows = docketed_after (setup_of court) (opening_rows (setup_of court)) (rows_of rows)
 
 -- of a court and all rows, with these sheets: the calendars are those after the last row
-abbrev pub document_fields : CourtView → List NamedCase → List Moved → Choice → List NumberedRow → List ExplainedSheet → List Field
-document_fields court named moved choice rows sheets =
+abbrev pub document_fields : CourtView → LabelsView → Choice → List NumberedRow → List ExplainedSheet → List Field
+document_fields court labels choice rows sheets =
     field (codes "court") (court_value court)
-    ∷ field (codes "answers") (array_of (answers_from court named moved (opening_rows (setup_of court)) rows))
-    ∷ cases_field court named sheets
-    ∷ calendars_field court named moved choice (docketed_by court rows)
+    ∷ field (codes "answers") (array_of (answers_from court labels (opening_rows (setup_of court)) rows))
+    ∷ cases_field court labels.cases sheets
+    ∷ calendars_field court labels choice (docketed_by court rows)
     ∷ []
 
-unfoldable pub document_value : CourtView → List NamedCase → List Moved → Choice → List NumberedRow → List ExplainedSheet → Json
-document_value court named moved choice rows sheets = object_of (document_fields court named moved choice rows sheets)
+unfoldable pub document_value : CourtView → LabelsView → Choice → List NumberedRow → List ExplainedSheet → Json
+document_value court labels choice rows sheets = object_of (document_fields court labels choice rows sheets)
 
 -- the sheets of the chosen cases after all rows, by the cases' numbers, with the numbers of deadlines and motions and with the
 -- reasons of a derivation of what is shown of each deadline, by the days that are docketed
-abbrev pub AreSheetsAfter : CourtView → List Moved → Choice → List NumberedRow → List ExplainedSheet → Type 0
-AreSheetsAfter court moved choice rows sheets =
-    AreExplained (docketed_by court rows).days court.clock (map (numbered_sheet moved) (chosen_sheets (setup_of court) (docketed_by court rows) choice)) sheets
+abbrev pub AreSheetsAfter : CourtView → LabelsView → Choice → List NumberedRow → List ExplainedSheet → Type 0
+AreSheetsAfter court labels choice rows sheets =
+    AreExplained (docketed_by court rows).days court.clock labels.doubtful (map (numbered_sheet labels.moved) (chosen_sheets (setup_of court) (docketed_by court rows) choice)) sheets
 
 -- the text is one line of JSON, without spaces, that reads as that value
 pub record IsJsonText (value : Json) (text : List ℕ) : Type 0 where
@@ -83,7 +82,7 @@ pub record IsJsonText (value : Json) (text : List ℕ) : Type 0 where
   pub utf8 : IsUtf8 (print (json_tokens value))
 
 -- the text is that of the court and all rows, with the sheets of the chosen cases
-pub record IsDocketJson (court : CourtView) (named : List NamedCase) (moved : List Moved) (choice : Choice) (rows : List NumberedRow) (text : List ℕ) : Type 0 where
+pub record IsDocketJson (court : CourtView) (labels : LabelsView) (choice : Choice) (rows : List NumberedRow) (text : List ℕ) : Type 0 where
   pub sheets : List ExplainedSheet
-  pub explained : AreSheetsAfter court moved choice rows sheets
-  pub json : IsJsonText (document_value court named moved choice rows sheets) text
+  pub explained : AreSheetsAfter court labels choice rows sheets
+  pub json : IsJsonText (document_value court labels choice rows sheets) text

@@ -10,9 +10,8 @@ use Rattle.reason_texts.specs.declared.course.Course.{Course}
 use Rattle.reason_texts.specs.Words.{course_after, course_of, day_shown, section_text, what_text}
 use Rattle.docket_selection.specs.declared.explained.explained.ExplainedDeadline.{ExplainedDeadline}
 use Rattle.docket_selection.specs.declared.explained.explained.ExplainedSheet.{ExplainedSheet}
-use Rattle.report_json.specs.Cases.{case_fields}
 use Rattle.report_json.specs.Deadlines.{deadline_fields, shown_value}
-use Rattle.report_json.specs.Motions.{motion_value}
+use Rattle.report_json.specs.Sheets.{sheet_with}
 use Rattle.report_json.specs.Times.{day_value, instant_value}
 use Rattle.report_json.specs.Values.{Field, array_of, field, object_of, or_null}
 
@@ -55,17 +54,9 @@ explained_fields clock e = deadline_fields clock.zone e.deadline ++ why_fields c
 unfoldable pub explained_value : ClockView → ExplainedDeadline → Json
 explained_value clock e = object_of (explained_fields clock e)
 
--- when a case was filed, each of its deadlines with its reasons, and each of its motions, in order
-unfoldable pub explained_docketed : CourtView → ExplainedSheet → List Field
-explained_docketed court e =
-    field (codes "filed") (day_value e.filed)
-    ∷ field (codes "deadlines") (array_of (map (explained_value court.clock) e.deadlines.items))
-    ∷ field (codes "motions") (array_of (map (motion_value court) e.motions))
-    ∷ []
-
--- a case: its number, its name where it has one, and what is docketed in it
+-- a case, with the reasons of each of its deadlines
 abbrev pub explained_sheet_fields : CourtView → List NamedCase → ExplainedSheet → List Field
-explained_sheet_fields court named e = case_fields named e.case ++ explained_docketed court e
+explained_sheet_fields court named e = sheet_with (explained_value court.clock) court named e.case e.filed e.deadlines.items e.motions
 
 unfoldable pub case_value : CourtView → List NamedCase → ExplainedSheet → Json
 case_value court named e = object_of (explained_sheet_fields court named e)

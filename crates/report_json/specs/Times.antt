@@ -1,9 +1,9 @@
 -- Days and instants, as texts of ISO 8601.
 use Rattle.std.specs.Prelude.{ℕ, ◌+◌, ◌*◌, ◌/◌, ◌%◌, ◌==◌, ℤ, pos, ◌+ℤ◌, int_le, unsigned_abs, List, [], ◌∷◌, ◌++◌, codes, if◌then◌else◌}
 use Rattle.json.specs.Json.{Json, null, string}
-use Rattle.jiff_fmt.specs.Text.{pad2}
 use Rattle.jiff_tz.specs.declared.timezone.TimeZone.{TimeZone}
-use Rattle.court_clock.specs.Words.{CivilTime, civil_of, day_text, instant_of, is_day_number, minute_text, offset_seconds}
+use Rattle.court_clock.specs.Words.{CivilTime, civil_of, day_text, instant_of, is_day_number, offset_seconds}
+use Rattle.reason_texts.specs.Words.{minute_time, second_time}
 use Rattle.report_json.specs.Values.{Field, amount, field, or_null}
 
 -- `2025-09-02`
@@ -12,28 +12,23 @@ day_value day = string (day_text day)
 
 -- `09:30`, of a minute of the day counted from midnight
 abbrev pub minute_value : (minute : ℕ) → Json
-minute_value minute = string (minute_text minute)
-
--- `:30`
-abbrev pub second_words : (second : ℕ) → List ℕ
-second_words second = 58 ∷ pad2 second
+minute_value minute = string (minute_time minute)
 
 -- `2025-09-16T15:00:00`, of a second of the day counted from midnight
 unfoldable pub civil_words : CivilTime → List ℕ
-civil_words at = day_text at.day ++ 84 ∷ [] ++ minute_text (at.second / 60) ++ second_words (at.second % 60)
+civil_words at = day_text at.day ++ 84 ∷ [] ++ second_time at.second
 
 -- ahead of UTC, or behind it
 abbrev pub sign_of : (offset : ℤ) → ℕ
 sign_of offset = if int_le (pos 0) offset then 43 else 45
 
--- the seconds of an offset, where it has some
-abbrev pub seconds_words : (seconds : ℕ) → List ℕ
-seconds_words seconds = if seconds % 60 == 0 then [] else second_words (seconds % 60)
+-- `04:00`, with seconds where it has some
+abbrev pub offset_time : (seconds : ℕ) → List ℕ
+offset_time seconds = if seconds % 60 == 0 then minute_time (seconds / 60) else second_time seconds
 
 -- `-04:00`, of seconds ahead of UTC
 unfoldable pub offset_words : (offset : ℤ) → List ℕ
-offset_words offset =
-    sign_of offset ∷ [] ++ minute_text (unsigned_abs offset / 60) ++ seconds_words (unsigned_abs offset)
+offset_words offset = sign_of offset ∷ [] ++ offset_time (unsigned_abs offset)
 
 -- `2025-09-16T15:00:00-04:00`: what the clock shows at an instant, and how far it is ahead of UTC then. The days that a
 -- court's file covers and those beside them are days, so an instant that is shown has one.

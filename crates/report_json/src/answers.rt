@@ -7,12 +7,12 @@ ghost use Rattle.report_json.specs.Values.{AddsFields};
 use crate::cases::name_of_any;
 use crate::to_json::{ToFields, ToJson};
 use crate::writer::JsonWriter;
-use case_numbers::Cases;
 use court_clock::Day;
 use court_days::Court;
 use docket_rows::{Answer, Refusal, View};
 use hearing_slots::Booking;
 use office_texts::Reply;
+use report_texts::Labels;
 use rule6::Shown;
 use std::alloc::AllocError;
 
@@ -37,10 +37,10 @@ impl ToFields for AnsweredRow {
         &self,
         out: &mut JsonWriter,
         court: &Court,
-        cases: &Cases,
+        labels: &Labels<'_>,
     ) -> Result<(), AllocError> {
-        push_row(out, court, cases, self.number, self.clerk)?;
-        push_reply(out, court, cases, &self.reply)
+        push_row(out, court, labels, self.number, self.clerk)?;
+        push_reply(out, court, labels, &self.reply)
     }
 }
 
@@ -50,8 +50,13 @@ impl ToJson for AnsweredRow {
     ghost value = { answered_value };
 
     #[tactic(auto, unfolding(crate::specs::Answers::answered_value))]
-    fn write(&self, out: &mut JsonWriter, court: &Court, cases: &Cases) -> Result<(), AllocError> {
-        out.object(court, cases, self)
+    fn write(
+        &self,
+        out: &mut JsonWriter,
+        court: &Court,
+        labels: &Labels<'_>,
+    ) -> Result<(), AllocError> {
+        out.object(court, labels, self)
     }
 }
 
@@ -60,28 +65,28 @@ impl ToJson for AnsweredRow {
 fn push_row(
     out: &mut JsonWriter,
     court: &Court,
-    cases: &Cases,
+    labels: &Labels<'_>,
     number: u64,
     clerk: u8,
 ) -> Result<(), AllocError>
     ensures { OnOk result (AddsFields out.old out.new (row_fields number clerk)) }
 {
-    out.field(court, cases, "row", &number)?;
-    out.field(court, cases, "clerk", &u32::from(clerk))
+    out.field(court, labels, "row", &number)?;
+    out.field(court, labels, "clerk", &u32::from(clerk))
 }
 
 #[tactic(auto, unfolding(crate::specs::Answers::reply_fields))]
 fn push_reply(
     out: &mut JsonWriter,
     court: &Court,
-    cases: &Cases,
+    labels: &Labels<'_>,
     reply: &Reply,
 ) -> Result<(), AllocError>
-    ensures { OnOk result (AddsFields out.old out.new (reply_fields court.now cases.now.named reply.now)) }
+    ensures { OnOk result (AddsFields out.old out.new (reply_fields court.now labels.now.cases reply.now)) }
 {
     match reply {
-        Reply::Made(answer) => push_answer(out, court, cases, answer),
-        Reply::Viewed(view) => push_view(out, court, cases, view),
+        Reply::Made(answer) => push_answer(out, court, labels, answer),
+        Reply::Viewed(view) => push_view(out, court, labels, view),
     }
 }
 
@@ -90,32 +95,32 @@ fn push_reply(
 fn push_answer(
     out: &mut JsonWriter,
     court: &Court,
-    cases: &Cases,
+    labels: &Labels<'_>,
     answer: &Answer,
 ) -> Result<(), AllocError>
-    ensures { OnOk result (AddsFields out.old out.new (answer_fields court.now.clock.zone cases.now.named answer.now)) }
+    ensures { OnOk result (AddsFields out.old out.new (answer_fields court.now.clock.zone labels.now.cases answer.now)) }
 {
     match answer {
         Answer::Opened => push_kind(out, "opened"),
-        Answer::Started(number, shown) => push_started(out, court, cases, *number, shown),
+        Answer::Started(number, shown) => push_started(out, court, labels, *number, shown),
         Answer::Filed(timely) => {
             push_kind(out, "filed")?;
-            out.field(court, cases, "timely", timely)
+            out.field(court, labels, "timely", timely)
         }
         Answer::Extended(shown) => {
             push_kind(out, "extended")?;
-            shown.write_fields(out, court, cases)
+            shown.write_fields(out, court, labels)
         }
         Answer::MotionEntered(number) => {
             push_kind(out, "motion")?;
-            out.field(court, cases, "number", number)
+            out.field(court, labels, "number", number)
         }
         Answer::Booked => push_kind(out, "booked"),
         Answer::Moved => push_kind(out, "moved"),
         Answer::Cancelled => push_kind(out, "cancelled"),
         Answer::HolidayEntered => push_kind(out, "holiday"),
         Answer::OutageEntered => push_kind(out, "outage"),
-        Answer::Refused(refusal) => push_refused(out, court, cases, refusal),
+        Answer::Refused(refusal) => push_refused(out, court, labels, refusal),
     }
 }
 
@@ -123,15 +128,15 @@ fn push_answer(
 fn push_started(
     out: &mut JsonWriter,
     court: &Court,
-    cases: &Cases,
+    labels: &Labels<'_>,
     number: u32,
     shown: &Shown,
 ) -> Result<(), AllocError>
     ensures { OnOk result (AddsFields out.old out.new (started_fields court.now.clock.zone number shown.now)) }
 {
     push_kind(out, "deadline")?;
-    out.field(court, cases, "number", &number)?;
-    shown.write_fields(out, court, cases)
+    out.field(court, labels, "number", &number)?;
+    shown.write_fields(out, court, labels)
 }
 
 /// Writes what a query shows.
@@ -139,22 +144,22 @@ fn push_started(
 fn push_view(
     out: &mut JsonWriter,
     court: &Court,
-    cases: &Cases,
+    labels: &Labels<'_>,
     view: &View,
 ) -> Result<(), AllocError>
-    ensures { OnOk result (AddsFields out.old out.new (view_fields court.now cases.now.named view.now)) }
+    ensures { OnOk result (AddsFields out.old out.new (view_fields court.now labels.now.cases view.now)) }
 {
     match view {
         View::Sheet(sheet) => {
             push_kind(out, "sheet")?;
-            out.field(court, cases, "sheet", sheet)
+            out.field(court, labels, "sheet", sheet)
         }
-        View::Bookings(bookings) => push_day(out, court, cases, bookings.as_slice()),
+        View::Bookings(bookings) => push_day(out, court, labels, bookings.as_slice()),
         View::Computed(shown) => {
             push_kind(out, "computed")?;
-            shown.write_fields(out, court, cases)
+            shown.write_fields(out, court, labels)
         }
-        View::Refused(refusal) => push_refused(out, court, cases, refusal),
+        View::Refused(refusal) => push_refused(out, court, labels, refusal),
     }
 }
 
@@ -162,13 +167,13 @@ fn push_view(
 fn push_day(
     out: &mut JsonWriter,
     court: &Court,
-    cases: &Cases,
+    labels: &Labels<'_>,
     bookings: &[Booking],
 ) -> Result<(), AllocError>
-    ensures { OnOk result (AddsFields out.old out.new (day_fields court.now cases.now.named bookings.now)) }
+    ensures { OnOk result (AddsFields out.old out.new (day_fields court.now labels.now.cases bookings.now)) }
 {
     push_kind(out, "calendar")?;
-    out.list_field(court, cases, "bookings", bookings)
+    out.list_field(court, labels, "bookings", bookings)
 }
 
 /// Writes of which kind an answer is.
@@ -181,13 +186,13 @@ fn push_kind(out: &mut JsonWriter, word: &str) -> Result<(), AllocError>
 fn push_refused(
     out: &mut JsonWriter,
     court: &Court,
-    cases: &Cases,
+    labels: &Labels<'_>,
     refusal: &Refusal,
 ) -> Result<(), AllocError>
-    ensures { OnOk result (AddsFields out.old out.new (refused_fields cases.now.named refusal.now)) }
+    ensures { OnOk result (AddsFields out.old out.new (refused_fields labels.now.cases refusal.now)) }
 {
     push_kind(out, "refused")?;
-    out.field(court, cases, "refusal", refusal)
+    out.field(court, labels, "refusal", refusal)
 }
 
 impl ToFields for Refusal {
@@ -200,11 +205,11 @@ impl ToFields for Refusal {
         &self,
         out: &mut JsonWriter,
         court: &Court,
-        cases: &Cases,
+        labels: &Labels<'_>,
     ) -> Result<(), AllocError> {
-        push_refusal(out, court, cases, self)?;
-        out.name_if_any(name_of_any(cases, case_named(self)))?;
-        out.field(court, cases, "motion", &motion_named(self))
+        push_refusal(out, court, labels, self)?;
+        out.name_if_any(name_of_any(labels.cases, case_named(self)))?;
+        out.field(court, labels, "motion", &motion_named(self))
     }
 }
 
@@ -213,15 +218,15 @@ impl ToFields for Refusal {
 fn push_refusal(
     out: &mut JsonWriter,
     court: &Court,
-    cases: &Cases,
+    labels: &Labels<'_>,
     refusal: &Refusal,
 ) -> Result<(), AllocError>
     ensures { OnOk result (AddsFields out.old out.new (refusal_front refusal.now)) }
 {
-    out.field(court, cases, "number", &u32::from(refusal.number()))?;
+    out.field(court, labels, "number", &u32::from(refusal.number()))?;
     out.text_field("name", refusal.name())?;
-    out.field(court, cases, "day", &day_named(refusal))?;
-    out.field(court, cases, "case", &case_named(refusal))
+    out.field(court, labels, "day", &day_named(refusal))?;
+    out.field(court, labels, "case", &case_named(refusal))
 }
 
 impl ToJson for Refusal {
@@ -230,8 +235,13 @@ impl ToJson for Refusal {
     ghost value = { λ court named refusal. refusal_value named refusal };
 
     #[tactic(auto, unfolding(crate::specs::Answers::refusal_value))]
-    fn write(&self, out: &mut JsonWriter, court: &Court, cases: &Cases) -> Result<(), AllocError> {
-        out.object(court, cases, self)
+    fn write(
+        &self,
+        out: &mut JsonWriter,
+        court: &Court,
+        labels: &Labels<'_>,
+    ) -> Result<(), AllocError> {
+        out.object(court, labels, self)
     }
 }
 

@@ -7,10 +7,10 @@ ghost use Rattle.report_json.specs.Values.{AddsFields};
 use crate::spans::push_span;
 use crate::to_json::{ToFields, ToJson};
 use crate::writer::JsonWriter;
-use case_numbers::Cases;
 use court_days::Court;
 use docket_selection::JudgeCalendar;
 use hearing_slots::Booking;
+use report_texts::Labels;
 use std::alloc::AllocError;
 
 impl ToFields for Booking {
@@ -23,10 +23,10 @@ impl ToFields for Booking {
         &self,
         out: &mut JsonWriter,
         court: &Court,
-        cases: &Cases,
+        labels: &Labels<'_>,
     ) -> Result<(), AllocError> {
-        out.case_fields(court, cases, self.case)?;
-        push_hearing(out, court, cases, self)
+        out.case_fields(court, labels, self.case)?;
+        push_hearing(out, court, labels, self)
     }
 }
 
@@ -35,14 +35,21 @@ impl ToFields for Booking {
 fn push_hearing(
     out: &mut JsonWriter,
     court: &Court,
-    cases: &Cases,
+    labels: &Labels<'_>,
     booking: &Booking,
 ) -> Result<(), AllocError>
     ensures { OnOk result (AddsFields out.old out.new (booked_fields court.now booking.now)) }
 {
-    out.field(court, cases, "motion", &booking.motion)?;
+    out.field(court, labels, "motion", &booking.motion)?;
     out.text_if_any("room", court.room_name(booking.other))?;
-    push_span(out, court, cases, booking.day, booking.first, booking.count)
+    push_span(
+        out,
+        court,
+        labels,
+        booking.day,
+        booking.first,
+        booking.count,
+    )
 }
 
 impl ToJson for Booking {
@@ -51,8 +58,13 @@ impl ToJson for Booking {
     ghost value = { booking_value };
 
     #[tactic(auto, unfolding(crate::specs::Bookings::booking_value))]
-    fn write(&self, out: &mut JsonWriter, court: &Court, cases: &Cases) -> Result<(), AllocError> {
-        out.object(court, cases, self)
+    fn write(
+        &self,
+        out: &mut JsonWriter,
+        court: &Court,
+        labels: &Labels<'_>,
+    ) -> Result<(), AllocError> {
+        out.object(court, labels, self)
     }
 }
 
@@ -65,10 +77,10 @@ impl ToFields for JudgeCalendar {
         &self,
         out: &mut JsonWriter,
         court: &Court,
-        cases: &Cases,
+        labels: &Labels<'_>,
     ) -> Result<(), AllocError> {
         out.text_if_any("judge", court.judge_name(self.judge))?;
-        out.list_field(court, cases, "bookings", self.bookings.as_slice())
+        out.list_field(court, labels, "bookings", self.bookings.as_slice())
     }
 }
 
@@ -78,7 +90,12 @@ impl ToJson for JudgeCalendar {
     ghost value = { calendar_value };
 
     #[tactic(auto, unfolding(crate::specs::Bookings::calendar_value))]
-    fn write(&self, out: &mut JsonWriter, court: &Court, cases: &Cases) -> Result<(), AllocError> {
-        out.object(court, cases, self)
+    fn write(
+        &self,
+        out: &mut JsonWriter,
+        court: &Court,
+        labels: &Labels<'_>,
+    ) -> Result<(), AllocError> {
+        out.object(court, labels, self)
     }
 }

@@ -9,6 +9,7 @@ ghost use Rattle.report_json.specs.Values.{AddsFields};
 use crate::writer::JsonWriter;
 use case_numbers::Cases;
 use court_days::Court;
+use report_texts::Labels;
 use std::alloc::AllocError;
 
 impl JsonWriter {
@@ -17,13 +18,13 @@ impl JsonWriter {
     pub(crate) fn case_fields(
         &mut self,
         court: &Court,
-        cases: &Cases,
+        labels: &Labels<'_>,
         case: u32,
     ) -> Result<(), AllocError>
-        ensures { OnOk result (AddsFields self.old self.new (case_fields cases.now.named case)) }
+        ensures { OnOk result (AddsFields self.old self.new (case_fields labels.now.cases case)) }
     {
-        self.field(court, cases, "case", &case)?;
-        self.name_if_any(cases.name_of(case))
+        self.field(court, labels, "case", &case)?;
+        self.name_if_any(labels.cases.name_of(case))
     }
 
     /// The field of a case's name, if there is one.

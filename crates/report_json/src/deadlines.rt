@@ -10,10 +10,10 @@ ghost use Rattle.report_json.specs.Values.{AddsFields, field, or_null};
 use crate::periods::{code_of, entered_of};
 use crate::to_json::{ToFields, ToJson};
 use crate::writer::JsonWriter;
-use case_numbers::Cases;
 use court_clock::{Day, Instant};
 use court_days::Court;
 use docket_rows::{SheetDeadline, State};
+use report_texts::Labels;
 use rule_periods::{DeadlineRow, Event};
 use rule6::{Filing, Means, Shown};
 use std::alloc::AllocError;
@@ -28,10 +28,10 @@ impl ToFields for SheetDeadline {
         &self,
         out: &mut JsonWriter,
         court: &Court,
-        cases: &Cases,
+        labels: &Labels<'_>,
     ) -> Result<(), AllocError> {
-        push_docketed(out, court, cases, self)?;
-        push_outcome(out, court, cases, self)
+        push_docketed(out, court, labels, self)?;
+        push_outcome(out, court, labels, self)
     }
 }
 
@@ -40,17 +40,17 @@ impl ToFields for SheetDeadline {
 fn push_docketed(
     out: &mut JsonWriter,
     court: &Court,
-    cases: &Cases,
+    labels: &Labels<'_>,
     deadline: &SheetDeadline,
 ) -> Result<(), AllocError>
     ensures { OnOk result (AddsFields out.old out.new (docketed_fields court.now.clock.zone deadline.now)) }
 {
     let row = &deadline.row;
     let period = row.period();
-    out.field(court, cases, "number", &deadline.number)?;
+    out.field(court, labels, "number", &deadline.number)?;
     out.text_if_any("period", code_of(&period))?;
-    out.field(court, cases, "entered", &entered_of(&period))?;
-    push_started(out, court, cases, row)
+    out.field(court, labels, "entered", &entered_of(&period))?;
+    push_started(out, court, labels, row)
 }
 
 /// Writes from what a deadline runs, and its extensions.
@@ -58,15 +58,15 @@ fn push_docketed(
 fn push_started(
     out: &mut JsonWriter,
     court: &Court,
-    cases: &Cases,
+    labels: &Labels<'_>,
     row: &DeadlineRow,
 ) -> Result<(), AllocError>
     ensures { OnOk result (AddsFields out.old out.new (started_fields court.now.clock.zone row.now)) }
 {
-    out.field(court, cases, "event", &row.event())?;
-    out.field(court, cases, "second_day", &row.second())?;
-    out.field(court, cases, "service", &row.service())?;
-    out.list_field(court, cases, "grants", row.grants())
+    out.field(court, labels, "event", &row.event())?;
+    out.field(court, labels, "second_day", &row.second())?;
+    out.field(court, labels, "service", &row.service())?;
+    out.list_field(court, labels, "grants", row.grants())
 }
 
 /// Writes when a deadline's time ends, and whether it was met.
@@ -74,14 +74,14 @@ fn push_started(
 fn push_outcome(
     out: &mut JsonWriter,
     court: &Court,
-    cases: &Cases,
+    labels: &Labels<'_>,
     deadline: &SheetDeadline,
 ) -> Result<(), AllocError>
     ensures { OnOk result (AddsFields out.old out.new (outcome_fields court.now.clock.zone deadline.now)) }
 {
-    deadline.shown.write_fields(out, court, cases)?;
-    out.field(court, cases, "state", &deadline.state)?;
-    push_filed(out, court, cases, deadline.row.filed())
+    deadline.shown.write_fields(out, court, labels)?;
+    out.field(court, labels, "state", &deadline.state)?;
+    push_filed(out, court, labels, deadline.row.filed())
 }
 
 impl ToJson for SheetDeadline {
@@ -90,8 +90,13 @@ impl ToJson for SheetDeadline {
     ghost value = { λ court named deadline. deadline_value court.clock.zone deadline };
 
     #[tactic(auto, unfolding(crate::specs::Deadlines::deadline_value))]
-    fn write(&self, out: &mut JsonWriter, court: &Court, cases: &Cases) -> Result<(), AllocError> {
-        out.object(court, cases, self)
+    fn write(
+        &self,
+        out: &mut JsonWriter,
+        court: &Court,
+        labels: &Labels<'_>,
+    ) -> Result<(), AllocError> {
+        out.object(court, labels, self)
     }
 }
 
@@ -105,10 +110,10 @@ impl ToFields for Shown {
         &self,
         out: &mut JsonWriter,
         court: &Court,
-        cases: &Cases,
+        labels: &Labels<'_>,
     ) -> Result<(), AllocError> {
-        out.field(court, cases, "last_day", &last_day_of(self))?;
-        out.field(court, cases, "end", &end_of(self))
+        out.field(court, labels, "last_day", &last_day_of(self))?;
+        out.field(court, labels, "end", &end_of(self))
     }
 }
 
@@ -119,8 +124,13 @@ impl ToJson for Shown {
     ghost value = { λ court named shown. shown_value court.clock.zone shown };
 
     #[tactic(auto, unfolding(crate::specs::Deadlines::shown_value))]
-    fn write(&self, out: &mut JsonWriter, court: &Court, cases: &Cases) -> Result<(), AllocError> {
-        out.object(court, cases, self)
+    fn write(
+        &self,
+        out: &mut JsonWriter,
+        court: &Court,
+        labels: &Labels<'_>,
+    ) -> Result<(), AllocError> {
+        out.object(court, labels, self)
     }
 }
 
@@ -145,7 +155,12 @@ fn end_of(shown: &Shown) -> Option<Instant>
 impl ToJson for Instant {
     ghost value = { λ court named instant. instant_value court.clock.zone instant };
 
-    fn write(&self, out: &mut JsonWriter, court: &Court, cases: &Cases) -> Result<(), AllocError> {
+    fn write(
+        &self,
+        out: &mut JsonWriter,
+        court: &Court,
+        labels: &Labels<'_>,
+    ) -> Result<(), AllocError> {
         out.instant(court.clock(), *self)
     }
 }
@@ -157,9 +172,9 @@ impl ToFields for Event {
         &self,
         out: &mut JsonWriter,
         court: &Court,
-        cases: &Cases,
+        labels: &Labels<'_>,
     ) -> Result<(), AllocError> {
-        push_happened(out, court, cases, self.day(), self.minute())
+        push_happened(out, court, labels, self.day(), self.minute())
     }
 }
 
@@ -169,8 +184,13 @@ impl ToJson for Event {
     ghost value = { λ court named event. event_value court.clock.zone event };
 
     #[tactic(auto, unfolding(crate::specs::Deadlines::event_value))]
-    fn write(&self, out: &mut JsonWriter, court: &Court, cases: &Cases) -> Result<(), AllocError> {
-        out.object(court, cases, self)
+    fn write(
+        &self,
+        out: &mut JsonWriter,
+        court: &Court,
+        labels: &Labels<'_>,
+    ) -> Result<(), AllocError> {
+        out.object(court, labels, self)
     }
 }
 
@@ -178,14 +198,14 @@ impl ToJson for Event {
 fn push_happened(
     out: &mut JsonWriter,
     court: &Court,
-    cases: &Cases,
+    labels: &Labels<'_>,
     day: Day,
     minute: u16,
 ) -> Result<(), AllocError>
     requires { minute < 1440 }
     ensures { OnOk result (AddsFields out.old out.new (happened_fields court.now.clock.zone day minute)) }
 {
-    out.field(court, cases, "day", &day)?;
+    out.field(court, labels, "day", &day)?;
     out.minute_field("time", minute)?;
     out.moment_field(court, "at", day, 60 * u32::from(minute))
 }
@@ -202,7 +222,7 @@ struct Done {
 fn push_filed(
     out: &mut JsonWriter,
     court: &Court,
-    cases: &Cases,
+    labels: &Labels<'_>,
     filed: Option<Filing>,
 ) -> Result<(), AllocError>
     requires { IfSome filed (λ f. f.minute < 1440) }
@@ -210,7 +230,7 @@ fn push_filed(
 {
     out.key("filed")?;
     match filed {
-        Some(filing) => Done { filing }.write(out, court, cases),
+        Some(filing) => Done { filing }.write(out, court, labels),
         None => out.null(),
     }
 }
@@ -224,9 +244,9 @@ impl ToFields for Done {
         &self,
         out: &mut JsonWriter,
         court: &Court,
-        cases: &Cases,
+        labels: &Labels<'_>,
     ) -> Result<(), AllocError> {
-        push_happened(out, court, cases, self.filing.day, self.filing.minute)?;
+        push_happened(out, court, labels, self.filing.day, self.filing.minute)?;
         out.text_field("means", means_word(self.filing.means))
     }
 }
@@ -237,8 +257,13 @@ impl ToJson for Done {
     ghost value = { λ court named done. filed_value court.clock.zone done.filing };
 
     #[tactic(auto, unfolding(crate::specs::Deadlines::filed_value))]
-    fn write(&self, out: &mut JsonWriter, court: &Court, cases: &Cases) -> Result<(), AllocError> {
-        out.object(court, cases, self)
+    fn write(
+        &self,
+        out: &mut JsonWriter,
+        court: &Court,
+        labels: &Labels<'_>,
+    ) -> Result<(), AllocError> {
+        out.object(court, labels, self)
     }
 }
 
@@ -258,7 +283,7 @@ impl ToJson for State {
         &self,
         out: &mut JsonWriter,
         _court: &Court,
-        _cases: &Cases,
+        _labels: &Labels<'_>,
     ) -> Result<(), AllocError> {
         out.text(state_word(*self))
     }

@@ -1,6 +1,6 @@
 //! The whole: the court, what each row was answered, the sheets of cases and the calendars of judges.
 
-ghost use Rattle.std.specs.Prelude.{◌≡◌, ◌<◌, [], ◌∷◌, IfOk, OnOk, codes};
+ghost use Rattle.std.specs.Prelude.{◌≡◌, [], ◌∷◌, IfOk, OnOk, codes};
 ghost use Rattle.std.specs.List.{flat_map};
 ghost use Rattle.json.specs.Tree.{json_tokens};
 ghost use Rattle.docket_rows.specs.Words.{Rows, opening_rows, setup_of};
@@ -14,32 +14,28 @@ use crate::answers::AnsweredRow;
 use crate::names::push_judges;
 use crate::to_json::ToJson;
 use crate::writer::JsonWriter;
-use case_numbers::Cases;
 use court_days::Court;
-use desk_numbers::MovedNumbers;
 use docket_core::Docket;
 use docket_selection::{Choice, ExplainedSheet};
 use office_texts::reply_to;
-use report_texts::{explained_selection, numbered_calendars};
+use report_texts::{Labels, explained_selection, numbered_calendars};
 use row_forms::NumberedRow;
 use std::alloc::{AllocError, Global};
 
 /// One line of JSON: an object with the court, what each row was answered, by its number, the sheets of the chosen cases with the reasons
-/// of each deadline, and the calendars of the chosen judges after the last row. `cases` has the names of cases, each of which
-/// is beside the number of its case. Deadlines and motions have the numbers that `moved` says, while rows name them by their
-/// places. `Err` says that memory ran out.
+/// of each deadline, and the calendars of the chosen judges after the last row. The name of a case is beside its number. Deadlines and
+/// motions have their numbers, while rows name them by their places. `Err` says that memory ran out.
 pub fn json_text(
     alloc: Global,
     court: &Court,
-    cases: &Cases,
-    moved: &MovedNumbers,
+    labels: &Labels<'_>,
     rows: &[NumberedRow],
     choice: &Choice,
 ) -> Result<Vec<u8>, AllocError>
-    ensures { IfOk result (λ text. IsDocketJson court.now cases.now.named moved.now choice.now rows.now text.items) }
+    ensures { IfOk result (λ text. IsDocketJson court.now labels.now choice.now rows.now text.items) }
 {
     let mut out = JsonWriter::new(alloc);
-    let _sheets = push_document(alloc, &mut out, court, cases, moved, rows, choice)?;
+    let _sheets = push_document(alloc, &mut out, court, labels, rows, choice)?;
     let mut text = out.into_text();
     text.push(b'\n')?;
     Ok(text)
@@ -50,16 +46,15 @@ fn push_document(
     alloc: Global,
     out: &mut JsonWriter,
     court: &Court,
-    cases: &Cases,
-    moved: &MovedNumbers,
+    labels: &Labels<'_>,
     rows: &[NumberedRow],
     choice: &Choice,
 ) -> Result<Vec<ExplainedSheet>, AllocError>
-    ensures sheets { IfOk result (λ sheets. AreSheetsAfter court.now moved.now choice.now rows.now sheets.items) }
-    ensures object { IfOk result (λ sheets. AddsValue out.old out.new (document_value court.now cases.now.named moved.now choice.now rows.now sheets.items)) }
+    ensures sheets { IfOk result (λ sheets. AreSheetsAfter court.now labels.now choice.now rows.now sheets.items) }
+    ensures object { IfOk result (λ sheets. AddsValue out.old out.new (document_value court.now labels.now choice.now rows.now sheets.items)) }
 {
     out.begin_object()?;
-    let sheets = push_document_fields(alloc, out, court, cases, moved, rows, choice)?;
+    let sheets = push_document_fields(alloc, out, court, labels, rows, choice)?;
     out.end_object()?;
     Ok(sheets)
 }
@@ -68,60 +63,57 @@ fn push_document_fields(
     alloc: Global,
     out: &mut JsonWriter,
     court: &Court,
-    cases: &Cases,
-    moved: &MovedNumbers,
+    labels: &Labels<'_>,
     rows: &[NumberedRow],
     choice: &Choice,
 ) -> Result<Vec<ExplainedSheet>, AllocError>
-    ensures sheets { IfOk result (λ sheets. AreSheetsAfter court.now moved.now choice.now rows.now sheets.items) }
-    ensures fields { IfOk result (λ sheets. AddsFields out.old out.new (document_fields court.now cases.now.named moved.now choice.now rows.now sheets.items)) }
+    ensures sheets { IfOk result (λ sheets. AreSheetsAfter court.now labels.now choice.now rows.now sheets.items) }
+    ensures fields { IfOk result (λ sheets. AddsFields out.old out.new (document_fields court.now labels.now choice.now rows.now sheets.items)) }
 {
     let mut docket = Docket::new(alloc, court)?;
-    push_court(out, court, cases)?;
-    push_answers(alloc, out, court, cases, moved, &mut docket, rows)?;
-    let sheets = explained_selection(alloc, court, &docket, moved, choice)?;
-    out.list_field(court, cases, "cases", &sheets)?;
-    push_calendars(alloc, out, court, cases, moved, &docket, choice)?;
+    push_court(out, court, labels)?;
+    push_answers(alloc, out, court, labels, &mut docket, rows)?;
+    let sheets = explained_selection(alloc, court, &docket, labels, choice)?;
+    out.list_field(court, labels, "cases", &sheets)?;
+    push_calendars(alloc, out, court, labels, &docket, choice)?;
     Ok(sheets)
 }
 
 /// Writes the court.
 #[tactic(auto, unfolding(crate::specs::Values::field_tokens))]
-fn push_court(out: &mut JsonWriter, court: &Court, cases: &Cases) -> Result<(), AllocError>
+fn push_court(out: &mut JsonWriter, court: &Court, labels: &Labels<'_>) -> Result<(), AllocError>
     ensures { OnOk result (AddsFields out.old out.new (field (codes "court") (court_value court.now) ∷ [])) }
 {
     out.key("court")?;
-    push_court_value(out, court, cases)
+    push_court_value(out, court, labels)
 }
 
-fn push_court_value(out: &mut JsonWriter, court: &Court, cases: &Cases) -> Result<(), AllocError>
+fn push_court_value(
+    out: &mut JsonWriter,
+    court: &Court,
+    labels: &Labels<'_>,
+) -> Result<(), AllocError>
     ensures { OnOk result (AddsValue out.old out.new (court_value court.now)) }
 {
     out.begin_object()?;
-    push_court_fields(out, court, cases)?;
+    push_court_fields(out, court, labels)?;
     out.end_object()
 }
 
 /// Writes the hours of the clerk's office, the first and the last day, and the judges.
-fn push_court_fields(out: &mut JsonWriter, court: &Court, cases: &Cases) -> Result<(), AllocError>
+fn push_court_fields(
+    out: &mut JsonWriter,
+    court: &Court,
+    labels: &Labels<'_>,
+) -> Result<(), AllocError>
     ensures { OnOk result (AddsFields out.old out.new (court_fields court.now)) }
 {
-    let (opens, closes) = hours_of(court);
-    out.minute_field("opens", opens)?;
-    out.minute_field("closes", closes)?;
-    out.field(court, cases, "from", &court.days().from())?;
-    out.field(court, cases, "to", &court.days().to())?;
-    push_judges(out, court)
-}
-
-/// The minutes of the day at which the clerk's office opens and closes.
-fn hours_of(court: &Court) -> (u16, u16)
-    ensures opens { (result.0 ≡ court.now.clock.opens) × (result.0 < 1440) }
-    ensures closes { (result.1 ≡ court.now.clock.closes) × (result.1 < 1440) }
-{
     let clock = court.clock();
-    let closes = clock.closes();
-    (clock.opens(), closes)
+    out.minute_field("opens", clock.opens())?;
+    out.minute_field("closes", clock.closes())?;
+    out.field(court, labels, "from", &court.days().from())?;
+    out.field(court, labels, "to", &court.days().to())?;
+    push_judges(out, court)
 }
 
 /// Writes what each row is answered, and carries it out.
@@ -129,18 +121,17 @@ fn push_answers(
     alloc: Global,
     out: &mut JsonWriter,
     court: &Court,
-    cases: &Cases,
-    moved: &MovedNumbers,
+    labels: &Labels<'_>,
     docket: &mut Docket,
     rows: &[NumberedRow],
 ) -> Result<(), AllocError>
     requires { Holds (setup_of court.now) docket.old (opening_rows (setup_of court.now)) }
-    ensures answers { OnOk result (AddsFields out.old out.new (field (codes "answers") (array_of (answers_from court.now cases.now.named moved.now (opening_rows (setup_of court.now)) rows.now)) ∷ [])) }
+    ensures answers { OnOk result (AddsFields out.old out.new (field (codes "answers") (array_of (answers_from court.now labels.now (opening_rows (setup_of court.now)) rows.now)) ∷ [])) }
     ensures docket { OnOk result (Holds (setup_of court.now) docket.new (docketed_after (setup_of court.now) (opening_rows (setup_of court.now)) (rows_of rows.now))) }
 {
     out.key("answers")?;
     out.begin_array()?;
-    push_answered(alloc, out, court, cases, moved, docket, rows)?;
+    push_answered(alloc, out, court, labels, docket, rows)?;
     out.end_array()
 }
 
@@ -149,13 +140,12 @@ fn push_answered(
     alloc: Global,
     out: &mut JsonWriter,
     court: &Court,
-    cases: &Cases,
-    moved: &MovedNumbers,
+    labels: &Labels<'_>,
     docket: &mut Docket,
     rows: &[NumberedRow],
 ) -> Result<(), AllocError>
     requires { Holds (setup_of court.now) docket.old (opening_rows (setup_of court.now)) }
-    ensures answers { OnOk result (Adds out.old out.new (flat_map json_tokens (answers_from court.now cases.now.named moved.now (opening_rows (setup_of court.now)) rows.now))) }
+    ensures answers { OnOk result (Adds out.old out.new (flat_map json_tokens (answers_from court.now labels.now (opening_rows (setup_of court.now)) rows.now))) }
     ensures docket { OnOk result (Holds (setup_of court.now) docket.new (docketed_after (setup_of court.now) (opening_rows (setup_of court.now)) (rows_of rows.now))) }
 {
     for numbered in rows {
@@ -163,9 +153,9 @@ fn push_answered(
         let answered = AnsweredRow {
             number: numbered.number,
             clerk: numbered.row.clerk,
-            reply: moved.number_reply(&numbered.row.work, reply),
+            reply: labels.moved.number_reply(&numbered.row.work, reply),
         };
-        answered.write(out, court, cases)?;
+        answered.write(out, court, labels)?;
     }
     Ok(())
 }
@@ -175,14 +165,13 @@ fn push_calendars(
     alloc: Global,
     out: &mut JsonWriter,
     court: &Court,
-    cases: &Cases,
-    moved: &MovedNumbers,
+    labels: &Labels<'_>,
     docket: &Docket,
     choice: &Choice,
 ) -> Result<(), AllocError>
     requires court { docket.now.setup ≡ setup_of court.now }
-    ensures { (docketed : Rows) → StandsFor docket.now docketed → OnOk result (AddsFields out.old out.new (calendars_field court.now cases.now.named moved.now choice.now docketed ∷ [])) }
+    ensures { (docketed : Rows) → StandsFor docket.now docketed → OnOk result (AddsFields out.old out.new (calendars_field court.now labels.now choice.now docketed ∷ [])) }
 {
-    let calendars = numbered_calendars(alloc, court, docket, moved, choice)?;
-    out.list_field(court, cases, "calendars", &calendars)
+    let calendars = numbered_calendars(alloc, court, docket, labels, choice)?;
+    out.list_field(court, labels, "calendars", &calendars)
 }

@@ -10,28 +10,26 @@ ghost use Rattle.report_json.specs.Lines.{AreAnswerLines, ReadsBack, answers_of,
 use crate::answers::AnsweredRow;
 use crate::to_json::ToJson;
 use crate::writer::JsonWriter;
-use case_numbers::Cases;
 use court_days::Court;
-use desk_numbers::MovedNumbers;
 use docket_core::Docket;
 use office_texts::reply_to;
+use report_texts::Labels;
 use row_forms::NumberedRow;
 use std::alloc::{AllocError, Global};
 
 /// A line of JSON for each row, in their order: an object that says the row's number and what it is answered, as among the answers of
-/// `json_text`, with the numbers that `moved` says. `Err` says that memory ran out.
+/// `json_text`, with the numbers of deadlines and motions. `Err` says that memory ran out.
 pub fn answer_lines(
     alloc: Global,
     court: &Court,
-    cases: &Cases,
-    moved: &MovedNumbers,
+    labels: &Labels<'_>,
     rows: &[NumberedRow],
 ) -> Result<Vec<u8>, AllocError>
-    ensures { IfOk result (λ text. AreAnswerLines court.now cases.now.named moved.now rows.now text.items) }
+    ensures { IfOk result (λ text. AreAnswerLines court.now labels.now rows.now text.items) }
 {
     let mut docket = Docket::new(alloc, court)?;
     let mut text = Vec::new(alloc);
-    push_lines(alloc, &mut text, court, cases, moved, &mut docket, rows)?;
+    push_lines(alloc, &mut text, court, labels, &mut docket, rows)?;
     Ok(text)
 }
 
@@ -40,23 +38,22 @@ fn push_lines(
     alloc: Global,
     text: &mut Vec<u8>,
     court: &Court,
-    cases: &Cases,
-    moved: &MovedNumbers,
+    labels: &Labels<'_>,
     docket: &mut Docket,
     rows: &[NumberedRow],
 ) -> Result<(), AllocError>
     requires { Holds (setup_of court.now) docket.old (opening_rows (setup_of court.now)) }
-    ensures lines { OnOk result (text.new.items ≡ text.old.items ++ flat_map line_of (answers_of court.now cases.now.named moved.now rows.now)) }
-    ensures read { OnOk result (All ReadsBack (answers_of court.now cases.now.named moved.now rows.now)) }
+    ensures lines { OnOk result (text.new.items ≡ text.old.items ++ flat_map line_of (answers_of court.now labels.now rows.now)) }
+    ensures read { OnOk result (All ReadsBack (answers_of court.now labels.now rows.now)) }
 {
     for numbered in rows {
         let reply = reply_to(alloc, docket, &numbered.row.work)?;
         let answered = AnsweredRow {
             number: numbered.number,
             clerk: numbered.row.clerk,
-            reply: moved.number_reply(&numbered.row.work, reply),
+            reply: labels.moved.number_reply(&numbered.row.work, reply),
         };
-        push_line(alloc, text, court, cases, &answered)?;
+        push_line(alloc, text, court, labels, &answered)?;
     }
     Ok(())
 }
@@ -66,14 +63,14 @@ fn push_line(
     alloc: Global,
     text: &mut Vec<u8>,
     court: &Court,
-    cases: &Cases,
+    labels: &Labels<'_>,
     answered: &AnsweredRow,
 ) -> Result<(), AllocError>
-    ensures line { OnOk result (text.new.items ≡ text.old.items ++ line_of (answered_value court.now cases.now.named answered.now)) }
-    ensures read { OnOk result (ReadsBack (answered_value court.now cases.now.named answered.now)) }
+    ensures line { OnOk result (text.new.items ≡ text.old.items ++ line_of (answered_value court.now labels.now.cases answered.now)) }
+    ensures read { OnOk result (ReadsBack (answered_value court.now labels.now.cases answered.now)) }
 {
     let mut out = JsonWriter::new(alloc);
-    answered.write(&mut out, court, cases)?;
+    answered.write(&mut out, court, labels)?;
     let line = out.into_text();
     text.extend_from_slice(&line)?;
     text.push(b'\n')?;

@@ -8,10 +8,10 @@ use crate::names::push_panel;
 use crate::spans::push_span;
 use crate::to_json::{ToFields, ToJson};
 use crate::writer::JsonWriter;
-use case_numbers::Cases;
 use court_days::Court;
 use docket_rows::{SheetHearing, SheetMotion};
 use hearing_slots::Need;
+use report_texts::Labels;
 use std::alloc::AllocError;
 
 impl ToFields for SheetMotion {
@@ -23,12 +23,12 @@ impl ToFields for SheetMotion {
         &self,
         out: &mut JsonWriter,
         court: &Court,
-        cases: &Cases,
+        labels: &Labels<'_>,
     ) -> Result<(), AllocError> {
-        out.field(court, cases, "number", &self.number)?;
-        out.field(court, cases, "served", &self.served)?;
-        out.field(court, cases, "notice_days", &self.need)?;
-        push_hearing_if_set(out, court, cases, &self.hearing)
+        out.field(court, labels, "number", &self.number)?;
+        out.field(court, labels, "served", &self.served)?;
+        out.field(court, labels, "notice_days", &self.need)?;
+        push_hearing_if_set(out, court, labels, &self.hearing)
     }
 }
 
@@ -37,14 +37,14 @@ impl ToFields for SheetMotion {
 fn push_hearing_if_set(
     out: &mut JsonWriter,
     court: &Court,
-    cases: &Cases,
+    labels: &Labels<'_>,
     hearing: &Option<SheetHearing>,
 ) -> Result<(), AllocError>
     ensures { OnOk result (AddsFields out.old out.new (field (codes "hearing") (or_null (hearing_value court.now) hearing.now) ∷ [])) }
 {
     out.key("hearing")?;
     match hearing {
-        Some(hearing) => hearing.write(out, court, cases),
+        Some(hearing) => hearing.write(out, court, labels),
         None => out.null(),
     }
 }
@@ -55,8 +55,13 @@ impl ToJson for SheetMotion {
     ghost value = { λ court named motion. motion_value court motion };
 
     #[tactic(auto, unfolding(crate::specs::Motions::motion_value))]
-    fn write(&self, out: &mut JsonWriter, court: &Court, cases: &Cases) -> Result<(), AllocError> {
-        out.object(court, cases, self)
+    fn write(
+        &self,
+        out: &mut JsonWriter,
+        court: &Court,
+        labels: &Labels<'_>,
+    ) -> Result<(), AllocError> {
+        out.object(court, labels, self)
     }
 }
 
@@ -68,7 +73,7 @@ impl ToJson for Need {
         &self,
         out: &mut JsonWriter,
         _court: &Court,
-        _cases: &Cases,
+        _labels: &Labels<'_>,
     ) -> Result<(), AllocError> {
         match self {
             Need::ExParte => out.null(),
@@ -86,14 +91,21 @@ impl ToFields for SheetHearing {
         &self,
         out: &mut JsonWriter,
         court: &Court,
-        cases: &Cases,
+        labels: &Labels<'_>,
     ) -> Result<(), AllocError> {
         let hearing = &self.hearing;
         push_panel(out, court, hearing.judges.judges())?;
         out.text_if_any("room", court.room_name(hearing.room))?;
-        out.field(court, cases, "notice", &hearing.notice)?;
-        out.field(court, cases, "affidavits", &self.affidavits)?;
-        push_span(out, court, cases, hearing.day, hearing.first, hearing.count)
+        out.field(court, labels, "notice", &hearing.notice)?;
+        out.field(court, labels, "affidavits", &self.affidavits)?;
+        push_span(
+            out,
+            court,
+            labels,
+            hearing.day,
+            hearing.first,
+            hearing.count,
+        )
     }
 }
 
@@ -103,7 +115,12 @@ impl ToJson for SheetHearing {
     ghost value = { λ court named hearing. hearing_value court hearing };
 
     #[tactic(auto, unfolding(crate::specs::Motions::hearing_value))]
-    fn write(&self, out: &mut JsonWriter, court: &Court, cases: &Cases) -> Result<(), AllocError> {
-        out.object(court, cases, self)
+    fn write(
+        &self,
+        out: &mut JsonWriter,
+        court: &Court,
+        labels: &Labels<'_>,
+    ) -> Result<(), AllocError> {
+        out.object(court, labels, self)
     }
 }

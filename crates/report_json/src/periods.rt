@@ -6,9 +6,9 @@ ghost use Rattle.report_json.specs.Periods.{code_of, day_of_grant, days_of_grant
 
 use crate::to_json::{ToFields, ToJson};
 use crate::writer::JsonWriter;
-use case_numbers::Cases;
 use court_clock::{Day, Direction};
 use court_days::Court;
+use report_texts::Labels;
 use rule_periods::{Entered, Grant, Length, Period};
 use rule6::{Act, ServiceKind};
 use std::alloc::AllocError;
@@ -42,10 +42,10 @@ impl ToFields for Entered {
         &self,
         out: &mut JsonWriter,
         court: &Court,
-        cases: &Cases,
+        labels: &Labels<'_>,
     ) -> Result<(), AllocError> {
-        out.field(court, cases, "days", &days_of_length(self.length))?;
-        out.field(court, cases, "hours", &hours_of_length(self.length))?;
+        out.field(court, labels, "days", &days_of_length(self.length))?;
+        out.field(court, labels, "hours", &hours_of_length(self.length))?;
         out.text_field("direction", direction_word(self.direction))?;
         out.text_field("act", act_word(self.act))?;
         out.text_field("from", start_word(self.served))?;
@@ -59,8 +59,13 @@ impl ToJson for Entered {
     ghost value = { λ court named entered. entered_value entered };
 
     #[tactic(auto, unfolding(crate::specs::Periods::entered_value))]
-    fn write(&self, out: &mut JsonWriter, court: &Court, cases: &Cases) -> Result<(), AllocError> {
-        out.object(court, cases, self)
+    fn write(
+        &self,
+        out: &mut JsonWriter,
+        court: &Court,
+        labels: &Labels<'_>,
+    ) -> Result<(), AllocError> {
+        out.object(court, labels, self)
     }
 }
 
@@ -115,7 +120,7 @@ impl ToJson for ServiceKind {
         &self,
         out: &mut JsonWriter,
         _court: &Court,
-        _cases: &Cases,
+        _labels: &Labels<'_>,
     ) -> Result<(), AllocError> {
         out.text(service_letter(*self))
     }
@@ -143,11 +148,11 @@ impl ToFields for Grant {
         &self,
         out: &mut JsonWriter,
         court: &Court,
-        cases: &Cases,
+        labels: &Labels<'_>,
     ) -> Result<(), AllocError> {
-        out.field(court, cases, "days", &days_of_grant(*self))?;
-        out.field(court, cases, "hours", &hours_of_grant(*self))?;
-        out.field(court, cases, "until", &day_of_grant(*self))
+        out.field(court, labels, "days", &days_of_grant(*self))?;
+        out.field(court, labels, "hours", &hours_of_grant(*self))?;
+        out.field(court, labels, "until", &day_of_grant(*self))
     }
 }
 
@@ -157,8 +162,13 @@ impl ToJson for Grant {
     ghost value = { λ court named grant. grant_value grant };
 
     #[tactic(auto, unfolding(crate::specs::Periods::grant_value))]
-    fn write(&self, out: &mut JsonWriter, court: &Court, cases: &Cases) -> Result<(), AllocError> {
-        out.object(court, cases, self)
+    fn write(
+        &self,
+        out: &mut JsonWriter,
+        court: &Court,
+        labels: &Labels<'_>,
+    ) -> Result<(), AllocError> {
+        out.object(court, labels, self)
     }
 }
 

@@ -3,17 +3,18 @@
 ghost use Rattle.std.specs.Prelude.{◌≡◌, [], ◌∷◌, OnOk};
 ghost use Rattle.std.specs.List.{flat_map};
 ghost use Rattle.json.specs.Tree.{json_tokens};
-ghost use Rattle.report_json.specs.Reasons.{explained_docketed, instant_shown, reason_values, reasons_field, why_fields};
+ghost use Rattle.report_json.specs.Reasons.{instant_shown, reason_values, reasons_field, why_fields};
 ghost use Rattle.report_json.specs.Values.{Adds, AddsFields};
 
+use crate::sheets::push_sheet;
 use crate::to_json::{ToFields, ToJson};
 use crate::writer::JsonWriter;
-use case_numbers::Cases;
 use court_clock::Instant;
 use court_days::Court;
 use deadline_reasons::Reason;
 use docket_selection::{ExplainedDeadline, ExplainedSheet};
 use reason_texts::{Course, day_shown};
+use report_texts::Labels;
 use std::alloc::AllocError;
 
 /// A reason, in the course of those before it.
@@ -32,11 +33,11 @@ impl ToFields for Step {
         &self,
         out: &mut JsonWriter,
         court: &Court,
-        cases: &Cases,
+        labels: &Labels<'_>,
     ) -> Result<(), AllocError> {
         let clock = court.clock();
-        out.field(court, cases, "day", &day_shown(clock, &self.reason))?;
-        out.field(court, cases, "at", &instant_shown(&self.reason))?;
+        out.field(court, labels, "day", &day_shown(clock, &self.reason))?;
+        out.field(court, labels, "at", &instant_shown(&self.reason))?;
         out.what_field(clock, &self.course, &self.reason)?;
         out.section_field(&self.course, &self.reason)
     }
@@ -48,8 +49,13 @@ impl ToJson for Step {
     ghost value = { λ court named step. reason_value court.clock step.course step.reason };
 
     #[tactic(auto, unfolding(crate::specs::Reasons::reason_value))]
-    fn write(&self, out: &mut JsonWriter, court: &Court, cases: &Cases) -> Result<(), AllocError> {
-        out.object(court, cases, self)
+    fn write(
+        &self,
+        out: &mut JsonWriter,
+        court: &Court,
+        labels: &Labels<'_>,
+    ) -> Result<(), AllocError> {
+        out.object(court, labels, self)
     }
 }
 
@@ -70,20 +76,20 @@ fn instant_shown(reason: &Reason) -> Option<Instant>
 fn push_why(
     out: &mut JsonWriter,
     court: &Court,
-    cases: &Cases,
+    labels: &Labels<'_>,
     explained: &ExplainedDeadline,
 ) -> Result<(), AllocError>
     ensures { OnOk result (AddsFields out.old out.new (why_fields court.now.clock explained.now)) }
 {
-    out.field(court, cases, "other_reading", &explained.other)?;
-    push_reasons(out, court, cases, explained)
+    out.field(court, labels, "other_reading", &explained.other)?;
+    push_reasons(out, court, labels, explained)
 }
 
 /// Writes the reasons of a deadline.
 fn push_reasons(
     out: &mut JsonWriter,
     court: &Court,
-    cases: &Cases,
+    labels: &Labels<'_>,
     explained: &ExplainedDeadline,
 ) -> Result<(), AllocError>
     ensures { OnOk result (AddsFields out.old out.new (reasons_field court.now.clock explained.now ∷ [])) }
@@ -91,7 +97,7 @@ fn push_reasons(
     let course = Course::of(&explained.deadline.row.period());
     out.key("reasons")?;
     out.begin_array()?;
-    push_steps(out, court, cases, course, &explained.reasons)?;
+    push_steps(out, court, labels, course, &explained.reasons)?;
     out.end_array()
 }
 
@@ -99,7 +105,7 @@ fn push_reasons(
 fn push_steps(
     out: &mut JsonWriter,
     court: &Court,
-    cases: &Cases,
+    labels: &Labels<'_>,
     course: Course,
     reasons: &[Reason],
 ) -> Result<(), AllocError>
@@ -111,7 +117,7 @@ fn push_steps(
             course: here,
             reason: *reason,
         };
-        step.write(out, court, cases)?;
+        step.write(out, court, labels)?;
         here = here.after(reason);
     }
     Ok(())
@@ -127,10 +133,10 @@ impl ToFields for ExplainedDeadline {
         &self,
         out: &mut JsonWriter,
         court: &Court,
-        cases: &Cases,
+        labels: &Labels<'_>,
     ) -> Result<(), AllocError> {
-        self.deadline.write_fields(out, court, cases)?;
-        push_why(out, court, cases, self)
+        self.deadline.write_fields(out, court, labels)?;
+        push_why(out, court, labels, self)
     }
 }
 
@@ -140,8 +146,13 @@ impl ToJson for ExplainedDeadline {
     ghost value = { λ court named e. explained_value court.clock e };
 
     #[tactic(auto, unfolding(crate::specs::Reasons::explained_value))]
-    fn write(&self, out: &mut JsonWriter, court: &Court, cases: &Cases) -> Result<(), AllocError> {
-        out.object(court, cases, self)
+    fn write(
+        &self,
+        out: &mut JsonWriter,
+        court: &Court,
+        labels: &Labels<'_>,
+    ) -> Result<(), AllocError> {
+        out.object(court, labels, self)
     }
 }
 
@@ -150,31 +161,22 @@ impl ToFields for ExplainedSheet {
 
     ghost fields = { explained_sheet_fields };
 
-    #[tactic(auto, using(crate::proofs::TokenLemmas::more_fields))]
     fn write_fields(
         &self,
         out: &mut JsonWriter,
         court: &Court,
-        cases: &Cases,
+        labels: &Labels<'_>,
     ) -> Result<(), AllocError> {
-        out.case_fields(court, cases, self.case)?;
-        push_docketed(out, court, cases, self)
+        push_sheet(
+            out,
+            court,
+            labels,
+            self.case,
+            self.filed,
+            self.deadlines.as_slice(),
+            self.motions.as_slice(),
+        )
     }
-}
-
-/// Writes when a case was filed, its deadlines with their reasons and its motions.
-#[tactic(auto, unfolding(crate::specs::Reasons::explained_docketed))]
-fn push_docketed(
-    out: &mut JsonWriter,
-    court: &Court,
-    cases: &Cases,
-    sheet: &ExplainedSheet,
-) -> Result<(), AllocError>
-    ensures { OnOk result (AddsFields out.old out.new (explained_docketed court.now sheet.now)) }
-{
-    out.field(court, cases, "filed", &sheet.filed)?;
-    out.list_field(court, cases, "deadlines", sheet.deadlines.as_slice())?;
-    out.list_field(court, cases, "motions", sheet.motions.as_slice())
 }
 
 impl ToJson for ExplainedSheet {
@@ -183,7 +185,12 @@ impl ToJson for ExplainedSheet {
     ghost value = { case_value };
 
     #[tactic(auto, unfolding(crate::specs::Reasons::case_value))]
-    fn write(&self, out: &mut JsonWriter, court: &Court, cases: &Cases) -> Result<(), AllocError> {
-        out.object(court, cases, self)
+    fn write(
+        &self,
+        out: &mut JsonWriter,
+        court: &Court,
+        labels: &Labels<'_>,
+    ) -> Result<(), AllocError> {
+        out.object(court, labels, self)
     }
 }

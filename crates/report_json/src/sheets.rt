@@ -1,46 +1,72 @@
 //! The sheets of cases.
 
 ghost use Rattle.std.specs.Prelude.{OnOk};
-ghost use Rattle.report_json.specs.Sheets.{sheet_docketed};
+ghost use Rattle.report_json.specs.Sheets.{sheet_docketed, sheet_with};
 ghost use Rattle.report_json.specs.Values.{AddsFields};
 
 use crate::to_json::{ToFields, ToJson};
 use crate::writer::JsonWriter;
-use case_numbers::Cases;
+use court_clock::Day;
 use court_days::Court;
-use docket_rows::Sheet;
+use docket_rows::{Sheet, SheetMotion};
+use report_texts::Labels;
 use std::alloc::AllocError;
+
+/// Writes a case, with its deadlines and its motions.
+#[tactic(auto, using(crate::proofs::TokenLemmas::more_fields))]
+pub(crate) fn push_sheet<D: ToJson>(
+    out: &mut JsonWriter,
+    court: &Court,
+    labels: &Labels<'_>,
+    case: u32,
+    filed: Day,
+    deadlines: &[D],
+    motions: &[SheetMotion],
+) -> Result<(), AllocError>
+    ensures { OnOk result (AddsFields out.old out.new (sheet_with (D.value court.now labels.now.cases) court.now labels.now.cases case filed deadlines.now motions.now)) }
+{
+    out.case_fields(court, labels, case)?;
+    push_docketed(out, court, labels, filed, deadlines, motions)
+}
+
+/// Writes when a case was filed, its deadlines and its motions.
+#[tactic(auto, unfolding(crate::specs::Sheets::sheet_docketed))]
+fn push_docketed<D: ToJson>(
+    out: &mut JsonWriter,
+    court: &Court,
+    labels: &Labels<'_>,
+    filed: Day,
+    deadlines: &[D],
+    motions: &[SheetMotion],
+) -> Result<(), AllocError>
+    ensures { OnOk result (AddsFields out.old out.new (sheet_docketed (D.value court.now labels.now.cases) court.now filed deadlines.now motions.now)) }
+{
+    out.field(court, labels, "filed", &filed)?;
+    out.list_field(court, labels, "deadlines", deadlines)?;
+    out.list_field(court, labels, "motions", motions)
+}
 
 impl ToFields for Sheet {
     ghost use Rattle.report_json.specs.Sheets.{sheet_fields};
 
     ghost fields = { sheet_fields };
 
-    #[tactic(auto, using(crate::proofs::TokenLemmas::more_fields))]
     fn write_fields(
         &self,
         out: &mut JsonWriter,
         court: &Court,
-        cases: &Cases,
+        labels: &Labels<'_>,
     ) -> Result<(), AllocError> {
-        out.case_fields(court, cases, self.case)?;
-        push_docketed(out, court, cases, self)
+        push_sheet(
+            out,
+            court,
+            labels,
+            self.case,
+            self.filed,
+            self.deadlines.as_slice(),
+            self.motions.as_slice(),
+        )
     }
-}
-
-/// Writes when a case was filed, its deadlines and its motions.
-#[tactic(auto, unfolding(crate::specs::Sheets::sheet_docketed))]
-fn push_docketed(
-    out: &mut JsonWriter,
-    court: &Court,
-    cases: &Cases,
-    sheet: &Sheet,
-) -> Result<(), AllocError>
-    ensures { OnOk result (AddsFields out.old out.new (sheet_docketed court.now sheet.now)) }
-{
-    out.field(court, cases, "filed", &sheet.filed)?;
-    out.list_field(court, cases, "deadlines", sheet.deadlines.as_slice())?;
-    out.list_field(court, cases, "motions", sheet.motions.as_slice())
 }
 
 impl ToJson for Sheet {
@@ -49,7 +75,12 @@ impl ToJson for Sheet {
     ghost value = { sheet_value };
 
     #[tactic(auto, unfolding(crate::specs::Sheets::sheet_value))]
-    fn write(&self, out: &mut JsonWriter, court: &Court, cases: &Cases) -> Result<(), AllocError> {
-        out.object(court, cases, self)
+    fn write(
+        &self,
+        out: &mut JsonWriter,
+        court: &Court,
+        labels: &Labels<'_>,
+    ) -> Result<(), AllocError> {
+        out.object(court, labels, self)
     }
 }

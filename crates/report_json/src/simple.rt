@@ -6,9 +6,9 @@ ghost use Rattle.report_json.specs.Values.{amount, or_null};
 
 use crate::to_json::ToJson;
 use crate::writer::JsonWriter;
-use case_numbers::Cases;
 use court_clock::Day;
 use court_days::Court;
+use report_texts::Labels;
 use std::alloc::AllocError;
 
 impl ToJson for u32 {
@@ -18,7 +18,7 @@ impl ToJson for u32 {
         &self,
         out: &mut JsonWriter,
         _court: &Court,
-        _cases: &Cases,
+        _labels: &Labels<'_>,
     ) -> Result<(), AllocError> {
         out.number(u64::from(*self))
     }
@@ -31,7 +31,7 @@ impl ToJson for u64 {
         &self,
         out: &mut JsonWriter,
         _court: &Court,
-        _cases: &Cases,
+        _labels: &Labels<'_>,
     ) -> Result<(), AllocError> {
         out.number(*self)
     }
@@ -44,7 +44,7 @@ impl ToJson for bool {
         &self,
         out: &mut JsonWriter,
         _court: &Court,
-        _cases: &Cases,
+        _labels: &Labels<'_>,
     ) -> Result<(), AllocError> {
         out.boolean(*self)
     }
@@ -57,7 +57,7 @@ impl ToJson for Day {
         &self,
         out: &mut JsonWriter,
         _court: &Court,
-        _cases: &Cases,
+        _labels: &Labels<'_>,
     ) -> Result<(), AllocError> {
         out.day(*self)
     }
@@ -67,9 +67,14 @@ impl ToJson for Day {
 impl<T: ToJson> ToJson for Option<T> {
     ghost value = { λ court named item. or_null (T.value court named) item };
 
-    fn write(&self, out: &mut JsonWriter, court: &Court, cases: &Cases) -> Result<(), AllocError> {
+    fn write(
+        &self,
+        out: &mut JsonWriter,
+        court: &Court,
+        labels: &Labels<'_>,
+    ) -> Result<(), AllocError> {
         match self {
-            Some(item) => item.write(out, court, cases),
+            Some(item) => item.write(out, court, labels),
             None => out.null(),
         }
     }

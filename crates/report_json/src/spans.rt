@@ -5,9 +5,9 @@ ghost use Rattle.report_json.specs.Times.{slot_value, span_fields};
 ghost use Rattle.report_json.specs.Values.{AddsFields, AddsValue, field};
 
 use crate::writer::JsonWriter;
-use case_numbers::Cases;
 use court_clock::{Clock, Day};
 use court_days::Court;
+use report_texts::Labels;
 use std::alloc::AllocError;
 
 /// Writes the span of a hearing, of `count` slots from the first on. `Err` says that memory ran out.
@@ -15,7 +15,7 @@ use std::alloc::AllocError;
 pub(crate) fn push_span(
     out: &mut JsonWriter,
     court: &Court,
-    cases: &Cases,
+    labels: &Labels<'_>,
     day: Day,
     first: u8,
     count: u8,
@@ -24,9 +24,9 @@ pub(crate) fn push_span(
 {
     let start = u16::from(first);
     let slots = u16::from(count);
-    out.field(court, cases, "day", &day)?;
+    out.field(court, labels, "day", &day)?;
     out.minute_field("time", 15 * start)?;
-    out.field(court, cases, "minutes", &(15 * u32::from(count)))?;
+    out.field(court, labels, "minutes", &(15 * u32::from(count)))?;
     slot_field(out, court.clock(), "start", day, start)?;
     slot_field(out, court.clock(), "end", day, start + slots)
 }

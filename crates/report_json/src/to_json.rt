@@ -10,9 +10,9 @@ ghost use Rattle.report_json.specs.Times.{minute_value, moment_value};
 ghost use Rattle.report_json.specs.Values.{Adds, AddsFields, AddsValue, Field, array_of, field, object_of, or_null};
 
 use crate::writer::JsonWriter;
-use case_numbers::Cases;
 use court_clock::Day;
 use court_days::Court;
+use report_texts::Labels;
 use std::alloc::AllocError;
 
 /// What can be written as a JSON value.
@@ -21,8 +21,13 @@ pub(crate) trait ToJson {
     ghost value: { CourtView → List NamedCase → Self → Json };
 
     /// Writes the value. `Err` says that memory ran out.
-    fn write(&self, out: &mut JsonWriter, court: &Court, cases: &Cases) -> Result<(), AllocError>
-        ensures { OnOk result (AddsValue out.old out.new (value court.now cases.now.named self.now)) };
+    fn write(
+        &self,
+        out: &mut JsonWriter,
+        court: &Court,
+        labels: &Labels<'_>,
+    ) -> Result<(), AllocError>
+        ensures { OnOk result (AddsValue out.old out.new (value court.now labels.now.cases self.now)) };
 }
 
 /// What can be written as an object.
@@ -35,9 +40,9 @@ pub(crate) trait ToFields {
         &self,
         out: &mut JsonWriter,
         court: &Court,
-        cases: &Cases,
+        labels: &Labels<'_>,
     ) -> Result<(), AllocError>
-        ensures { OnOk result (AddsFields out.old out.new (fields court.now cases.now.named self.now)) };
+        ensures { OnOk result (AddsFields out.old out.new (fields court.now labels.now.cases self.now)) };
 }
 
 impl JsonWriter {
@@ -46,14 +51,14 @@ impl JsonWriter {
     pub(crate) fn field<T: ToJson>(
         &mut self,
         court: &Court,
-        cases: &Cases,
+        labels: &Labels<'_>,
         name: &str,
         item: &T,
     ) -> Result<(), AllocError>
-        ensures { OnOk result (AddsFields self.old self.new (field name.now (T.value court.now cases.now.named item.now) ∷ [])) }
+        ensures { OnOk result (AddsFields self.old self.new (field name.now (T.value court.now labels.now.cases item.now) ∷ [])) }
     {
         self.key(name)?;
-        item.write(self, court, cases)
+        item.write(self, court, labels)
     }
 
     /// A field whose value is an array.
@@ -61,14 +66,14 @@ impl JsonWriter {
     pub(crate) fn list_field<T: ToJson>(
         &mut self,
         court: &Court,
-        cases: &Cases,
+        labels: &Labels<'_>,
         name: &str,
         items: &[T],
     ) -> Result<(), AllocError>
-        ensures { OnOk result (AddsFields self.old self.new (field name.now (array_of (map (T.value court.now cases.now.named) items.now)) ∷ [])) }
+        ensures { OnOk result (AddsFields self.old self.new (field name.now (array_of (map (T.value court.now labels.now.cases) items.now)) ∷ [])) }
     {
         self.key(name)?;
-        self.array(court, cases, items)
+        self.array(court, labels, items)
     }
 
     /// A field whose value is a text.
@@ -111,7 +116,6 @@ impl JsonWriter {
     /// A field whose value is a minute of a day.
     #[tactic(auto, unfolding(crate::specs::Values::field_tokens))]
     pub(crate) fn minute_field(&mut self, name: &str, minute: u16) -> Result<(), AllocError>
-        requires { minute < 6_000 }
         ensures { OnOk result (AddsFields self.old self.new (field name.now (minute_value minute) ∷ [])) }
     {
         self.key(name)?;
@@ -123,13 +127,13 @@ impl JsonWriter {
     pub(crate) fn object<T: ToFields>(
         &mut self,
         court: &Court,
-        cases: &Cases,
+        labels: &Labels<'_>,
         item: &T,
     ) -> Result<(), AllocError>
-        ensures { OnOk result (AddsValue self.old self.new (object_of (T.fields court.now cases.now.named item.now))) }
+        ensures { OnOk result (AddsValue self.old self.new (object_of (T.fields court.now labels.now.cases item.now))) }
     {
         self.begin_object()?;
-        item.write_fields(self, court, cases)?;
+        item.write_fields(self, court, labels)?;
         self.end_object()
     }
 
@@ -137,13 +141,13 @@ impl JsonWriter {
     pub(crate) fn array<T: ToJson>(
         &mut self,
         court: &Court,
-        cases: &Cases,
+        labels: &Labels<'_>,
         items: &[T],
     ) -> Result<(), AllocError>
-        ensures { OnOk result (AddsValue self.old self.new (array_of (map (T.value court.now cases.now.named) items.now))) }
+        ensures { OnOk result (AddsValue self.old self.new (array_of (map (T.value court.now labels.now.cases) items.now))) }
     {
         self.begin_array()?;
-        self.items(court, cases, items)?;
+        self.items(court, labels, items)?;
         self.end_array()
     }
 
@@ -151,13 +155,13 @@ impl JsonWriter {
     fn items<T: ToJson>(
         &mut self,
         court: &Court,
-        cases: &Cases,
+        labels: &Labels<'_>,
         items: &[T],
     ) -> Result<(), AllocError>
-        ensures { OnOk result (Adds self.old self.new (flat_map (λ x. json_tokens (T.value court.now cases.now.named x)) items.now)) }
+        ensures { OnOk result (Adds self.old self.new (flat_map (λ x. json_tokens (T.value court.now labels.now.cases x)) items.now)) }
     {
         for item in items {
-            item.write(self, court, cases)?;
+            item.write(self, court, labels)?;
         }
         Ok(())
     }

@@ -3,7 +3,5 @@ pub mod AskedLemmas
 pub mod DocketLemmas
 pub mod MarginLemmas
 pub mod MemoLemmas
-pub mod NamesLemmas
 pub mod ReplyLemmas
-pub mod RowLemmas
 pub mod TextLemmas

@@ -5,7 +5,7 @@ use Rattle.docket_rows.specs.Words.{setup_of, last_case, opening_rows}
 use Rattle.row_forms.specs.declared.numbered.NumberedRow.{NumberedRow}
 use Rattle.row_forms.specs.Words.{rows_of}
 use Rattle.office_texts.specs.Run.Words.{docketed_after}
-use Rattle.report_memo.specs.Labels.{LabelsView}
+use Rattle.report_texts.specs.Words.{LabelsView}
 use Rattle.report_memo.specs.Memo.{AreCalendars, AreSheets, IsClosing, IsMemo}
 use Rattle.report_memo.specs.Replies.{AreReplies}
 use Rattle.report_memo.specs.Texts.{Adds}

@@ -10,7 +10,7 @@ use Rattle.row_forms.specs.declared.row.Work.TheVariants.{Command, Query}
 use Rattle.office_texts.specs.declared.run.reply.Reply.{Reply}
 use Rattle.office_texts.specs.declared.run.reply.Reply.TheVariants.{Made, Viewed}
 use Rattle.office_texts.specs.Run.Words.{docketed_then}
-use Rattle.report_memo.specs.Labels.{LabelsView}
+use Rattle.report_texts.specs.Words.{LabelsView}
 use Rattle.report_memo.specs.Replies.{AreReplies, IsRow, IsTold, without_list}
 use Rattle.report_memo.specs.Texts.{Adds, Is}
 use Rattle.report_memo.proofs.TextLemmas.{adds_none, adds_then}

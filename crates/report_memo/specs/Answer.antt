@@ -5,10 +5,10 @@ use Rattle.office_texts.specs.declared.names.called.CaseCalled.{CaseCalled}
 use Rattle.court_days.specs.Words.{CourtView, file_of}
 use Rattle.row_forms.specs.declared.numbered.NumberedRow.{NumberedRow}
 use Rattle.row_forms.specs.Words.{numbered_from}
-use Rattle.program_streams.specs.Words.{Input}
+use Rattle.program_runs.specs.Words.{Input}
 use Rattle.report_memo.specs.declared.asked.Asked.{Asked}
 use Rattle.report_memo.specs.Case.{IsCaseClosed, IsCaseMemo}
-use Rattle.report_memo.specs.Labels.{LabelsView}
+use Rattle.report_texts.specs.Words.{LabelsView}
 use Rattle.report_memo.specs.Memo.{IsMemo}
 
 -- the line of a name that no case has

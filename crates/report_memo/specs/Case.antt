@@ -14,7 +14,7 @@ use Rattle.row_forms.specs.Words.{rows_of}
 use Rattle.office_texts.specs.Run.Words.{docketed_after}
 use Rattle.report_memo.specs.declared.detail.Detail.{Detail}
 use Rattle.report_memo.specs.declared.detail.Detail.TheVariants.{Whole}
-use Rattle.report_memo.specs.Labels.{LabelsView}
+use Rattle.report_texts.specs.Words.{LabelsView}
 use Rattle.report_memo.specs.Sources.{numbered_source, sources_made}
 use Rattle.report_memo.specs.Sheets.{IsSheet}
 

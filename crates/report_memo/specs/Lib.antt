@@ -1,6 +1,3 @@
-pub mod Names
-pub mod Labels
-pub mod Doubtful
 pub mod Texts
 pub mod Reasons
 pub mod Sources

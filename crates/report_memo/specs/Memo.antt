@@ -10,7 +10,7 @@ use Rattle.row_forms.specs.declared.numbered.NumberedRow.{NumberedRow}
 use Rattle.row_forms.specs.Words.{rows_of}
 use Rattle.office_texts.specs.Run.Words.{docketed_after}
 use Rattle.office_texts.specs.Named.Words.{named_calendar}
-use Rattle.report_memo.specs.Labels.{LabelsView}
+use Rattle.report_texts.specs.Words.{LabelsView}
 use Rattle.report_memo.specs.Replies.{AreReplies}
 use Rattle.report_memo.specs.Sheets.{IsSheetShown}
 use Rattle.report_memo.specs.Texts.{Each, Is, Then}

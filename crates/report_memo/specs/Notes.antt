@@ -25,7 +25,7 @@ use Rattle.reason_notes.specs.Warnings.Words.{extension_notes}
 use Rattle.reason_refusals.specs.Words.{deadline_asked, motion_of_refusal, query_lines, request_asked}
 use Rattle.reason_refusals.specs.Commands.Words.{deadline_at, why_refused}
 use Rattle.office_texts.specs.Named.Words.{motion_called}
-use Rattle.report_memo.specs.Labels.{LabelsView}
+use Rattle.report_texts.specs.Words.{LabelsView}
 
 -- what a reader is warned of an extension, by the deadline as it was left and the request for it
 abbrev pub notes_of_request : CourtView → Shown → Option DeadlineRowView → Option Request → List ℕ

@@ -8,15 +8,13 @@ use Rattle.deadline_reasons.specs.Words.{IsDerivation}
 use Rattle.reason_texts.specs.Words.{course_of, reason_lines}
 use Rattle.reason_texts.specs.Periods.Words.{heading_lines}
 use Rattle.reason_notes.specs.Readings.Words.{reading_lines}
-use Rattle.report_memo.specs.Doubtful.{doubtful_lines}
-use Rattle.report_memo.specs.Labels.{LabelsView}
+use Rattle.report_texts.specs.Words.{LabelsView}
 use Rattle.report_memo.specs.Texts.{Is}
 
--- the period of a deadline in words, a line for each of these reasons, a line for each other reading that gives another end, and
--- the line of the reading that a doubtful day is no holiday
+-- the period of a deadline in words, a line for each of these reasons, and a line for each other reading that gives another end
 abbrev pub deadline_lines : CourtView → LabelsView → DaysView → DeadlineRowView → List Reason → List ℕ
 deadline_lines court labels days row reasons =
-    heading_lines row ++ reason_lines court.clock labels.holidays (course_of row.period) reasons ++ reading_lines days court.clock row ++ doubtful_lines labels.doubtful days row reasons
+    heading_lines row ++ reason_lines court.clock labels.holidays (course_of row.period) reasons ++ reading_lines days court.clock labels.doubtful row
 
 -- these lines, with the reasons of a derivation of what is shown of the deadline, where the days are these
 pub record AreReasons (court : CourtView) (labels : LabelsView) (days : DaysView) (row : DeadlineRowView) (text : List ℕ) : Type 0 where

@@ -19,7 +19,7 @@ use Rattle.office_texts.specs.declared.run.reply.Reply.TheVariants.{Made, Viewed
 use Rattle.office_texts.specs.Run.Words.{Holds, docketed_then, reply_to, row_numbers}
 use Rattle.office_texts.specs.Named.Words.{named_line_of}
 use Rattle.report_memo.specs.declared.detail.Detail.TheVariants.{Reasons}
-use Rattle.report_memo.specs.Labels.{LabelsView}
+use Rattle.report_texts.specs.Words.{LabelsView}
 use Rattle.report_memo.specs.Notes.{notes_text}
 use Rattle.report_memo.specs.Reasons.{AreReasonsDocketed, AreReasonsIfAny}
 use Rattle.report_memo.specs.Sheets.{IsSheet}

@@ -18,7 +18,7 @@ use Rattle.reason_notes.specs.Margins.Words.{ahead_line, recorded_lines}
 use Rattle.reason_notes.specs.Warnings.Words.{deadline_notes, hearing_notes}
 use Rattle.report_memo.specs.declared.detail.Detail.{Detail}
 use Rattle.report_memo.specs.declared.detail.Detail.TheVariants.{Reasons, Whole}
-use Rattle.report_memo.specs.Labels.{LabelsView}
+use Rattle.report_texts.specs.Words.{LabelsView}
 use Rattle.report_memo.specs.Reasons.{AreReasons}
 use Rattle.report_memo.specs.Sources.{source_lines}
 use Rattle.report_memo.specs.Texts.{Each, Is, Then}

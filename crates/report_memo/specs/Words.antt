@@ -2,4 +2,3 @@
 pub use Rattle.report_memo.specs.Answer.{IsAnswer, IsMissing}
 pub use Rattle.report_memo.specs.Asked.{IsAskedBy, are_given_taken, faults_given}
 pub use Rattle.report_memo.specs.CommandLine.{with_memo}
-pub use Rattle.report_memo.specs.Labels.{LabelsView, labels_of}

@@ -10,11 +10,11 @@ ghost use Rattle.office_texts.specs.Words.{AddsText};
 ghost use Rattle.report_memo.specs.Memo.{AreCalendars};
 ghost use Rattle.report_memo.specs.Texts.{Pushes};
 
-use crate::labels::Labels;
 use court_days::Court;
 use docket_core::Docket;
 use hearing_slots::Bookings;
 use office_texts::push_named_calendar;
+use report_texts::Labels;
 use std::alloc::{AllocError, Global};
 
 /// Adds the calendars of that number of judges, from the first number on. `Err` says that memory ran out.

@@ -2,17 +2,17 @@
 
 ghost use Rattle.std.specs.Prelude.{◌≡◌, IfOk, string_bytes};
 ghost use Rattle.report_memo.specs.Case.{IsCaseClosed, IsCaseMemo, IsCaseShown, IsClosed, closed_line};
-ghost use Rattle.program_streams.specs.Words.{IsFinding};
+ghost use Rattle.program_runs.specs.Words.{IsFinding};
 
 use crate::detail::Detail;
-use crate::labels::Labels;
 use crate::sheets::push_sheet;
 use crate::sources::{Sources, docket_after};
 use case_numbers::{Cases, push_case_text};
 use court_clock::Day;
 use court_days::{Court, Days};
 use docket_rows::{Query, View};
-use program_streams::Finding;
+use program_runs::Finding;
+use report_texts::Labels;
 use row_forms::NumberedRow;
 use std::alloc::{AllocError, Global};
 

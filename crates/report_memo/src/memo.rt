@@ -4,12 +4,12 @@ ghost use Rattle.std.specs.Prelude.{string_bytes, IfOk};
 ghost use Rattle.report_memo.specs.Memo.{IsMemo};
 
 use crate::calendars::push_calendars;
-use crate::labels::Labels;
 use crate::replies::push_replies;
 use crate::sheets::push_sheets;
 use court_days::Court;
 use docket_core::Docket;
 use docket_rows::LAST_CASE;
+use report_texts::Labels;
 use row_forms::NumberedRow;
 use std::alloc::{AllocError, Global};
 

@@ -9,7 +9,6 @@ ghost use Rattle.office_texts.specs.Named.Words.{motion_called};
 ghost use Rattle.reason_refusals.specs.Commands.Words.{deadline_at, why_refused};
 ghost use Rattle.report_memo.specs.Notes.{motion_refused, notes_of, notes_of_request, notes_text, notes_viewed};
 
-use crate::labels::Labels;
 use court_days::Court;
 use desk_numbers::MovedNumbers;
 use docket_core::Docket;
@@ -20,6 +19,7 @@ use reason_refusals::{
     deadline_asked, deadline_at, motion_of_refusal, push_query_refusal, push_why_refused,
     request_asked,
 };
+use report_texts::Labels;
 use row_forms::Work;
 use rule_periods::{DeadlineRow, Request};
 use rule6::Shown;

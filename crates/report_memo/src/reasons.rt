@@ -7,14 +7,13 @@ ghost use Rattle.office_texts.specs.Run.Words.{Holds};
 ghost use Rattle.report_memo.specs.Reasons.{AreReasons, AreReasonsDocketed, deadline_lines};
 ghost use Rattle.report_memo.specs.Texts.{Pushes};
 
-use crate::doubtful::push_doubtful;
-use crate::labels::Labels;
 use court_clock::Day;
 use court_days::{Court, Days};
 use deadline_reasons::{Reason, reasons_of};
 use docket_core::Docket;
 use reason_notes::push_readings;
 use reason_texts::{Course, push_heading, push_reasons};
+use report_texts::Labels;
 use rule_periods::{DeadlineRow, DocketRow, Event, Period, check_start};
 use rule6::ServiceKind;
 use std::alloc::{AllocError, Global};
@@ -50,8 +49,7 @@ fn push_lines(
     push_heading(alloc, text, row)?;
     let course = Course::of(&row.period());
     push_reasons(text, court.clock(), labels.holidays, course, reasons)?;
-    push_readings(alloc, text, days, court.clock(), row)?;
-    push_doubtful(text, labels.doubtful, days, row, reasons)
+    push_readings(alloc, text, days, court.clock(), labels.doubtful, row)
 }
 
 /// Adds the reasons of the docketed deadline at that place in its case, if there is one.

@@ -14,7 +14,6 @@ ghost use Rattle.report_memo.specs.Replies.{AreReasonsWith, AreReplies, HasAnswe
 ghost use Rattle.report_memo.specs.Texts.{Pushes};
 
 use crate::detail::Detail;
-use crate::labels::Labels;
 use crate::notes::push_notes;
 use crate::reasons::{push_docketed_reasons, push_started_reasons};
 use crate::sheets::push_sheet;
@@ -22,6 +21,7 @@ use court_days::Court;
 use docket_core::Docket;
 use docket_rows::{Answer, Command, Query, Sheet, View};
 use office_texts::{Reply, push_named_line, push_numbers, reply_to};
+use report_texts::Labels;
 use row_forms::{NumberedRow, Work};
 use std::alloc::{AllocError, Global};
 

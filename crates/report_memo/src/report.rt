@@ -1,21 +1,20 @@
 //! What is asked for, as what is written.
 
 ghost use Rattle.std.specs.Prelude.{◌≡◌, IfOk, string_bytes};
-ghost use Rattle.program_streams.specs.Words.{IsFinding};
+ghost use Rattle.program_runs.specs.Words.{IsFinding};
 ghost use Rattle.report_memo.specs.Answer.{IsAnswer, IsCalled, IsCalledMissing, IsMissing, no_case};
-ghost use Rattle.report_memo.specs.Labels.{labels_of};
+ghost use Rattle.report_texts.specs.Words.{labels_of};
 
 use crate::asked::Asked;
 use crate::case::case_text;
-use crate::labels::Labels;
 use crate::memo::memo_text;
-use crate::names::holiday_names;
 use case_numbers::Cases;
 use court_clock::Day;
 use court_days::Court;
 use desk_numbers::MovedNumbers;
 use office_texts::{CaseCalled, number_called, push_called};
-use program_streams::{CheckedInput, Finding, Report};
+use program_runs::{CheckedInput, Finding, Report};
+use report_texts::{Labels, holiday_names};
 use row_forms::{NumberedRow, numbered_rows};
 use std::alloc::{AllocError, Global};
 use std::sync::Wait;
@@ -25,7 +24,7 @@ use std::thread::Threads;
 impl Report for Asked {
     ghost use Rattle.std.specs.Prelude.{[]};
     ghost use Rattle.report_memo.specs.Answer.{IsAnswerOf, IsMissingOf};
-    ghost use Rattle.report_memo.specs.Labels.{labels_of};
+    ghost use Rattle.report_texts.specs.Words.{labels_of};
 
     type Text = Vec<u8>;
 

@@ -8,7 +8,6 @@ ghost use Rattle.report_memo.specs.Sheets.{IsDeadline, IsSheet, IsSheetShown, fi
 ghost use Rattle.report_memo.specs.Texts.{Each, Pushes};
 
 use crate::detail::Detail;
-use crate::labels::Labels;
 use crate::reasons::push_deadline_reasons;
 use crate::sources::push_sources;
 use crate::whole::{push_all_motions, push_more};
@@ -17,6 +16,7 @@ use court_days::{Court, Days};
 use docket_core::Docket;
 use docket_rows::{Query, Sheet, SheetDeadline, View};
 use office_texts::{push_case_line, push_deadline};
+use report_texts::Labels;
 use std::alloc::{AllocError, Global};
 
 /// Adds the lines of a sheet, with the reasons of each deadline after its line, and more where more is asked for. `Err`

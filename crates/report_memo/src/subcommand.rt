@@ -4,8 +4,8 @@ ghost use Rattle.std.specs.Prelude.{◌≡◌, [], IfOk};
 ghost use Rattle.clap.specs.Words.{app_of};
 ghost use Rattle.report_memo.specs.CommandLine.{memo_shape, with_memo};
 
-use clap::{Arg, ArgAction, Command};
-use program_main::with_text;
+use clap::Command;
+use program_main::{with_source, with_text};
 use std::alloc::{AllocError, Global};
 
 const ABOUT: &str = "Why each deadline is the day that it is, or all of one case";
@@ -30,10 +30,6 @@ state's holidays, are read from a table [holiday_names] of the court's file, as
 2025-11-04 = \"Election Day\". Where a name there ends in ' (doubtful)', the end
 by the reading that the day is no holiday is given too.";
 
-const FOLDER: &str = "The folder of a docket, which another program may enter rows into";
-
-const INPUT: &str = "A file that clerk_office reads, or - for standard input";
-
 const CASE: &str = "The sheet of this case alone, after all rows, by its number or its name";
 
 const TODAY: &str = "With --case: how far pending deadlines lie from this day, as 2025-08-21";
@@ -42,13 +38,8 @@ const TODAY: &str = "With --case: how far pending deadlines lie from this day, a
 fn memo<'a>(alloc: Global) -> Result<Command<'a>, AllocError>
     ensures { IfOk result (λ command. app_of command ≡ record { top = memo_shape; subs = [] }) }
 {
-    let folder = Arg::new(alloc, "folder")
-        .action(ArgAction::Set)
-        .value_name("FOLDER")
-        .help(FOLDER);
     let command = Command::new(alloc, "memo").about(ABOUT).after_help(TEXTS);
-    let command = command.arg(folder)?;
-    let command = with_text(alloc, command, "input", "FILE", INPUT)?;
+    let command = with_source(alloc, command)?;
     let command = with_text(alloc, command, "case", "N", CASE)?;
     with_text(alloc, command, "today", "DAY", TODAY)
 }

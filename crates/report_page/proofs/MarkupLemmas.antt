@@ -17,15 +17,15 @@ use Rattle.page_markup.specs.declared.tag.Tag.{Tag}
 use Rattle.page_markup.specs.declared.tag.Tag.TheVariants as tag
 use Rattle.page_markup.specs.Words.{IsMarkup, element, text_in}
 use Rattle.page_markup.specs.Elements.IsMarkup.{nothing, text, inside, after}
-use Rattle.report_texts.specs.Words.{is_day_of, whole_day}
+use Rattle.report_texts.specs.Words.{LabelsView, is_day_of, whole_day}
 use Rattle.docket_selection.specs.declared.explained.explained.ExplainedDeadline.{ExplainedDeadline}
 use Rattle.docket_selection.specs.declared.explained.explained.ExplainedSheet.{ExplainedSheet}
 use Rattle.report_page.specs.Cases.{case_part, case_parts, cases_part, deadline_heads, deadline_row, deadline_rows, deadline_table, end_cell, hearing_cell, motion_heads, motion_row, motion_table, period_cell, reasons_cell}
-use Rattle.report_page.specs.Due.{due_heads, due_part, due_row, due_rows, due_table}
-use Rattle.report_page.specs.Judges.{booking_heads, booking_row, booking_rows, is_week_of, judge_part, judge_parts, judges_part, week_name}
+use Rattle.report_page.specs.Due.{day_row_if_new, due_heads, due_part, due_row, due_table}
+use Rattle.report_page.specs.Judges.{booking_heads, booking_row, is_week_of, judge_part, judge_parts, judges_part, week_name, week_row_if_new}
 use Rattle.report_page.specs.Page.{ContentIsMarkup, content}
 use Rattle.report_page.specs.Phrases.{motion_name}
-use Rattle.report_page.specs.Tables.{case_cell, case_link, four_heads, motion_cell, three_heads}
+use Rattle.report_page.specs.Tables.{case_cell, case_link, four_heads, motion_cell, rows_by_day, three_heads}
 
 both : {first second : List ℕ} → IsMarkup first → IsMarkup second → IsMarkup (first ++ second)
 both {first} {second} p q = after first second p q
@@ -46,6 +46,11 @@ each f is (x ∷ xs) = both (is x) (each f is xs)
 row_unless : (test : Bool) (t : Tag) (written : List ℕ) → IsMarkup (if test then [] else element tag.Row (text_in t written))
 row_unless true t written = nothing
 row_unless false t written = within tag.Row (words t written)
+
+rows_are : {X : Type 0} (day_of : X → ℤ) (head : Option ℤ → ℤ → List ℕ) (row : X → List ℕ) → ((before : Option ℤ) (day : ℤ) → IsMarkup (head before day)) → ((x : X) → IsMarkup (row x)) → (before : Option ℤ) (xs : List X) → IsMarkup (rows_by_day day_of head row before xs)
+unfolding rows_by_day
+rows_are day_of head row heads rows before [] = nothing
+rows_are day_of head row heads rows before (x ∷ xs) = both (both (heads before (day_of x)) (rows x)) (rows_are day_of head row heads rows (Some (day_of x)) xs)
 
 three_heads_are : (a b c : List ℕ) → IsMarkup (three_heads a b c)
 unfolding three_heads
@@ -72,12 +77,6 @@ due_row_is : (court : CourtView) (named : List NamedCase) (item : DueItem) → I
 unfolding due_row
 due_row_is court named item = within tag.Row (both (both (words tag.RowHead _) (case_cell_is named item.case)) (words _ _))
 
-due_rows_are : (court : CourtView) (named : List NamedCase) (before : Option ℤ) (items : List DueItem) → IsMarkup (due_rows court named before items)
-unfolding due_rows
-due_rows_are court named before [] = nothing
-due_rows_are court named before (item ∷ items) =
-    both (both (row_unless (is_day_of before item.day) tag.DayHead (whole_day item.day)) (due_row_is court named item)) (due_rows_are court named (Some item.day) items)
-
 due_heads_are : IsMarkup due_heads
 unfolding due_heads
 due_heads_are = three_heads_are _ _ _
@@ -85,7 +84,7 @@ due_heads_are = three_heads_are _ _ _
 due_table_is : (court : CourtView) (named : List NamedCase) (items : List DueItem) → IsMarkup (due_table court named items)
 unfolding due_table
 due_table_is court named [] = words tag.Paragraph _
-due_table_is court named (item ∷ items) = within tag.Table (both (both (words tag.Caption _) due_heads_are) (within tag.TableBody (due_rows_are court named None (item ∷ items))))
+due_table_is court named (item ∷ items) = within tag.Table (both (both (words tag.Caption _) due_heads_are) (within tag.TableBody (rows_are (λ (x : DueItem). x.day) day_row_if_new (due_row court named) (λ before day. row_unless (is_day_of before day) tag.DayHead (whole_day day)) (due_row_is court named) None (item ∷ items))))
 
 due_part_is : (court : CourtView) (named : List NamedCase) (items : List DueItem) → IsMarkup (due_part court named items)
 unfolding due_part
@@ -95,12 +94,6 @@ booking_row_is : (court : CourtView) (named : List NamedCase) (b : Booking) → 
 unfolding booking_row
 booking_row_is court named b = within tag.Row (both (both (both (words tag.RowHead _) (words tag.Cell _)) (motion_cell_is named b.case b.motion)) (words tag.Cell _))
 
-booking_rows_are : (court : CourtView) (named : List NamedCase) (before : Option ℤ) (bookings : List Booking) → IsMarkup (booking_rows court named before bookings)
-unfolding booking_rows
-booking_rows_are court named before [] = nothing
-booking_rows_are court named before (b ∷ bookings) =
-    both (both (row_unless (is_week_of before b.day) tag.WeekHead (week_name b.day)) (booking_row_is court named b)) (booking_rows_are court named (Some b.day) bookings)
-
 booking_heads_are : IsMarkup booking_heads
 unfolding booking_heads
 booking_heads_are = four_heads_are _ _ _ _
@@ -108,7 +101,7 @@ booking_heads_are = four_heads_are _ _ _ _
 judge_part_is : (court : CourtView) (named : List NamedCase) (c : JudgeCalendar) → IsMarkup (judge_part court named c)
 unfolding judge_part
 judge_part_is court named c =
-    within tag.Section (both (words tag.Heading3 _) (within tag.Table (both (both (words tag.Caption _) booking_heads_are) (within tag.TableBody (booking_rows_are court named None c.bookings)))))
+    within tag.Section (both (words tag.Heading3 _) (within tag.Table (both (both (words tag.Caption _) booking_heads_are) (within tag.TableBody (rows_are (λ (b : Booking). b.day) week_row_if_new (booking_row court named) (λ before day. row_unless (is_week_of before day) tag.WeekHead (week_name day)) (booking_row_is court named) None c.bookings)))))
 
 judge_parts_are : (court : CourtView) (named : List NamedCase) (calendars : List JudgeCalendar) → IsMarkup (judge_parts court named calendars)
 judge_parts_are court named [] = words tag.Paragraph _
@@ -132,23 +125,23 @@ unfolding deadline_row
 deadline_row_is clock d other =
     within tag.Row (both (both (both (words tag.RowHead _) (period_cell_is d.row)) (end_cell_is clock d.shown other)) (words _ _))
 
-reasons_cell_is : (days : DaysView) (clock : ClockView) (e : ExplainedDeadline) → IsMarkup (reasons_cell days clock e)
+reasons_cell_is : (days : DaysView) (clock : ClockView) (doubtful : List ℤ) (e : ExplainedDeadline) → IsMarkup (reasons_cell days clock doubtful e)
 unfolding reasons_cell
-reasons_cell_is days clock e = within tag.WideCell (within tag.Details (both (words tag.Summary _) (words tag.Reasons _)))
+reasons_cell_is days clock doubtful e = within tag.WideCell (within tag.Details (both (words tag.Summary _) (words tag.Reasons _)))
 
-deadline_rows_are : (days : DaysView) (clock : ClockView) (e : ExplainedDeadline) → IsMarkup (deadline_rows days clock e)
+deadline_rows_are : (days : DaysView) (clock : ClockView) (doubtful : List ℤ) (e : ExplainedDeadline) → IsMarkup (deadline_rows days clock doubtful e)
 unfolding deadline_rows
-deadline_rows_are days clock e = both (deadline_row_is clock e.deadline e.other) (within tag.Row (reasons_cell_is days clock e))
+deadline_rows_are days clock doubtful e = both (deadline_row_is clock e.deadline e.other) (within tag.Row (reasons_cell_is days clock doubtful e))
 
 deadline_heads_are : IsMarkup deadline_heads
 unfolding deadline_heads
 deadline_heads_are = four_heads_are _ _ _ _
 
-deadline_table_is : (days : DaysView) (clock : ClockView) (named : List NamedCase) (case : ℕ) (deadlines : List ExplainedDeadline) → IsMarkup (deadline_table days clock named case deadlines)
+deadline_table_is : (days : DaysView) (clock : ClockView) (labels : LabelsView) (case : ℕ) (deadlines : List ExplainedDeadline) → IsMarkup (deadline_table days clock labels case deadlines)
 unfolding deadline_table
-deadline_table_is days clock named case [] = words tag.Paragraph _
-deadline_table_is days clock named case (e ∷ deadlines) =
-    within tag.Table (both (both (words tag.Caption _) deadline_heads_are) (within tag.TableBody (each (deadline_rows days clock) (deadline_rows_are days clock) (e ∷ deadlines))))
+deadline_table_is days clock labels case [] = words tag.Paragraph _
+deadline_table_is days clock labels case (e ∷ deadlines) =
+    within tag.Table (both (both (words tag.Caption _) deadline_heads_are) (within tag.TableBody (each (deadline_rows days clock labels.doubtful) (deadline_rows_are days clock labels.doubtful) (e ∷ deadlines))))
 
 hearing_cell_is : (court : CourtView) (hearing : Option SheetHearing) → IsMarkup (hearing_cell court hearing)
 unfolding hearing_cell
@@ -169,20 +162,20 @@ motion_table_is court named case [] = words tag.Paragraph _
 motion_table_is court named case (m ∷ motions) =
     within tag.Table (both (both (words tag.Caption _) motion_heads_are) (within tag.TableBody (each (motion_row court) (motion_row_is court) (m ∷ motions))))
 
-case_part_is : (court : CourtView) (days : DaysView) (named : List NamedCase) (s : ExplainedSheet) → IsMarkup (case_part court days named s)
+case_part_is : (court : CourtView) (days : DaysView) (labels : LabelsView) (s : ExplainedSheet) → IsMarkup (case_part court days labels s)
 unfolding case_part
-case_part_is court days named s =
-    within (tag.CaseSection s.case) (both (both (both (words tag.Heading3 _) (words tag.Paragraph _)) (deadline_table_is days court.clock named s.case s.deadlines.items)) (motion_table_is court named s.case s.motions))
+case_part_is court days labels s =
+    within (tag.CaseSection s.case) (both (both (both (words tag.Heading3 _) (words tag.Paragraph _)) (deadline_table_is days court.clock labels s.case s.deadlines.items)) (motion_table_is court labels.cases s.case s.motions))
 
-case_parts_are : (court : CourtView) (days : DaysView) (named : List NamedCase) (sheets : List ExplainedSheet) → IsMarkup (case_parts court days named sheets)
-case_parts_are court days named [] = words tag.Paragraph _
-case_parts_are court days named (s ∷ sheets) = each (case_part court days named) (case_part_is court days named) (s ∷ sheets)
+case_parts_are : (court : CourtView) (days : DaysView) (labels : LabelsView) (sheets : List ExplainedSheet) → IsMarkup (case_parts court days labels sheets)
+case_parts_are court days labels [] = words tag.Paragraph _
+case_parts_are court days labels (s ∷ sheets) = each (case_part court days labels) (case_part_is court days labels) (s ∷ sheets)
 
-cases_part_is : (court : CourtView) (days : DaysView) (named : List NamedCase) (sheets : List ExplainedSheet) → IsMarkup (cases_part court days named sheets)
+cases_part_is : (court : CourtView) (days : DaysView) (labels : LabelsView) (sheets : List ExplainedSheet) → IsMarkup (cases_part court days labels sheets)
 unfolding cases_part
-cases_part_is court days named sheets = within tag.Section (both (words tag.Heading2 _) (case_parts_are court days named sheets))
+cases_part_is court days labels sheets = within tag.Section (both (words tag.Heading2 _) (case_parts_are court days labels sheets))
 
 pub content_is_markup : ContentIsMarkup
 unfolding content
-content_is_markup court days named choice items calendars sheets =
-    both (both (both (both (words tag.Heading1 _) (words tag.Paragraph _)) (due_part_is court named items)) (judges_part_is court named calendars)) (cases_part_is court days named sheets)
+content_is_markup court days labels choice items calendars sheets =
+    both (both (both (both (words tag.Heading1 _) (words tag.Paragraph _)) (due_part_is court labels.cases items)) (judges_part_is court labels.cases calendars)) (cases_part_is court days labels sheets)

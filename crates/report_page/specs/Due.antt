@@ -11,7 +11,7 @@ use Rattle.page_markup.specs.declared.tag.Tag.{Tag}
 use Rattle.page_markup.specs.declared.tag.Tag.TheVariants as tag
 use Rattle.page_markup.specs.Words.{element, text_in}
 use Rattle.report_texts.specs.Words.{closing_line, is_day_of, matter_words, time_words, whole_day}
-use Rattle.report_page.specs.Tables.{case_cell, three_heads}
+use Rattle.report_page.specs.Tables.{case_cell, rows_by_day, three_heads}
 
 -- the cell of what is late, or another
 abbrev pub state_cell : State → Tag
@@ -32,9 +32,8 @@ abbrev pub day_row_if_new : (before : Option ℤ) → (day : ℤ) → List ℕ
 day_row_if_new before day = if is_day_of before day then [] else element tag.Row (text_in tag.DayHead (whole_day day))
 
 -- a row for each item, in the order of the list, and one for each day before the first item of it
-unfoldable pub due_rows : CourtView → List NamedCase → (before : Option ℤ) → List DueItem → List ℕ
-due_rows court named before [] = []
-due_rows court named before (item ∷ items) = day_row_if_new before item.day ++ due_row court named item ++ due_rows court named (Some item.day) items
+abbrev pub due_rows : CourtView → List NamedCase → (before : Option ℤ) → List DueItem → List ℕ
+due_rows court named before items = rows_by_day (λ (item : DueItem). item.day) day_row_if_new (due_row court named) before items
 
 unfoldable pub due_caption : List ℕ
 due_caption = codes "Deadlines with no timely act, and hearings, by day"

@@ -12,7 +12,7 @@ use Rattle.page_markup.specs.declared.tag.Tag.TheVariants as tag
 use Rattle.page_markup.specs.Words.{element, text_in}
 use Rattle.office_texts.specs.Words.{name_of}
 use Rattle.report_texts.specs.Words.{span_words, whole_day}
-use Rattle.report_page.specs.Tables.{four_heads, motion_cell}
+use Rattle.report_page.specs.Tables.{four_heads, motion_cell, rows_by_day}
 
 -- the two days are of one week
 abbrev pub is_week_of : (before : Option ℤ) → (day : ℤ) → Bool
@@ -32,9 +32,8 @@ booking_row court named b =
     element tag.Row (text_in tag.RowHead (whole_day b.day) ++ text_in tag.Cell (span_words b.first b.count) ++ motion_cell named b.case b.motion ++ text_in tag.Cell (name_of court.rooms b.other))
 
 -- a row for each booking, in the order of the list, and one for each week before the first booking of it
-unfoldable pub booking_rows : CourtView → List NamedCase → (before : Option ℤ) → List Booking → List ℕ
-booking_rows court named before [] = []
-booking_rows court named before (b ∷ bookings) = week_row_if_new before b.day ++ booking_row court named b ++ booking_rows court named (Some b.day) bookings
+abbrev pub booking_rows : CourtView → List NamedCase → (before : Option ℤ) → List Booking → List ℕ
+booking_rows court named before bookings = rows_by_day (λ (b : Booking). b.day) week_row_if_new (booking_row court named) before bookings
 
 unfoldable pub booking_heads : List ℕ
 booking_heads = four_heads (codes "Day") (codes "Time") (codes "Hearing") (codes "Room")

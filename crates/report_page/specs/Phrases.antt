@@ -15,7 +15,8 @@ use Rattle.hearing_slots.specs.declared.need.Need.TheVariants as need
 use Rattle.docket_rows.specs.declared.hearing.Hearing.{Hearing}
 use Rattle.docket_rows.specs.declared.sheet.State.{State}
 use Rattle.docket_rows.specs.declared.sheet.State.TheVariants.{Pending, Timely, Late, Undecided}
-use Rattle.report_texts.specs.Words.{panel_names, room_words, minute_time, second_time, span_words, unit_words, whole_day}
+use Rattle.reason_texts.specs.Words.{minute_time, second_time}
+use Rattle.report_texts.specs.Words.{panel_names, room_words, span_words, unit_words, whole_day}
 
 -- `case 3`; a case that has a name is called by it
 unfoldable pub case_name : List NamedCase → (case : ℕ) → List ℕ

@@ -1,5 +1,5 @@
 -- The parts of tables.
-use Rattle.std.specs.Prelude.{ℕ, List, ◌++◌}
+use Rattle.std.specs.Prelude.{ℕ, ℤ, List, [], ◌∷◌, ◌++◌, Option, Some}
 use Rattle.case_numbers.specs.declared.names.NamedCase.{NamedCase}
 use Rattle.page_markup.specs.declared.tag.Tag.TheVariants as tag
 use Rattle.page_markup.specs.Words.{element, escaped, text_in}
@@ -26,3 +26,8 @@ case_cell named case = element tag.Cell (case_link named case)
 -- a cell that names a case and one of its motions
 unfoldable pub motion_cell : List NamedCase → (case motion : ℕ) → List ℕ
 motion_cell named case motion = element tag.Cell (case_link named case ++ escaped (motion_name motion))
+
+-- a row for each of some things that have days, in their order, and before it what the day calls for after that of the one before
+unfoldable pub rows_by_day : {X : Type 0} → (day_of : X → ℤ) → (head : Option ℤ → ℤ → List ℕ) → (row : X → List ℕ) → (before : Option ℤ) → List X → List ℕ
+rows_by_day day_of head row before [] = []
+rows_by_day day_of head row before (x ∷ xs) = head before (day_of x) ++ row x ++ rows_by_day day_of head row (Some (day_of x)) xs

@@ -6,12 +6,12 @@ ghost use Rattle.report_page.specs.Cases.{case_part, case_parts, case_title, cas
 
 use crate::deadlines::push_deadlines;
 use crate::motions::push_motions;
-use case_numbers::{Cases, push_case_text};
+use case_numbers::push_case_text;
 use court_clock::Day;
 use court_days::{Court, Days};
 use docket_selection::ExplainedSheet;
 use page_markup::{Page, Tag};
-use report_texts::push_whole_day;
+use report_texts::{Labels, push_whole_day};
 use std::alloc::{AllocError, Global};
 
 /// Adds the sheets of the cases.
@@ -22,14 +22,14 @@ pub(crate) fn push_cases(
     line: &mut String,
     court: &Court,
     days: &Days,
-    cases: &Cases,
+    labels: &Labels<'_>,
     sheets: &[ExplainedSheet],
 ) -> Result<(), AllocError>
-    ensures { OnOk result (page.new ≡ page.old ++ cases_part court.now days.now cases.now.named sheets.now) }
+    ensures { OnOk result (page.new ≡ page.old ++ cases_part court.now days.now labels.now sheets.now) }
 {
     page.open(Tag::Section)?;
     page.text_in(Tag::Heading2, "Cases")?;
-    push_parts(alloc, page, line, court, days, cases, sheets)?;
+    push_parts(alloc, page, line, court, days, labels, sheets)?;
     page.close(Tag::Section)
 }
 
@@ -40,15 +40,15 @@ fn push_parts(
     line: &mut String,
     court: &Court,
     days: &Days,
-    cases: &Cases,
+    labels: &Labels<'_>,
     sheets: &[ExplainedSheet],
 ) -> Result<(), AllocError>
-    ensures { OnOk result (page.new ≡ page.old ++ case_parts court.now days.now cases.now.named sheets.now) }
+    ensures { OnOk result (page.new ≡ page.old ++ case_parts court.now days.now labels.now sheets.now) }
 {
     if sheets.is_empty() {
         return page.text_in(Tag::Paragraph, "No case is open.");
     }
-    push_sheets(alloc, page, line, court, days, cases, sheets)
+    push_sheets(alloc, page, line, court, days, labels, sheets)
 }
 
 /// Adds a part for each case.
@@ -58,13 +58,13 @@ fn push_sheets(
     line: &mut String,
     court: &Court,
     days: &Days,
-    cases: &Cases,
+    labels: &Labels<'_>,
     sheets: &[ExplainedSheet],
 ) -> Result<(), AllocError>
-    ensures { OnOk result (page.new ≡ page.old ++ flat_map (case_part court.now days.now cases.now.named) sheets.now) }
+    ensures { OnOk result (page.new ≡ page.old ++ flat_map (case_part court.now days.now labels.now) sheets.now) }
 {
     for sheet in sheets {
-        push_case(alloc, page, line, court, days, cases, sheet)?;
+        push_case(alloc, page, line, court, days, labels, sheet)?;
     }
     Ok(())
 }
@@ -77,13 +77,13 @@ fn push_case(
     line: &mut String,
     court: &Court,
     days: &Days,
-    cases: &Cases,
+    labels: &Labels<'_>,
     sheet: &ExplainedSheet,
 ) -> Result<(), AllocError>
-    ensures { OnOk result (page.new ≡ page.old ++ case_part court.now days.now cases.now.named sheet.now) }
+    ensures { OnOk result (page.new ≡ page.old ++ case_part court.now days.now labels.now sheet.now) }
 {
     page.open(Tag::CaseSection(sheet.case))?;
-    set_title(line, cases, sheet.case)?;
+    set_title(line, labels, sheet.case)?;
     page.text_in(Tag::Heading3, line)?;
     set_filed(line, sheet.filed)?;
     page.text_in(Tag::Paragraph, line)?;
@@ -93,7 +93,7 @@ fn push_case(
         line,
         days,
         court.clock(),
-        cases,
+        labels,
         sheet.case,
         &sheet.deadlines,
     )?;
@@ -101,7 +101,7 @@ fn push_case(
         page,
         line,
         court,
-        cases,
+        labels,
         sheet.case,
         sheet.motions.as_slice(),
     )?;
@@ -110,12 +110,12 @@ fn push_case(
 
 /// Makes the line the title of a case's part.
 #[tactic(auto, unfolding(crate::specs::Cases::case_title))]
-fn set_title(line: &mut String, cases: &Cases, case: u32) -> Result<(), AllocError>
-    ensures { OnOk result (string_bytes line.new ≡ case_title cases.now.named case) }
+fn set_title(line: &mut String, labels: &Labels<'_>, case: u32) -> Result<(), AllocError>
+    ensures { OnOk result (string_bytes line.new ≡ case_title labels.now.cases case) }
 {
     line.clear();
     line.push_str("Case ")?;
-    push_case_text(line, cases, case)
+    push_case_text(line, labels.cases, case)
 }
 
 /// Makes the line when a case was filed.

@@ -8,14 +8,14 @@ use crate::due::state_cell;
 use crate::phrases::{set_end, set_number, set_state};
 use crate::reasons::push_reasons_cell;
 use crate::tables::push_four_heads;
-use case_numbers::{Cases, push_case_text};
-use court_clock::Clock;
+use case_numbers::push_case_text;
+use court_clock::{Clock, Day};
 use court_days::Days;
 use docket_rows::SheetDeadline;
 use docket_selection::ExplainedDeadline;
 use page_markup::{Page, Tag};
 use reason_texts::push_heading;
-use report_texts::{push_period, push_reading};
+use report_texts::{Labels, push_period, push_reading};
 use rule_periods::DeadlineRow;
 use rule6::Shown;
 use std::alloc::{AllocError, Global};
@@ -28,33 +28,33 @@ pub(crate) fn push_deadlines(
     line: &mut String,
     days: &Days,
     clock: &Clock,
-    cases: &Cases,
+    labels: &Labels<'_>,
     case: u32,
     deadlines: &[ExplainedDeadline],
 ) -> Result<(), AllocError>
-    ensures { OnOk result (page.new ≡ page.old ++ deadline_table days.now clock.now cases.now.named case deadlines.now) }
+    ensures { OnOk result (page.new ≡ page.old ++ deadline_table days.now clock.now labels.now case deadlines.now) }
 {
     if deadlines.is_empty() {
         return page.text_in(Tag::Paragraph, "No deadline is entered.");
     }
     page.open(Tag::Table)?;
-    set_caption(line, cases, case)?;
+    set_caption(line, labels, case)?;
     page.text_in(Tag::Caption, line)?;
     push_heads(page)?;
     page.open(Tag::TableBody)?;
-    push_rows(alloc, page, line, days, clock, deadlines)?;
+    push_rows(alloc, page, line, days, clock, labels.doubtful, deadlines)?;
     page.close(Tag::TableBody)?;
     page.close(Tag::Table)
 }
 
 /// Makes the line what the table of a case's deadlines has.
 #[tactic(auto, unfolding(crate::specs::Cases::deadline_caption))]
-fn set_caption(line: &mut String, cases: &Cases, case: u32) -> Result<(), AllocError>
-    ensures { OnOk result (string_bytes line.new ≡ deadline_caption cases.now.named case) }
+fn set_caption(line: &mut String, labels: &Labels<'_>, case: u32) -> Result<(), AllocError>
+    ensures { OnOk result (string_bytes line.new ≡ deadline_caption labels.now.cases case) }
 {
     line.clear();
     line.push_str("Deadlines of case ")?;
-    push_case_text(line, cases, case)
+    push_case_text(line, labels.cases, case)
 }
 
 #[tactic(auto, unfolding(crate::specs::Cases::deadline_heads))]
@@ -71,12 +71,13 @@ fn push_rows(
     line: &mut String,
     days: &Days,
     clock: &Clock,
+    doubtful: &[Day],
     deadlines: &[ExplainedDeadline],
 ) -> Result<(), AllocError>
-    ensures { OnOk result (page.new ≡ page.old ++ flat_map (deadline_rows days.now clock.now) deadlines.now) }
+    ensures { OnOk result (page.new ≡ page.old ++ flat_map (deadline_rows days.now clock.now doubtful.now) deadlines.now) }
 {
     for explained in deadlines {
-        push_explained(alloc, page, line, days, clock, explained)?;
+        push_explained(alloc, page, line, days, clock, doubtful, explained)?;
     }
     Ok(())
 }
@@ -89,9 +90,10 @@ fn push_explained(
     line: &mut String,
     days: &Days,
     clock: &Clock,
+    doubtful: &[Day],
     explained: &ExplainedDeadline,
 ) -> Result<(), AllocError>
-    ensures { OnOk result (page.new ≡ page.old ++ deadline_rows days.now clock.now explained.now) }
+    ensures { OnOk result (page.new ≡ page.old ++ deadline_rows days.now clock.now doubtful.now explained.now) }
 {
     push_row(
         alloc,
@@ -102,7 +104,7 @@ fn push_explained(
         explained.other,
     )?;
     page.open(Tag::Row)?;
-    push_reasons_cell(alloc, page, line, days, clock, explained)?;
+    push_reasons_cell(alloc, page, line, days, clock, doubtful, explained)?;
     page.close(Tag::Row)
 }
 

@@ -7,13 +7,12 @@ ghost use Rattle.report_page.specs.Due.{day_row_if_new, due_caption, due_heads, 
 
 use crate::phrases::set_day;
 use crate::tables::{push_case_cell, push_three_heads};
-use case_numbers::Cases;
 use court_clock::Day;
 use court_days::Court;
 use docket_rows::State;
 use docket_selection::{DueItem, DueTypes, Matter};
 use page_markup::{Page, Tag};
-use report_texts::{is_day_of, push_closing, push_matter, push_time};
+use report_texts::{Labels, is_day_of, push_closing, push_matter, push_time};
 use std::alloc::AllocError;
 
 /// Adds what is due.
@@ -22,10 +21,10 @@ pub(crate) fn push_due(
     page: &mut Page,
     line: &mut String,
     court: &Court,
-    cases: &Cases,
+    labels: &Labels<'_>,
     items: &[DueItem],
 ) -> Result<(), AllocError>
-    ensures { OnOk result (page.new ≡ page.old ++ due_part court.now cases.now.named items.now) }
+    ensures { OnOk result (page.new ≡ page.old ++ due_part court.now labels.now.cases items.now) }
 {
     let _types: DueTypes = None;
     page.open(Tag::Section)?;
@@ -33,7 +32,7 @@ pub(crate) fn push_due(
     line.clear();
     push_closing(line, court)?;
     page.text_in(Tag::Paragraph, line)?;
-    push_table(page, line, court, cases, items)?;
+    push_table(page, line, court, labels, items)?;
     page.close(Tag::Section)
 }
 
@@ -43,10 +42,10 @@ fn push_table(
     page: &mut Page,
     line: &mut String,
     court: &Court,
-    cases: &Cases,
+    labels: &Labels<'_>,
     items: &[DueItem],
 ) -> Result<(), AllocError>
-    ensures { OnOk result (page.new ≡ page.old ++ due_table court.now cases.now.named items.now) }
+    ensures { OnOk result (page.new ≡ page.old ++ due_table court.now labels.now.cases items.now) }
 {
     let _types: DueTypes = None;
     if items.is_empty() {
@@ -56,7 +55,7 @@ fn push_table(
     push_caption(page)?;
     push_heads(page)?;
     page.open(Tag::TableBody)?;
-    push_rows(page, line, court, cases, items)?;
+    push_rows(page, line, court, labels, items)?;
     page.close(Tag::TableBody)?;
     page.close(Tag::Table)
 }
@@ -83,16 +82,16 @@ fn push_rows(
     page: &mut Page,
     line: &mut String,
     court: &Court,
-    cases: &Cases,
+    labels: &Labels<'_>,
     items: &[DueItem],
 ) -> Result<(), AllocError>
-    ensures { OnOk result (page.new ≡ page.old ++ due_rows court.now cases.now.named None items.now) }
+    ensures { OnOk result (page.new ≡ page.old ++ due_rows court.now labels.now.cases None items.now) }
 {
     let _types: DueTypes = None;
     let mut before = None;
     for item in items {
         push_day_if_new(page, line, before, item.day)?;
-        push_row(page, line, court, cases, item)?;
+        push_row(page, line, court, labels, item)?;
         before = Some(item.day);
     }
     Ok(())
@@ -122,16 +121,16 @@ fn push_row(
     page: &mut Page,
     line: &mut String,
     court: &Court,
-    cases: &Cases,
+    labels: &Labels<'_>,
     item: &DueItem,
 ) -> Result<(), AllocError>
-    ensures { OnOk result (page.new ≡ page.old ++ due_row court.now cases.now.named item.now) }
+    ensures { OnOk result (page.new ≡ page.old ++ due_row court.now labels.now.cases item.now) }
 {
     page.open(Tag::Row)?;
     line.clear();
     push_time(line, item.second, &item.matter)?;
     page.text_in(Tag::RowHead, line)?;
-    push_case_cell(page, line, cases, item.case)?;
+    push_case_cell(page, line, labels, item.case)?;
     line.clear();
     push_matter(line, court, item.number, &item.matter)?;
     page.text_in(matter_cell(&item.matter), line)?;

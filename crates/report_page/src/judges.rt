@@ -8,14 +8,13 @@ ghost use Rattle.report_page.specs.Judges.{booking_heads, booking_row, booking_r
 
 use crate::phrases::set_day;
 use crate::tables::{push_four_heads, push_motion_cell};
-use case_numbers::Cases;
 use court_clock::Day;
 use court_days::Court;
 use docket_selection::{JudgeCalendar, week_start};
 use hearing_slots::Booking;
 use office_texts::{judge_name, room_name};
 use page_markup::{Page, Tag};
-use report_texts::{push_span, push_whole_day};
+use report_texts::{Labels, push_span, push_whole_day};
 use std::alloc::AllocError;
 
 /// Adds the judges' hearings.
@@ -24,14 +23,14 @@ pub(crate) fn push_judges(
     page: &mut Page,
     line: &mut String,
     court: &Court,
-    cases: &Cases,
+    labels: &Labels<'_>,
     calendars: &[JudgeCalendar],
 ) -> Result<(), AllocError>
-    ensures { OnOk result (page.new ≡ page.old ++ judges_part court.now cases.now.named calendars.now) }
+    ensures { OnOk result (page.new ≡ page.old ++ judges_part court.now labels.now.cases calendars.now) }
 {
     page.open(Tag::Section)?;
     page.text_in(Tag::Heading2, "Hearings by judge")?;
-    push_parts(page, line, court, cases, calendars)?;
+    push_parts(page, line, court, labels, calendars)?;
     page.close(Tag::Section)
 }
 
@@ -40,15 +39,15 @@ fn push_parts(
     page: &mut Page,
     line: &mut String,
     court: &Court,
-    cases: &Cases,
+    labels: &Labels<'_>,
     calendars: &[JudgeCalendar],
 ) -> Result<(), AllocError>
-    ensures { OnOk result (page.new ≡ page.old ++ judge_parts court.now cases.now.named calendars.now) }
+    ensures { OnOk result (page.new ≡ page.old ++ judge_parts court.now labels.now.cases calendars.now) }
 {
     if calendars.is_empty() {
         return page.text_in(Tag::Paragraph, "No hearing is set.");
     }
-    push_calendars(page, line, court, cases, calendars)
+    push_calendars(page, line, court, labels, calendars)
 }
 
 /// Adds a part for each judge.
@@ -56,13 +55,13 @@ fn push_calendars(
     page: &mut Page,
     line: &mut String,
     court: &Court,
-    cases: &Cases,
+    labels: &Labels<'_>,
     calendars: &[JudgeCalendar],
 ) -> Result<(), AllocError>
-    ensures { OnOk result (page.new ≡ page.old ++ flat_map (judge_part court.now cases.now.named) calendars.now) }
+    ensures { OnOk result (page.new ≡ page.old ++ flat_map (judge_part court.now labels.now.cases) calendars.now) }
 {
     for calendar in calendars {
-        push_judge(page, line, court, cases, calendar)?;
+        push_judge(page, line, court, labels, calendar)?;
     }
     Ok(())
 }
@@ -73,10 +72,10 @@ fn push_judge(
     page: &mut Page,
     line: &mut String,
     court: &Court,
-    cases: &Cases,
+    labels: &Labels<'_>,
     calendar: &JudgeCalendar,
 ) -> Result<(), AllocError>
-    ensures { OnOk result (page.new ≡ page.old ++ judge_part court.now cases.now.named calendar.now) }
+    ensures { OnOk result (page.new ≡ page.old ++ judge_part court.now labels.now.cases calendar.now) }
 {
     page.open(Tag::Section)?;
     set_title(line, court, calendar.judge)?;
@@ -86,7 +85,7 @@ fn push_judge(
     page.text_in(Tag::Caption, line)?;
     push_heads(page)?;
     page.open(Tag::TableBody)?;
-    push_rows(page, line, court, cases, calendar.bookings.as_slice())?;
+    push_rows(page, line, court, labels, calendar.bookings.as_slice())?;
     page.close(Tag::TableBody)?;
     page.close(Tag::Table)?;
     page.close(Tag::Section)
@@ -125,15 +124,15 @@ fn push_rows(
     page: &mut Page,
     line: &mut String,
     court: &Court,
-    cases: &Cases,
+    labels: &Labels<'_>,
     bookings: &[Booking],
 ) -> Result<(), AllocError>
-    ensures { OnOk result (page.new ≡ page.old ++ booking_rows court.now cases.now.named None bookings.now) }
+    ensures { OnOk result (page.new ≡ page.old ++ booking_rows court.now labels.now.cases None bookings.now) }
 {
     let mut before = None;
     for booking in bookings {
         push_week_if_new(page, line, before, booking.day)?;
-        push_row(page, line, court, cases, booking)?;
+        push_row(page, line, court, labels, booking)?;
         before = Some(booking.day);
     }
     Ok(())
@@ -183,10 +182,10 @@ fn push_row(
     page: &mut Page,
     line: &mut String,
     court: &Court,
-    cases: &Cases,
+    labels: &Labels<'_>,
     booking: &Booking,
 ) -> Result<(), AllocError>
-    ensures { OnOk result (page.new ≡ page.old ++ booking_row court.now cases.now.named booking.now) }
+    ensures { OnOk result (page.new ≡ page.old ++ booking_row court.now labels.now.cases booking.now) }
 {
     page.open(Tag::Row)?;
     set_day(line, booking.day)?;
@@ -194,7 +193,7 @@ fn push_row(
     line.clear();
     push_span(line, booking.first, booking.count)?;
     page.text_in(Tag::Cell, line)?;
-    push_motion_cell(page, line, cases, booking.case, booking.motion)?;
+    push_motion_cell(page, line, labels, booking.case, booking.motion)?;
     page.text_in(Tag::Cell, room_name(court, booking.other))?;
     page.close(Tag::Row)
 }

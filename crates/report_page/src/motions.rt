@@ -8,10 +8,11 @@ use crate::phrases::{
     set_affidavits, set_day, set_hearing_place, set_hearing_time, set_need, set_notice, set_number,
 };
 use crate::tables::push_four_heads;
-use case_numbers::{Cases, push_case_text};
+use case_numbers::push_case_text;
 use court_days::Court;
 use docket_rows::{SheetHearing, SheetMotion};
 use page_markup::{Page, Tag};
+use report_texts::Labels;
 use std::alloc::AllocError;
 
 /// Adds the table of a case's motions, or that there are none.
@@ -20,17 +21,17 @@ pub(crate) fn push_motions(
     page: &mut Page,
     line: &mut String,
     court: &Court,
-    cases: &Cases,
+    labels: &Labels<'_>,
     case: u32,
     motions: &[SheetMotion],
 ) -> Result<(), AllocError>
-    ensures { OnOk result (page.new ≡ page.old ++ motion_table court.now cases.now.named case motions.now) }
+    ensures { OnOk result (page.new ≡ page.old ++ motion_table court.now labels.now.cases case motions.now) }
 {
     if motions.is_empty() {
         return page.text_in(Tag::Paragraph, "No motion is entered.");
     }
     page.open(Tag::Table)?;
-    set_caption(line, cases, case)?;
+    set_caption(line, labels, case)?;
     page.text_in(Tag::Caption, line)?;
     push_heads(page)?;
     page.open(Tag::TableBody)?;
@@ -41,12 +42,12 @@ pub(crate) fn push_motions(
 
 /// Makes the line what the table of a case's motions has.
 #[tactic(auto, unfolding(crate::specs::Cases::motion_caption))]
-fn set_caption(line: &mut String, cases: &Cases, case: u32) -> Result<(), AllocError>
-    ensures { OnOk result (string_bytes line.new ≡ motion_caption cases.now.named case) }
+fn set_caption(line: &mut String, labels: &Labels<'_>, case: u32) -> Result<(), AllocError>
+    ensures { OnOk result (string_bytes line.new ≡ motion_caption labels.now.cases case) }
 {
     line.clear();
     line.push_str("Motions of case ")?;
-    push_case_text(line, cases, case)
+    push_case_text(line, labels.cases, case)
 }
 
 #[tactic(auto, unfolding(crate::specs::Cases::motion_heads))]

@@ -8,15 +8,14 @@ ghost use Rattle.court_clock.specs.Words.{civil_of};
 ghost use Rattle.report_texts.specs.Words.{whole_day};
 ghost use Rattle.report_page.specs.Phrases.{affidavits_words, beyond_words, case_name, done_words, ends_words, hearing_place, hearing_time, means_words, motion_name, need_words, notice_words, state_word, state_words, until_words};
 
-use case_numbers::{Cases, push_case_text};
+use case_numbers::push_case_text;
 use court_clock::{Clock, Day, Instant};
 use court_days::Court;
 use docket_rows::{Hearing, State};
 use hearing_slots::Need;
 use office_texts::push_number;
-use report_texts::{
-    push_minute, push_panel, push_room, push_second, push_span, push_whole_day, unit_words,
-};
+use reason_texts::{push_minute, push_second};
+use report_texts::{Labels, push_panel, push_room, push_span, push_whole_day, unit_words};
 use rule6::{Filing, Means, Shown};
 use std::alloc::AllocError;
 
@@ -38,12 +37,12 @@ pub(crate) fn set_day(line: &mut String, day: Day) -> Result<(), AllocError>
 
 /// Makes the line the name of a case.
 #[tactic(auto, unfolding(crate::specs::Phrases::case_name))]
-pub(crate) fn set_case(line: &mut String, cases: &Cases, case: u32) -> Result<(), AllocError>
-    ensures { OnOk result (string_bytes line.new ≡ case_name cases.now.named case) }
+pub(crate) fn set_case(line: &mut String, labels: &Labels<'_>, case: u32) -> Result<(), AllocError>
+    ensures { OnOk result (string_bytes line.new ≡ case_name labels.now.cases case) }
 {
     line.clear();
     line.push_str("case ")?;
-    push_case_text(line, cases, case)
+    push_case_text(line, labels.cases, case)
 }
 
 /// Makes the line the name of a motion after that of its case.
@@ -130,7 +129,7 @@ fn push_done(line: &mut String, filed: Option<Filing>) -> Result<(), AllocError>
             line.push_str(": ")?;
             push_whole_day(line, day)?;
             line.push_str(" ")?;
-            push_minute(line, u32::from(minute))?;
+            push_minute(line, minute)?;
             line.push_str(means_words(means))
         }
     }

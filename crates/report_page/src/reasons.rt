@@ -3,7 +3,7 @@
 ghost use Rattle.std.specs.Prelude.{◌≡◌, ◌++◌, OnOk, string_bytes};
 ghost use Rattle.report_page.specs.Cases.{reasons_cell, reasons_text, reasons_title};
 
-use court_clock::Clock;
+use court_clock::{Clock, Day};
 use court_days::Days;
 use deadline_reasons::Reason;
 use docket_selection::ExplainedDeadline;
@@ -22,9 +22,10 @@ pub(crate) fn push_reasons_cell(
     line: &mut String,
     days: &Days,
     clock: &Clock,
+    doubtful: &[Day],
     explained: &ExplainedDeadline,
 ) -> Result<(), AllocError>
-    ensures { OnOk result (page.new ≡ page.old ++ reasons_cell days.now clock.now explained.now) }
+    ensures { OnOk result (page.new ≡ page.old ++ reasons_cell days.now clock.now doubtful.now explained.now) }
 {
     page.open(Tag::WideCell)?;
     page.open(Tag::Details)?;
@@ -35,6 +36,7 @@ pub(crate) fn push_reasons_cell(
         line,
         days,
         clock,
+        doubtful,
         &explained.deadline.row,
         &explained.reasons,
     )?;
@@ -60,13 +62,14 @@ fn set_reasons(
     line: &mut String,
     days: &Days,
     clock: &Clock,
+    doubtful: &[Day],
     row: &DeadlineRow,
     reasons: &[Reason],
 ) -> Result<(), AllocError>
-    ensures { OnOk result (string_bytes line.new ≡ reasons_text days.now clock.now row.now reasons.now) }
+    ensures { OnOk result (string_bytes line.new ≡ reasons_text days.now clock.now doubtful.now row.now reasons.now) }
 {
     line.clear();
     let course = Course::of(&row.period());
     push_reasons(line, clock, &[], course, reasons)?;
-    push_readings(alloc, line, days, clock, row)
+    push_readings(alloc, line, days, clock, doubtful, row)
 }

@@ -4,8 +4,8 @@ ghost use Rattle.std.specs.Prelude.{◌≡◌, ◌++◌, OnOk};
 ghost use Rattle.report_page.specs.Tables.{case_cell, case_link, four_heads, motion_cell, three_heads};
 
 use crate::phrases::{set_case, set_motion};
-use case_numbers::Cases;
 use page_markup::{Page, Tag};
+use report_texts::Labels;
 use std::alloc::AllocError;
 
 /// Adds the heads of three columns.
@@ -53,12 +53,12 @@ pub(crate) fn push_four_heads(
 fn push_case_link(
     page: &mut Page,
     line: &mut String,
-    cases: &Cases,
+    labels: &Labels<'_>,
     case: u32,
 ) -> Result<(), AllocError>
-    ensures { OnOk result (page.new ≡ page.old ++ case_link cases.now.named case) }
+    ensures { OnOk result (page.new ≡ page.old ++ case_link labels.now.cases case) }
 {
-    set_case(line, cases, case)?;
+    set_case(line, labels, case)?;
     page.text_in(Tag::CaseLink(case), line)
 }
 
@@ -67,13 +67,13 @@ fn push_case_link(
 pub(crate) fn push_case_cell(
     page: &mut Page,
     line: &mut String,
-    cases: &Cases,
+    labels: &Labels<'_>,
     case: u32,
 ) -> Result<(), AllocError>
-    ensures { OnOk result (page.new ≡ page.old ++ case_cell cases.now.named case) }
+    ensures { OnOk result (page.new ≡ page.old ++ case_cell labels.now.cases case) }
 {
     page.open(Tag::Cell)?;
-    push_case_link(page, line, cases, case)?;
+    push_case_link(page, line, labels, case)?;
     page.close(Tag::Cell)
 }
 
@@ -82,14 +82,14 @@ pub(crate) fn push_case_cell(
 pub(crate) fn push_motion_cell(
     page: &mut Page,
     line: &mut String,
-    cases: &Cases,
+    labels: &Labels<'_>,
     case: u32,
     motion: u32,
 ) -> Result<(), AllocError>
-    ensures { OnOk result (page.new ≡ page.old ++ motion_cell cases.now.named case motion) }
+    ensures { OnOk result (page.new ≡ page.old ++ motion_cell labels.now.cases case motion) }
 {
     page.open(Tag::Cell)?;
-    push_case_link(page, line, cases, case)?;
+    push_case_link(page, line, labels, case)?;
     set_motion(line, motion)?;
     page.text(line)?;
     page.close(Tag::Cell)

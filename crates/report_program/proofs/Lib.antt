@@ -1,3 +1,3 @@
+pub mod CameLemmas
 pub mod FlagLemmas
-pub mod ShapeLemmas
 pub mod WordLemmas

@@ -6,99 +6,109 @@ use Rattle.office_texts.specs.Names.Words.{called_text}
 use Rattle.office_texts.specs.declared.names.called.CaseCalled.{CaseCalled}
 use Rattle.case_numbers.specs.Words.{case_text}
 use Rattle.case_numbers.specs.declared.names.NamedCase.{NamedCase}
-use Rattle.desk_numbers.specs.declared.moved.Moved.{Moved}
-use Rattle.desk_numbers.specs.Words.{numbered_sheet}
+use Rattle.desk_numbers.specs.Words.{numbered_sheet, numbered_view}
 use Rattle.court_clock.specs.Words.{day_text}
 use Rattle.court_days.specs.Words.{CourtView, file_of}
-use Rattle.docket_rows.specs.Words.{CourtSetup, Rows, opening_rows, setup_of}
+use Rattle.docket_rows.specs.declared.query.Query.TheVariants as query
+use Rattle.docket_rows.specs.Words.{CourtSetup, Rows, opening_rows, setup_of, view_of}
 use Rattle.docket_selection.specs.declared.choice.Choice.{Choice}
 use Rattle.docket_selection.specs.declared.item.DueItem.{DueItem}
 use Rattle.docket_selection.specs.Words.{IsDue, chosen_calendars, chosen_sheets, day_bookings, week_days}
 use Rattle.docket_selection.specs.declared.changes.change.RowChange.{RowChange}
 use Rattle.content_lines.specs.Words.{HasShortLines}
-use Rattle.report_texts.specs.Words.{due_text, numbered_calendar, numbered_day, numbered_item, week_text}
+use Rattle.report_texts.specs.Words.{LabelsView, due_text, labels_of, numbered_calendar, numbered_day, numbered_item, week_text}
 use Rattle.report_ics.specs.Words.{appointments_of, icalendar_text}
 use Rattle.docket_selection.specs.declared.explained.explained.ExplainedSheet.{ExplainedSheet}
 use Rattle.docket_selection.specs.Explained.Words.{AreExplained}
 use Rattle.report_page.specs.Words.{page_text}
 use Rattle.row_forms.specs.declared.numbered.NumberedRow.{NumberedRow}
 use Rattle.row_forms.specs.Words.{numbered_from, rows_of}
+use Rattle.office_texts.specs.Named.Words.{named_reply}
 use Rattle.office_texts.specs.Run.Words.{docketed_after}
+use Rattle.office_texts.specs.declared.run.reply.Reply.TheVariants.{Viewed}
 use Rattle.report_json.specs.Words.{AreAnswerLines, IsDocketJson}
 use Rattle.report_sql.specs.Words.{script_text}
-use Rattle.program_streams.specs.Words.{Input}
+use Rattle.program_runs.specs.Words.{Input}
 use Rattle.report_program.specs.declared.asked.Asked.{Asked}
 use Rattle.report_program.specs.declared.chosen.Chosen.{Chosen}
 use Rattle.report_program.specs.declared.chosen.Chosen.TheVariants.{Json, Lines, Listed, Sql}
 use Rattle.report_program.specs.declared.chosen.Listing.{Listing}
-use Rattle.report_program.specs.declared.chosen.Listing.TheVariants.{Due, Ics, Page, Week}
+use Rattle.report_program.specs.declared.chosen.Listing.TheVariants.{Due, Ics, Page, Sheet, Week}
 use Rattle.report_program.specs.declared.chosen.Missing.{Missing}
 use Rattle.report_program.specs.declared.chosen.Missing.TheVariants.{Case, Closed, Day, Judge}
 use Rattle.report_program.specs.Appointments.{numbered_appointment}
-use Rattle.report_program.specs.Changes.{changes_made}
+use Rattle.report_program.specs.Changes.{changes_made, lost_made}
 use Rattle.report_program.specs.Opened.{found_of}
-use Rattle.report_program.specs.Past.{PastView, changes_since, no_past}
+use Rattle.report_program.specs.Past.{PastView, changes_since, lost_since, no_past}
 
 -- the list of what is due, with the numbers of deadlines and motions
-pub record IsNumberedDue (setup : CourtSetup) (docketed : Rows) (moved : List Moved) (choice : Choice) (list : List DueItem) : Type 0 where
+pub record IsNumberedDue (setup : CourtSetup) (docketed : Rows) (labels : LabelsView) (choice : Choice) (list : List DueItem) : Type 0 where
   pub items : List DueItem
-  pub due : IsDue setup docketed choice items
-  pub numbers : list ≡ map (numbered_item moved) items
+  pub due : IsDue setup docketed labels.doubtful choice items
+  pub numbers : list ≡ map (numbered_item labels.moved) items
 
 -- the text of what is due: a line for each item of the list of what is due
-pub record IsDueText (court : CourtView) (named : List NamedCase) (moved : List Moved) (docketed : Rows) (choice : Choice) (text : List ℕ) : Type 0 where
+pub record IsDueText (court : CourtView) (labels : LabelsView) (docketed : Rows) (choice : Choice) (text : List ℕ) : Type 0 where
   pub list : List DueItem
-  pub due : IsNumberedDue (setup_of court) docketed moved choice list
-  pub lines : text ≡ due_text court named choice list
+  pub due : IsNumberedDue (setup_of court) docketed labels choice list
+  pub lines : text ≡ due_text court labels.cases choice list
 
 -- the text of the week of the judge in which the day is: of the bookings that the docket shows on each of its days
-abbrev pub week_text_of : CourtView → List NamedCase → List Moved → (docketed : Rows) → (judge : ℕ) → (day : ℤ) → List ℕ
-week_text_of court named moved docketed judge day =
-    week_text court named judge (map (numbered_day moved) (map (day_bookings (setup_of court) docketed judge) (week_days day)))
+abbrev pub week_text_of : CourtView → LabelsView → (docketed : Rows) → (judge : ℕ) → (day : ℤ) → List ℕ
+week_text_of court labels docketed judge day =
+    week_text court labels.cases judge (map (numbered_day labels.moved) (map (day_bookings (setup_of court) docketed judge) (week_days day)))
 
 -- The page of what is due, of the chosen judges' bookings, and of the sheets of the chosen cases with the reasons of each
 -- deadline, by the days that are docketed.
-pub record IsPage (court : CourtView) (named : List NamedCase) (moved : List Moved) (docketed : Rows) (choice : Choice) (text : List ℕ) : Type 0 where
+pub record IsPage (court : CourtView) (labels : LabelsView) (docketed : Rows) (choice : Choice) (text : List ℕ) : Type 0 where
   pub list : List DueItem
-  pub due : IsNumberedDue (setup_of court) docketed moved choice list
+  pub due : IsNumberedDue (setup_of court) docketed labels choice list
   pub sheets : List ExplainedSheet
-  pub explained : AreExplained docketed.days court.clock (map (numbered_sheet moved) (chosen_sheets (setup_of court) docketed choice)) sheets
-  pub page : text ≡ page_text court docketed.days named choice list (map (numbered_calendar moved) (chosen_calendars (setup_of court) docketed choice)) sheets
+  pub explained : AreExplained docketed.days court.clock labels.doubtful (map (numbered_sheet labels.moved) (chosen_sheets (setup_of court) docketed choice)) sheets
+  pub page : text ≡ page_text court docketed.days labels choice list (map (numbered_calendar labels.moved) (chosen_calendars (setup_of court) docketed choice)) sheets
 
 -- the same, of any judge
 abbrev pub of_any_judge : Choice → Choice
 of_any_judge choice = record choice { judge = None }
 
--- The text of a calendar: an event for each item of the list of what is chosen, and for each deadline and each chosen hearing that
--- is off by the changes that were made, as the chosen judge saw them.
-pub record IsIcsText (court : CourtView) (named : List NamedCase) (moved : List Moved) (docketed : Rows) (changes : List RowChange) (corrections : ℕ) (choice : Choice) (stamp : ℤ) (text : List ℕ) : Type 0 where
+-- The text of a calendar: an event for each item of the list of what is chosen, for each deadline and each chosen hearing that is off
+-- by the changes that were made, as the chosen judge saw them, and for each chosen deadline that no row starts any more.
+pub record IsIcsText (court : CourtView) (labels : LabelsView) (docketed : Rows) (changes : List RowChange) (lost : List DueItem) (corrections : ℕ) (choice : Choice) (stamp : ℤ) (text : List ℕ) : Type 0 where
   pub items : List DueItem
-  pub chosen : IsDue (setup_of court) docketed choice items
+  pub chosen : IsDue (setup_of court) docketed labels.doubtful choice items
   pub others : List DueItem
-  pub of_any : IsSome choice.judge → IsDue (setup_of court) docketed (of_any_judge choice) others
-  pub lines : text ≡ icalendar_text court named stamp (map (numbered_appointment moved corrections) (appointments_of choice (record { judge = choice.judge; changes = changes }) items others))
+  pub of_any : IsSome choice.judge → IsDue (setup_of court) docketed labels.doubtful (of_any_judge choice) others
+  pub lines : text ≡ icalendar_text court labels.cases stamp (map (numbered_appointment labels.moved corrections) (appointments_of choice (record { judge = choice.judge; changes = changes }) items others lost))
   pub short : HasShortLines text
 
--- the text of what is shown of the docket
-abbrev pub IsListing : CourtView → List NamedCase → List Moved → (docketed : Rows) → List RowChange → (corrections : ℕ) → Listing → List ℕ → Type 0
-IsListing court named moved docketed changes corrections (Due choice) text = IsDueText court named moved docketed choice text
-IsListing court named moved docketed changes corrections (Week judge day) text = text ≡ week_text_of court named moved docketed judge day
-IsListing court named moved docketed changes corrections (Page choice) text = IsPage court named moved docketed choice text
-IsListing court named moved docketed changes corrections (Ics choice stamp) text = IsIcsText court named moved docketed changes corrections choice stamp text
+-- the text of a case's sheet, as a row that asks for it is answered
+abbrev pub sheet_text_of : CourtView → LabelsView → (docketed : Rows) → (case : ℕ) → List ℕ
+sheet_text_of court labels docketed case = named_reply court labels.cases (Viewed (numbered_view labels.moved (view_of (setup_of court) docketed (query.Sheet case))))
 
--- what is docketed after all rows, and what these changed, after what came of corrections
+-- the text of what is shown of the docket
+abbrev pub IsListing : CourtView → LabelsView → (docketed : Rows) → List RowChange → (lost : List DueItem) → (corrections : ℕ) → Listing → List ℕ → Type 0
+IsListing court labels docketed changes lost corrections (Due choice) text = IsDueText court labels docketed choice text
+IsListing court labels docketed changes lost corrections (Week judge day) text = text ≡ week_text_of court labels docketed judge day
+IsListing court labels docketed changes lost corrections (Page choice) text = IsPage court labels docketed choice text
+IsListing court labels docketed changes lost corrections (Ics choice stamp) text = IsIcsText court labels docketed changes lost corrections choice stamp text
+IsListing court labels docketed changes lost corrections (Sheet case) text = text ≡ sheet_text_of court labels docketed case
+
+-- what is docketed after all rows, what these changed, and the deadlines that they start no more, after what came of corrections
 abbrev pub docketed_by : CourtView → List NumberedRow → Rows
 docketed_by court rows = docketed_after (setup_of court) (opening_rows (setup_of court)) (rows_of rows)
 
 abbrev pub changes_by : CourtView → PastView → List NumberedRow → List RowChange
 changes_by court past rows = changes_since past ++ changes_made (setup_of court) (opening_rows (setup_of court)) rows
 
+abbrev pub lost_of : CourtView → PastView → List NumberedRow → List DueItem
+lost_of court past rows = lost_since past ++ lost_made past.given (setup_of court) (opening_rows (setup_of court)) rows
+
 -- the text of what is chosen
-abbrev pub IsTextOf : CourtView → List NamedCase → List Moved → PastView → List NumberedRow → Chosen → List ℕ → Type 0
-IsTextOf court named moved past rows (Listed listing) text = IsListing court named moved (docketed_by court rows) (changes_by court past rows) past.corrections listing text
-IsTextOf court named moved past rows (Json choice) text = IsDocketJson court named moved choice rows text
-IsTextOf court named moved past rows Lines text = AreAnswerLines court named moved rows text
-IsTextOf court named moved past rows Sql text = text ≡ script_text court named moved rows
+abbrev pub IsTextOf : CourtView → LabelsView → PastView → List NumberedRow → Chosen → List ℕ → Type 0
+IsTextOf court labels past rows (Listed listing) text = IsListing court labels (docketed_by court rows) (changes_by court past rows) (lost_of court past rows) past.corrections listing text
+IsTextOf court labels past rows (Json choice) text = IsDocketJson court labels choice rows text
+IsTextOf court labels past rows Lines text = AreAnswerLines court labels rows text
+IsTextOf court labels past rows Sql text = text ≡ script_text court labels rows
 
 -- the text of a word, where it was given
 abbrev pub word_given : Option (String Global) → List ℕ
@@ -143,20 +153,19 @@ missing_line court named asked Judge = no_judge asked.judge
 missing_line court named asked (Day day) = not_covered day court.days.from court.days.to
 missing_line court named asked (Closed case) = closed_line named case
 
--- the text of what is asked for, where cases have these names and these aren't at the places of their numbers
-abbrev pub IsCalendar : Asked → CourtView → List NamedCase → List Moved → PastView → List NumberedRow → List ℕ → Type 0
-IsCalendar asked court named moved past rows text = IsOkAnd (found_of court named rows asked) (λ chosen. IsTextOf court named moved past rows chosen text)
+-- the text of what is asked for, where this is what cases, deadlines, motions and holidays are called
+abbrev pub IsCalendar : Asked → CourtView → LabelsView → PastView → List NumberedRow → List ℕ → Type 0
+IsCalendar asked court labels past rows text = IsOkAnd (found_of court labels.cases rows asked) (λ chosen. IsTextOf court labels past rows chosen text)
 
 -- the line that says what isn't there of it
 abbrev pub IsMissing : Asked → CourtView → List NamedCase → List NumberedRow → List ℕ → Type 0
 IsMissing asked court named rows line = IsErrAnd (found_of court named rows asked) (λ missing. line ≡ missing_line court named asked missing)
 
--- The text of an input, in the court whose file it has. Its rows have the numbers 1, 2 and so on; no case has a name, and deadlines
--- and motions have their places as numbers.
-pub record IsCalendarOf (asked : Asked) (input : Input) (text : List ℕ) : Type 0 where
+-- The text of an input, in the court whose file it has. Its rows have the numbers 1, 2 and so on.
+pub record IsCalendarOf (asked : Asked) (labels : LabelsView) (input : Input) (text : List ℕ) : Type 0 where
   pub court : CourtView
   pub is_court : file_of court ≡ input.file
-  pub is_calendar : IsCalendar asked court [] [] no_past (numbered_from 1 input.rows) text
+  pub is_calendar : IsCalendar asked court labels no_past (numbered_from 1 input.rows) text
 
 -- the line that says what isn't there, in that court
 pub record IsMissingOf (asked : Asked) (input : Input) (line : List ℕ) : Type 0 where

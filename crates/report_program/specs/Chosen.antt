@@ -7,12 +7,14 @@ use Rattle.case_numbers.specs.declared.names.NamedCase.{NamedCase}
 use Rattle.court_days.specs.Words.{CourtView, DaysView, is_covered}
 use Rattle.court_file_text.specs.Words.{name_index}
 use Rattle.docket_selection.specs.declared.choice.Choice.{Choice}
+use Rattle.program_main.specs.declared.texts.days.DaySaid.{DaySaid}
+use Rattle.program_main.specs.Texts.Words.{day_on, today_by}
 use Rattle.report_program.specs.declared.asked.Asked.{Asked}
 use Rattle.report_program.specs.declared.asked.Task.TheVariants as task
 use Rattle.report_program.specs.declared.asked.Task.{Task}
 use Rattle.report_program.specs.declared.chosen.Chosen.{Chosen}
 use Rattle.report_program.specs.declared.chosen.Chosen.TheVariants.{Json, Lines, Listed, Sql}
-use Rattle.report_program.specs.declared.chosen.Listing.TheVariants.{Due, Ics, Page, Week}
+use Rattle.report_program.specs.declared.chosen.Listing.TheVariants.{Due, Ics, Page, Sheet, Week}
 use Rattle.report_program.specs.declared.chosen.Missing.{Missing}
 use Rattle.report_program.specs.declared.chosen.Missing.TheVariants as missing
 
@@ -21,13 +23,21 @@ abbrev pub case_given : List NamedCase → Option CaseCalled → Option (Option 
 case_given named None = Some None
 case_given named (Some called) = option_map (λ number. Some number) (number_called named called)
 
+-- the day that counts as today: the one that is asked for, or else the one that the court's clock shows
+abbrev pub today_of : CourtView → Asked → ℤ
+today_of court asked = unwrap_or asked.today (today_by court.clock asked.clock_time)
+
+-- the day that is said, by that day, or else the other day
+abbrev pub day_asked : CourtView → Asked → Option DaySaid → (other : ℤ) → ℤ
+day_asked court asked said other = unwrap_or (option_map (day_on (today_of court asked)) said) other
+
 -- of that judge or of any, and of that case or of any: all days of the court's file, as far as nothing else is asked for
 abbrev pub choice_of : CourtView → (case : Option ℕ) → Asked → (met : Bool) → (judge : Option ℕ) → Choice
 choice_of court case asked met judge = record {
   judge = judge;
   case = case;
-  from = unwrap_or asked.from court.days.from;
-  to = unwrap_or asked.to court.days.to;
+  from = day_asked court asked asked.from court.days.from;
+  to = day_asked court asked asked.to court.days.to;
   met = met;
 }
 
@@ -62,7 +72,11 @@ json_chosen court case asked = option_map (λ choice. if asked.lines then Lines 
 -- the week of the judge in which the day is
 abbrev pub week_chosen : CourtView → Asked → Option Chosen
 week_chosen court asked =
-    option_map (λ judge. Listed (Week judge (unwrap_or asked.of court.days.from))) (judge_given court (option_map string_bytes asked.judge))
+    option_map (λ judge. Listed (Week judge (day_asked court asked asked.of court.days.from))) (judge_given court (option_map string_bytes asked.judge))
+
+-- the sheet of that case; no case has the number 0, which stands for none
+abbrev pub sheet_chosen : (case : Option ℕ) → Chosen
+sheet_chosen case = Listed (Sheet (unwrap_or case 0))
 
 abbrev pub chosen_for : Task → CourtView → (case : Option ℕ) → Asked → Option Chosen
 chosen_for task.Due court case asked = due_chosen court case asked
@@ -71,6 +85,7 @@ chosen_for task.Page court case asked = page_chosen court case asked
 chosen_for task.Ics court case asked = ics_chosen court case asked
 chosen_for task.Json court case asked = json_chosen court case asked
 chosen_for task.Sql court case asked = Some Sql
+chosen_for task.Sheet court case asked = Some (sheet_chosen case)
 
 -- what is chosen of that case or of any, where the court has the judge that is asked for
 unfoldable pub chosen_by : CourtView → (case : Option ℕ) → Asked → Option Chosen

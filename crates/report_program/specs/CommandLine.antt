@@ -1,30 +1,21 @@
 -- What the subcommands for reports may have, as `clap` reads it.
-use Rattle.std.specs.Prelude.{Some, true, [], ◌∷◌, ◌++◌, codes}
-use Rattle.clap.specs.Words.{App, Rule, Shape, Text, new_rule, with_subcommand}
-use Rattle.clap.specs.Simple.{new_shape}
-use Rattle.clap.specs.declared.builder.action.ArgAction.TheVariants.{Set, SetTrue}
-use Rattle.program_main.specs.Texts.Words.{text_rule}
+use Rattle.std.specs.Prelude.{Some, [], ◌∷◌, ◌++◌, codes}
+use Rattle.clap.specs.Words.{App, Rule, Shape, Text, new_app, new_rule, with_subcommand}
+use Rattle.clap.specs.declared.builder.action.ArgAction.TheVariants.{SetTrue}
+use Rattle.program_main.specs.Texts.Words.{needed_rule, text_rule, with_source}
 
 -- `--lines`, once at most
 abbrev pub lines_rule : Rule
 lines_rule = record (new_rule (codes "lines")) { long = Some (codes "lines"); action = Some SetTrue }
 
--- `--NAME TEXT`, once, as it has to be given
-abbrev pub needed_rule : (name : Text) → Rule
-needed_rule name = record (text_rule name) { required = true }
-
--- `FOLDER`, the first place, once at most
-abbrev pub folder_rule : Rule
-folder_rule = record (new_rule (codes "folder")) { action = Some Set; value_names = 1 }
-
 -- a subcommand that takes where the rows are: a docket's folder, or `--input FILE`
 abbrev pub sourced_shape : (name : Text) → Shape
-sourced_shape name = record (new_shape name) { rules = folder_rule ∷ text_rule (codes "input") ∷ [] }
+sourced_shape name = (with_source (new_app name)).top
 
--- one that also takes the days, the judge and the case that are chosen
+-- one that also takes the days, that of today, the judge and the case that are chosen
 abbrev pub choosing_shape : (name : Text) → Shape
 choosing_shape name = record (sourced_shape name) {
-  rules = (sourced_shape name).rules ++ text_rule (codes "from") ∷ text_rule (codes "to") ∷ text_rule (codes "judge") ∷ text_rule (codes "case") ∷ [];
+  rules = (sourced_shape name).rules ++ text_rule (codes "from") ∷ text_rule (codes "to") ∷ text_rule (codes "today") ∷ text_rule (codes "judge") ∷ text_rule (codes "case") ∷ [];
 }
 
 -- the one of calendars, which also takes the instant at which one is written
@@ -35,9 +26,9 @@ ics_shape = record (choosing_shape (codes "ics")) { rules = (choosing_shape (cod
 abbrev pub json_shape : Shape
 json_shape = record (choosing_shape (codes "json")) { rules = (choosing_shape (codes "json")).rules ++ lines_rule ∷ [] }
 
--- the one of a judge's week, for which the judge and a day have to be given
+-- the one of a judge's week, for which the judge and a day have to be given; it takes that of today
 abbrev pub week_shape : Shape
-week_shape = record (sourced_shape (codes "week")) { rules = (sourced_shape (codes "week")).rules ++ needed_rule (codes "judge") ∷ needed_rule (codes "of") ∷ [] }
+week_shape = record (sourced_shape (codes "week")) { rules = (sourced_shape (codes "week")).rules ++ needed_rule (codes "judge") ∷ needed_rule (codes "of") ∷ text_rule (codes "today") ∷ [] }
 
 -- the one of SQL
 abbrev pub sql_shape : Shape

@@ -1,9 +1,10 @@
 pub mod Appointments
 pub mod Asked
-pub mod Past
 pub mod Calendar
 pub mod Changes
 pub mod Chosen
 pub mod CommandLine
+pub mod Lost
 pub mod Opened
+pub mod Past
 pub mod Words

@@ -2,20 +2,33 @@
 
 ghost use Rattle.std.specs.Prelude.{◌≡◌, map, IfOk};
 ghost use Rattle.report_ics.specs.Words.{appointments_of};
-ghost use Rattle.report_program.specs.Appointments.{numbered_appointment};
+ghost use Rattle.report_program.specs.Appointments.{is_lost, numbered_appointment};
 
 use crate::past::later_by;
 use desk_numbers::MovedNumbers;
-use docket_selection::{Choice, DueItem, DueTypes, HearingHistories};
+use docket_selection::{Choice, DueItem, DueTypes, HearingHistories, Matter};
 use report_ics::{Appointment, appointments_of};
-use report_texts::number_item;
+use report_texts::{Labels, number_item};
+use rule6::Shown;
 use std::alloc::{AllocError, Global};
+
+/// Whether it is a deadline that no row starts any more, whose number is known.
+fn is_lost(matter: &Matter) -> bool
+    ensures { result ≡ is_lost matter.now }
+{
+    match matter {
+        Matter::Deadline(due) => matches!(due.shown, Shown::Beyond),
+        Matter::Hearing(_) => false,
+    }
+}
 
 /// Gives an event, which has the place of its deadline or its motion, the number of that, and counts corrections in its revision.
 fn number_appointment(moved: &MovedNumbers, corrections: u64, appointment: &mut Appointment)
     ensures { appointment.new ≡ numbered_appointment moved.now corrections appointment.old }
 {
-    number_item(moved, &mut appointment.item);
+    if !is_lost(&appointment.item.matter) {
+        number_item(moved, &mut appointment.item);
+    }
     appointment.revision = later_by(corrections, appointment.revision);
 }
 
@@ -29,21 +42,22 @@ fn number_appointments(moved: &MovedNumbers, corrections: u64, appointments: &mu
     }
 }
 
-/// The events of these items, and of the deadlines among the others and the chosen hearings that are off, with the numbers of
-/// deadlines and motions. A hearing's history is found by the place of its motion. `Err` says that memory ran out.
+/// The events of these items, of the deadlines among the others and the chosen hearings that are off, and of the deadlines that are
+/// lost, with the numbers of deadlines and motions. A hearing's history is found by the place of its motion. `Err` says that memory ran out.
 pub(crate) fn numbered_appointments(
     alloc: Global,
-    moved: &MovedNumbers,
+    labels: &Labels<'_>,
     corrections: u64,
     choice: &Choice,
     histories: &HearingHistories,
     items: &[DueItem],
     others: &[DueItem],
+    lost: &[DueItem],
 ) -> Result<Vec<Appointment>, AllocError>
-    ensures { IfOk result (λ list. list.items ≡ map (numbered_appointment moved.now corrections) (appointments_of choice.now histories.now items.now others.now)) }
+    ensures { IfOk result (λ list. list.items ≡ map (numbered_appointment labels.now.moved corrections) (appointments_of choice.now histories.now items.now others.now lost.now)) }
 {
     let _types: DueTypes = None;
-    let mut list = appointments_of(alloc, choice, histories, items, others)?;
-    number_appointments(moved, corrections, &mut list);
+    let mut list = appointments_of(alloc, choice, histories, items, others, lost)?;
+    number_appointments(labels.moved, corrections, &mut list);
     Ok(list)
 }

@@ -14,7 +14,7 @@ use clap::ArgMatches;
 use content_lines::stamp_of_text;
 use court_clock::{Day, Instant};
 use office_texts::CaseCalled;
-use program_main::{OptionsFault, case_option, day_option};
+use program_main::{DaySaid, OptionsFault, case_option, day_option, said_option};
 use std::alloc::{AllocError, Global};
 
 /// What is written.
@@ -32,6 +32,8 @@ pub enum Task {
     Json,
     /// SQL, for databases.
     Sql,
+    /// The sheet of one case.
+    Sheet,
 }
 
 /// What the words ask for: what is written, and of what. The name is as the words have it.
@@ -44,14 +46,16 @@ pub struct Asked {
     /// A case, by its number or by its name.
     pub case: Option<CaseCalled>,
     /// The first day.
-    pub from: Option<Day>,
+    pub from: Option<DaySaid>,
     /// The last day.
-    pub to: Option<Day>,
+    pub to: Option<DaySaid>,
     /// A day of the week.
-    pub of: Option<Day>,
+    pub of: Option<DaySaid>,
+    /// The day that counts as today, where it isn't that of the clock.
+    pub today: Option<Day>,
     /// The instant at which a calendar is written.
     pub stamp: Option<Instant>,
-    /// The instant that the clock shows, at which one is written where none is asked for.
+    /// The instant that the clock shows, at which one is written where none is asked for, and by which it is today.
     pub clock_time: Instant,
     /// Whether answers are to be lines.
     pub lines: bool,
@@ -70,15 +74,19 @@ pub fn asked_by(
     ensures faults { IsAnswerFor (faults_given (rows_of (found_of given.now))) result }
     ensures taken { are_given_taken (rows_of (found_of given.now)) ≡ true → IfErr result (λ fault. fault ≡ OptionsFault.OutOfMemory) }
 {
-    let from = match day_option(alloc, "from", given.get_str("from")) {
+    let from = match said_option(alloc, "from", given.get_str("from")) {
         Ok(day) => day,
         Err(fault) => return Err(fault),
     };
-    let to = match day_option(alloc, "to", given.get_str("to")) {
+    let to = match said_option(alloc, "to", given.get_str("to")) {
         Ok(day) => day,
         Err(fault) => return Err(fault),
     };
-    let of = match day_option(alloc, "of", given.get_str("of")) {
+    let of = match said_option(alloc, "of", given.get_str("of")) {
+        Ok(day) => day,
+        Err(fault) => return Err(fault),
+    };
+    let today = match day_option(alloc, "today", given.get_str("today")) {
         Ok(day) => day,
         Err(fault) => return Err(fault),
     };
@@ -98,6 +106,7 @@ pub fn asked_by(
         from,
         to,
         of,
+        today,
         stamp,
         clock_time,
         lines: given.get_flag("lines"),

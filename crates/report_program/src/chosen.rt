@@ -1,14 +1,15 @@
 //! What is chosen of a court by what was asked for.
 
 ghost use Rattle.std.specs.Prelude.{◌≡◌, option_map, string_bytes};
-ghost use Rattle.report_program.specs.Chosen.{case_given, choice_asked, choice_of, chosen_by, chosen_of, day_missing, due_chosen, ics_chosen, json_chosen, judge_given, page_chosen, uncovered, week_chosen};
+ghost use Rattle.report_program.specs.Chosen.{case_given, choice_asked, choice_of, chosen_by, chosen_of, day_asked, day_missing, due_chosen, ics_chosen, json_chosen, judge_given, page_chosen, sheet_chosen, today_of, uncovered, week_chosen};
 
 use crate::asked::{Asked, Task};
-use case_numbers::Cases;
 use court_clock::{Day, Instant};
 use court_days::Court;
 use docket_selection::Choice;
 use office_texts::{CaseCalled, number_called};
+use program_main::{DaySaid, today_by};
+use report_texts::Labels;
 
 /// What is shown of the docket after all rows.
 #[derive(Clone, Copy, Debug, PartialEq, Eq)]
@@ -21,6 +22,8 @@ pub enum Listing {
     Page(Choice),
     /// The calendar of deadlines and hearings, written at that instant.
     Ics(Choice, Instant),
+    /// The sheet of the case.
+    Sheet(u32),
 }
 
 /// What is chosen, by what is written of it.
@@ -55,10 +58,14 @@ pub(crate) type ChosenTypes = Option<(Listing, Choice, Day, Instant)>;
 
 /// What is chosen of the court by what is asked for, or the first that isn't there of it, but for a case that isn't open.
 #[tactic(auto, unfolding(crate::specs::Chosen::chosen_of))]
-pub(crate) fn chosen_of(court: &Court, cases: &Cases, asked: &Asked) -> Result<Chosen, Missing>
-    ensures { result ≡ chosen_of court.now cases.now.named asked.now }
+pub(crate) fn chosen_of(
+    court: &Court,
+    labels: &Labels<'_>,
+    asked: &Asked,
+) -> Result<Chosen, Missing>
+    ensures { result ≡ chosen_of court.now labels.now.cases asked.now }
 {
-    let Some(case) = case_given(cases, &asked.case) else {
+    let Some(case) = case_given(labels, &asked.case) else {
         return Err(Missing::Case);
     };
     let Some(chosen) = chosen_by(court, case, asked) else {
@@ -71,11 +78,11 @@ pub(crate) fn chosen_of(court: &Court, cases: &Cases, asked: &Asked) -> Result<C
 }
 
 /// The number of the case that is asked for, if one is. None where no case has that name.
-fn case_given(cases: &Cases, called: &Option<CaseCalled>) -> Option<Option<u32>>
-    ensures { result ≡ case_given cases.now.named called.now }
+fn case_given(labels: &Labels<'_>, called: &Option<CaseCalled>) -> Option<Option<u32>>
+    ensures { result ≡ case_given labels.now.cases called.now }
 {
     match called {
-        Some(called) => match number_called(cases, called) {
+        Some(called) => match number_called(labels.cases, called) {
             Some(number) => Some(Some(number)),
             None => None,
         },
@@ -95,6 +102,7 @@ fn chosen_by(court: &Court, case: Option<u32>, asked: &Asked) -> Option<Chosen>
         Task::Ics => ics_chosen(court, case, asked),
         Task::Json => json_chosen(court, case, asked),
         Task::Sql => Some(Chosen::Sql),
+        Task::Sheet => Some(sheet_chosen(case)),
     }
 }
 
@@ -150,11 +158,18 @@ fn json_chosen(court: &Court, case: Option<u32>, asked: &Asked) -> Option<Chosen
     Some(Chosen::Json(choice))
 }
 
+/// The sheet of that case. No case has the number 0, which stands for none.
+fn sheet_chosen(case: Option<u32>) -> Chosen
+    ensures { result ≡ sheet_chosen case }
+{
+    Chosen::Listed(Listing::Sheet(case.unwrap_or(0)))
+}
+
 fn week_chosen(court: &Court, asked: &Asked) -> Option<Chosen>
     ensures { result ≡ week_chosen court.now asked.now }
 {
     let judge = judge_given(court, &asked.judge)?;
-    let day = asked.of.unwrap_or(court.days().from());
+    let day = day_asked(court, asked, asked.of, court.days().from());
     Some(Chosen::Listed(Listing::Week(judge, day)))
 }
 
@@ -185,9 +200,29 @@ fn choice_of(
     Choice {
         judge,
         case,
-        from: asked.from.unwrap_or(court.days().from()),
-        to: asked.to.unwrap_or(court.days().to()),
+        from: day_asked(court, asked, asked.from, court.days().from()),
+        to: day_asked(court, asked, asked.to, court.days().to()),
         met,
+    }
+}
+
+/// The day that was said, by the day that counts as today; or else the other day.
+fn day_asked(court: &Court, asked: &Asked, said: Option<DaySaid>, other: Day) -> Day
+    ensures { result ≡ day_asked court.now asked.now said other }
+{
+    match said {
+        Some(said) => said.on(today_of(court, asked)),
+        None => other,
+    }
+}
+
+/// The day that counts as today: the one that was asked for, or else the one that the court's clock shows.
+fn today_of(court: &Court, asked: &Asked) -> Day
+    ensures { result ≡ today_of court.now asked.now }
+{
+    match asked.today {
+        Some(day) => day,
+        None => today_by(court.clock(), asked.clock_time),
     }
 }
 

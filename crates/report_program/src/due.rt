@@ -2,49 +2,62 @@
 
 ghost use Rattle.std.specs.Prelude.{◌≡◌, IfOk};
 ghost use Rattle.docket_rows.specs.Words.{Rows, setup_of};
+ghost use Rattle.docket_selection.specs.Words.{IsDue};
 ghost use Rattle.office_texts.specs.Run.Words.{Holds};
 ghost use Rattle.report_program.specs.Calendar.{IsDueText, IsNumberedDue};
 
-use case_numbers::Cases;
 use court_days::Court;
-use desk_numbers::MovedNumbers;
 use docket_core::Docket;
 use docket_selection::{Choice, DueItem, DueTypes, due_of};
-use report_texts::{number_items, push_due};
+use report_texts::{Labels, number_items, push_due};
 use std::alloc::{AllocError, Global};
 
 /// What is due of the docket. `Err` says that memory ran out.
 pub(crate) fn due_text(
     alloc: Global,
     court: &Court,
-    cases: &Cases,
-    moved: &MovedNumbers,
+    labels: &Labels<'_>,
     docket: &Docket,
     choice: &Choice,
 ) -> Result<Vec<u8>, AllocError>
     requires court { docket.now.setup ≡ setup_of court.now }
-    ensures { (docketed : Rows) → Holds (setup_of court.now) docket.now docketed → IfOk result (λ text. IsDueText court.now cases.now.named moved.now docketed choice.now text.items) }
+    ensures { (docketed : Rows) → Holds (setup_of court.now) docket.now docketed → IfOk result (λ text. IsDueText court.now labels.now docketed choice.now text.items) }
 {
     let _types: DueTypes = None;
-    let items = numbered_due(alloc, court, moved, docket, choice)?;
+    let items = numbered_due(alloc, court, labels, docket, choice)?;
     let mut text = String::new(alloc);
-    push_due(&mut text, court, cases, choice, &items)?;
+    push_due(&mut text, court, labels, choice, &items)?;
     Ok(text.into_bytes())
+}
+
+/// What is due of the docket, with places in place of numbers. `Err` says that memory ran out.
+pub(crate) fn placed_due(
+    alloc: Global,
+    court: &Court,
+    labels: &Labels<'_>,
+    docket: &Docket,
+    choice: &Choice,
+) -> Result<Vec<DueItem>, AllocError>
+    requires court { docket.now.setup ≡ setup_of court.now }
+    ensures { (docketed : Rows) → Holds (setup_of court.now) docket.now docketed → IfOk result (λ list. IsDue (setup_of court.now) docketed labels.now.doubtful choice.now list.items) }
+{
+    let _types: DueTypes = None;
+    due_of(alloc, court, docket, labels.doubtful, choice)
 }
 
 /// What is due of the docket, with the numbers of deadlines and motions. `Err` says that memory ran out.
 pub(crate) fn numbered_due(
     alloc: Global,
     court: &Court,
-    moved: &MovedNumbers,
+    labels: &Labels<'_>,
     docket: &Docket,
     choice: &Choice,
 ) -> Result<Vec<DueItem>, AllocError>
     requires court { docket.now.setup ≡ setup_of court.now }
-    ensures { (docketed : Rows) → Holds (setup_of court.now) docket.now docketed → IfOk result (λ list. IsNumberedDue (setup_of court.now) docketed moved.now choice.now list.items) }
+    ensures { (docketed : Rows) → Holds (setup_of court.now) docket.now docketed → IfOk result (λ list. IsNumberedDue (setup_of court.now) docketed labels.now choice.now list.items) }
 {
     let _types: DueTypes = None;
-    let mut items = due_of(alloc, court, docket, choice)?;
-    number_items(moved, &mut items);
+    let mut items = placed_due(alloc, court, labels, docket, choice)?;
+    number_items(labels.moved, &mut items);
     Ok(items)
 }

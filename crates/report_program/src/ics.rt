@@ -7,45 +7,47 @@ ghost use Rattle.office_texts.specs.Run.Words.{Holds};
 ghost use Rattle.report_program.specs.Calendar.{IsIcsText, of_any_judge};
 
 use crate::appointments::numbered_appointments;
-use case_numbers::Cases;
+use crate::docket::Came;
+use crate::due::placed_due;
 use court_clock::Instant;
 use court_days::Court;
-use desk_numbers::MovedNumbers;
 use docket_core::Docket;
-use docket_selection::{Choice, DueItem, DueTypes, HearingHistories, RowChange, due_of};
+use docket_selection::{Choice, DueItem, DueTypes, HearingHistories};
 use report_ics::icalendar;
+use report_texts::Labels;
 use std::alloc::{AllocError, Global};
 
-/// The calendar of what is chosen of the docket after these changes and this number of corrections, written at an instant. `Err`
+/// The calendar of what is chosen of the docket, after what came of rows and this number of corrections, written at an instant. `Err`
 /// says that memory ran out.
 pub(crate) fn ics_text(
     alloc: Global,
     court: &Court,
-    cases: &Cases,
-    moved: &MovedNumbers,
+    labels: &Labels<'_>,
     docket: &Docket,
-    changes: Vec<RowChange>,
+    came: Came,
     corrections: u64,
     choice: &Choice,
     stamp: Instant,
 ) -> Result<Vec<u8>, AllocError>
     requires court { docket.now.setup ≡ setup_of court.now }
-    ensures { (docketed : Rows) → Holds (setup_of court.now) docket.now docketed → IfOk result (λ text. IsIcsText court.now cases.now.named moved.now docketed changes.items corrections choice.now stamp text.items) }
+    ensures { (docketed : Rows) → Holds (setup_of court.now) docket.now docketed → IfOk result (λ text. IsIcsText court.now labels.now docketed came.changes.items came.lost.items corrections choice.now stamp text.items) }
 {
     let _types: DueTypes = None;
-    let items = due_of(alloc, court, docket, choice)?;
+    let items = placed_due(alloc, court, labels, docket, choice)?;
+    let Came { changes, lost } = came;
     let histories = HearingHistories::of_changes(alloc, choice.judge, changes)?;
-    let others = due_of_any(alloc, court, docket, choice)?;
+    let others = due_of_any(alloc, court, labels, docket, choice)?;
     let appointments = numbered_appointments(
         alloc,
-        moved,
+        labels,
         corrections,
         choice,
         &histories,
         &items,
         &others,
+        &lost,
     )?;
-    let text = icalendar(alloc, court, cases, stamp, &appointments)?;
+    let text = icalendar(alloc, court, labels, stamp, &appointments)?;
     Ok(text.into_bytes())
 }
 
@@ -53,15 +55,16 @@ pub(crate) fn ics_text(
 fn due_of_any(
     alloc: Global,
     court: &Court,
+    labels: &Labels<'_>,
     docket: &Docket,
     choice: &Choice,
 ) -> Result<Vec<DueItem>, AllocError>
     requires court { docket.now.setup ≡ setup_of court.now }
-    ensures { (docketed : Rows) → Holds (setup_of court.now) docket.now docketed → IfOk result (λ list. IsSome choice.now.judge → IsDue (setup_of court.now) docketed (of_any_judge choice.now) list.items) }
+    ensures { (docketed : Rows) → Holds (setup_of court.now) docket.now docketed → IfOk result (λ list. IsSome choice.now.judge → IsDue (setup_of court.now) docketed labels.now.doubtful (of_any_judge choice.now) list.items) }
 {
     let _types: DueTypes = None;
     match choice.judge {
-        Some(_) => due_of(alloc, court, docket, &of_any_judge(choice)),
+        Some(_) => placed_due(alloc, court, labels, docket, &of_any_judge(choice)),
         None => Ok(Vec::new(alloc)),
     }
 }

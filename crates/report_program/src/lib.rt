@@ -8,11 +8,13 @@ mod clock;
 mod docket;
 mod due;
 mod ics;
+mod lost;
 mod missing;
 mod opened;
 mod page;
 mod past;
 mod report;
+mod sheet;
 mod subcommands;
 mod week;
 

@@ -6,10 +6,11 @@ ghost use Rattle.report_program.specs.Calendar.{called_given, closed_line, from_
 
 use crate::asked::Asked;
 use crate::chosen::Missing;
-use case_numbers::{Cases, push_case_text};
+use case_numbers::push_case_text;
 use court_clock::Day;
 use court_days::Court;
 use office_texts::{CaseCalled, push_called};
+use report_texts::Labels;
 use std::alloc::{AllocError, Global};
 use std::fmt::Write;
 
@@ -17,17 +18,17 @@ use std::fmt::Write;
 pub(crate) fn missing_line(
     alloc: Global,
     court: &Court,
-    cases: &Cases,
+    labels: &Labels<'_>,
     asked: &Asked,
     missing: &Missing,
 ) -> Result<String, AllocError>
-    ensures { IfOk result (λ line. string_bytes line ≡ missing_line court.now cases.now.named asked.now missing.now) }
+    ensures { IfOk result (λ line. string_bytes line ≡ missing_line court.now labels.now.cases asked.now missing.now) }
 {
     match missing {
         Missing::Case => no_case(alloc, &asked.case),
         Missing::Judge => no_judge(alloc, &asked.judge),
         Missing::Day(day) => not_covered(alloc, *day, court.days().from(), court.days().to()),
-        Missing::Closed(case) => closed_line(alloc, cases, *case),
+        Missing::Closed(case) => closed_line(alloc, labels, *case),
     }
 }
 
@@ -106,12 +107,12 @@ fn push_to(line: &mut String, to: Day) -> Result<(), AllocError>
 }
 
 /// The line of a case that isn't open.
-fn closed_line(alloc: Global, cases: &Cases, case: u32) -> Result<String, AllocError>
-    ensures { IfOk result (λ line. string_bytes line ≡ closed_line cases.now.named case) }
+fn closed_line(alloc: Global, labels: &Labels<'_>, case: u32) -> Result<String, AllocError>
+    ensures { IfOk result (λ line. string_bytes line ≡ closed_line labels.now.cases case) }
 {
     let mut line = String::new(alloc);
     line.push_str("docket: case ")?;
-    push_case_text(&mut line, cases, case)?;
+    push_case_text(&mut line, labels.cases, case)?;
     line.push_str(" isn't open: no row has opened it\n")?;
     Ok(line)
 }

@@ -5,10 +5,10 @@ ghost use Rattle.report_program.specs.Opened.{case_chosen, closed_case, found_of
 
 use crate::asked::Asked;
 use crate::chosen::{Chosen, Listing, Missing, chosen_of};
-use crate::docket::docket_after;
-use case_numbers::Cases;
+use crate::docket::{Came, docket_after};
 use court_days::Court;
 use docket_rows::{Query, View};
+use report_texts::Labels;
 use row_forms::NumberedRow;
 use std::alloc::{AllocError, Global};
 
@@ -17,13 +17,13 @@ use std::alloc::{AllocError, Global};
 pub(crate) fn found_of(
     alloc: Global,
     court: &Court,
-    cases: &Cases,
+    labels: &Labels<'_>,
     rows: &[NumberedRow],
     asked: &Asked,
 ) -> Result<Result<Chosen, Missing>, AllocError>
-    ensures { IfOk result (λ found. found ≡ found_of court.now cases.now.named rows.now asked.now) }
+    ensures { IfOk result (λ found. found ≡ found_of court.now labels.now.cases rows.now asked.now) }
 {
-    match chosen_of(court, cases, asked) {
+    match chosen_of(court, labels, asked) {
         Ok(chosen) => if_open(alloc, court, rows, chosen),
         Err(missing) => Ok(Err(missing)),
     }
@@ -52,6 +52,7 @@ fn case_chosen(chosen: &Chosen) -> Option<u32>
         Chosen::Listed(Listing::Due(choice)) => choice.case,
         Chosen::Listed(Listing::Page(choice)) => choice.case,
         Chosen::Listed(Listing::Ics(choice, _)) => choice.case,
+        Chosen::Listed(Listing::Sheet(case)) => Some(*case),
         Chosen::Json(choice) => choice.case,
         _ => None,
     }
@@ -84,8 +85,8 @@ fn is_open_after(
 ) -> Result<bool, AllocError>
     ensures { IfOk result (λ opened. opened ≡ is_open_after court.now rows.now case) }
 {
-    let mut changes = Vec::new(alloc);
-    let docket = docket_after(alloc, court, rows, &mut changes)?;
+    let mut came = Came::new(alloc);
+    let docket = docket_after(alloc, court, &[], rows, &mut came)?;
     let view = docket.show(alloc, &Query::Sheet(case))?;
     Ok(is_sheet(&view))
 }

@@ -6,14 +6,12 @@ ghost use Rattle.office_texts.specs.Run.Words.{Holds};
 ghost use Rattle.report_program.specs.Calendar.{IsPage};
 
 use crate::due::numbered_due;
-use case_numbers::Cases;
 use court_days::Court;
-use desk_numbers::MovedNumbers;
 use docket_core::Docket;
 use docket_selection::{Choice, DueTypes};
 use page_markup::Page;
 use report_page::push_page;
-use report_texts::{explained_selection, numbered_calendars};
+use report_texts::{Labels, explained_selection, numbered_calendars};
 use std::alloc::{AllocError, Global};
 
 /// The page of the docket: what is due, the chosen judges' hearings, and the sheets of the chosen cases with their
@@ -21,25 +19,24 @@ use std::alloc::{AllocError, Global};
 pub(crate) fn page_text(
     alloc: Global,
     court: &Court,
-    cases: &Cases,
-    moved: &MovedNumbers,
+    labels: &Labels<'_>,
     docket: &Docket,
     choice: &Choice,
 ) -> Result<Vec<u8>, AllocError>
     requires court { docket.now.setup ≡ setup_of court.now }
-    ensures { (docketed : Rows) → Holds (setup_of court.now) docket.now docketed → IfOk result (λ text. IsPage court.now cases.now.named moved.now docketed choice.now text.items) }
+    ensures { (docketed : Rows) → Holds (setup_of court.now) docket.now docketed → IfOk result (λ text. IsPage court.now labels.now docketed choice.now text.items) }
 {
     let _types: DueTypes = None;
-    let items = numbered_due(alloc, court, moved, docket, choice)?;
-    let calendars = numbered_calendars(alloc, court, docket, moved, choice)?;
-    let sheets = explained_selection(alloc, court, docket, moved, choice)?;
+    let items = numbered_due(alloc, court, labels, docket, choice)?;
+    let calendars = numbered_calendars(alloc, court, docket, labels, choice)?;
+    let sheets = explained_selection(alloc, court, docket, labels, choice)?;
     let mut page = Page::new(alloc);
     push_page(
         alloc,
         &mut page,
         court,
         docket.days(),
-        cases,
+        labels,
         choice,
         &items,
         &calendars,

@@ -5,42 +5,47 @@ ghost use Rattle.docket_rows.specs.Words.{Rows, setup_of};
 ghost use Rattle.report_program.specs.Past.{no_past};
 ghost use Rattle.row_forms.specs.Words.{numbered_from};
 ghost use Rattle.office_texts.specs.Run.Words.{Holds};
-ghost use Rattle.report_program.specs.Calendar.{IsCalendar, IsListing, IsMissing, IsTextOf, changes_by, docketed_by};
-ghost use Rattle.program_streams.specs.Words.{IsFinding};
+ghost use Rattle.report_program.specs.Calendar.{IsCalendar, IsListing, IsMissing, IsTextOf, changes_by, docketed_by, lost_of};
+ghost use Rattle.program_runs.specs.Words.{IsFinding};
+ghost use Rattle.report_texts.specs.Words.{labels_of};
 
 use crate::asked::Asked;
 use crate::chosen::{Chosen, ChosenTypes, Listing};
-use crate::docket::docket_after;
+use crate::docket::{Came, docket_after};
 use crate::due::due_text;
 use crate::ics::ics_text;
 use crate::missing::missing_line;
 use crate::opened::found_of;
 use crate::page::page_text;
 use crate::past::{Past, push_since};
+use crate::sheet::sheet_text;
 use crate::week::week_text;
 use case_numbers::Cases;
 use court_days::Court;
 use desk_numbers::MovedNumbers;
 use docket_core::Docket;
-use docket_selection::RowChange;
-use program_streams::{CheckedInput, Finding, Report};
+use program_runs::{CheckedInput, Finding, Report};
 use report_json::{answer_lines, json_text};
 use report_sql::sql_text;
+use report_texts::{Labels, holiday_names};
 use row_forms::{NumberedRow, numbered_rows};
 use std::alloc::{AllocError, Global};
 use std::sync::Wait;
 use std::thread::Threads;
 
+/// The text of an input: no case has a name, and deadlines and motions have their places as numbers.
 impl Report for Asked {
+    ghost use Rattle.std.specs.Prelude.{[]};
     ghost use Rattle.report_program.specs.Calendar.{IsCalendarOf, IsMissingOf};
+    ghost use Rattle.report_texts.specs.Words.{labels_of};
 
     type Text = Vec<u8>;
 
     // The rows are one history, whoever gave them.
     ghost clerk_count = { λ asked. 64 };
 
-    // Nothing of the court's file is in a text but what the court has of it.
-    ghost is_text = { λ asked file. IsCalendarOf asked };
+    // Of the court's file a text has what the court has of it, and the names of holidays.
+    ghost is_text = { λ asked file. IsCalendarOf asked (labels_of file [] []) };
 
     ghost is_missing = { λ asked file. IsMissingOf asked };
 
@@ -56,10 +61,10 @@ impl Report for Asked {
         &self,
         _rt: &H,
         alloc: Global,
-        _file: &[u8],
+        file: &[u8],
         checked: CheckedInput,
     ) -> Result<Finding<Vec<u8>>, AllocError> {
-        checked_calendar(alloc, self, &checked)
+        checked_calendar(alloc, self, file, &checked)
     }
 }
 
@@ -68,35 +73,68 @@ impl Report for Asked {
 fn checked_calendar(
     alloc: Global,
     asked: &Asked,
+    file: &[u8],
     checked: &CheckedInput,
 ) -> Result<Finding<Vec<u8>>, AllocError>
-    ensures { IfOk result (IsFinding (λ text. text.items) (IsCalendar asked.now checked.now.court [] [] no_past (numbered_from 1 checked.now.rows.items)) (IsMissing asked.now checked.now.court [] (numbered_from 1 checked.now.rows.items))) }
+    ensures { IfOk result (IsFinding (λ text. text.items) (IsCalendar asked.now checked.now.court (labels_of file.now [] []) no_past (numbered_from 1 checked.now.rows.items)) (IsMissing asked.now checked.now.court [] (numbered_from 1 checked.now.rows.items))) }
 {
     let cases = Cases::new(alloc);
     let moved = MovedNumbers::new(alloc);
     let rows = numbered_rows(alloc, checked.rows.as_slice())?;
     let past = Past::none(alloc);
-    report_of(alloc, asked, &checked.court, &cases, &moved, &past, &rows)
+    report_of(
+        alloc,
+        asked,
+        file,
+        &checked.court,
+        &cases,
+        &moved,
+        &past,
+        &rows,
+    )
 }
 
-/// What was asked for of the court's docket after all rows, or the line that says what isn't there of it, which ends with LF.
-/// `cases` has the names of cases. Rows name deadlines and motions by their places, counted from 1 in each case; `moved` has those that
-/// are shown with another number than their place. `past` has what a folder says beside these rows. `Err` says that memory ran out.
+/// What was asked for of the docket after all rows, in a court whose file has these bytes, or the line that says what isn't there of
+/// it, which ends with LF. The bytes are asked for the names of holidays alone. `cases` has the names of cases. Rows name deadlines
+/// and motions by their places, counted from 1 in each case; `moved` has those that are shown with another number than their place.
+/// `past` has what a folder says beside these rows. `Err` says that memory ran out.
 pub fn report_of(
     alloc: Global,
     asked: &Asked,
+    file: &[u8],
     court: &Court,
     cases: &Cases,
     moved: &MovedNumbers,
-    past: &Past,
+    past: &Past<'_>,
     rows: &[NumberedRow],
 ) -> Result<Finding<Vec<u8>>, AllocError>
-    ensures { IfOk result (IsFinding (λ text. text.items) (IsCalendar asked.now court.now cases.now.named moved.now past.now rows.now) (IsMissing asked.now court.now cases.now.named rows.now)) }
+    ensures { IfOk result (IsFinding (λ text. text.items) (IsCalendar asked.now court.now (labels_of file.now cases.now.named moved.now) past.now rows.now) (IsMissing asked.now court.now cases.now.named rows.now)) }
+{
+    let found = holiday_names(alloc, file)?;
+    let labels = Labels {
+        cases,
+        moved,
+        holidays: found.names.as_slice(),
+        doubtful: found.doubtful.as_slice(),
+    };
+    answer(alloc, asked, court, &labels, past, rows)
+}
+
+/// The same, where this is what cases, deadlines, motions and holidays are called.
+fn answer(
+    alloc: Global,
+    asked: &Asked,
+    court: &Court,
+    labels: &Labels<'_>,
+    past: &Past<'_>,
+    rows: &[NumberedRow],
+) -> Result<Finding<Vec<u8>>, AllocError>
+    ensures { IfOk result (IsFinding (λ text. text.items) (IsCalendar asked.now court.now labels.now past.now rows.now) (IsMissing asked.now court.now labels.now.cases rows.now)) }
 {
     let _types: ChosenTypes = None;
-    match found_of(alloc, court, cases, rows, asked)? {
-        Ok(chosen) => Ok(Finding::Text(text_of(alloc, court, cases, moved, past, rows, &chosen)?)),
-        Err(missing) => Ok(Finding::Missing(missing_line(alloc, court, cases, asked, &missing)?)),
+    match found_of(alloc, court, labels, rows, asked)? {
+        Ok(chosen) => Ok(Finding::Text(text_of(alloc, court, labels, past, rows, &chosen)?)),
+        Err(missing) => Ok(Finding::Missing(missing_line(alloc, court, labels, asked, &missing)?)),
     }
 }
 
@@ -104,19 +142,18 @@ pub fn report_of(
 fn text_of(
     alloc: Global,
     court: &Court,
-    cases: &Cases,
-    moved: &MovedNumbers,
-    past: &Past,
+    labels: &Labels<'_>,
+    past: &Past<'_>,
     rows: &[NumberedRow],
     chosen: &Chosen,
 ) -> Result<Vec<u8>, AllocError>
-    ensures { IfOk result (λ text. IsTextOf court.now cases.now.named moved.now past.now rows.now chosen.now text.items) }
+    ensures { IfOk result (λ text. IsTextOf court.now labels.now past.now rows.now chosen.now text.items) }
 {
     match chosen {
-        Chosen::Listed(listing) => listed(alloc, court, cases, moved, past, rows, listing),
-        Chosen::Json(choice) => json_text(alloc, court, cases, moved, rows, choice),
-        Chosen::Lines => answer_lines(alloc, court, cases, moved, rows),
-        Chosen::Sql => sql_text(alloc, court, cases, moved, rows),
+        Chosen::Listed(listing) => listed(alloc, court, labels, past, rows, listing),
+        Chosen::Json(choice) => json_text(alloc, court, labels, rows, choice),
+        Chosen::Lines => answer_lines(alloc, court, labels, rows),
+        Chosen::Sql => sql_text(alloc, court, labels, rows),
     }
 }
 
@@ -124,24 +161,22 @@ fn text_of(
 fn listed(
     alloc: Global,
     court: &Court,
-    cases: &Cases,
-    moved: &MovedNumbers,
-    past: &Past,
+    labels: &Labels<'_>,
+    past: &Past<'_>,
     rows: &[NumberedRow],
     listing: &Listing,
 ) -> Result<Vec<u8>, AllocError>
-    ensures { IfOk result (λ text. IsListing court.now cases.now.named moved.now (docketed_by court.now rows.now) (changes_by court.now past.now rows.now) past.now.corrections listing.now text.items) }
+    ensures { IfOk result (λ text. IsListing court.now labels.now (docketed_by court.now rows.now) (changes_by court.now past.now rows.now) (lost_of court.now past.now rows.now) past.now.corrections listing.now text.items) }
 {
-    let mut changes = Vec::new(alloc);
-    push_since(&mut changes, past)?;
-    let docket = docket_after(alloc, court, rows, &mut changes)?;
+    let mut came = Came::new(alloc);
+    push_since(&mut came, past)?;
+    let docket = docket_after(alloc, court, past.given(), rows, &mut came)?;
     listing_of(
         alloc,
         court,
-        cases,
-        moved,
+        labels,
         &docket,
-        changes,
+        came,
         past.corrections(),
         listing,
     )
@@ -151,30 +186,29 @@ fn listed(
 fn listing_of(
     alloc: Global,
     court: &Court,
-    cases: &Cases,
-    moved: &MovedNumbers,
+    labels: &Labels<'_>,
     docket: &Docket,
-    changes: Vec<RowChange>,
+    came: Came,
     corrections: u64,
     listing: &Listing,
 ) -> Result<Vec<u8>, AllocError>
     requires court { docket.now.setup ≡ setup_of court.now }
-    ensures { (docketed : Rows) → Holds (setup_of court.now) docket.now docketed → IfOk result (λ text. IsListing court.now cases.now.named moved.now docketed changes.items corrections listing.now text.items) }
+    ensures { (docketed : Rows) → Holds (setup_of court.now) docket.now docketed → IfOk result (λ text. IsListing court.now labels.now docketed came.changes.items came.lost.items corrections listing.now text.items) }
 {
     match listing {
-        Listing::Due(choice) => due_text(alloc, court, cases, moved, docket, choice),
-        Listing::Week(judge, day) => week_text(alloc, court, cases, moved, docket, *judge, *day),
-        Listing::Page(choice) => page_text(alloc, court, cases, moved, docket, choice),
+        Listing::Due(choice) => due_text(alloc, court, labels, docket, choice),
+        Listing::Week(judge, day) => week_text(alloc, court, labels, docket, *judge, *day),
+        Listing::Page(choice) => page_text(alloc, court, labels, docket, choice),
         Listing::Ics(choice, stamp) => ics_text(
             alloc,
             court,
-            cases,
-            moved,
+            labels,
             docket,
-            changes,
+            came,
             corrections,
             choice,
             *stamp,
         ),
+        Listing::Sheet(case) => sheet_text(alloc, court, labels, docket, *case),
     }
 }

@@ -1,11 +1,11 @@
 //! The subcommands for reports, as `clap` takes them.
 
-ghost use Rattle.std.specs.Prelude.{◌≡◌, [], IfOk, IsOkAnd};
-ghost use Rattle.clap.specs.Words.{AddsSubcommand, app_of, rule_of, with_rule};
-ghost use Rattle.report_program.specs.CommandLine.{choosing_shape, folder_rule, ics_shape, json_shape, sourced_shape, sql_shape, week_shape, with_reports};
+ghost use Rattle.std.specs.Prelude.{◌≡◌, [], IfOk};
+ghost use Rattle.clap.specs.Words.{app_of};
+ghost use Rattle.report_program.specs.CommandLine.{choosing_shape, ics_shape, json_shape, sourced_shape, sql_shape, week_shape, with_reports};
 
 use clap::{Arg, ArgAction, Command};
-use program_main::{text_argument, with_text};
+use program_main::{with_needed, with_source, with_subcommand, with_text};
 use std::alloc::{AllocError, Global};
 
 const ABOUT_DUE: &str = "What is due: deadlines with no timely act, and hearings, by day";
@@ -24,15 +24,17 @@ const STAMP: &str = "When it is written, as 20250915T120000Z; else the clock's t
 
 const LINES: &str = "The answers of all rows alone, an object a line";
 
-const FOLDER: &str = "The folder of a docket, which another program may enter rows into";
-
-const INPUT: &str = "A file that clerk_office reads, or - for standard input";
-
-const FROM: &str = "The first day, as 2025-09-15; else the first of the court's file";
+const FROM: &str = "The first day; else the first of the court's file";
 
 const TO: &str = "The last day; else the last of the court's file";
 
-const OF: &str = "A day of the week, as 2025-09-16";
+const OF: &str = "A day of the week";
+
+const TODAY: &str = "The date that counts as today; else that of the clock in the court's zone";
+
+const DAYS: &str =
+    "DAY is a date, as 2025-09-15, or today, tomorrow, yesterday; monday to sunday, the
+next such day from today on; or so many days from today, as +7d or (with =) -3d.";
 
 const ANY_JUDGE: &str = "Hearings before this judge, and deadlines of the cases that have one";
 
@@ -44,29 +46,17 @@ const CASE: &str = "This case alone: its number, or the number that the court gi
 fn sourced<'a>(alloc: Global, name: &'a str, about: &'a str) -> Result<Command<'a>, AllocError>
     ensures { IfOk result (λ command. app_of command ≡ record { top = sourced_shape name.now; subs = [] }) }
 {
-    let command = Command::new(alloc, name).about(about);
-    let command = with_folder(alloc, command)?;
-    with_text(alloc, command, "input", "FILE", INPUT)
-}
-
-/// The command with the folder, which is known by its place.
-fn with_folder<'a>(alloc: Global, command: Command<'a>) -> Result<Command<'a>, AllocError>
-    ensures { IfOk result (λ whole. app_of whole ≡ with_rule (app_of command.entry) folder_rule) }
-{
-    let folder = Arg::new(alloc, "folder")
-        .action(ArgAction::Set)
-        .value_name("FOLDER")
-        .help(FOLDER);
-    command.arg(folder)
+    with_source(alloc, Command::new(alloc, name).about(about))
 }
 
 /// The subcommand of that name, which also takes the days, the judge and the case that are chosen.
 fn choosing<'a>(alloc: Global, name: &'a str, about: &'a str) -> Result<Command<'a>, AllocError>
     ensures { IfOk result (λ command. app_of command ≡ record { top = choosing_shape name.now; subs = [] }) }
 {
-    let command = sourced(alloc, name, about)?;
+    let command = sourced(alloc, name, about)?.after_help(DAYS);
     let command = with_text(alloc, command, "from", "DAY", FROM)?;
     let command = with_text(alloc, command, "to", "DAY", TO)?;
+    let command = with_text(alloc, command, "today", "DATE", TODAY)?;
     let command = with_text(alloc, command, "judge", "NAME", ANY_JUDGE)?;
     with_text(alloc, command, "case", "N", CASE)
 }
@@ -75,11 +65,10 @@ fn choosing<'a>(alloc: Global, name: &'a str, about: &'a str) -> Result<Command<
 fn week<'a>(alloc: Global) -> Result<Command<'a>, AllocError>
     ensures { IfOk result (λ command. app_of command ≡ record { top = week_shape; subs = [] }) }
 {
-    let command = sourced(alloc, "week", ABOUT_WEEK)?;
-    let judge = text_argument(alloc, "judge", "NAME", ONE_JUDGE).required(true);
-    let command = command.arg(judge)?;
-    let of = text_argument(alloc, "of", "DAY", OF).required(true);
-    command.arg(of)
+    let command = sourced(alloc, "week", ABOUT_WEEK)?.after_help(DAYS);
+    let command = with_needed(alloc, command, "judge", "NAME", ONE_JUDGE)?;
+    let command = with_needed(alloc, command, "of", "DAY", OF)?;
+    with_text(alloc, command, "today", "DATE", TODAY)
 }
 
 /// The subcommand for a calendar, which also takes the instant at which it is written.
@@ -100,18 +89,6 @@ fn json<'a>(alloc: Global) -> Result<Command<'a>, AllocError>
         .action(ArgAction::SetTrue)
         .help(LINES);
     command.arg(lines)
-}
-
-/// The command with one more subcommand, where there was memory for that one. It takes what came of making the subcommand,
-/// so that the command is dropped here alone if there was none.
-fn with_subcommand<'a>(
-    command: Command<'a>,
-    subcommand: Result<Command<'a>, AllocError>,
-) -> Result<Command<'a>, AllocError>
-    ensures { IfOk result (λ whole. IsOkAnd subcommand.entry (λ added. AddsSubcommand command.entry added whole)) }
-{
-    let added = subcommand?;
-    command.subcommand(added)
 }
 
 /// A command with the subcommands due, week, page, ics, json and sql. Each takes `folder`, the first place, or `input`, the option;

@@ -8,31 +8,29 @@ ghost use Rattle.docket_rows.specs.Words.{Rows, setup_of};
 ghost use Rattle.office_texts.specs.Run.Words.{Holds};
 ghost use Rattle.report_program.specs.Calendar.{week_text_of};
 
-use case_numbers::Cases;
 use court_clock::Day;
 use court_days::Court;
 use desk_numbers::MovedNumbers;
 use docket_core::Docket;
 use docket_selection::{DayBookings, bookings_on, week_days};
-use report_texts::{number_days, push_week};
+use report_texts::{Labels, number_days, push_week};
 use std::alloc::{AllocError, Global};
 
 /// The week of the judge in which the day is. `Err` says that memory ran out.
 pub(crate) fn week_text(
     alloc: Global,
     court: &Court,
-    cases: &Cases,
-    moved: &MovedNumbers,
+    labels: &Labels<'_>,
     docket: &Docket,
     judge: u8,
     day: Day,
 ) -> Result<Vec<u8>, AllocError>
-    ensures { (docketed : Rows) → Holds (setup_of court.now) docket.now docketed → IfOk result (λ text. text.items ≡ week_text_of court.now cases.now.named moved.now docketed judge day) }
+    ensures { (docketed : Rows) → Holds (setup_of court.now) docket.now docketed → IfOk result (λ text. text.items ≡ week_text_of court.now labels.now docketed judge day) }
 {
     let days = week_days(alloc, day)?;
-    let week = numbered_days(alloc, moved, docket, judge, &days)?;
+    let week = numbered_days(alloc, labels.moved, docket, judge, &days)?;
     let mut text = String::new(alloc);
-    push_week(alloc, &mut text, court, cases, judge, &week)?;
+    push_week(alloc, &mut text, court, labels, judge, &week)?;
     Ok(text.into_bytes())
 }
 

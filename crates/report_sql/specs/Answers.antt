@@ -10,7 +10,7 @@ use Rattle.office_texts.specs.declared.run.reply.Reply.{Reply}
 use Rattle.office_texts.specs.declared.run.reply.Reply.TheVariants.{Made, Viewed}
 use Rattle.office_texts.specs.Run.Words.{docketed_then, reply_to}
 use Rattle.office_texts.specs.Named.Words.{named_reply}
-use Rattle.desk_numbers.specs.declared.moved.Moved.{Moved}
+use Rattle.report_texts.specs.Words.{LabelsView}
 use Rattle.desk_numbers.specs.Words.{numbered}
 use Rattle.report_sql.specs.Rows.{SqlValue, null, number, row_of, text}
 
@@ -29,8 +29,8 @@ unfoldable pub answer_row : CourtView → List NamedCase → (place clerk : ℕ)
 answer_row court named place clerk reply = row_of (codes "answers") place (number clerk ∷ refusal_value reply ∷ text (answer_words court named reply) ∷ [])
 
 -- what each row is answered, with its number; deadlines and motions have the numbers that they keep
-unfoldable pub answer_rows : CourtView → List NamedCase → List Moved → (docketed : Rows) → List NumberedRow → List ℕ
-answer_rows court named moved docketed [] = []
-answer_rows court named moved docketed (n ∷ rows) =
-    answer_row court named n.number n.row.clerk (numbered moved n.row.work (reply_to (setup_of court) docketed n.row.work))
-    ++ answer_rows court named moved (docketed_then (setup_of court) docketed n.row.work) rows
+unfoldable pub answer_rows : CourtView → LabelsView → (docketed : Rows) → List NumberedRow → List ℕ
+answer_rows court labels docketed [] = []
+answer_rows court labels docketed (n ∷ rows) =
+    answer_row court labels.cases n.number n.row.clerk (numbered labels.moved n.row.work (reply_to (setup_of court) docketed n.row.work))
+    ++ answer_rows court labels (docketed_then (setup_of court) docketed n.row.work) rows

@@ -10,7 +10,7 @@ use Rattle.docket_selection.specs.Words.{open_sheets}
 use Rattle.row_forms.specs.declared.numbered.NumberedRow.{NumberedRow}
 use Rattle.row_forms.specs.Words.{rows_of}
 use Rattle.office_texts.specs.Run.Words.{docketed_after}
-use Rattle.desk_numbers.specs.declared.moved.Moved.{Moved}
+use Rattle.report_texts.specs.Words.{LabelsView}
 use Rattle.desk_numbers.specs.Words.{numbered_sheet}
 use Rattle.report_sql.specs.Answers.{answer_rows}
 use Rattle.report_sql.specs.Deadlines.{deadline_rows}
@@ -35,9 +35,9 @@ unfoldable pub outage_row : (place : ℕ) → OutageView → List ℕ
 outage_row place o = row_of (codes "outages") place (day_value o.day ∷ minute_value o.from ∷ minute_value o.to ∷ [])
 
 -- what is docketed: each outage, and each open case by its number, with the numbers of its deadlines and motions
-abbrev pub docketed_text : CourtView → List NamedCase → List Moved → (docketed : Rows) → List ℕ
-docketed_text court named moved docketed =
-    numbered outage_row 1 docketed.days.outages ++ flat_map (sheet_rows court named) (map (numbered_sheet moved) (open_sheets (setup_of court) docketed))
+abbrev pub docketed_text : CourtView → LabelsView → (docketed : Rows) → List ℕ
+docketed_text court labels docketed =
+    numbered outage_row 1 docketed.days.outages ++ flat_map (sheet_rows court labels.cases) (map (numbered_sheet labels.moved) (open_sheets (setup_of court) docketed))
 
 unfoldable pub transaction_front : List ℕ
 transaction_front = codes "BEGIN TRANSACTION;\n"
@@ -45,13 +45,13 @@ transaction_front = codes "BEGIN TRANSACTION;\n"
 unfoldable pub transaction_end : List ℕ
 transaction_end = codes "COMMIT;\n"
 
--- of a court, the names of cases, what isn't at the place that its number says, and all rows: the tables, what each row was
--- answered, and what is docketed after the last
-unfoldable pub script_text : CourtView → List NamedCase → List Moved → List NumberedRow → List ℕ
-script_text court named moved rows =
+-- of a court, what cases, deadlines and motions are called, and all rows: the tables, what each row was answered, and what is
+-- docketed after the last
+unfoldable pub script_text : CourtView → LabelsView → List NumberedRow → List ℕ
+script_text court labels rows =
     let opening = opening_rows (setup_of court) in
     transaction_front
-    ++ tables named
-    ++ answer_rows court named moved opening rows
-    ++ docketed_text court named moved (docketed_after (setup_of court) opening (rows_of rows))
+    ++ tables labels.cases
+    ++ answer_rows court labels opening rows
+    ++ docketed_text court labels (docketed_after (setup_of court) opening (rows_of rows))
     ++ transaction_end

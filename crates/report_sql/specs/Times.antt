@@ -2,7 +2,7 @@
 use Rattle.std.specs.Prelude.{ℕ, ◌*◌, ℤ, List, ◌++◌, codes, if◌then◌else◌}
 use Rattle.court_clock.specs.Words.{ClockView, day_text, is_day_number}
 use Rattle.content_lines.specs.Words.{utc_day, utc_second}
-use Rattle.report_texts.specs.Words.{second_time}
+use Rattle.reason_texts.specs.Words.{second_time}
 use Rattle.report_ics.specs.Words.{slot_begins}
 use Rattle.report_sql.specs.Rows.{SqlValue, null, or_null, text}
 

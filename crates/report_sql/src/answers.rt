@@ -8,12 +8,11 @@ ghost use Rattle.report_sql.specs.Answers.{answer_row, answer_rows, answer_words
 ghost use Rattle.report_sql.specs.Rows.{AddsValues, text};
 
 use crate::script::Script;
-use case_numbers::Cases;
 use court_days::Court;
-use desk_numbers::MovedNumbers;
 use docket_core::Docket;
 use docket_rows::{Answer, View};
 use office_texts::{Reply, push_named_reply, reply_to};
+use report_texts::Labels;
 use row_forms::NumberedRow;
 use std::alloc::{AllocError, Global};
 
@@ -23,24 +22,23 @@ pub(crate) fn push_answers(
     alloc: Global,
     out: &mut Script,
     court: &Court,
-    cases: &Cases,
-    moved: &MovedNumbers,
+    labels: &Labels<'_>,
     docket: &mut Docket,
     rows: &[NumberedRow],
 ) -> Result<(), AllocError>
     requires { Holds (setup_of court.now) docket.old (opening_rows (setup_of court.now)) }
-    ensures answers { OnOk result (out.new ≡ out.old ++ answer_rows court.now cases.now.named moved.now (opening_rows (setup_of court.now)) rows.now) }
+    ensures answers { OnOk result (out.new ≡ out.old ++ answer_rows court.now labels.now (opening_rows (setup_of court.now)) rows.now) }
     ensures docket { OnOk result (Holds (setup_of court.now) docket.new (docketed_after (setup_of court.now) (opening_rows (setup_of court.now)) (rows_of rows.now))) }
 {
     let mut line = String::new(alloc);
     for numbered in rows {
         let reply = reply_to(alloc, docket, &numbered.row.work)?;
-        let reply = moved.number_reply(&numbered.row.work, reply);
+        let reply = labels.moved.number_reply(&numbered.row.work, reply);
         push_answer(
             out,
             &mut line,
             court,
-            cases,
+            labels,
             numbered.number,
             numbered.row.clerk,
             &reply,
@@ -55,17 +53,17 @@ fn push_answer(
     out: &mut Script,
     line: &mut String,
     court: &Court,
-    cases: &Cases,
+    labels: &Labels<'_>,
     place: u64,
     clerk: u8,
     reply: &Reply,
 ) -> Result<(), AllocError>
-    ensures { OnOk result (out.new ≡ out.old ++ answer_row court.now cases.now.named place clerk reply.now) }
+    ensures { OnOk result (out.new ≡ out.old ++ answer_row court.now labels.now.cases place clerk reply.now) }
 {
     out.begin_row("answers", place)?;
     out.number(u64::from(clerk))?;
     push_refusal(out, reply)?;
-    push_words(out, line, court, cases, reply)?;
+    push_words(out, line, court, labels, reply)?;
     out.end_row()
 }
 
@@ -75,13 +73,13 @@ fn push_words(
     out: &mut Script,
     line: &mut String,
     court: &Court,
-    cases: &Cases,
+    labels: &Labels<'_>,
     reply: &Reply,
 ) -> Result<(), AllocError>
-    ensures { OnOk result (AddsValues out.old out.new (text (answer_words court.now cases.now.named reply.now) ∷ [])) }
+    ensures { OnOk result (AddsValues out.old out.new (text (answer_words court.now labels.now.cases reply.now) ∷ [])) }
 {
     line.clear();
-    push_named_reply(line, court, cases, reply)?;
+    push_named_reply(line, court, labels.cases, reply)?;
     out.text_of(without_end(line))
 }
 

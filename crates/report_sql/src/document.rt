@@ -7,33 +7,30 @@ use crate::answers::push_answers;
 use crate::schema::push_tables;
 use crate::script::Script;
 use crate::sheets::push_docketed;
-use case_numbers::Cases;
 use court_days::Court;
-use desk_numbers::MovedNumbers;
 use docket_core::Docket;
+use report_texts::Labels;
 use row_forms::NumberedRow;
 use std::alloc::{AllocError, Global};
 
 /// One transaction of SQL: it makes the tables, and puts into them what each row was answered, by its number, and what is docketed after
-/// the last. `cases` has the names of cases, which answers have in place of numbers: the table of cases has a column for them where
-/// there are any. Deadlines and
-/// motions have the numbers that `moved` says, while rows name them by their places. `Err` says that memory ran out.
+/// the last. Answers have the names of cases in place of numbers, and the table of cases has a column for them where there are any.
+/// Deadlines and motions have their numbers, while rows name them by their places. `Err` says that memory ran out.
 #[tactic(auto, unfolding(crate::specs::Script::script_text))]
 pub fn sql_text(
     alloc: Global,
     court: &Court,
-    cases: &Cases,
-    moved: &MovedNumbers,
+    labels: &Labels<'_>,
     rows: &[NumberedRow],
 ) -> Result<Vec<u8>, AllocError>
-    ensures { IfOk result (λ text. text.items ≡ script_text court.now cases.now.named moved.now rows.now) }
+    ensures { IfOk result (λ text. text.items ≡ script_text court.now labels.now rows.now) }
 {
     let mut out = Script::new(alloc);
     let mut docket = Docket::new(alloc, court)?;
     push_front(&mut out)?;
-    push_tables(&mut out, cases)?;
-    push_answers(alloc, &mut out, court, cases, moved, &mut docket, rows)?;
-    push_docketed(alloc, &mut out, court, cases, moved, &docket)?;
+    push_tables(&mut out, labels)?;
+    push_answers(alloc, &mut out, court, labels, &mut docket, rows)?;
+    push_docketed(alloc, &mut out, court, labels, &docket)?;
     push_end(&mut out)?;
     Ok(out.into_bytes())
 }

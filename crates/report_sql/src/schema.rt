@@ -1,72 +1,29 @@
 //! The tables.
 
 ghost use Rattle.std.specs.Prelude.{◌≡◌, ◌++◌, OnOk};
-ghost use Rattle.report_sql.specs.Schema.{answers_table, cases_table, deadlines_table, grants_table, hearings_table, motions_table, named_cases_table, numbered_cases_table, outages_table, panels_table, tables};
+ghost use Rattle.report_sql.specs.Schema.{cases_table, tables};
 
 use crate::script::Script;
-use case_numbers::Cases;
+use report_texts::Labels;
 use std::alloc::AllocError;
 
-/// Adds the statements that make the tables. `Err` says that memory ran out.
-#[tactic(auto, unfolding(crate::specs::Schema::tables))]
-pub(crate) fn push_tables(out: &mut Script, cases: &Cases) -> Result<(), AllocError>
-    ensures { OnOk result (out.new ≡ out.old ++ tables cases.now.named) }
-{
-    push_cases(out, cases)?;
-    push_deadlines(out)?;
-    push_grants(out)?;
-    push_motions(out)?;
-    push_hearings(out)?;
-    push_panels(out)?;
-    push_outages(out)?;
-    push_answers(out)
-}
+// The open cases, by their numbers.
+const NUMBERED_CASES: &str = "CREATE TABLE cases (
+  number INTEGER NOT NULL PRIMARY KEY CHECK (number BETWEEN 1 AND 4096),
+  filed DATE NOT NULL
+);
+";
 
-/// The open cases, by their numbers, and with their names where the court's file has names.
-fn push_cases(out: &mut Script, cases: &Cases) -> Result<(), AllocError>
-    ensures { OnOk result (out.new ≡ out.old ++ cases_table cases.now.named) }
-{
-    if cases.named().is_empty() {
-        push_numbered_cases(out)
-    } else {
-        push_named_cases(out)
-    }
-}
-
-#[tactic(auto, unfolding(crate::specs::Schema::named_cases_table))]
-fn push_named_cases(out: &mut Script) -> Result<(), AllocError>
-    ensures { OnOk result (out.new ≡ out.old ++ named_cases_table) }
-{
-    out.statement(
-        "CREATE TABLE cases (
+// The same with the name of each; NULL: it has none.
+const NAMED_CASES: &str = "CREATE TABLE cases (
   number INTEGER NOT NULL PRIMARY KEY CHECK (number BETWEEN 1 AND 4096),
   filed DATE NOT NULL,
   name VARCHAR(1000000)
 );
-",
-    )
-}
+";
 
-#[tactic(auto, unfolding(crate::specs::Schema::numbered_cases_table))]
-fn push_numbered_cases(out: &mut Script) -> Result<(), AllocError>
-    ensures { OnOk result (out.new ≡ out.old ++ numbered_cases_table) }
-{
-    out.statement(
-        "CREATE TABLE cases (
-  number INTEGER NOT NULL PRIMARY KEY CHECK (number BETWEEN 1 AND 4096),
-  filed DATE NOT NULL
-);
-",
-    )
-}
-
-/// The deadlines of a case, by number: the period in words, from what it runs, when it ends, and what was filed.
-#[tactic(auto, unfolding(crate::specs::Schema::deadlines_table))]
-fn push_deadlines(out: &mut Script) -> Result<(), AllocError>
-    ensures { OnOk result (out.new ≡ out.old ++ deadlines_table) }
-{
-    out.statement(
-        "CREATE TABLE deadlines (
+// The deadlines of a case, by number: the period in words, from what it runs, when it ends, and what was filed.
+const DEADLINES: &str = "CREATE TABLE deadlines (
   case_number INTEGER NOT NULL REFERENCES cases (number),
   number INTEGER NOT NULL,
   term VARCHAR(80) NOT NULL,
@@ -86,17 +43,10 @@ fn push_deadlines(out: &mut Script) -> Result<(), AllocError>
   CHECK (last_day IS NULL OR ends_at IS NULL),
   CHECK (timely IS NULL OR filed_day IS NOT NULL)
 );
-",
-    )
-}
+";
 
-/// The extensions of a deadline, each by days, by hours or until a day.
-#[tactic(auto, unfolding(crate::specs::Schema::grants_table))]
-fn push_grants(out: &mut Script) -> Result<(), AllocError>
-    ensures { OnOk result (out.new ≡ out.old ++ grants_table) }
-{
-    out.statement(
-        "CREATE TABLE grants (
+// The extensions of a deadline, each by days, by hours or until a day.
+const GRANTS: &str = "CREATE TABLE grants (
   case_number INTEGER NOT NULL,
   deadline_number INTEGER NOT NULL,
   number INTEGER NOT NULL,
@@ -106,34 +56,20 @@ fn push_grants(out: &mut Script) -> Result<(), AllocError>
   PRIMARY KEY (case_number, deadline_number, number),
   FOREIGN KEY (case_number, deadline_number) REFERENCES deadlines (case_number, number)
 );
-",
-    )
-}
+";
 
-/// The motions of a case, by number; NULL days of notice: it may be heard without.
-#[tactic(auto, unfolding(crate::specs::Schema::motions_table))]
-fn push_motions(out: &mut Script) -> Result<(), AllocError>
-    ensures { OnOk result (out.new ≡ out.old ++ motions_table) }
-{
-    out.statement(
-        "CREATE TABLE motions (
+// The motions of a case, by number; NULL days of notice: it may be heard without.
+const MOTIONS: &str = "CREATE TABLE motions (
   case_number INTEGER NOT NULL REFERENCES cases (number),
   number INTEGER NOT NULL,
   served DATE NOT NULL,
   notice_days INTEGER,
   PRIMARY KEY (case_number, number)
 );
-",
-    )
-}
+";
 
-/// The hearing of a motion; two hearings don't begin at one time in one room.
-#[tactic(auto, unfolding(crate::specs::Schema::hearings_table))]
-fn push_hearings(out: &mut Script) -> Result<(), AllocError>
-    ensures { OnOk result (out.new ≡ out.old ++ hearings_table) }
-{
-    out.statement(
-        "CREATE TABLE hearings (
+// The hearing of a motion; two hearings don't begin at one time in one room.
+const HEARINGS: &str = "CREATE TABLE hearings (
   case_number INTEGER NOT NULL,
   motion_number INTEGER NOT NULL,
   room VARCHAR(32) NOT NULL,
@@ -148,17 +84,10 @@ fn push_hearings(out: &mut Script) -> Result<(), AllocError>
   FOREIGN KEY (case_number, motion_number) REFERENCES motions (case_number, number),
   UNIQUE (room, hearing_day, begins)
 );
-",
-    )
-}
+";
 
-/// The judges before whom a hearing is, by their places in the panel.
-#[tactic(auto, unfolding(crate::specs::Schema::panels_table))]
-fn push_panels(out: &mut Script) -> Result<(), AllocError>
-    ensures { OnOk result (out.new ≡ out.old ++ panels_table) }
-{
-    out.statement(
-        "CREATE TABLE panels (
+// The judges before whom a hearing is, by their places in the panel.
+const PANELS: &str = "CREATE TABLE panels (
   case_number INTEGER NOT NULL,
   motion_number INTEGER NOT NULL,
   place INTEGER NOT NULL,
@@ -167,38 +96,48 @@ fn push_panels(out: &mut Script) -> Result<(), AllocError>
   UNIQUE (case_number, motion_number, judge),
   FOREIGN KEY (case_number, motion_number) REFERENCES hearings (case_number, motion_number)
 );
-",
-    )
-}
+";
 
-/// When the clerk's office was inaccessible: from a minute up to another, which is not included.
-#[tactic(auto, unfolding(crate::specs::Schema::outages_table))]
-fn push_outages(out: &mut Script) -> Result<(), AllocError>
-    ensures { OnOk result (out.new ≡ out.old ++ outages_table) }
-{
-    out.statement(
-        "CREATE TABLE outages (
+// When the clerk's office was inaccessible: from a minute up to another, which is not included.
+const OUTAGES: &str = "CREATE TABLE outages (
   number INTEGER NOT NULL PRIMARY KEY,
   outage_day DATE NOT NULL,
   begins TIME NOT NULL,
   ends TIME NOT NULL
 );
-",
-    )
-}
+";
 
-/// What each row was answered, by its number; NULL refusal: it isn't refused.
-#[tactic(auto, unfolding(crate::specs::Schema::answers_table))]
-fn push_answers(out: &mut Script) -> Result<(), AllocError>
-    ensures { OnOk result (out.new ≡ out.old ++ answers_table) }
-{
-    out.statement(
-        "CREATE TABLE answers (
+// What each row was answered, by its number; NULL refusal: it isn't refused.
+const ANSWERS: &str = "CREATE TABLE answers (
   number INTEGER NOT NULL PRIMARY KEY,
   clerk INTEGER NOT NULL,
   refusal INTEGER CHECK (refusal BETWEEN 1 AND 29),
   answer VARCHAR(1000000) NOT NULL
 );
-",
-    )
+";
+
+/// Adds the statements that make the tables. `Err` says that memory ran out.
+#[tactic(auto, unfolding(crate::specs::Schema::tables))]
+pub(crate) fn push_tables(out: &mut Script, labels: &Labels<'_>) -> Result<(), AllocError>
+    ensures { OnOk result (out.new ≡ out.old ++ tables labels.now.cases) }
+{
+    push_cases(out, labels)?;
+    out.statement(DEADLINES)?;
+    out.statement(GRANTS)?;
+    out.statement(MOTIONS)?;
+    out.statement(HEARINGS)?;
+    out.statement(PANELS)?;
+    out.statement(OUTAGES)?;
+    out.statement(ANSWERS)
+}
+
+// Adds the table of the open cases, with their names where the court's file has names.
+fn push_cases(out: &mut Script, labels: &Labels<'_>) -> Result<(), AllocError>
+    ensures { OnOk result (out.new ≡ out.old ++ cases_table labels.now.cases) }
+{
+    if labels.cases.named().is_empty() {
+        out.statement(NUMBERED_CASES)
+    } else {
+        out.statement(NAMED_CASES)
+    }
 }

@@ -14,14 +14,13 @@ ghost use Rattle.report_sql.specs.Script.{case_row, docketed_text, name_values, 
 use crate::deadlines::push_deadline;
 use crate::hearings::push_motion;
 use crate::script::Script;
-use case_numbers::Cases;
 use court_clock::Clock;
 use court_days::{Court, Outage};
 use desk_numbers::MovedNumbers;
 use docket_core::Docket;
 use docket_rows::{Sheet, SheetDeadline, SheetMotion};
 use docket_selection::sheets_of;
-use report_texts::number_sheets;
+use report_texts::{Labels, number_sheets};
 use std::alloc::{AllocError, Global};
 
 /// Adds each outage, and each open case with all that is on its sheet, where deadlines and motions have their numbers. `Err`
@@ -30,16 +29,15 @@ pub(crate) fn push_docketed(
     alloc: Global,
     out: &mut Script,
     court: &Court,
-    cases: &Cases,
-    moved: &MovedNumbers,
+    labels: &Labels<'_>,
     docket: &Docket,
 ) -> Result<(), AllocError>
     requires court { docket.now.setup ≡ setup_of court.now }
-    ensures { (docketed : Rows) → StandsFor docket.now docketed → OnOk result (out.new ≡ out.old ++ docketed_text court.now cases.now.named moved.now docketed) }
+    ensures { (docketed : Rows) → StandsFor docket.now docketed → OnOk result (out.new ≡ out.old ++ docketed_text court.now labels.now docketed) }
 {
     push_outages(out, docket.days().outages())?;
-    let sheets = numbered_sheets(alloc, docket, moved)?;
-    push_sheets(out, court, cases, &sheets)?;
+    let sheets = numbered_sheets(alloc, docket, labels.moved)?;
+    push_sheets(out, court, labels, &sheets)?;
     Ok(())
 }
 
@@ -83,13 +81,13 @@ fn push_outage(out: &mut Script, place: u64, outage: Outage) -> Result<(), Alloc
 fn push_sheets(
     out: &mut Script,
     court: &Court,
-    cases: &Cases,
+    labels: &Labels<'_>,
     sheets: &[Sheet],
 ) -> Result<(), AllocError>
-    ensures { OnOk result (out.new ≡ out.old ++ flat_map (sheet_rows court.now cases.now.named) sheets.now) }
+    ensures { OnOk result (out.new ≡ out.old ++ flat_map (sheet_rows court.now labels.now.cases) sheets.now) }
 {
     for sheet in sheets {
-        push_sheet(out, court, cases, sheet)?;
+        push_sheet(out, court, labels, sheet)?;
     }
     Ok(())
 }
@@ -98,34 +96,34 @@ fn push_sheets(
 fn push_sheet(
     out: &mut Script,
     court: &Court,
-    cases: &Cases,
+    labels: &Labels<'_>,
     sheet: &Sheet,
 ) -> Result<(), AllocError>
-    ensures { OnOk result (out.new ≡ out.old ++ sheet_rows court.now cases.now.named sheet.now) }
+    ensures { OnOk result (out.new ≡ out.old ++ sheet_rows court.now labels.now.cases sheet.now) }
 {
-    push_case(out, cases, sheet)?;
+    push_case(out, labels, sheet)?;
     push_deadlines(out, court.clock(), sheet.case, sheet.deadlines.as_slice())?;
     push_motions(out, court, sheet.case, sheet.motions.as_slice())
 }
 
 #[tactic(auto, unfolding(crate::specs::Script::case_row))]
-fn push_case(out: &mut Script, cases: &Cases, sheet: &Sheet) -> Result<(), AllocError>
-    ensures { OnOk result (out.new ≡ out.old ++ case_row cases.now.named sheet.now) }
+fn push_case(out: &mut Script, labels: &Labels<'_>, sheet: &Sheet) -> Result<(), AllocError>
+    ensures { OnOk result (out.new ≡ out.old ++ case_row labels.now.cases sheet.now) }
 {
     out.begin_row("cases", u64::from(sheet.case))?;
     out.day(sheet.filed)?;
-    push_name(out, cases, sheet.case)?;
+    push_name(out, labels, sheet.case)?;
     out.end_row()
 }
 
 /// Adds the name of a case, where the court's file has names.
-fn push_name(out: &mut Script, cases: &Cases, case: u32) -> Result<(), AllocError>
-    ensures { OnOk result (AddsValues out.old out.new (name_values cases.now.named case)) }
+fn push_name(out: &mut Script, labels: &Labels<'_>, case: u32) -> Result<(), AllocError>
+    ensures { OnOk result (AddsValues out.old out.new (name_values labels.now.cases case)) }
 {
-    if cases.named().is_empty() {
+    if labels.cases.named().is_empty() {
         return Ok(());
     }
-    match cases.name_of(case) {
+    match labels.cases.name_of(case) {
         Some(name) => out.text(name),
         None => out.null(),
     }

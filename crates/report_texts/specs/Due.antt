@@ -10,7 +10,7 @@ use Rattle.docket_selection.specs.declared.item.DueItem.{DueItem}
 use Rattle.office_texts.specs.Words.{name_of}
 use Rattle.report_texts.specs.Days.{whole_day}
 use Rattle.report_texts.specs.Items.{item_line}
-use Rattle.report_texts.specs.Times.{minute_time}
+use Rattle.reason_texts.specs.Words.{minute_time}
 
 abbrev pub judge_words : CourtView → Option ℕ → List ℕ
 judge_words court (Some judge) = codes ", judge " ++ name_of court.judges judge

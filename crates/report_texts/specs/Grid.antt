@@ -6,7 +6,7 @@ use Rattle.court_clock.specs.Words.{ClockView}
 use Rattle.hearing_slots.specs.declared.booking.Booking.{Booking}
 use Rattle.docket_selection.specs.declared.bookings.DayBookings.{DayBookings}
 use Rattle.report_texts.specs.Days.{short_day}
-use Rattle.report_texts.specs.Times.{minute_time}
+use Rattle.reason_texts.specs.Words.{minute_time}
 
 -- the booking takes the slot, and the one of some that does
 abbrev pub is_taken_at : (slot : ℕ) → Booking → Bool

@@ -17,7 +17,7 @@ use Rattle.office_texts.specs.Words.{name_of}
 use Rattle.report_texts.specs.Names.{panel_names}
 use Rattle.report_texts.specs.Other.{other_words}
 use Rattle.report_texts.specs.Periods.{period_words}
-use Rattle.report_texts.specs.Times.{minute_time, second_time}
+use Rattle.reason_texts.specs.Words.{minute_time, second_time}
 
 -- when a deadline ends: at a second of its day, or with its last day
 abbrev pub end_words : (second : ℕ) → Shown → List ℕ

@@ -1,11 +1,12 @@
 pub mod Days
 pub mod Due
 pub mod Grid
+pub mod Holidays
 pub mod Items
+pub mod Labels
 pub mod Names
 pub mod Other
 pub mod Periods
 pub mod Selected
-pub mod Times
 pub mod Week
 pub mod Words

@@ -3,7 +3,7 @@ use Rattle.std.specs.Prelude.{ℕ, List, [], ◌++◌, Option, Some, None, codes
 use Rattle.court_clock.specs.Words.{CivilTime, ClockView, civil_of, day_text}
 use Rattle.rule6.specs.declared.timeliness.Shown.{Shown}
 use Rattle.rule6.specs.declared.timeliness.Shown.TheVariants as shown
-use Rattle.report_texts.specs.Times.{second_time}
+use Rattle.reason_texts.specs.Words.{second_time}
 
 -- an instant, as the court's clock shows it
 abbrev pub instant_words : Option CivilTime → List ℕ

@@ -2,6 +2,8 @@
 unfoldable pub use Rattle.report_texts.specs.Days.{whole_day}
 pub use Rattle.report_texts.specs.Due.{case_words, is_day_of}
 unfoldable pub use Rattle.report_texts.specs.Due.{chosen_words, closing_line, lines_after, due_text}
+pub use Rattle.report_texts.specs.Holidays.{holiday_names, doubtful_days}
+pub use Rattle.report_texts.specs.Labels.{LabelsView, labels_of}
 pub use Rattle.report_texts.specs.Items.{time_words, matter_words, room_words}
 unfoldable pub use Rattle.report_texts.specs.Items.{item_line, span_words}
 unfoldable pub use Rattle.report_texts.specs.Names.{panel_names}
@@ -10,5 +12,4 @@ unfoldable pub use Rattle.report_texts.specs.Other.{reading_words}
 unfoldable pub use Rattle.report_texts.specs.Periods.{period_words}
 pub use Rattle.report_texts.specs.Periods.{unit_words}
 pub use Rattle.report_texts.specs.Selected.{numbered_calendar, numbered_day, numbered_item}
-unfoldable pub use Rattle.report_texts.specs.Times.{minute_time, second_time}
 unfoldable pub use Rattle.report_texts.specs.Week.{week_text}

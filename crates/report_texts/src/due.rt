@@ -2,33 +2,34 @@
 
 ghost use Rattle.std.specs.Prelude.{◌≡◌, None, OnOk};
 ghost use Rattle.office_texts.specs.Words.{AddsText};
-ghost use Rattle.report_texts.specs.Times.{minute_time};
+ghost use Rattle.reason_texts.specs.Words.{minute_time};
 ghost use Rattle.report_texts.specs.Due.{case_words, chosen_words, closing_back, closing_front, closing_line, day_line_if_new, due_text, heading, is_day_of, judge_words, lines_after, lines_or_none};
 
 use crate::days::push_whole_day;
 use crate::items::push_item;
-use crate::numbers::push_minute;
-use case_numbers::{Cases, push_case_text};
+use crate::labels::Labels;
+use case_numbers::push_case_text;
 use court_clock::{Clock, Day};
 use court_days::Court;
 use docket_selection::{Choice, DueItem};
 use office_texts::judge_name;
+use reason_texts::push_minute;
 use std::alloc::AllocError;
 
-/// Adds what was chosen, and the items by day, a line each. `cases` has the names of cases. `Err` says that memory ran out.
+/// Adds what was chosen, and the items by day, a line each. `Err` says that memory ran out.
 #[tactic(auto, unfolding(crate::specs::Due::due_text))]
 pub fn push_due(
     text: &mut String,
     court: &Court,
-    cases: &Cases,
+    labels: &Labels<'_>,
     choice: &Choice,
     items: &[DueItem],
 ) -> Result<(), AllocError>
-    ensures { OnOk result (AddsText text.old text.new (due_text court.now cases.now.named choice.now items.now)) }
+    ensures { OnOk result (AddsText text.old text.new (due_text court.now labels.now.cases choice.now items.now)) }
 {
-    push_heading(text, court, cases, choice)?;
+    push_heading(text, court, labels, choice)?;
     push_closing(text, court)?;
-    push_lines(text, court, cases, items)
+    push_lines(text, court, labels, items)
 }
 
 /// Adds the line that says what was chosen.
@@ -36,13 +37,13 @@ pub fn push_due(
 fn push_heading(
     text: &mut String,
     court: &Court,
-    cases: &Cases,
+    labels: &Labels<'_>,
     choice: &Choice,
 ) -> Result<(), AllocError>
-    ensures { OnOk result (AddsText text.old text.new (heading court.now cases.now.named choice.now)) }
+    ensures { OnOk result (AddsText text.old text.new (heading court.now labels.now.cases choice.now)) }
 {
     text.push_str("Due from ")?;
-    push_chosen(text, court, cases, choice)?;
+    push_chosen(text, court, labels, choice)?;
     text.push_str("\n")
 }
 
@@ -51,16 +52,16 @@ fn push_heading(
 pub fn push_chosen(
     text: &mut String,
     court: &Court,
-    cases: &Cases,
+    labels: &Labels<'_>,
     choice: &Choice,
 ) -> Result<(), AllocError>
-    ensures { OnOk result (AddsText text.old text.new (chosen_words court.now cases.now.named choice.now)) }
+    ensures { OnOk result (AddsText text.old text.new (chosen_words court.now labels.now.cases choice.now)) }
 {
     push_whole_day(text, choice.from)?;
     text.push_str(" to ")?;
     push_whole_day(text, choice.to)?;
     push_judge(text, court, choice.judge)?;
-    push_case(text, cases, choice.case)
+    push_case(text, labels, choice.case)
 }
 
 fn push_judge(text: &mut String, court: &Court, judge: Option<u8>) -> Result<(), AllocError>
@@ -75,13 +76,13 @@ fn push_judge(text: &mut String, court: &Court, judge: Option<u8>) -> Result<(),
     }
 }
 
-fn push_case(text: &mut String, cases: &Cases, case: Option<u32>) -> Result<(), AllocError>
-    ensures { OnOk result (AddsText text.old text.new (case_words cases.now.named case)) }
+fn push_case(text: &mut String, labels: &Labels<'_>, case: Option<u32>) -> Result<(), AllocError>
+    ensures { OnOk result (AddsText text.old text.new (case_words labels.now.cases case)) }
 {
     match case {
         Some(case) => {
             text.push_str(", case ")?;
-            push_case_text(text, cases, case)
+            push_case_text(text, labels.cases, case)
         }
         None => Ok(()),
     }
@@ -114,37 +115,37 @@ fn push_closing_back(text: &mut String) -> Result<(), AllocError>
 fn push_closing_time(text: &mut String, clock: &Clock) -> Result<(), AllocError>
     ensures { OnOk result (AddsText text.old text.new (minute_time clock.now.closes)) }
 {
-    push_minute(text, u32::from(clock.closes()))
+    push_minute(text, clock.closes())
 }
 
 /// Adds the items by day, or that there are none.
 fn push_lines(
     text: &mut String,
     court: &Court,
-    cases: &Cases,
+    labels: &Labels<'_>,
     items: &[DueItem],
 ) -> Result<(), AllocError>
-    ensures { OnOk result (AddsText text.old text.new (lines_or_none court.now cases.now.named items.now)) }
+    ensures { OnOk result (AddsText text.old text.new (lines_or_none court.now labels.now.cases items.now)) }
 {
     if items.is_empty() {
         return text.push_str("\nNothing is due.\n");
     }
-    push_items(text, court, cases, items)
+    push_items(text, court, labels, items)
 }
 
 /// Adds each item, with the day before the first of each day.
 fn push_items(
     text: &mut String,
     court: &Court,
-    cases: &Cases,
+    labels: &Labels<'_>,
     items: &[DueItem],
 ) -> Result<(), AllocError>
-    ensures { OnOk result (AddsText text.old text.new (lines_after court.now cases.now.named None items.now)) }
+    ensures { OnOk result (AddsText text.old text.new (lines_after court.now labels.now.cases None items.now)) }
 {
     let mut before = None;
     for item in items {
         push_day_if_new(text, before, item.day)?;
-        push_item(text, court, cases, item)?;
+        push_item(text, court, labels, item)?;
         before = Some(item.day);
     }
     Ok(())

@@ -7,11 +7,11 @@ ghost use Rattle.office_texts.specs.Words.{AddsText};
 ghost use Rattle.report_texts.specs.Grid.{cell, cell_words, day_cell, day_name_cell, end_row, first_row, grid, header, is_taken_at, label, rule, slot_row, taken_at};
 
 use crate::days::push_short_day;
-use crate::numbers::{push_minute, push_spaces};
 use court_clock::Clock;
 use docket_selection::DayBookings;
 use hearing_slots::Booking;
 use office_texts::push_number;
+use reason_texts::{push_minute, push_spaces};
 use std::alloc::{AllocError, Global};
 
 /// How wide a day is.
@@ -116,7 +116,7 @@ fn push_label(text: &mut String, slot: u32) -> Result<(), AllocError>
     ensures { OnOk result (AddsText text.old text.new (label slot)) }
 {
     if slot % 2 == 0 {
-        push_minute(text, 15 * slot)
+        push_minute(text, 15 * slot as u16)
     } else {
         text.push_str("     ")
     }

@@ -5,14 +5,15 @@ ghost use Rattle.office_texts.specs.Words.{AddsText};
 ghost use Rattle.report_texts.specs.Items.{deadline_words, end_words, hearing_front, hearing_words, item_line, late_words, matter_words, room_words, span_words, time_words};
 
 use crate::judges::push_panel;
-use crate::numbers::{push_minute, push_second};
+use crate::labels::Labels;
 use crate::other::push_other;
 use crate::periods::push_period;
-use case_numbers::{Cases, push_case_text};
+use case_numbers::push_case_text;
 use court_days::Court;
 use docket_rows::{Hearing, State};
 use docket_selection::{DueDeadline, DueItem, Matter};
 use office_texts::{push_number, room_name};
+use reason_texts::{push_minute, push_second};
 use rule6::Shown;
 use std::alloc::AllocError;
 
@@ -21,15 +22,15 @@ use std::alloc::AllocError;
 pub(crate) fn push_item(
     text: &mut String,
     court: &Court,
-    cases: &Cases,
+    labels: &Labels<'_>,
     item: &DueItem,
 ) -> Result<(), AllocError>
-    ensures { OnOk result (AddsText text.old text.new (item_line court.now cases.now.named item.now)) }
+    ensures { OnOk result (AddsText text.old text.new (item_line court.now labels.now.cases item.now)) }
 {
     text.push_str("  ")?;
     push_time(text, item.second, &item.matter)?;
     text.push_str("  case ")?;
-    push_case_text(text, cases, item.case)?;
+    push_case_text(text, labels.cases, item.case)?;
     push_matter(text, court, item.number, &item.matter)?;
     text.push_str("\n")
 }
@@ -62,9 +63,9 @@ fn push_end(text: &mut String, second: u32, shown: &Shown) -> Result<(), AllocEr
 pub fn push_span(text: &mut String, first: u8, count: u8) -> Result<(), AllocError>
     ensures { OnOk result (AddsText text.old text.new (span_words first count)) }
 {
-    push_minute(text, 15 * u32::from(first))?;
+    push_minute(text, 15 * u16::from(first))?;
     text.push_str("-")?;
-    push_minute(text, 15 * (u32::from(first) + u32::from(count)))
+    push_minute(text, 15 * (u16::from(first) + u16::from(count)))
 }
 
 /// Adds what is due. `Err` says that memory ran out.

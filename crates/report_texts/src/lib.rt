@@ -1,13 +1,15 @@
-//! What is selected of a docket, with the numbers that deadlines and motions keep; and what is due and a judge's week, as texts of
-//! 80 columns for a terminal or paper. Each function of these adds to a text; where memory runs out, what was added so far stays.
+//! What reports call cases, deadlines, motions and holidays; what is selected of a docket, with the numbers that deadlines and motions
+//! keep; and what is due and a judge's week, as texts of 80 columns for a terminal or paper. Each function that adds to a text leaves,
+//! where memory runs out, what was added so far.
 #![tactic(auto)]
 
 mod days;
 mod due;
 mod grid;
+mod holidays;
 mod items;
 mod judges;
-mod numbers;
+mod labels;
 mod other;
 mod periods;
 mod selected;
@@ -15,9 +17,10 @@ mod week;
 
 pub use days::push_whole_day;
 pub use due::{is_day_of, push_chosen, push_closing, push_due};
+pub use holidays::{HolidayNames, holiday_names};
 pub use items::{push_matter, push_room, push_span, push_time};
 pub use judges::push_panel;
-pub use numbers::{push_minute, push_second};
+pub use labels::Labels;
 pub use other::{push_given, push_reading};
 pub use periods::{push_period, unit_words};
 pub use selected::{

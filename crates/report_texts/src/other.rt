@@ -5,8 +5,8 @@ ghost use Rattle.office_texts.specs.Words.{AddsText};
 ghost use Rattle.court_clock.specs.Words.{civil_of, day_text};
 ghost use Rattle.report_texts.specs.Other.{given_words, instant_words, other_words, reading_front, reading_words};
 
-use crate::numbers::push_second;
 use court_clock::{Clock, Day, Instant};
+use reason_texts::push_second;
 use rule6::Shown;
 use std::alloc::AllocError;
 use std::fmt::Write;

@@ -8,29 +8,30 @@ ghost use Rattle.report_texts.specs.Week.{booked_line, booked_words, day_lines, 
 use crate::days::push_whole_day;
 use crate::grid::push_grid;
 use crate::items::{push_room, push_span};
-use case_numbers::{Cases, push_case_text};
+use crate::labels::Labels;
+use case_numbers::push_case_text;
 use court_days::Court;
 use docket_selection::DayBookings;
 use hearing_slots::Booking;
 use office_texts::{judge_name, push_number};
 use std::alloc::{AllocError, Global};
 
-/// Adds the week of a judge. `cases` has the names of cases. `Err` says that memory ran out.
+/// Adds the week of a judge. `Err` says that memory ran out.
 #[tactic(auto, unfolding(crate::specs::Week::week_text))]
 pub fn push_week(
     alloc: Global,
     text: &mut String,
     court: &Court,
-    cases: &Cases,
+    labels: &Labels<'_>,
     judge: u8,
     week: &[DayBookings],
 ) -> Result<(), AllocError>
-    ensures { OnOk result (AddsText text.old text.new (week_text court.now cases.now.named judge week.now)) }
+    ensures { OnOk result (AddsText text.old text.new (week_text court.now labels.now.cases judge week.now)) }
 {
     push_title(text, court, judge, week)?;
     push_grid(alloc, text, court.clock(), week)?;
     text.push_str("\n")?;
-    push_listing(text, court, cases, week)
+    push_listing(text, court, labels, week)
 }
 
 /// Adds the judge's name and the first day.
@@ -66,13 +67,13 @@ fn push_week_of(text: &mut String, week: &[DayBookings]) -> Result<(), AllocErro
 fn push_listing(
     text: &mut String,
     court: &Court,
-    cases: &Cases,
+    labels: &Labels<'_>,
     week: &[DayBookings],
 ) -> Result<(), AllocError>
-    ensures { OnOk result (AddsText text.old text.new (flat_map (day_lines court.now cases.now.named) week.now)) }
+    ensures { OnOk result (AddsText text.old text.new (flat_map (day_lines court.now labels.now.cases) week.now)) }
 {
     for day in week {
-        push_bookings(text, court, cases, day.bookings.as_slice())?;
+        push_bookings(text, court, labels, day.bookings.as_slice())?;
     }
     Ok(())
 }
@@ -81,13 +82,13 @@ fn push_listing(
 fn push_bookings(
     text: &mut String,
     court: &Court,
-    cases: &Cases,
+    labels: &Labels<'_>,
     bookings: &[Booking],
 ) -> Result<(), AllocError>
-    ensures { OnOk result (AddsText text.old text.new (flat_map (booked_line court.now cases.now.named) bookings.now)) }
+    ensures { OnOk result (AddsText text.old text.new (flat_map (booked_line court.now labels.now.cases) bookings.now)) }
 {
     for booking in bookings {
-        push_booking(text, court, cases, booking)?;
+        push_booking(text, court, labels, booking)?;
     }
     Ok(())
 }
@@ -97,15 +98,15 @@ fn push_bookings(
 fn push_booking(
     text: &mut String,
     court: &Court,
-    cases: &Cases,
+    labels: &Labels<'_>,
     booking: &Booking,
 ) -> Result<(), AllocError>
-    ensures { OnOk result (AddsText text.old text.new (booked_line court.now cases.now.named booking.now)) }
+    ensures { OnOk result (AddsText text.old text.new (booked_line court.now labels.now.cases booking.now)) }
 {
     push_whole_day(text, booking.day)?;
     text.push_str("  ")?;
     push_span(text, booking.first, booking.count)?;
-    push_booked(text, court, cases, booking)
+    push_booked(text, court, labels, booking)
 }
 
 /// Adds what is booked.
@@ -113,13 +114,13 @@ fn push_booking(
 fn push_booked(
     text: &mut String,
     court: &Court,
-    cases: &Cases,
+    labels: &Labels<'_>,
     booking: &Booking,
 ) -> Result<(), AllocError>
-    ensures { OnOk result (AddsText text.old text.new (booked_words court.now cases.now.named booking.now)) }
+    ensures { OnOk result (AddsText text.old text.new (booked_words court.now labels.now.cases booking.now)) }
 {
     text.push_str("  case ")?;
-    push_case_text(text, cases, booking.case)?;
+    push_case_text(text, labels.cases, booking.case)?;
     text.push_str(" motion ")?;
     push_number(text, u64::from(booking.motion))?;
     push_room(text, court, booking.other)?;

@@ -8,27 +8,15 @@ use Rattle.row_forms.specs.Columns.{◌>>=◌}
 use Rattle.row_forms.specs.CourtNames.{CourtNames}
 use Rattle.row_forms.specs.Rows.{in_row, most_rows, numbered_row, row_of, rows_read_from}
 
--- the records from the row numbered n on spell these rows
-record SpelledFrom (clerks : ℕ) (names : CourtNames) (n : ℕ) (records : List (List (List ℕ))) (rows : List Row) : Type 0 where
-  count : length rows ≡ length records
-  each : (i : ℕ) (fields : List (List ℕ)) (row : Row) → slice_get records i ≡ Some fields → slice_get rows i ≡ Some row → numbered_row clerks names (i + n) fields ≡ Ok row
-
-record FaultFrom (clerks : ℕ) (names : CourtNames) (n : ℕ) (records : List (List (List ℕ))) (number : ℕ) (cause : RowCause) : Type 0 where
-  place : ℕ
-  numbered : number ≡ place + n
-  fault : IfSome (slice_get records place) (λ fields. numbered_row clerks names number fields ≡ Err (number, cause))
-  within : place < length records
-  before : (i : ℕ) (fields : List (List ℕ)) → i < place → slice_get records i ≡ Some fields → IsOk (numbered_row clerks names (i + n) fields)
-
-told : (clerks : ℕ) (names : CourtNames) (n : ℕ) (records : List (List (List ℕ))) → MatchResult (rows_read_from clerks names n records) (SpelledFrom clerks names n records) (λ fault. FaultFrom clerks names n records fault.0 fault.1)
+pub first_fault_is_told_lem : FirstFaultIsTold
 unfolding rows_read_from
-told clerks names n [] = record { count = refl; each = λ i fields row none. cc none }
-told clerks names n (f ∷ fs) = by (cond (ltb most_rows n) (Err TooManyRows) (row_of clerks names f)) refl (rows_read_from clerks names (n + 1) fs) (told clerks names (n + 1) fs)
+first_fault_is_told_lem clerks names n [] = record { count = refl; each = λ i fields row none. cc none }
+first_fault_is_told_lem clerks names n (f ∷ fs) = by (cond (ltb most_rows n) (Err TooManyRows) (row_of clerks names f)) refl (rows_read_from clerks names (n + 1) fs) (first_fault_is_told_lem clerks names (n + 1) fs)
   where
     at_first : (i : ℕ) (r : Result Row (ℕ × RowCause)) → i ≡ 0 → numbered_row clerks names n f ≡ r → numbered_row clerks names (i + n) f ≡ r
     at_first i r e h = let same : i + n ≡ n = omega arith in rw same h
 
-    each_row : (row : Row) (rows : List Row) → numbered_row clerks names n f ≡ Ok row → SpelledFrom clerks names (n + 1) fs rows
+    each_row : (row : Row) (rows : List Row) → numbered_row clerks names n f ≡ Ok row → AreSpelled clerks names (n + 1) fs rows
         → (i : ℕ) (fields : List (List ℕ)) (x : Row) → slice_get (f ∷ fs) i ≡ Some fields → slice_get (row ∷ rows) i ≡ Some x → numbered_row clerks names (i + n) fields ≡ Ok x
     each_row row rows e later zero fields x at_fields at_row =
         let same_fields : f ≡ fields = cc at_fields in
@@ -38,7 +26,7 @@ told clerks names n (f ∷ fs) = by (cond (ltb most_rows n) (Err TooManyRows) (r
         let same : suc i + n ≡ i + (n + 1) = omega arith in
         rw same (later.each i fields x at_fields at_row)
 
-    each_before : (row : Row) (number : ℕ) (cause : RowCause) → numbered_row clerks names n f ≡ Ok row → (later : FaultFrom clerks names (n + 1) fs number cause)
+    each_before : (row : Row) (number : ℕ) (cause : RowCause) → numbered_row clerks names n f ≡ Ok row → (later : IsFirstFault clerks names (n + 1) fs number cause)
         → (i : ℕ) (fields : List (List ℕ)) → i < suc later.place → slice_get (f ∷ fs) i ≡ Some fields → IsOk (numbered_row clerks names (i + n) fields)
     each_before row number cause e later zero fields before at_fields =
         let same_fields : f ≡ fields = cc at_fields in
@@ -48,8 +36,8 @@ told clerks names n (f ∷ fs) = by (cond (ltb most_rows n) (Err TooManyRows) (r
         rw same (later.before i fields (omega arith) at_fields)
 
     by : (r : Result Row RowCause) → cond (ltb most_rows n) (Err TooManyRows) (row_of clerks names f) ≡ r → (rest : Result (List Row) (ℕ × RowCause))
-        → MatchResult rest (SpelledFrom clerks names (n + 1) fs) (λ fault. FaultFrom clerks names (n + 1) fs fault.0 fault.1)
-        → MatchResult (in_row n r >>= (λ row. rest >>= (λ rows. Ok (row ∷ rows)))) (SpelledFrom clerks names n (f ∷ fs)) (λ fault. FaultFrom clerks names n (f ∷ fs) fault.0 fault.1)
+        → MatchResult rest (AreSpelled clerks names (n + 1) fs) (λ fault. IsFirstFault clerks names (n + 1) fs fault.0 fault.1)
+        → MatchResult (in_row n r >>= (λ row. rest >>= (λ rows. Ok (row ∷ rows)))) (AreSpelled clerks names n (f ∷ fs)) (λ fault. IsFirstFault clerks names n (f ∷ fs) fault.0 fault.1)
     by (Err cause) e rest later = record { place = 0; numbered = omega arith; fault = ap (in_row n) e; within = omega arith; before = λ i fields none. absurd (omega arith) }
     by (Ok row) e (Ok rows) later = record { count = ap suc later.count; each = each_row row rows (ap (in_row n) e) later }
     by (Ok row) e (Err fault) later = record {
@@ -59,11 +47,3 @@ told clerks names n (f ∷ fs) = by (cond (ltb most_rows n) (Err TooManyRows) (r
       within = let inside = later.within in omega arith;
       before = each_before row fault.0 fault.1 (ap (in_row n) e) later;
     }
-
-pub first_fault_is_told_lem : FirstFaultIsTold
-first_fault_is_told_lem clerks names records = by (rows_read_from clerks names 1 records) (told clerks names 1 records)
-  where
-    by : (r : Result (List Row) (ℕ × RowCause)) → MatchResult r (SpelledFrom clerks names 1 records) (λ fault. FaultFrom clerks names 1 records fault.0 fault.1)
-        → MatchResult r (AreSpelled clerks names records) (λ fault. IsFirstFault clerks names records fault.0 fault.1)
-    by (Ok rows) s = record { count = s.count; each = s.each }
-    by (Err fault) s = record { place = s.place; numbered = s.numbered; fault = s.fault; within = s.within; before = s.before }

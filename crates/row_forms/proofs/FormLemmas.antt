@@ -1,25 +1,25 @@
 -- Command words, their forms, and what rows of each form ask for.
 use Rattle.std.proofs.Common.{◌≡◌, ℕ, Bool, true, false, List, Option, Some, None, Result, Ok, Err, cond, refl, rules, sym, ap, subst}
 use Rattle.std.specs.Option.{ok_or}
-use Rattle.std.specs.Str.{bytes_eq}
 use Rattle.std.proofs.lemmas.Slice.Eq.{bytes_eq-Decides}
 use Rattle.hearing_slots.proofs.CallerLemmas.{find-Some}
 use Rattle.row_forms.specs.declared.fault.RowCause.{RowCause}
 use Rattle.row_forms.specs.declared.fault.RowCause.TheVariants.{UnknownCommand, WrongCount}
-use Rattle.row_forms.specs.declared.forms.Form.{Form}
-use Rattle.row_forms.specs.declared.forms.Form.TheVariants.{Open}
+use Rattle.row_forms.specs.declared.forms.table.Form.{Form}
+use Rattle.row_forms.specs.declared.forms.table.Form.TheVariants.{Open}
 use Rattle.row_forms.specs.declared.row.Work.{Work}
 use Rattle.row_forms.specs.Columns.{◌>>=◌, column}
-use Rattle.row_forms.specs.Forms.{CommandWordsNameForms, RowsAskByTheirWords, command_word, form_asking, form_of, forms, read_as, work_of}
+use Rattle.row_forms.specs.Forms.{RowsAskByTheirWords, form_asking, read_as, work_of}
+use Rattle.row_forms.specs.Forms.Table.{CommandWordsNameForms, command_word, form_of, forms, is_word_of}
 use Rattle.row_forms.specs.CourtNames.{CourtNames}
 
 named : (word : List ℕ) (form : Form) → form_of word ≡ Some form → command_word form ≡ word
-unfolding form_of
-named word form h = sym ((bytes_eq-Decides word (command_word form)).0 (find-Some (λ form. bytes_eq word (command_word form)) forms form h).passes)
+unfolding form_of is_word_of
+named word form h = sym ((bytes_eq-Decides word (command_word form)).0 (find-Some (is_word_of word) forms form h).passes)
 
 -- of each form: the second line is checked for every other form
 itself : (form : Form) → form_of (command_word form) ≡ Some form
-unfolding form_of
+unfolding form_of is_word_of
 itself Open = refl
 itself other = refl
 

@@ -4,10 +4,11 @@ pub mod CutLemmas
 pub mod PanelLemmas
 pub mod PeriodLemmas
 pub mod FormLemmas
+pub mod TakenLemmas
 pub mod RecordsLemmas
+pub mod TextLemmas
 pub mod ReadingLemmas
 pub mod RowsLemmas
 pub mod FaultLemmas
 pub mod BoundLemmas
-pub mod CallerLemmas
 pub mod LineLemmas

@@ -1,5 +1,4 @@
 pub mod PlainLemmas
-pub mod TextLemmas
 pub mod RowTextLemmas
 pub mod LineLemmas
 pub mod CallerLemmas

@@ -1,10 +1,6 @@
 -- What a read of a record says of the records that the reader had left.
-use Rattle.std.proofs.Common.{◌≡◌, ◌∙◌, ◌&&◌, ℕ, Bool, true, false, List, [], ◌∷◌, Option, Some, None, Result, Ok, Bor, cond, refl, sym, ap, inl, inr}
-use Rattle.std.specs.List.{list_all}
+use Rattle.std.proofs.Common.{◌≡◌, ◌∙◌, ℕ, Bool, true, false, List, [], ◌∷◌, Option, Some, None, Result, Ok, Bor, cond, refl, sym, ap}
 use Rattle.std.specs.Option.{option_map, option_map_or}
-use Rattle.std.specs.Str.{is_utf8}
-use Rattle.std.proofs.lemmas.Bool.{cases_Bool}
-use Rattle.std.proofs.lemmas.Str.{IsUtf8-from_is_utf8, is_utf8-from_IsUtf8}
 use Rattle.csv.specs.Machine.{Read, next_record}
 use Rattle.csv.specs.Reading.{NextIs, Reached, ReadRecord, ReadsNext, TookRecord, ExplainsRead, buffered_of, default_config, has_failed, pending_of, records, source_of, strip_bom}
 use Rattle.csv.specs.Records.{AllText}
@@ -19,6 +15,7 @@ use Rattle.row_forms.specs.declared.records.Next.{Next}
 use Rattle.row_forms.specs.declared.records.Next.TheVariants.{Text, NotText, End}
 use Rattle.row_forms.specs.Records.{MeetsNoText, TakesAnyRow, TakesText, tells_no_text, all_records, records_left}
 use Rattle.row_forms.proofs.RecordsLemmas.{all_records-none, all_records-some, all_records-start}
+use Rattle.row_forms.proofs.TextLemmas.{else_fails}
 
 -- the bytes of a slice
 abbrev slice_bytes : Bor (List ℕ) → Option (List ℕ)
@@ -42,8 +39,8 @@ by_parts : (p : Read) (fields : List (List ℕ)) (s : State) (rest : List ℕ) �
 by_parts p fields s rest f e g = rw (f, ← e, ← g) refl
 
 -- at the start it has all records of the text
-pub records_left-start : (r : Reader (Bor (List ℕ))) (text : List ℕ) → source_of slice_bytes r ≡ Some text → r.state ≡ st.StartRecord → records_left r ≡ records default_config text
-records_left-start r text known start = left_of r text known ∙ ap (λ s. all_records default_config s text) start ∙ all_records-start default_config text
+pub records_left_start : (r : Reader (Bor (List ℕ))) (text : List ℕ) → source_of slice_bytes r ≡ Some text → r.state ≡ st.StartRecord → records_left r ≡ records default_config text
+records_left_start r text known start = left_of r text known ∙ ap (λ s. all_records default_config s text) start ∙ all_records-start default_config text
 
 -- a read that found a record
 pub takes_next : (a b : Reader (Bor (List ℕ))) (fields : List (List ℕ)) → TakesAnyRow a → ReadRecord slice_bytes a b true fields → records_left a ≡ fields ∷ records_left b
@@ -70,29 +67,6 @@ took cfg s s2 text (Some rest) fields h = by (next_record cfg s [] [] text) refl
     by None e n = cc n
     by (Some p) e n = (p, e, n.1)
 
--- fields that are text pass the test
-pub all_text-passes : (fields : List (List ℕ)) → AllText fields → list_all is_utf8 fields ≡ true
-unfolding AllText
-all_text-passes [] h = refl
-all_text-passes (f ∷ fs) h = rw (is_utf8-from_IsUtf8 f h.0, all_text-passes fs h.1) refl
-
--- and others don't
-passes-all_text : (fields : List (List ℕ)) → list_all is_utf8 fields ≡ true → AllText fields
-unfolding AllText
-passes-all_text [] h = tt
-passes-all_text (f ∷ fs) h = by (is_utf8 f) refl h (passes-all_text fs)
-  where
-    by : (b : Bool) → is_utf8 f ≡ b → (b && list_all is_utf8 fs) ≡ true → (list_all is_utf8 fs ≡ true → AllText fs) → AllText (f ∷ fs)
-    by true e h more = (IsUtf8-from_is_utf8 f e, more h)
-    by false e h more = cc h
-
-no_text-fails : (fields : List (List ℕ)) → (AllText fields → ⊥) → list_all is_utf8 fields ≡ false
-no_text-fails fields none =
-    elim (cases_Bool (list_all is_utf8 fields)) [
-      | inl passes ↦ absurd (none (passes-all_text fields passes))
-      | inr fails ↦ fails
-    ]
-
 -- a read that met fields which are no text
 meets_no_text : (a b : Reader (Bor (List ℕ))) (fields : List (List ℕ)) → TakesAnyRow a → TookRecord slice_bytes a b fields → (AllText fields → ⊥) → MeetsNoText a
 meets_no_text a b fields able read none =
@@ -103,7 +77,7 @@ meets_no_text a b fields able read none =
       fields = fields;
       later = all_records default_config p.1 p.2;
       next = left_of a text known ∙ all_records-some default_config a.state text p next ∙ by_parts p fields p.1 p.2 same refl refl;
-      no_text = no_text-fails fields none;
+      no_text = else_fails fields none;
     }
 
 pub explains_no_text : (a b : Reader (Bor (List ℕ))) (why : ErrorKind) → TakesAnyRow a → tells_no_text why ≡ true → ExplainsRead slice_bytes a b true why → MeetsNoText a

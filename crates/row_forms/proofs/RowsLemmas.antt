@@ -40,9 +40,9 @@ pub rows_read_from-fault : (clerks : ℕ) (names : CourtNames) (number : ℕ) (f
 unfolding rows_read_from
 rows_read_from-fault clerks names number fields later before cause few fault = rw (within number few, fault)
 
-pub row_of-no_text : (clerks : ℕ) (names : CourtNames) (fields : List (List ℕ)) → list_all is_utf8 fields ≡ false → row_of clerks names fields ≡ Err NotText
+pub row_of_no_text : (clerks : ℕ) (names : CourtNames) (fields : List (List ℕ)) → list_all is_utf8 fields ≡ false → row_of clerks names fields ≡ Err NotText
 unfolding row_of
-row_of-no_text clerks names fields fails = rw fails
+row_of_no_text clerks names fields fails = rw fails
 
 -- the same, of what reading it answered
 pub rows_read_from-err : {X : Type 0} (view : X → List Row) (clerks : ℕ) (names : CourtNames) (number : ℕ) (fields : List (List ℕ)) (later : List (List (List ℕ))) (before : List Row) (all : Result (List Row) (ℕ × RowCause)) (error : RowError) → number ≤ most_rows

@@ -5,19 +5,19 @@ use Rattle.row_forms.specs.declared.fault.RowCause.{RowCause}
 use Rattle.row_forms.specs.CourtNames.{CourtNames}
 use Rattle.row_forms.specs.Rows.{numbered_row, rows_read_from}
 
--- the record at each place spells the row there
-pub record AreSpelled (clerks : ℕ) (names : CourtNames) (records : List (List (List ℕ))) (rows : List Row) : Type 0 where
+-- the record at each place spells the row there; the first has this number
+pub record AreSpelled (clerks : ℕ) (names : CourtNames) (first : ℕ) (records : List (List (List ℕ))) (rows : List Row) : Type 0 where
   pub count : length rows ≡ length records
-  pub each : (i : ℕ) (fields : List (List ℕ)) (row : Row) → slice_get records i ≡ Some fields → slice_get rows i ≡ Some row → numbered_row clerks names (i + 1) fields ≡ Ok row
+  pub each : (i : ℕ) (fields : List (List ℕ)) (row : Row) → slice_get records i ≡ Some fields → slice_get rows i ≡ Some row → numbered_row clerks names (i + first) fields ≡ Ok row
 
 -- the row of this number has this fault, and those before it have none
-pub record IsFirstFault (clerks : ℕ) (names : CourtNames) (records : List (List (List ℕ))) (number : ℕ) (cause : RowCause) : Type 0 where
+pub record IsFirstFault (clerks : ℕ) (names : CourtNames) (first : ℕ) (records : List (List (List ℕ))) (number : ℕ) (cause : RowCause) : Type 0 where
   pub place : ℕ
-  pub numbered : number ≡ place + 1
+  pub numbered : number ≡ place + first
   pub fault : IfSome (slice_get records place) (λ fields. numbered_row clerks names number fields ≡ Err (number, cause))
   pub within : place < length records
-  pub before : (i : ℕ) (fields : List (List ℕ)) → i < place → slice_get records i ≡ Some fields → IsOk (numbered_row clerks names (i + 1) fields)
+  pub before : (i : ℕ) (fields : List (List ℕ)) → i < place → slice_get records i ≡ Some fields → IsOk (numbered_row clerks names (i + first) fields)
 
 abbrev pub FirstFaultIsTold : Type 0
-FirstFaultIsTold = (clerks : ℕ) (names : CourtNames) (records : List (List (List ℕ))) →
-    MatchResult (rows_read_from clerks names 1 records) (AreSpelled clerks names records) (λ fault. IsFirstFault clerks names records fault.0 fault.1)
+FirstFaultIsTold = (clerks : ℕ) (names : CourtNames) (first : ℕ) (records : List (List (List ℕ))) →
+    MatchResult (rows_read_from clerks names first records) (AreSpelled clerks names first records) (λ fault. IsFirstFault clerks names first records fault.0 fault.1)

@@ -1,16 +1,16 @@
--- The forms of rows: the command word of each, and what its rows ask for.
+-- What rows ask for, by their forms.
 pub mod Periods
 pub mod Settings
-use Rattle.std.specs.Prelude.{◌≡◌, ◌↔◌, ◌==◌, not, ℕ, List, [], ◌∷◌, length, codes, find, Option, Some, Result, Ok, Err, if◌then◌else◌}
+pub mod Table
+use Rattle.std.specs.Prelude.{◌≡◌, ◌==◌, not, ℕ, List, length, Some, Result, Ok, Err, if◌then◌else◌}
 use Rattle.std.specs.Option.{ok_or}
-use Rattle.std.specs.Str.{bytes_eq}
 use Rattle.court_clock.specs.Words.{minute_of_text}
 use Rattle.docket_rows.specs.declared.command.Command.TheVariants as command
 use Rattle.docket_rows.specs.declared.query.Query.TheVariants as query
 use Rattle.row_forms.specs.declared.fault.RowCause.{RowCause}
 use Rattle.row_forms.specs.declared.fault.RowCause.TheVariants.{UnknownCommand, WrongCount}
-use Rattle.row_forms.specs.declared.forms.Form.{Form}
-use Rattle.row_forms.specs.declared.forms.Form.TheVariants.{Open, Start, File, Extend, Motion, Book, Move, Cancel, Holiday, Inaccessible, Compute, Sheet, Calendar}
+use Rattle.row_forms.specs.declared.forms.table.Form.{Form}
+use Rattle.row_forms.specs.declared.forms.table.Form.TheVariants.{Open, Start, File, Extend, Motion, Book, Move, Cancel, Holiday, Inaccessible, Compute, Sheet, Calendar}
 use Rattle.row_forms.specs.declared.row.Work.{Work}
 use Rattle.row_forms.specs.declared.row.Work.TheVariants.{Command, Query}
 use Rattle.row_forms.specs.Columns.{◌>>=◌, column, in_column, day_in, number_in}
@@ -20,160 +20,113 @@ use Rattle.row_forms.specs.Fields.Times.{ending_minute}
 use Rattle.row_forms.specs.CourtNames.{CourtNames, number_named}
 use Rattle.row_forms.specs.Forms.Periods.{measured_from}
 use Rattle.row_forms.specs.Forms.Settings.{setting_in}
+use Rattle.row_forms.specs.Forms.Table.{columns_of_form, form_of}
 
--- the command word of a form
-abbrev pub command_word : Form → List ℕ
-command_word Open = codes "open"
-command_word Start = codes "start"
-command_word File = codes "file"
-command_word Extend = codes "extend"
-command_word Motion = codes "motion"
-command_word Book = codes "book"
-command_word Move = codes "move"
-command_word Cancel = codes "cancel"
-command_word Holiday = codes "holiday"
-command_word Inaccessible = codes "inaccessible"
-command_word Compute = codes "compute"
-command_word Sheet = codes "sheet"
-command_word Calendar = codes "calendar"
-
--- the forms of rows
-abbrev pub forms : List Form
-forms = Open ∷ Start ∷ File ∷ Extend ∷ Motion ∷ Book ∷ Move ∷ Cancel ∷ Holiday ∷ Inaccessible ∷ Compute ∷ Sheet ∷ Calendar ∷ []
-
--- the form with this command word
-unfoldable pub form_of : List ℕ → Option Form
-form_of word = find (λ form. bytes_eq word (command_word form)) forms
-
--- A word is that of one form, and of no other.
-abbrev pub CommandWordsNameForms : Type 0
-CommandWordsNameForms = (word : List ℕ) (form : Form) → (form_of word ≡ Some form) ↔ (command_word form ≡ word)
-
--- a row `CLERK,open,CASE,DATE`
+-- a row of `open`
 abbrev pub open_row : List (List ℕ) → Result Work RowCause
-open_row fields =
-    if not (length fields == 4) then Err WrongCount else do
-      case ← number_in fields 3
-      filed ← day_in fields 4
-      Ok (Command (command.OpenCase case filed))
+open_row fields = do
+  case ← number_in fields 3
+  filed ← day_in fields 4
+  Ok (Command (command.OpenCase case filed))
 
--- a row `CLERK,start,CASE,PERIOD,DATE,TIME,SECOND,KIND`
+-- a row of `start`
 abbrev pub start_row : List (List ℕ) → Result Work RowCause
-start_row fields =
-    if not (length fields == 8) then Err WrongCount else do
-      case ← number_in fields 3
-      m ← measured_from fields 4
-      Ok (Command (command.Start case m.period m.event m.second m.service))
+start_row fields = do
+  case ← number_in fields 3
+  m ← measured_from fields 4
+  Ok (Command (command.Start case m.period m.event m.second m.service))
 
--- a row `CLERK,file,CASE,DEADLINE,DATE,TIME,MEANS`
+-- a row of `file`
 abbrev pub file_row : List (List ℕ) → Result Work RowCause
-file_row fields =
-    if not (length fields == 7) then Err WrongCount else do
-      case ← number_in fields 3
-      deadline ← number_in fields 4
-      day ← day_in fields 5
-      minute ← in_column 6 (minute_of_text (column fields 6))
-      means ← in_column 7 (means_of (column fields 7))
-      Ok (Command (command.FileAct case deadline (record { day = day; minute = minute; means = means })))
+file_row fields = do
+  case ← number_in fields 3
+  deadline ← number_in fields 4
+  day ← day_in fields 5
+  minute ← in_column 6 (minute_of_text (column fields 6))
+  means ← in_column 7 (means_of (column fields 7))
+  Ok (Command (command.FileAct case deadline (record { day = day; minute = minute; means = means })))
 
--- a row `CLERK,extend,CASE,DEADLINE,GRANT,DATE,TIME,MOTION,CAUSE,NEGLECT`
+-- a row of `extend`
 abbrev pub extend_row : List (List ℕ) → Result Work RowCause
-extend_row fields =
-    if not (length fields == 10) then Err WrongCount else do
-      case ← number_in fields 3
-      deadline ← number_in fields 4
-      grant ← in_column 5 (grant_of (column fields 5))
-      day ← day_in fields 6
-      minute ← in_column 7 (minute_of_text (column fields 7))
-      motion ← in_column 8 (is_so (column fields 8))
-      cause ← in_column 9 (is_so (column fields 9))
-      neglect ← in_column 10 (is_so (column fields 10))
-      Ok (Command (command.Extend case deadline (record { grant = grant; asked = record { day = day; minute = minute }; motion = motion; cause = cause; neglect = neglect })))
+extend_row fields = do
+  case ← number_in fields 3
+  deadline ← number_in fields 4
+  grant ← in_column 5 (grant_of (column fields 5))
+  day ← day_in fields 6
+  minute ← in_column 7 (minute_of_text (column fields 7))
+  motion ← in_column 8 (is_so (column fields 8))
+  cause ← in_column 9 (is_so (column fields 9))
+  neglect ← in_column 10 (is_so (column fields 10))
+  Ok (Command (command.Extend case deadline (record { grant = grant; asked = record { day = day; minute = minute }; motion = motion; cause = cause; neglect = neglect })))
 
--- a row `CLERK,motion,CASE,DATE,NEED`
+-- a row of `motion`
 abbrev pub motion_row : List (List ℕ) → Result Work RowCause
-motion_row fields =
-    if not (length fields == 5) then Err WrongCount else do
-      case ← number_in fields 3
-      served ← day_in fields 4
-      need ← in_column 5 (need_of (column fields 5))
-      Ok (Command (command.Motion case served need))
+motion_row fields = do
+  case ← number_in fields 3
+  served ← day_in fields 4
+  need ← in_column 5 (need_of (column fields 5))
+  Ok (Command (command.Motion case served need))
 
--- a row `CLERK,book,CASE,MOTION,JUDGE,ROOM,DATE,TIME,SLOTS,NOTICE`
-abbrev pub book_row : CourtNames → List (List ℕ) → Result Work RowCause
-book_row names fields =
-    if not (length fields == 10) then Err WrongCount else do
-      setting ← setting_in names fields
-      Ok (Command (command.Book setting))
-
--- a row `CLERK,move,CASE,MOTION,JUDGE,ROOM,DATE,TIME,SLOTS,NOTICE`
-abbrev pub move_row : CourtNames → List (List ℕ) → Result Work RowCause
-move_row names fields =
-    if not (length fields == 10) then Err WrongCount else do
-      setting ← setting_in names fields
-      Ok (Command (command.MoveHearing setting))
-
--- a row `CLERK,cancel,CASE,MOTION`
+-- a row of `cancel`
 abbrev pub cancel_row : List (List ℕ) → Result Work RowCause
-cancel_row fields =
-    if not (length fields == 4) then Err WrongCount else do
-      case ← number_in fields 3
-      motion ← number_in fields 4
-      Ok (Command (command.Cancel case motion))
+cancel_row fields = do
+  case ← number_in fields 3
+  motion ← number_in fields 4
+  Ok (Command (command.Cancel case motion))
 
--- a row `CLERK,holiday,DATE,LIST`
+-- a row of `holiday`
 abbrev pub holiday_row : List (List ℕ) → Result Work RowCause
-holiday_row fields =
-    if not (length fields == 4) then Err WrongCount else do
-      day ← day_in fields 3
-      list ← in_column 4 (list_of (column fields 4))
-      Ok (Command (command.Holiday day list))
+holiday_row fields = do
+  day ← day_in fields 3
+  list ← in_column 4 (list_of (column fields 4))
+  Ok (Command (command.Holiday day list))
 
--- a row `CLERK,inaccessible,DATE,FROM,TO`
+-- a row of `inaccessible`
 abbrev pub inaccessible_row : List (List ℕ) → Result Work RowCause
-inaccessible_row fields =
-    if not (length fields == 5) then Err WrongCount else do
-      day ← day_in fields 3
-      from ← in_column 4 (minute_of_text (column fields 4))
-      to ← in_column 5 (ending_minute (column fields 5))
-      Ok (Command (command.Inaccessible day from to))
+inaccessible_row fields = do
+  day ← day_in fields 3
+  from ← in_column 4 (minute_of_text (column fields 4))
+  to ← in_column 5 (ending_minute (column fields 5))
+  Ok (Command (command.Inaccessible day from to))
 
--- a row `CLERK,compute,PERIOD,DATE,TIME,SECOND,KIND`
+-- a row of `compute`
 abbrev pub compute_row : List (List ℕ) → Result Work RowCause
-compute_row fields =
-    if not (length fields == 7) then Err WrongCount else do
-      m ← measured_from fields 3
-      Ok (Query (query.Compute m.period m.event m.second m.service))
+compute_row fields = do
+  m ← measured_from fields 3
+  Ok (Query (query.Compute m.period m.event m.second m.service))
 
--- a row `CLERK,sheet,CASE`
-abbrev pub sheet_row : List (List ℕ) → Result Work RowCause
-sheet_row fields =
-    if not (length fields == 3) then Err WrongCount else do
-      case ← number_in fields 3
-      Ok (Query (query.Sheet case))
-
--- a row `CLERK,calendar,JUDGE,DATE`: any text is read as one judge's name
+-- a row of `calendar`: any text is read as one judge's name
 abbrev pub calendar_row : CourtNames → List (List ℕ) → Result Work RowCause
-calendar_row names fields =
-    if not (length fields == 4) then Err WrongCount else do
-      day ← day_in fields 4
-      Ok (Query (query.JudgeDay (number_named names.judges (column fields 3)) day))
+calendar_row names fields = do
+  day ← day_in fields 4
+  Ok (Query (query.JudgeDay (number_named names.judges (column fields 3)) day))
 
--- what a row of this form asks for
+-- what the fields of a row of this form ask for
+abbrev pub fields_as : CourtNames → Form → List (List ℕ) → Result Work RowCause
+fields_as names Open fields = open_row fields
+fields_as names Start fields = start_row fields
+fields_as names File fields = file_row fields
+fields_as names Extend fields = extend_row fields
+fields_as names Motion fields = motion_row fields
+fields_as names Book fields = do
+  setting ← setting_in names fields
+  Ok (Command (command.Book setting))
+fields_as names Move fields = do
+  setting ← setting_in names fields
+  Ok (Command (command.MoveHearing setting))
+fields_as names Cancel fields = cancel_row fields
+fields_as names Holiday fields = holiday_row fields
+fields_as names Inaccessible fields = inaccessible_row fields
+fields_as names Compute fields = compute_row fields
+fields_as names Sheet fields = do
+  case ← number_in fields 3
+  Ok (Query (query.Sheet case))
+fields_as names Calendar fields = calendar_row names fields
+
+-- what a row of this form asks for, which has a field for each column
 abbrev pub read_as : CourtNames → Form → List (List ℕ) → Result Work RowCause
-read_as names Open fields = open_row fields
-read_as names Start fields = start_row fields
-read_as names File fields = file_row fields
-read_as names Extend fields = extend_row fields
-read_as names Motion fields = motion_row fields
-read_as names Book fields = book_row names fields
-read_as names Move fields = move_row names fields
-read_as names Cancel fields = cancel_row fields
-read_as names Holiday fields = holiday_row fields
-read_as names Inaccessible fields = inaccessible_row fields
-read_as names Compute fields = compute_row fields
-read_as names Sheet fields = sheet_row fields
-read_as names Calendar fields = calendar_row names fields
+read_as names form fields =
+    if not (length fields == length (columns_of_form form)) then Err WrongCount else fields_as names form fields
 
 -- what a row asks for
 unfoldable pub work_of : CourtNames → List (List ℕ) → Result Work RowCause

@@ -7,7 +7,9 @@ pub mod Rows
 pub mod Records
 pub mod Numbered
 pub mod FirstFault
+pub mod Taken
 pub mod Bounds
 pub mod Words
 pub mod Headings
 pub mod Line
+pub mod Inside

@@ -1,4 +1,2 @@
-pub mod First
-pub mod Plain
 pub mod Line
 pub mod Words

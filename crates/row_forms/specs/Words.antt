@@ -11,8 +11,10 @@ unfoldable pub use Rattle.row_forms.specs.Fields.Grants.{grant_of, need_of}
 pub use Rattle.row_forms.specs.Fields.Hearings.{joined_names}
 unfoldable pub use Rattle.row_forms.specs.Fields.Hearings.{panel_named, slots_of}
 pub use Rattle.row_forms.specs.Columns.{column, in_column}
-pub use Rattle.row_forms.specs.Forms.{CommandWordsNameForms, RowsAskByTheirWords, command_word, form_asking, forms, read_as}
-unfoldable pub use Rattle.row_forms.specs.Forms.{form_of, work_of}
+pub use Rattle.row_forms.specs.Forms.Table.{CommandWordsNameForms, columns_of_form, command_word, forms}
+unfoldable pub use Rattle.row_forms.specs.Forms.Table.{form_of}
+pub use Rattle.row_forms.specs.Forms.{RowsAskByTheirWords, fields_as, form_asking, read_as}
+unfoldable pub use Rattle.row_forms.specs.Forms.{work_of}
 pub use Rattle.row_forms.specs.Rows.{AnswersRows, in_row, most_rows, numbered_row}
 unfoldable pub use Rattle.row_forms.specs.Rows.{clerk_of, row_of, rows_read_from, rows_read}
 pub use Rattle.row_forms.specs.Records.{MeetsNoText, TakesAnyRow, TakesText, records_left}

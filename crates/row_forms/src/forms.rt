@@ -1,8 +1,8 @@
-//! The forms of rows: the command word of each, and what its rows ask for.
+//! What rows ask for, by their forms.
 
 ghost use Rattle.std.specs.Prelude.{◌≡◌};
 ghost use Rattle.csv.specs.Records.{fields_of};
-ghost use Rattle.row_forms.specs.Forms.{book_row, calendar_row, cancel_row, compute_row, extend_row, file_row, form_of, holiday_row, inaccessible_row, motion_row, move_row, open_row, read_as, sheet_row, start_row, work_of};
+ghost use Rattle.row_forms.specs.Forms.{calendar_row, cancel_row, compute_row, extend_row, file_row, holiday_row, inaccessible_row, motion_row, open_row, read_as, start_row, work_of};
 ghost use Rattle.row_forms.specs.CourtNames.{names_of};
 
 use crate::columns::{column, day_in, number_in};
@@ -20,40 +20,13 @@ use periods::measured_from;
 use rule_periods::{Event, Request};
 use rule6::Filing;
 use settings::setting_in;
+use table::{Form, columns_of_form, form_of};
 
 mod periods;
 mod settings;
+mod table;
 
-/// The form of a row: which command or query it asks for.
-#[derive(Clone, Copy, Debug, PartialEq, Eq)]
-pub enum Form {
-    /// Opens a case.
-    Open,
-    /// Starts a deadline.
-    Start,
-    /// Records the act by which a deadline was met, or missed.
-    File,
-    /// Extends the time of a deadline.
-    Extend,
-    /// Enters a motion.
-    Motion,
-    /// Books a hearing.
-    Book,
-    /// Moves a hearing.
-    Move,
-    /// Takes a hearing off the calendar.
-    Cancel,
-    /// Enters a holiday.
-    Holiday,
-    /// Enters that the clerk's office was inaccessible.
-    Inaccessible,
-    /// Asks for the end of a period.
-    Compute,
-    /// Asks for the sheet of a case.
-    Sheet,
-    /// Asks for a judge's day.
-    Calendar,
-}
+pub use table::{COMMANDS, columns_of, commands, commands_listed};
 
 /// What a row of that court asks for.
 #[tactic(auto, unfolding(crate::specs::Forms::work_of))]
@@ -64,69 +37,41 @@ pub fn work_of(court: &Court, fields: &StringRecord) -> Result<Work, RowCause>
     read_as(court, form, fields)
 }
 
-// The form of the rows with this command word.
-#[tactic(auto, unfolding(crate::specs::Forms::form_of))]
-fn form_of(word: &str) -> Option<Form>
-    ensures { result ≡ form_of word.now }
-{
-    match word {
-        "open" => Some(Form::Open),
-        "start" => Some(Form::Start),
-        "file" => Some(Form::File),
-        "extend" => Some(Form::Extend),
-        "motion" => Some(Form::Motion),
-        "book" => Some(Form::Book),
-        "move" => Some(Form::Move),
-        "cancel" => Some(Form::Cancel),
-        "holiday" => Some(Form::Holiday),
-        "inaccessible" => Some(Form::Inaccessible),
-        "compute" => Some(Form::Compute),
-        "sheet" => Some(Form::Sheet),
-        "calendar" => Some(Form::Calendar),
-        _ => None,
-    }
-}
-
 // What a row of that form asks for.
 fn read_as(court: &Court, form: Form, fields: &StringRecord) -> Result<Work, RowCause>
     ensures { result ≡ read_as (names_of court.now) form (fields_of fields.now) }
 {
+    if fields.len() != columns_of_form(form).len() {
+        return Err(RowCause::WrongCount);
+    }
     match form {
         Form::Open => open_row(fields),
         Form::Start => start_row(fields),
         Form::File => file_row(fields),
         Form::Extend => extend_row(fields),
         Form::Motion => motion_row(fields),
-        Form::Book => book_row(court, fields),
-        Form::Move => move_row(court, fields),
+        Form::Book => Ok(Work::Command(Command::Book(setting_in(court, fields)?))),
+        Form::Move => Ok(Work::Command(Command::MoveHearing(setting_in(court, fields)?))),
         Form::Cancel => cancel_row(fields),
         Form::Holiday => holiday_row(fields),
         Form::Inaccessible => inaccessible_row(fields),
         Form::Compute => compute_row(fields),
-        Form::Sheet => sheet_row(fields),
+        Form::Sheet => Ok(Work::Query(Query::Sheet(number_in(fields, 3)?))),
         Form::Calendar => calendar_row(court, fields),
     }
 }
 
-// `CLERK,open,CASE,DATE`.
 fn open_row(fields: &StringRecord) -> Result<Work, RowCause>
     ensures { result ≡ open_row (fields_of fields.now) }
 {
-    if fields.len() != 4 {
-        return Err(RowCause::WrongCount);
-    }
     let case = number_in(fields, 3)?;
     let filed = day_in(fields, 4)?;
     Ok(Work::Command(Command::OpenCase { case, filed }))
 }
 
-// `CLERK,start,CASE,PERIOD,DATE,TIME,SECOND,KIND`.
 fn start_row(fields: &StringRecord) -> Result<Work, RowCause>
     ensures { result ≡ start_row (fields_of fields.now) }
 {
-    if fields.len() != 8 {
-        return Err(RowCause::WrongCount);
-    }
     let case = number_in(fields, 3)?;
     let measured = measured_from(fields, 4)?;
     Ok(Work::Command(Command::Start {
@@ -138,13 +83,9 @@ fn start_row(fields: &StringRecord) -> Result<Work, RowCause>
     }))
 }
 
-// `CLERK,file,CASE,DEADLINE,DATE,TIME,MEANS`.
 fn file_row(fields: &StringRecord) -> Result<Work, RowCause>
     ensures { result ≡ file_row (fields_of fields.now) }
 {
-    if fields.len() != 7 {
-        return Err(RowCause::WrongCount);
-    }
     let case = number_in(fields, 3)?;
     let deadline = number_in(fields, 4)?;
     let day = day_in(fields, 5)?;
@@ -157,13 +98,9 @@ fn file_row(fields: &StringRecord) -> Result<Work, RowCause>
     }))
 }
 
-// `CLERK,extend,CASE,DEADLINE,GRANT,DATE,TIME,MOTION,CAUSE,NEGLECT`.
 fn extend_row(fields: &StringRecord) -> Result<Work, RowCause>
     ensures { result ≡ extend_row (fields_of fields.now) }
 {
-    if fields.len() != 10 {
-        return Err(RowCause::WrongCount);
-    }
     let case = number_in(fields, 3)?;
     let deadline = number_in(fields, 4)?;
     let grant = grant_of(column(fields, 5)).ok_or(RowCause::BadField(5))?;
@@ -185,83 +122,43 @@ fn extend_row(fields: &StringRecord) -> Result<Work, RowCause>
     }))
 }
 
-// `CLERK,motion,CASE,DATE,NEED`.
 fn motion_row(fields: &StringRecord) -> Result<Work, RowCause>
     ensures { result ≡ motion_row (fields_of fields.now) }
 {
-    if fields.len() != 5 {
-        return Err(RowCause::WrongCount);
-    }
     let case = number_in(fields, 3)?;
     let served = day_in(fields, 4)?;
     let need = need_of(column(fields, 5)).ok_or(RowCause::BadField(5))?;
     Ok(Work::Command(Command::Motion { case, served, need }))
 }
 
-// `CLERK,book,CASE,MOTION,JUDGE,ROOM,DATE,TIME,SLOTS,NOTICE`.
-fn book_row(court: &Court, fields: &StringRecord) -> Result<Work, RowCause>
-    ensures { result ≡ book_row (names_of court.now) (fields_of fields.now) }
-{
-    if fields.len() != 10 {
-        return Err(RowCause::WrongCount);
-    }
-    Ok(Work::Command(Command::Book(setting_in(court, fields)?)))
-}
-
-// `CLERK,move,CASE,MOTION,JUDGE,ROOM,DATE,TIME,SLOTS,NOTICE`.
-fn move_row(court: &Court, fields: &StringRecord) -> Result<Work, RowCause>
-    ensures { result ≡ move_row (names_of court.now) (fields_of fields.now) }
-{
-    if fields.len() != 10 {
-        return Err(RowCause::WrongCount);
-    }
-    Ok(Work::Command(Command::MoveHearing(setting_in(court, fields)?)))
-}
-
-// `CLERK,cancel,CASE,MOTION`.
 fn cancel_row(fields: &StringRecord) -> Result<Work, RowCause>
     ensures { result ≡ cancel_row (fields_of fields.now) }
 {
-    if fields.len() != 4 {
-        return Err(RowCause::WrongCount);
-    }
     let case = number_in(fields, 3)?;
     let motion = number_in(fields, 4)?;
     Ok(Work::Command(Command::Cancel { case, motion }))
 }
 
-// `CLERK,holiday,DATE,LIST`.
 fn holiday_row(fields: &StringRecord) -> Result<Work, RowCause>
     ensures { result ≡ holiday_row (fields_of fields.now) }
 {
-    if fields.len() != 4 {
-        return Err(RowCause::WrongCount);
-    }
     let day = day_in(fields, 3)?;
     let list = list_of(column(fields, 4)).ok_or(RowCause::BadField(4))?;
     Ok(Work::Command(Command::Holiday { day, list }))
 }
 
-// `CLERK,inaccessible,DATE,FROM,TO`.
 fn inaccessible_row(fields: &StringRecord) -> Result<Work, RowCause>
     ensures { result ≡ inaccessible_row (fields_of fields.now) }
 {
-    if fields.len() != 5 {
-        return Err(RowCause::WrongCount);
-    }
     let day = day_in(fields, 3)?;
     let from = minute_from_text(column(fields, 4)).ok_or(RowCause::BadField(4))?;
     let to = ending_minute(column(fields, 5)).ok_or(RowCause::BadField(5))?;
     Ok(Work::Command(Command::Inaccessible { day, from, to }))
 }
 
-// `CLERK,compute,PERIOD,DATE,TIME,SECOND,KIND`.
 fn compute_row(fields: &StringRecord) -> Result<Work, RowCause>
     ensures { result ≡ compute_row (fields_of fields.now) }
 {
-    if fields.len() != 7 {
-        return Err(RowCause::WrongCount);
-    }
     let measured = measured_from(fields, 3)?;
     Ok(Work::Query(Query::Compute(
         measured.period,
@@ -271,23 +168,10 @@ fn compute_row(fields: &StringRecord) -> Result<Work, RowCause>
     )))
 }
 
-// `CLERK,sheet,CASE`.
-fn sheet_row(fields: &StringRecord) -> Result<Work, RowCause>
-    ensures { result ≡ sheet_row (fields_of fields.now) }
-{
-    if fields.len() != 3 {
-        return Err(RowCause::WrongCount);
-    }
-    Ok(Work::Query(Query::Sheet(number_in(fields, 3)?)))
-}
-
-// `CLERK,calendar,JUDGE,DATE`. Any text is read as one judge's name.
+// A judge's day. Any text is read as one judge's name.
 fn calendar_row(court: &Court, fields: &StringRecord) -> Result<Work, RowCause>
     ensures { result ≡ calendar_row (names_of court.now) (fields_of fields.now) }
 {
-    if fields.len() != 4 {
-        return Err(RowCause::WrongCount);
-    }
     let judge = judge_named(court, column(fields, 3));
     let day = day_in(fields, 4)?;
     Ok(Work::Query(Query::JudgeDay(judge, day)))

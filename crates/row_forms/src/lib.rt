@@ -13,10 +13,12 @@ mod records;
 mod row;
 
 pub use fault::{RowCause, RowError};
-pub use headings::{COMMANDS, Column, column_at, columns_of, commands_listed, mark_of, name_of};
+pub use fields::numbers::is_number;
+pub use forms::{COMMANDS, columns_of, commands, commands_listed};
+pub use headings::{Column, column_at, mark_of, may_be_empty, name_of};
 pub use laws::{
-    codes_are_read_back, command_words_name_forms, first_fault_is_told, rows_are_bounded,
-    rows_ask_by_their_words,
+    codes_are_read_back, command_words_name_forms, empty_fields_are_taken, first_fault_is_told,
+    rows_are_bounded, rows_ask_by_their_words, rows_follow_the_table,
 };
 pub use line::{Line, push_row_text, read_line};
 pub use numbered::{NumberedRow, numbered_rows};

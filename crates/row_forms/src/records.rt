@@ -24,6 +24,7 @@ pub const MAX_ROWS: u32 = 100_000;
 /// The rows of a text in CSV, for a run with this number of clerks. The text has no header; its records may differ in
 /// their number of fields; blank lines are skipped and not counted. Judges and rooms are numbered as the court's file
 /// has them. The first row that can't be read is the fault.
+#[tactic(auto, unfolding(crate::specs::Rows::rows_read))]
 pub fn read_rows(
     alloc: Global,
     bytes: &[u8],
@@ -37,6 +38,7 @@ pub fn read_rows(
 }
 
 /// A reader of rows. The text has no header, and its records may differ in their number of fields.
+#[tactic(auto, using(crate::proofs::ReadingLemmas::records_left_start))]
 pub fn rows_reader(alloc: Global, bytes: &[u8]) -> Reader<&[u8]>
     ensures any_row { TakesAnyRow result }
     ensures records { records_left result ≡ records default_config (strip_bom bytes.now) }

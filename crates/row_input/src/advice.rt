@@ -104,7 +104,7 @@ fn for_number(alloc: Global, found: &str) -> Result<String, AllocError> {
 /// What to write where a field may be two things.
 fn for_two(column: Column) -> &'static str {
     match column {
-        Column::Period => {
+        Column::Period | Column::Deadline => {
             "12a1Aii-us is for a request that was sent to a place in the United States, 12a1Aii-abroad for one sent abroad"
         }
         Column::Judge | Column::Judges | Column::Room =>

@@ -95,7 +95,8 @@ fn nearest_in(
             let names = rooms_of(alloc, court)?;
             nearest_of(alloc, word, &names)
         }
-        Column::Period => nearest_code(alloc, found, word),
+        Column::Period | Column::Deadline => nearest_code(alloc, found, word),
+        Column::Motion => nearest_of(alloc, word, &["last"]),
         Column::ServiceOrNone => nearest_of(
             alloc,
             word,

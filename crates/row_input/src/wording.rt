@@ -9,8 +9,9 @@ fn held(column: Column) -> &'static str {
         Column::Clerk => "the clerk's number, from 1 to 64",
         Column::Command => "a command word",
         Column::Case => "a number, as 7, or a case number, as 1:25-cv-01234",
-        Column::Deadline => "a deadline's number, as 1",
-        Column::Motion => "a motion's number, as 1",
+        Column::Deadline =>
+            "a deadline's number, as 1, or the rule of one that is pending, as 59(e)",
+        Column::Motion => "a motion's number, as 1, or last for the newest",
         Column::Period => "a period, as 59(e) or 14d/after/filing/event/plain",
         Column::Date => "a date, as 2025-09-02",
         Column::Time | Column::Start | Column::From => "a time of day, as 09:30 or 9:30 AM",

@@ -1,6 +1,8 @@
 -- The laws of lines.
-use Rattle.std.proofs.Common.{◌≡◌, ◌∙◌, inl, inr, ℕ, Bool, true, false, List, [], ◌∷◌, ◌++◌, refl, sym, ap, subst}
-use Rattle.std.specs.Prelude.{Option, Some, None, map, if◌then◌else◌}
+use Rattle.std.proofs.Common.{◌≡◌, ◌∙◌, inl, inr, ℕ, Bool, true, false, List, [], ◌∷◌, ◌++◌, refl, sym, ap}
+use Rattle.std.specs.Prelude.{IsSome, Option, Some, None, codes, is_some, map, if◌then◌else◌}
+use Rattle.std.proofs.lemmas.Slice.Eq.{bytes_eq-Decides}
+use Rattle.rule_periods.specs.Words.{rule_of_code}
 use Rattle.csv.specs.Writing.{default_writer, row_text}
 use Rattle.case_numbers.specs.Words.{NameView, case_read}
 use Rattle.row_forms.specs.declared.row.Row.{Row}
@@ -11,15 +13,15 @@ use Rattle.row_forms.specs.Line.Words.{line_read}
 use Rattle.row_fields.specs.declared.dates.DateOrder.{DateOrder}
 use Rattle.row_fields.specs.Words.{folded, typed}
 use Rattle.row_forms.specs.declared.headings.columns.Column.{Column}
-use Rattle.row_forms.specs.declared.headings.columns.Column.TheVariants.{Command}
+use Rattle.row_forms.specs.declared.headings.columns.Column.TheVariants.{Command, Deadline, Motion}
 use Rattle.row_written.specs.declared.rows.Written.{Written}
 use Rattle.row_written.specs.declared.rows.Written.TheVariants.{Nothing, Plain, Faulty}
-use Rattle.row_written.specs.Cases.{asked, asked_if, is_case, name_in}
+use Rattle.row_written.specs.Cases.{asked, is_case, is_subject_name, name_in, names_subject, with_case, with_one}
 use Rattle.row_forms.specs.Headings.Words.{column_at, columns_of}
 use Rattle.row_written.specs.Fault.{FieldFault}
 use Rattle.row_written.specs.Headings.{heading_faults, heading_of, names_columns, word_at}
 use Rattle.row_written.specs.Known.{names_known}
-use Rattle.row_written.specs.Laws.{IsPlainRow, IsRow, PlainRowsStay, RowsArePlain}
+use Rattle.row_written.specs.Laws.{IsPlainRow, IsRow, IsSubjectName, PlainRowsStay, PutsOne, RowsArePlain}
 use Rattle.row_written.specs.Rows.{column_faults, excess_faults, fault_of_column, fields_written, header_said, if_faultless, in_columns, plain_in, read_as, row_said, says_nothing, says_row, stays, taken, typed_as, value_at}
 
 -- a plain row stays
@@ -40,19 +42,41 @@ either so a b = if so then a else b
 same_plain : (a b : List ℕ) → ◌≡◌ {A = Written (List (List ℕ)) (List ℕ) (List FieldFault)} (Plain a) (Plain b) → a ≡ b
 same_plain a b e = cc e
 
+-- the number 1 is put in place of what is so
+puts_one : (place : ℕ) (IsSo : List ℕ → Type 0) (fields : List (List ℕ)) (so : Bool) → (so ≡ true → IsSo (word_at fields place)) → PutsOne place IsSo fields (if so then with_one place fields else fields)
+puts_one place IsSo fields true is = inr (is refl, refl)
+puts_one place IsSo fields false is = inl refl
+
 -- a case number that is looked for, and found
-read_there : (looked : Bool) (read : Option NameView) (name : NameView) → (if looked then read else None) ≡ Some name → read ≡ Some name
-read_there true read name found = found
-read_there false read name found = cc found
+read_there : (looked : Bool) (read : Option NameView) → is_some (if looked then read else None) ≡ true → IsSome read
+read_there true (Some name) found = search
+read_there true None found = cc found
+read_there false read found = cc found
+
+some_there : {A : Type 0} (a : Option A) → is_some a ≡ true → IsSome a
+some_there (Some x) so = search
+some_there None so = cc so
+
+-- a name of a deadline or a motion
+subject_there : (column : Column) (field : List ℕ) → is_subject_name column field ≡ true → IsSubjectName field
+subject_there Deadline field so = inl (some_there (rule_of_code field) so)
+subject_there Motion field so = inr ((bytes_eq-Decides field (codes "last")).0 so)
+subject_there _ field so = cc so
 
 -- the text of a row that is taken
 module _ (clerks : ℕ) (names : CourtNames) (text : List ℕ) where
   -- it is one where the row that the office is asked about is a plain row
-  asked_is : (columns : List Column) (plain : List (List ℕ)) (name : Option NameView) (row : Row) → name_in columns plain ≡ name → text ≡ row_text default_writer plain → IsPlainRow clerks names (row_text default_writer (asked_if name plain)) row
-      → IsRow clerks names text row
-  asked_is columns plain None row none is row_is = inl (subst (λ (t : List ℕ). IsPlainRow clerks names t row) (sym is) row_is)
-  asked_is columns plain (Some name) row some is row_is =
-      inr (record { fields = plain; name = name; text_is = is; case = read_there (is_case (column_at columns 2)) (case_read (word_at plain 2)) name some; row_is = row_is })
+  asked_is : (columns : List Column) (plain : List (List ℕ)) (row : Row) → text ≡ row_text default_writer plain → IsPlainRow clerks names (row_text default_writer (asked columns plain)) row → IsRow clerks names text row
+  asked_is columns plain row is row_is =
+      inr (record {
+        fields = plain;
+        cased = with_case columns plain;
+        numbered = asked columns plain;
+        text_is = is;
+        case = puts_one 2 (λ field. IsSome (case_read field)) plain (is_some (name_in columns plain)) (read_there (is_case (column_at columns 2)) (case_read (word_at plain 2)));
+        subject = puts_one 3 IsSubjectName (with_case columns plain) (names_subject columns (with_case columns plain)) (subject_there (column_at columns 3) (word_at (with_case columns plain) 3));
+        row_is = row_is;
+      })
 
   taken_plain : (header : Option (List (List ℕ))) (keyed : List ℕ) (fields : List (List ℕ)) (columns : List Column) (plain : List (List ℕ)) (said : Line) → line_read clerks names (row_text default_writer (asked columns plain)) ≡ said
       → taken names header keyed fields columns (row_text default_writer plain) said ≡ Plain text → (row : Row) × IsRow clerks names text row
@@ -61,7 +85,7 @@ module _ (clerks : ℕ) (names : CourtNames) (text : List ℕ) where
   taken_plain header keyed fields columns plain (line.Row row) is took = by (names_known names row.work) refl took
     where
       by : (known : Bool) → names_known names row.work ≡ known → either known (Plain (row_text default_writer plain)) (Faulty (fault_of_column header keyed fields columns 1 ∷ [])) ≡ Plain text → (row : Row) × IsRow clerks names text row
-      by true e took = (row, asked_is columns plain (name_in columns plain) row refl (sym (same_plain (row_text default_writer plain) text took)) (record { read = is; known = e }))
+      by true e took = (row, asked_is columns plain row (sym (same_plain (row_text default_writer plain) text took)) (record { read = is; known = e }))
       by false e took = cc took
 
   faultless_plain : (order : Option DateOrder) (header : Option (List (List ℕ))) (keyed : List ℕ) (fields : List (List ℕ)) (columns : List Column) (plain : List (List ℕ)) (faults : List FieldFault) → if_faultless names order header keyed fields clerks columns plain faults ≡ Plain text

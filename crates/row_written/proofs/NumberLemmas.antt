@@ -11,11 +11,12 @@ use Rattle.case_numbers.proofs.NumberLemmas.{shown_is_read_back_lem}
 use Rattle.court_clock.specs.Words.{day_text}
 use Rattle.row_forms.specs.Words.{is_number}
 use Rattle.row_fields.specs.declared.said.Said.{Said}
-use Rattle.row_fields.specs.declared.said.Said.TheVariants.{Clear}
-use Rattle.row_fields.specs.Words.{bare, date_said, folded, numbers_in, said_map}
+use Rattle.row_fields.specs.declared.said.Said.TheVariants.{Unknown, Clear, Unclear}
+use Rattle.row_fields.specs.Words.{bare, date_said, folded, numbers_in, rule_said, said_map}
+use Rattle.row_fields.specs.Choices.{one_rule_said}
 use Rattle.row_fields.proofs.CallerLemmas.{numbers_stay_whole_lem}
 use Rattle.row_forms.specs.declared.headings.columns.Column.TheVariants.{Case, Period, Need}
-use Rattle.row_written.specs.Fields.{clear_if, field_said, filled_said, grant_said, is_quarters, number_said, period_said, shown_said, slots_said, word_said}
+use Rattle.row_written.specs.Fields.{clear_if, deadline_said, field_said, filled_said, grant_said, is_quarters, motion_said, number_said, period_said, shown_said, slots_said, word_said}
 use Rattle.row_written.specs.Laws.{LengthsKeepTheirNumbers, NumbersAreTheirFields}
 
 same_text : (a b : List ℕ) → ◌≡◌ {A = Said (List ℕ)} (Clear a) (Clear b) → a ≡ b
@@ -105,13 +106,45 @@ need_is text number true is said digits =
     cc none
 need_is text number false is said digits = said_if (is_number text) text number said
 
+-- no code of a period is a number
+no_rule : (so : Bool) (code number : List ℕ) (rest : Said (List ℕ)) → is_number code ≡ false → (rest ≡ Clear number → is_number number ≡ true → ⊥) → either so (Clear code) rest ≡ Clear number → is_number number ≡ true → ⊥
+no_rule true code number rest none later said digits = cc (sym none ∙ ap is_number (same_text code number said) ∙ digits)
+no_rule false code number rest none later said digits = later said digits
+
+unknown_none : (number : List ℕ) → ◌≡◌ {A = Said (List ℕ)} Unknown (Clear number) → is_number number ≡ true → ⊥
+unknown_none number said digits = cc said
+
+one_rule_none : (word number : List ℕ) → one_rule_said word ≡ Clear number → is_number number ≡ true → ⊥
+unfolding one_rule_said
+one_rule_none word number =
+    no_rule _ (codes "4m") number _ refl (no_rule _ (codes "12a1Ai") number _ refl (no_rule _ (codes "12a1Aii-us") number _ refl (no_rule _ (codes "12a1Aii-abroad") number _ refl (no_rule _ (codes "12a1B") number _ refl (
+    no_rule _ (codes "12a1C") number _ refl (no_rule _ (codes "12a2") number _ refl (no_rule _ (codes "12a3") number _ refl (no_rule _ (codes "59b") number _ refl (no_rule _ (codes "59e") number _ refl (unknown_none number))))))))))
+
+two_rules_none : (so : Bool) (one other number : List ℕ) (rest : Said (List ℕ)) → (rest ≡ Clear number → is_number number ≡ true → ⊥) → either so (Unclear one other) rest ≡ Clear number → is_number number ≡ true → ⊥
+two_rules_none true one other number rest later said digits = cc said
+two_rules_none false one other number rest later said digits = later said digits
+
+rule_none : (word number : List ℕ) → rule_said word ≡ Clear number → is_number number ≡ true → ⊥
+unfolding rule_said
+rule_none word number = two_rules_none _ _ _ number (one_rule_said word) (one_rule_none word number)
+
+deadline_is : (text number : List ℕ) (so : Bool) → either so (Clear text) (rule_said (folded text)) ≡ Clear number → is_number number ≡ true → number ≡ text
+deadline_is text number true said digits = sym (same_text text number said)
+deadline_is text number false said digits = absurd (rule_none (folded text) number said digits)
+
+motion_is : (text number : List ℕ) (so : Bool) → either so (Clear (codes "last")) (number_said text) ≡ Clear number → is_number number ≡ true → number ≡ text
+motion_is text number true said digits =
+    let none : is_number (codes "last") ≡ true = ap is_number (same_text (codes "last") number said) ∙ digits in
+    cc none
+motion_is text number false said digits = said_if (is_number text) text number said
+
 pub numbers_are_their_fields_lem : NumbersAreTheirFields
 unfolding field_said
 numbers_are_their_fields_lem names order text number digits = record {
   of_clerks = λ said. said_if (is_number text) text number (not_empty (length text == 0) (number_said text) (Clear number) said);
   of_cases = λ said. case_is text number (is_number text) (not_empty (length text == 0) (filled_said names order Case text) (Clear number) said) digits;
-  of_deadlines = λ said. said_if (is_number text) text number (not_empty (length text == 0) (number_said text) (Clear number) said);
-  of_motions = λ said. said_if (is_number text) text number (not_empty (length text == 0) (number_said text) (Clear number) said);
+  of_deadlines = λ said. deadline_is text number (is_number text) (not_empty (length text == 0) (deadline_said text) (Clear number) said) digits;
+  of_motions = λ said. motion_is text number (bytes_eq (folded text) (codes "last")) (not_empty (length text == 0) (motion_said text) (Clear number) said) digits;
   of_notice = λ said. need_is text number (bytes_eq (folded text) (codes "exparte")) refl (not_empty (length text == 0) (filled_said names order Need text) (Clear number) said) digits;
 }
 

@@ -21,6 +21,14 @@ clear_if so text = if so then Clear text else Unknown
 abbrev pub number_said : List ℕ → Said (List ℕ)
 number_said text = clear_if (is_number text) text
 
+-- a deadline: its number, or a Rule's number
+abbrev pub deadline_said : List ℕ → Said (List ℕ)
+deadline_said text = if is_number text then Clear text else rule_said (folded text)
+
+-- a motion: its number, or the last
+abbrev pub motion_said : List ℕ → Said (List ℕ)
+motion_said text = if bytes_eq (folded text) (codes "last") then Clear (codes "last") else number_said text
+
 -- a case number as it is shown
 abbrev pub shown_said : Option NameView → Said (List ℕ)
 shown_said None = Unknown
@@ -85,8 +93,8 @@ abbrev pub filled_said : CourtNames → Option DateOrder → Column → List ℕ
 filled_said names order Clerk text = number_said text
 filled_said names order Command text = Clear (folded text)
 filled_said names order Case text = case_said text
-filled_said names order Deadline text = number_said text
-filled_said names order Motion text = number_said text
+filled_said names order Deadline text = deadline_said text
+filled_said names order Motion text = motion_said text
 filled_said names order Period text = period_said text
 filled_said names order Date text = said_map day_text (date_said order text)
 filled_said names order Time text = time_if (time_said text)

@@ -1,14 +1,16 @@
-//! Case numbers as courts write them, in the fields of rows.
+//! Names in place of numbers, in the fields of rows: case numbers as courts write them, deadlines by their rule and the newest
+//! motion.
 
 ghost use Rattle.std.specs.Prelude.{◌≡◌, IfOk, is_some};
 ghost use Rattle.csv.specs.Records.{fields_of};
 ghost use Rattle.csv.specs.Writing.{default_writer, row_text};
-ghost use Rattle.row_written.specs.Cases.{asked, is_case, name_in, with_one};
+ghost use Rattle.row_written.specs.Cases.{asked, is_case, is_subject_name, name_in, names_subject, with_case, with_one};
 
 use crate::headings::word_at;
 use case_numbers::case_read;
 use csv::StringRecord;
 use row_forms::{Column, column_at, push_row_text};
+use rule_periods::RulePeriod;
 use std::alloc::{AllocError, Global};
 
 // Whether it is the column of a case.
@@ -29,15 +31,34 @@ fn has_name(alloc: Global, columns: &[Column], fields: &StringRecord) -> Result<
     }
 }
 
-// The fields with the number 1 in the third.
-fn with_one(fields: &StringRecord) -> Result<StringRecord, AllocError>
-    ensures { IfOk result (λ row. fields_of row ≡ with_one (fields_of fields.now)) }
+// Whether a field of this column is a name in place of a number: of a deadline its rule's code, of a motion `last`.
+fn is_subject_name(column: Column, field: &str) -> bool
+    ensures { result ≡ is_subject_name column field.now }
 {
+    match column {
+        Column::Deadline => RulePeriod::from_code(field).is_some(),
+        Column::Motion => field == "last",
+        _ => false,
+    }
+}
+
+// Whether a row with these columns and fields names its deadline or its motion so.
+fn names_subject(columns: &[Column], fields: &StringRecord) -> bool
+    ensures { result ≡ names_subject columns.now (fields_of fields.now) }
+{
+    is_subject_name(column_at(columns, 3), word_at(fields, 3))
+}
+
+// The fields with the number 1 at a place, counted from 0.
+fn with_one(fields: &StringRecord, place: u8) -> Result<StringRecord, AllocError>
+    ensures { IfOk result (λ row. fields_of row ≡ with_one place (fields_of fields.now)) }
+{
+    let place = usize::from(place);
     let mut row = fields.clone()?;
-    row.truncate(2);
+    row.truncate(place);
     row.push_field("1")?;
-    for place in 3..fields.len() {
-        row.push_field(word_at(fields, place))?;
+    for after in place + 1..fields.len() {
+        row.push_field(word_at(fields, after))?;
     }
     Ok(row)
 }
@@ -51,7 +72,22 @@ pub(crate) fn text_of(alloc: Global, fields: &StringRecord) -> Result<Vec<u8>, A
     Ok(text)
 }
 
-/// The text of the row that the office is asked about: that with these fields, or with the number 1 in place of a case number.
+// The fields with the number 1 in place of a case number.
+fn with_case(
+    alloc: Global,
+    columns: &[Column],
+    fields: &StringRecord,
+) -> Result<StringRecord, AllocError>
+    ensures { IfOk result (λ row. fields_of row ≡ with_case columns.now (fields_of fields.now)) }
+{
+    if has_name(alloc, columns, fields)? {
+        with_one(fields, 2)
+    } else {
+        fields.clone()
+    }
+}
+
+/// The text of the row that the office is asked about: that with these fields, with the number 1 in place of each name.
 pub(crate) fn asked_text(
     alloc: Global,
     columns: &[Column],
@@ -59,9 +95,10 @@ pub(crate) fn asked_text(
 ) -> Result<Vec<u8>, AllocError>
     ensures { IfOk result (λ text. text.items ≡ row_text default_writer (asked columns.now (fields_of fields.now))) }
 {
-    if has_name(alloc, columns, fields)? {
-        text_of(alloc, &with_one(fields)?)
+    let row = with_case(alloc, columns, fields)?;
+    if names_subject(columns, &row) {
+        text_of(alloc, &with_one(&row, 3)?)
     } else {
-        text_of(alloc, fields)
+        text_of(alloc, &row)
     }
 }

@@ -7,7 +7,7 @@ ghost use Rattle.jiff_fmt.specs.Text.{pad2};
 ghost use Rattle.court_clock.specs.Words.{day_text};
 ghost use Rattle.row_forms.specs.Words.{is_number, names_of};
 ghost use Rattle.row_fields.specs.Words.{date_said, said_map, time_said};
-ghost use Rattle.row_written.specs.Fields.{case_said, ending_said, field_said, filled_said, grant_said, is_quarters, may_be_empty, need_said, number_said, period_said, slots_said, time_if, word_said};
+ghost use Rattle.row_written.specs.Fields.{case_said, deadline_said, ending_said, field_said, filled_said, grant_said, is_quarters, may_be_empty, motion_said, need_said, number_said, period_said, slots_said, time_if, word_said};
 
 use crate::names::{Named, name_said, owned, panel_said};
 use case_numbers::case_read;
@@ -61,6 +61,30 @@ fn case_said(alloc: Global, text: &str) -> Result<Said<String>, AllocError>
     match case_read(alloc, text.as_bytes())? {
         Some(name) => Ok(Said::Clear(String::from_str(alloc, name.shown())?)),
         None => Ok(Said::Unknown),
+    }
+}
+
+// A deadline: its number, or a Rule's number.
+fn deadline_said(alloc: Global, text: &str) -> Result<Said<String>, AllocError>
+    ensures { IfOk result (λ said. said_map string_bytes said ≡ deadline_said text.now) }
+{
+    if is_number(text.as_bytes()) {
+        Ok(Said::Clear(String::from_str(alloc, text)?))
+    } else {
+        let word = folded(alloc, text)?;
+        owned(alloc, rule_said(word.as_str()))
+    }
+}
+
+// A motion: its number, or the last.
+fn motion_said(alloc: Global, text: &str) -> Result<Said<String>, AllocError>
+    ensures { IfOk result (λ said. said_map string_bytes said ≡ motion_said text.now) }
+{
+    let word = folded(alloc, text)?;
+    if word.as_str() == "last" {
+        Ok(Said::Clear(word))
+    } else {
+        number_said(alloc, text)
     }
 }
 
@@ -223,7 +247,9 @@ fn filled_said(
 {
     match column {
         Column::Command => Ok(Said::Clear(folded(alloc, text)?)),
-        Column::Clerk | Column::Deadline | Column::Motion => number_said(alloc, text),
+        Column::Clerk => number_said(alloc, text),
+        Column::Deadline => deadline_said(alloc, text),
+        Column::Motion => motion_said(alloc, text),
         Column::Case => case_said(alloc, text),
         Column::Date | Column::SecondOrNone | Column::Notice => day_said(alloc, order, text),
         Column::Time | Column::Start | Column::TimeOrNone | Column::From => {

@@ -7,7 +7,8 @@ pub fn plain_rows_stay()
     ensures { PlainRowsStay }
 {}
 
-/// What a line is read as, if it is read as a row, is a plain row, or one with a case number in place of its case's number.
+/// What a line is read as, if it is read as a row, is a plain row, or one with a case number, or a deadline's rule or `last`, in
+/// place of a number.
 pub fn rows_are_plain()
     ensures { RowsArePlain }
 {}

@@ -1,4 +1,4 @@
--- What holds of the docket that clerks share, after each step of every run.
+-- What holds of the docket that clerks share: of every legal history, and after each step of every run.
 use Rattle.std.specs.Prelude.{◌≡◌, ℕ, true, None, List, drop, filter, map, take}
 use Rattle.docket_rows.specs.declared.answer.Answer.{Answer}
 use Rattle.docket_rows.specs.declared.command.Command.{Command}
@@ -30,15 +30,22 @@ AlwaysHolds claim =
     (setup : CourtSetup) (clerks : ℕ) (steps : List (Step Command)) (outcomes : List (Outcome PartId Answer)) (end : World PartId PartValue Command Answer) →
     IsRun (docket_rules setup) (opening_world clerks) steps outcomes end → (made : ℕ) → HoldsAfter (claim setup) setup clerks steps outcomes end made
 
+-- what every legal history has, whoever finished its commands and whatever steps led to it: the journal of an office is one
+abbrev pub HoldsOfLegal : (CourtSetup → List (Entry Command Answer) → Type 0) → Type 0
+HoldsOfLegal claim = (setup : CourtSetup) (history : List (Entry Command Answer)) → is_legal (docket_rules setup) history ≡ true → claim setup history
+
+-- both
+abbrev pub Holds : (CourtSetup → List (Entry Command Answer) → Type 0) → Type 0
+Holds claim = HoldsOfLegal claim × AlwaysHolds claim
+
 -- what clerks share after a history is one docket: each entry is answered as the step of the docket after the entries before it, and each
 -- part is that of the docket after all of them
 pub record IsOneDocket (setup : CourtSetup) (history : List (Entry Command Answer)) : Type 0 where
   pub answers : IsSequential setup history
   pub parts : (part : PartId) → value_of (docket_rules setup) history part ≡ part_value (parts_of (rows_of setup history)) part
 
--- whoever finished the commands of a legal history, and whatever steps led to it, it is one docket
 abbrev pub LegalIsOneDocket : Type 0
-LegalIsOneDocket = (setup : CourtSetup) (history : List (Entry Command Answer)) → is_legal (docket_rules setup) history ≡ true → IsOneDocket setup history
+LegalIsOneDocket = HoldsOfLegal IsOneDocket
 
 -- the sheet of a case, as the shared parts show it, has just the deadlines that are docketed in the case; the end of each is what the rules
 -- give by the days that are docketed then
@@ -52,13 +59,13 @@ abbrev pub ClerksShareOneDocket : Type 0
 ClerksShareOneDocket = AlwaysHolds IsOneDocket
 
 abbrev pub NoneIsDoubleBooked : Type 0
-NoneIsDoubleBooked = AlwaysHolds (λ setup history. NoneIsBookedTwice (rows_of setup history))
+NoneIsDoubleBooked = Holds (λ setup history. NoneIsBookedTwice (rows_of setup history))
 
 abbrev pub HearingsHaveNotice : Type 0
-HearingsHaveNotice = AlwaysHolds (λ setup history. AllHaveNotice (rows_of setup history))
+HearingsHaveNotice = Holds (λ setup history. AllHaveNotice (rows_of setup history))
 
 abbrev pub DeadlinesAreShown : Type 0
-DeadlinesAreShown = AlwaysHolds ShowDeadlines
+DeadlinesAreShown = Holds ShowDeadlines
 
 -- The steps that were answered Finished are, in their order, the entries of the history at the places 1, 2, 3 and so on, each with its
 -- clerk, the command that this clerk began last, its place and its answer. Before the first step no clerk has begun anything.

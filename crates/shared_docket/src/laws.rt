@@ -1,4 +1,5 @@
-//! What clerks may rely on who share a docket: after each step of any clerks, in whatever order they take their steps.
+//! What clerks may rely on who share a docket: in every legal history, as the programs make them, and after each step of any
+//! clerks, in whatever order they take their steps.
 
 ghost use Rattle.shared_docket.specs.Always.{ClerksShareOneDocket, DeadlinesAreShown, FinishedStandOnce, HearingsHaveNotice, LegalIsOneDocket, NoneIsDoubleBooked};
 

@@ -1,7 +1,7 @@
 -- What is written of a run that is one of many.
 use Rattle.std.specs.Prelude.{◌≡◌, ℕ, List, [], ◌∷◌, ◌++◌, Some, Result, Ok, Err, codes}
-use Rattle.program_streams.specs.declared.fault.OfficeFault.{OfficeFault}
-use Rattle.program_streams.specs.Words.{fault_text, input_of}
+use Rattle.program_runs.specs.declared.fault.OfficeFault.{OfficeFault}
+use Rattle.program_runs.specs.Words.{fault_text, input_of}
 use Rattle.clerk_program.specs.Words.{IsRun}
 
 -- the line with a run's name

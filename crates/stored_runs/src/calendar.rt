@@ -8,7 +8,8 @@ use crate::stored::push_name;
 use crate::sums::push_sum;
 use court_clock::Instant;
 use program_main::OptionsFault;
-use program_streams::{OfficeFault, Report, Watched, ended_by, missing, refused, run_report};
+use program_runs::{OfficeFault, Report, ended_by, missing, refused, run_report};
+use program_streams::Watched;
 use program_words::{Task, asked_of};
 use std::alloc::{AllocError, Global};
 use std::sync::Wait;
@@ -101,7 +102,7 @@ fn run_of<H: Threads + Wait + Sync, P: Report>(
 }
 
 // The first instant of 1970, which the clock shows in these runs.
-fn first_instant() -> Instant {
+pub(crate) fn first_instant() -> Instant {
     match Instant::new(0) {
         Some(instant) => instant,
         None => unreachable!(),
@@ -120,7 +121,7 @@ fn words_of<'a>(alloc: Global, line: &'a str) -> Result<Vec<&'a str>, AllocError
 }
 
 // Adds how a run ended, where it isn't with status 0.
-fn push_ending(
+pub(crate) fn push_ending(
     alloc: Global,
     output: &mut Vec<u8>,
     status: u8,

@@ -1,4 +1,4 @@
-//! One stored run of the desk, over a disk in memory.
+//! The rows of an input that is too large to be stored, entered at a desk over a disk in memory.
 
 ghost use Rattle.std.specs.Prelude.{◌≡◌, false};
 ghost use Rattle.program_streams.specs.Words.{has_failed};
@@ -7,7 +7,8 @@ use crate::lines::input_of;
 use crate::stored::push_name;
 use crate::sums::push_sum;
 use desk_program::{Desk, DeskFault, ended_by, write_rows};
-use program_streams::{Watched, divide};
+use program_runs::divide;
+use program_streams::Watched;
 use sqlite_disk::Memory;
 use std::alloc::{AllocError, Global};
 

@@ -2,6 +2,7 @@
 #![tactic(auto)]
 
 mod calendar;
+mod calls;
 mod desk;
 mod lines;
 mod made;

@@ -1,6 +1,7 @@
 //! A stored run by the line that names it.
 
 use crate::calendar::push_calendar;
+use crate::calls::push_calls;
 use crate::desk::push_desk;
 use crate::made::push_made;
 use crate::stored::{push_name, push_run};
@@ -14,8 +15,8 @@ use std::thread::Threads;
 /// Adds the run of that input whose line is `NAME WORD WORD ..`: the words after the name are those of the command
 /// line, each after a space. Where these give no options, the text that says so is written in place of what a run
 /// writes. Where `made ` comes before the name, the input is made from that text, and the sum of what the run writes is
-/// written. A name that begins with `calendar/` is a run of the court's calendar, and one that begins with `desk/` a run
-/// of the desk. `Err` says that memory ran out.
+/// written. A name that begins with `calendar/` is a run of the court's calendar. One that begins with `desk/` is a run of the
+/// desk: its calls, or the rows of an input that is made. `Err` says that memory ran out.
 pub fn push_named<H: Threads + Wait + Sync>(
     rt: &H,
     alloc: Global,
@@ -26,7 +27,10 @@ pub fn push_named<H: Threads + Wait + Sync>(
     let of_made = line.strip_prefix("made ");
     let line = of_made.unwrap_or(line);
     if line.starts_with("desk/") {
-        return push_desk(alloc, output, line, text);
+        return match of_made {
+            Some(_) => push_desk(alloc, output, line, text),
+            None => push_calls(alloc, output, line, text),
+        };
     }
     if line.starts_with("calendar/") {
         return push_calendar(rt, alloc, output, line, text, of_made.is_some());

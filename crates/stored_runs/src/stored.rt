@@ -1,12 +1,13 @@
 //! One stored run.
 
 ghost use Rattle.std.specs.Prelude.{◌≡◌, ◌++◌, [], ◌∷◌, OnOk};
-ghost use Rattle.program_streams.specs.Words.{fault_text};
+ghost use Rattle.program_runs.specs.Words.{fault_text};
 ghost use Rattle.stored_runs.specs.Stored.{AppendsRun, name_line};
 
 use clerk_program::run_office;
 use program_main::Options;
-use program_streams::{OfficeFault, Watched, fault_line};
+use program_runs::{OfficeFault, fault_line};
+use program_streams::Watched;
 use std::alloc::{AllocError, Global};
 use std::sync::Wait;
 use std::thread::Threads;

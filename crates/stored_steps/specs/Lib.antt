@@ -1,3 +1,3 @@
 pub mod Commands
-pub mod Spelling
 pub mod Told
+pub mod Inside

@@ -2,7 +2,7 @@
 
 ghost use Rattle.std.specs.Prelude.{◌≡◌, IfSome};
 ghost use Rattle.std.specs.Fmt.{decimal};
-ghost use Rattle.stored_steps.specs.Spelling.{IsSpelled};
+ghost use Rattle.stored_steps.specs.Inside.Spelling.{IsSpelled};
 
 use anyhow::{Result, bail};
 use court_clock::Day;

@@ -5,7 +5,7 @@ use Rattle.std.proofs.lemmas.List.{append-nil}
 use Rattle.versioned_steps.specs.Rules.{Rules, IsLawful}
 use Rattle.versioned_steps.specs.History.{written, answer_on, writes_on, values_after, version_of, is_legal_from, is_legal}
 use Rattle.versioned_steps.specs.Reads.{copies_of, first_stale}
-use Rattle.versioned_steps.specs.Serial.{served, IsSerial}
+use Rattle.versioned_steps.specs.Inside.Serial.{served, IsSerial}
 use Rattle.versioned_steps.specs.World.{Hand, World, IsStepOf, IsRun, clerk_of, move_of, read_next, validated, commit_read}
 use Rattle.versioned_steps.specs.declared.entry.Entry.{Entry}
 use Rattle.versioned_steps.specs.declared.stale.Stale.{Stale}

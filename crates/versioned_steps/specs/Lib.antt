@@ -5,6 +5,6 @@ pub mod Drafts
 pub mod Stores
 pub mod World
 pub mod Moves
-pub mod Serial
 pub mod Finished
 pub mod Words
+pub mod Inside

@@ -6,5 +6,5 @@ pub use Rattle.versioned_steps.specs.Reads.{Read, copies_of, AreAt, IsRead, IsFr
 pub use Rattle.versioned_steps.specs.Drafts.{DecisionView, DraftView, decided, IsDraftOf, IsPrepared, MayCommit, IsReading, IsReadAll, entry_of, AreOwn}
 pub use Rattle.versioned_steps.specs.Stores.{StoreView, ChangeView, IsStaged, Replays}
 pub use Rattle.versioned_steps.specs.World.{World, IsRun, opening_world, world_of}
-pub use Rattle.versioned_steps.specs.Serial.{Served, served, IsSerial}
+pub use Rattle.versioned_steps.specs.Inside.Serial.{Served, served, IsSerial}
 pub use Rattle.versioned_steps.specs.Finished.{Finish, begun_by, begun_then, finish_of, finishes, entered}

@@ -7,7 +7,7 @@ ghost use Rattle.versioned_steps.specs.Finished.{entered, finishes};
 ghost use Rattle.versioned_steps.specs.History.{is_legal, version_of, TouchesAt, IsLastTouch};
 ghost use Rattle.versioned_steps.specs.Reads.{Read, IsFresh};
 ghost use Rattle.versioned_steps.specs.World.{World, IsRun, opening_world};
-ghost use Rattle.versioned_steps.specs.Serial.{IsSerial};
+ghost use Rattle.versioned_steps.specs.Inside.Serial.{IsSerial};
 
 use crate::parted::Parted;
 

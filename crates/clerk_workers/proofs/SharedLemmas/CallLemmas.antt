@@ -8,7 +8,7 @@ use Rattle.docket_rows.specs.declared.command.Command.{Command}
 use Rattle.versioned_steps.specs.declared.entry.Entry.{Entry}
 use Rattle.clerk_seats.specs.Words.{places_after}
 use Rattle.clerk_workers.specs.Words.{History}
-use Rattle.clerk_workers.specs.Shared.Calls.{Call, calls_by}
+use Rattle.clerk_workers.specs.Inside.Calls.{Call, calls_by}
 
 module _ (clerk : ℕ) where
   -- the calls of one history and then another

@@ -19,7 +19,7 @@ use Rattle.clerk_workers.specs.declared.answer.SharedReply.TheVariants.{Made, Jo
 use Rattle.row_forms.specs.Words.{IsClerk}
 use Rattle.clerk_workers.specs.Words.{AreAnswered, AreInTurn, HasWorked, History, IsAnsweredAt, answers_of, place_told, places_told, works_of}
 use Rattle.clerk_workers.proofs.CallerLemmas.{are_answered_later}
-use Rattle.clerk_workers.specs.Shared.Calls.{Call, calls_by, call_told, calls_told}
+use Rattle.clerk_workers.specs.Inside.Calls.{Call, calls_by, call_told, calls_told}
 use Rattle.clerk_workers.specs.Shared.Run.{IsGivenAt, IsTold, IsSharedRun}
 use Rattle.clerk_workers.proofs.SharedLemmas.CallLemmas.{as_many_places, calls_append, few_entries, last_call, places_inside, places_later, same_cut}
 

@@ -12,7 +12,7 @@ use Rattle.clerk_workers.specs.declared.answer.SharedReply.{SharedReply}
 use Rattle.clerk_workers.specs.declared.answer.SharedReply.TheVariants.{JournalFull}
 use Rattle.row_forms.specs.Words.{IsClerk}
 use Rattle.clerk_workers.specs.Words.{AreInTurn, History, IsAnsweredAt, answers_of, places_told, works_of}
-use Rattle.clerk_workers.specs.Shared.Calls.{calls_by, call_told, calls_told}
+use Rattle.clerk_workers.specs.Inside.Calls.{calls_by, call_told, calls_told}
 
 module _ (setup : CourtSetup) (limit : ℕ) (journal : History) (clerk : ℕ) where
   -- the row is answered at this moment of the journal, which since the moment before has just the clerk's call for this row, if it is one

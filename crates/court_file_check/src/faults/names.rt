@@ -6,7 +6,7 @@ ghost use Rattle.std.specs.Str.{bytes_eq};
 ghost use Rattle.toml.specs.View.{table_view, view, items_view};
 ghost use Rattle.court_file_text.specs.Words.{and_name, is_name, is_name_byte, is_named};
 ghost use Rattle.court_file_check.specs.Faults.{and_good, each_name, faulty, names_faults};
-ghost use Rattle.court_file_check.specs.Names.{texts_of};
+ghost use Rattle.court_file_check.specs.Inside.Names.{texts_of};
 
 use crate::faults::{Fault, Faults, What};
 use court_file_text::{CourtFault, Key, list_at};

@@ -72,8 +72,7 @@ fn push_read(
         CourtFault::BadSpan => push_bad_span(sheet),
         CourtFault::TooMany(_) => push_too_many(sheet, key),
         _ => {
-            let mark = sheet.mark_of(key, item)?;
-            sheet.begin_fault(key, mark)?;
+            sheet.fault_at(key, item)?;
             sheet.end("this can't be read")
         }
     }
@@ -108,10 +107,8 @@ fn push_missing(
 }
 
 fn push_wrong_kind(sheet: &mut Sheet<'_>, key: Key, item: Option<usize>) -> Result<(), AllocError> {
-    let mark = sheet.mark_of(key, item)?;
-    let shown = sheet.shown(mark);
+    let shown = sheet.fault_at(key, item)?;
     let example = example_of(key);
-    sheet.begin_fault(key, mark)?;
     match (key, item) {
         (Key::Federal | Key::State | Key::Judges | Key::Rooms, None) => {
             write!(
@@ -135,26 +132,20 @@ fn push_bad_date(
     item: Option<usize>,
     text: &str,
 ) -> Result<(), AllocError> {
-    let mark = sheet.mark_of(key, item)?;
-    let shown = sheet.shown(mark);
-    sheet.begin_fault(key, mark)?;
+    let shown = sheet.fault_at(key, item)?;
     write!(sheet.text, "{shown} is no date; ")?;
     sheet.end(date_hint(text))
 }
 
 fn push_bad_zone(sheet: &mut Sheet<'_>) -> Result<(), AllocError> {
-    let mark = sheet.value_mark(Key::Zone)?;
-    let shown = sheet.shown(mark);
-    sheet.begin_fault(Key::Zone, mark)?;
+    let shown = sheet.fault_at(Key::Zone, None)?;
     write!(sheet.text, "{shown} is no zone; ")?;
     sheet.end(zone_hint(shown))
 }
 
 fn push_bad_hours(sheet: &mut Sheet<'_>, key: Key) -> Result<(), AllocError> {
-    let mark = sheet.value_mark(key)?;
-    let shown = sheet.shown(mark);
+    let shown = sheet.fault_at(key, None)?;
     let opens = sheet.shown(sheet.value_mark(Key::Opens)?);
-    sheet.begin_fault(key, mark)?;
     if minute_from_text(shown.trim_matches('"')).is_some() && key == Key::Closes {
         write!(
             sheet.text,
@@ -169,10 +160,8 @@ fn push_bad_hours(sheet: &mut Sheet<'_>, key: Key) -> Result<(), AllocError> {
 }
 
 fn push_bad_span(sheet: &mut Sheet<'_>) -> Result<(), AllocError> {
-    let mark = sheet.value_mark(Key::To)?;
-    let to = sheet.shown(mark);
+    let to = sheet.fault_at(Key::To, None)?;
     let from = sheet.shown(sheet.value_mark(Key::From)?);
-    sheet.begin_fault(Key::To, mark)?;
     let ends = Day::from_text(to.trim_matches('"'));
     let begins = Day::from_text(from.trim_matches('"'));
     match (begins, ends) {
@@ -194,8 +183,7 @@ fn push_bad_span(sheet: &mut Sheet<'_>) -> Result<(), AllocError> {
 }
 
 fn push_too_many(sheet: &mut Sheet<'_>, key: Key) -> Result<(), AllocError> {
-    let mark = sheet.value_mark(key)?;
-    sheet.begin_fault(key, mark)?;
+    sheet.fault_at(key, None)?;
     match key {
         Key::Judges | Key::Rooms => sheet.end(
             "the list has more than 32 names; use a file of its own for a part of the court",
@@ -207,9 +195,7 @@ fn push_too_many(sheet: &mut Sheet<'_>, key: Key) -> Result<(), AllocError> {
 }
 
 fn push_bad_name(sheet: &mut Sheet<'_>, key: Key, item: Option<usize>) -> Result<(), AllocError> {
-    let mark = sheet.mark_of(key, item)?;
-    let shown = sheet.shown(mark);
-    sheet.begin_fault(key, mark)?;
+    let shown = sheet.fault_at(key, item)?;
     write!(sheet.text, "{shown} is no name that rows can use")?;
     sheet.end(
         "; a name has 1 to 32 of the letters A to Z and a to z, digits, - _ and . and no blanks, as OBrien or Smith-Jones",
@@ -223,11 +209,9 @@ fn push_twice(
     item: Option<usize>,
     name: &str,
 ) -> Result<(), AllocError> {
-    let mark = sheet.mark_of(key, item)?;
-    let shown = sheet.shown(mark);
+    let shown = sheet.fault_at(key, item)?;
     let first = sheet.mark_of(key, first_named(file, key, name))?;
     let first = sheet.place(first);
-    sheet.begin_fault(key, mark)?;
     write!(sheet.text, "{shown} is there before")?;
     if let Some(first) = first {
         write!(sheet.text, ", at {first}")?;

@@ -1,6 +1,7 @@
 //! The text as it is written, line by line.
 
 use crate::report::report::Report;
+use crate::warnings::slips::day_of_item;
 use court_clock::Day;
 use court_file_places::{Mark, Part, Place, Places, place_at};
 use court_file_text::Key;
@@ -110,16 +111,28 @@ impl<'a> Sheet<'a> {
 
     /// Begins a line of a fault of a key.
     pub fn begin_fault(&mut self, key: Key, mark: Option<Mark>) -> Result<(), AllocError> {
-        let place = self.place(mark);
-        self.begin(place)?;
+        self.begin(self.place(mark))?;
         write!(self.text, "{key}: ")
     }
 
     /// Begins a line of a warning of a key.
     pub fn begin_warning(&mut self, key: Key, mark: Option<Mark>) -> Result<(), AllocError> {
-        let place = self.place(mark);
-        self.begin(place)?;
+        self.begin(self.place(mark))?;
         write!(self.text, "warning: {key}: ")
+    }
+
+    /// Begins a line of a fault at an item of a key's list, or else at its value, and gives what the file has there.
+    pub fn fault_at(&mut self, key: Key, item: Option<usize>) -> Result<&'a str, AllocError> {
+        let mark = self.mark_of(key, item)?;
+        self.begin_fault(key, mark)?;
+        Ok(self.shown(mark))
+    }
+
+    /// The same of a warning.
+    pub fn warning_at(&mut self, key: Key, item: Option<usize>) -> Result<&'a str, AllocError> {
+        let mark = self.mark_of(key, item)?;
+        self.begin_warning(key, mark)?;
+        Ok(self.shown(mark))
     }
 
     /// Ends a line with this text.
@@ -219,13 +232,5 @@ fn is_between(value: &Value, first: Day, last: Day) -> bool {
     match day_of_item(value) {
         Some(day) => first.number() < day.number() && day.number() <= last.number(),
         None => false,
-    }
-}
-
-/// The date that an item is.
-pub(crate) fn day_of_item(value: &Value) -> Option<Day> {
-    match value.as_str() {
-        Some(text) => Day::from_text(text),
-        None => None,
     }
 }

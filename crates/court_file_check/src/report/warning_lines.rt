@@ -21,8 +21,8 @@ pub(crate) fn push_warnings(
     for year in &warnings.bare_years {
         push_bare_year(sheet, *year)?;
     }
-    for (day, due) in &warnings.lacking {
-        push_lacking(sheet, file, *day, *due)?;
+    for day in &warnings.lacking {
+        push_lacking(sheet, file, *day, asked.capital)?;
     }
     for day in &warnings.unknown {
         push_unknown(sheet, file, *day)?;
@@ -63,9 +63,7 @@ fn push_of_keys(
 }
 
 fn push_zone(sheet: &mut Sheet<'_>, doubt: ZoneDoubt) -> Result<(), AllocError> {
-    let mark = sheet.value_mark(Key::Zone)?;
-    let shown = sheet.shown(mark);
-    sheet.begin_warning(Key::Zone, mark)?;
+    let shown = sheet.warning_at(Key::Zone, None)?;
     write!(sheet.text, "{shown} ")?;
     sheet.end(match doubt {
         ZoneDoubt::NoCourtHasIt => {
@@ -81,18 +79,14 @@ fn push_zone(sheet: &mut Sheet<'_>, doubt: ZoneDoubt) -> Result<(), AllocError> 
 }
 
 fn push_closes_early(sheet: &mut Sheet<'_>) -> Result<(), AllocError> {
-    let mark = sheet.value_mark(Key::Closes)?;
-    let shown = sheet.shown(mark);
-    sheet.begin_warning(Key::Closes, mark)?;
+    let shown = sheet.warning_at(Key::Closes, None)?;
     write!(sheet.text, "the office closes at {shown}, before noon")?;
     sheet.end("; hours go to 23, so 5 p.m. is \"17:00\"")
 }
 
 fn push_long_day(sheet: &mut Sheet<'_>) -> Result<(), AllocError> {
-    let mark = sheet.value_mark(Key::Closes)?;
-    let shown = sheet.shown(mark);
+    let shown = sheet.warning_at(Key::Closes, None)?;
     let opens = sheet.shown(sheet.value_mark(Key::Opens)?);
-    sheet.begin_warning(Key::Closes, mark)?;
     write!(
         sheet.text,
         "from {opens} to {shown} the office is open for more than twelve hours"
@@ -101,9 +95,7 @@ fn push_long_day(sheet: &mut Sheet<'_>) -> Result<(), AllocError> {
 }
 
 fn push_short_span(sheet: &mut Sheet<'_>) -> Result<(), AllocError> {
-    let mark = sheet.value_mark(Key::To)?;
-    let shown = sheet.shown(mark);
-    sheet.begin_warning(Key::To, mark)?;
+    let shown = sheet.warning_at(Key::To, None)?;
     write!(
         sheet.text,
         "the span ends on {shown}, less than 90 days after it begins"
@@ -114,9 +106,7 @@ fn push_short_span(sheet: &mut Sheet<'_>) -> Result<(), AllocError> {
 }
 
 fn push_ends_soon(sheet: &mut Sheet<'_>, today: Day) -> Result<(), AllocError> {
-    let mark = sheet.value_mark(Key::To)?;
-    let shown = sheet.shown(mark);
-    sheet.begin_warning(Key::To, mark)?;
+    let shown = sheet.warning_at(Key::To, None)?;
     write!(
         sheet.text,
         "the span ends on {shown}, before a year has passed from {today}"
@@ -127,8 +117,7 @@ fn push_ends_soon(sheet: &mut Sheet<'_>, today: Day) -> Result<(), AllocError> {
 }
 
 fn push_bare_year(sheet: &mut Sheet<'_>, year: u16) -> Result<(), AllocError> {
-    let mark = sheet.value_mark(Key::Federal)?;
-    sheet.begin_warning(Key::Federal, mark)?;
+    sheet.warning_at(Key::Federal, None)?;
     write!(
         sheet.text,
         "the list has no holiday of {year}, which is a year of the span"
@@ -150,18 +139,23 @@ fn where_to_add(sheet: &Sheet<'_>, file: &Table, day: Day) -> Result<Option<Mark
     }
 }
 
-fn push_lacking(sheet: &mut Sheet<'_>, file: &Table, day: Day, due: Due) -> Result<(), AllocError> {
+fn push_lacking(
+    sheet: &mut Sheet<'_>,
+    file: &Table,
+    day: Day,
+    capital: bool,
+) -> Result<(), AllocError> {
     let mark = where_to_add(sheet, file, day)?;
     sheet.begin_warning(Key::Federal, mark)?;
-    match due {
-        Due::SetByLaw(holiday) => {
+    match due_on(day, capital) {
+        Some(Due::SetByLaw(holiday)) => {
             let name = holiday.name();
             write!(
                 sheet.text,
                 "the list lacks {day}, which the law sets for {name}"
             )?;
         }
-        Due::Observed(holiday) => {
+        Some(Due::Observed(holiday)) => {
             let name = holiday.name();
             let weekday = if day.weekday() == 4 {
                 "Saturday"
@@ -173,6 +167,7 @@ fn push_lacking(sheet: &mut Sheet<'_>, file: &Table, day: Day, due: Due) -> Resu
                 "the list lacks {day}, on which {name} is observed, since it is on a {weekday}"
             )?;
         }
+        None => {}
     }
     if item_of(file, Key::State, day).is_some() {
         return sheet.end(
@@ -183,8 +178,7 @@ fn push_lacking(sheet: &mut Sheet<'_>, file: &Table, day: Day, due: Due) -> Resu
 }
 
 fn push_unknown(sheet: &mut Sheet<'_>, file: &Table, day: Day) -> Result<(), AllocError> {
-    let mark = sheet.mark_of(Key::Federal, item_of(file, Key::Federal, day))?;
-    sheet.begin_warning(Key::Federal, mark)?;
+    sheet.warning_at(Key::Federal, item_of(file, Key::Federal, day))?;
     if due_on(day, true).is_some() {
         write!(sheet.text, "{day} is Inauguration Day")?;
         return sheet.end(
@@ -207,13 +201,12 @@ fn push_at_weekend(
     days: &[Day],
 ) -> Result<(), AllocError> {
     for day in days {
-        let mark = sheet.mark_of(key, item_of(file, key, *day))?;
+        sheet.warning_at(key, item_of(file, key, *day))?;
         let weekday = if day.weekday() == 5 {
             "Saturday"
         } else {
             "Sunday"
         };
-        sheet.begin_warning(key, mark)?;
         write!(
             sheet.text,
             "{day} is a {weekday}, on which no period ends in any case, so it does nothing"
@@ -224,17 +217,14 @@ fn push_at_weekend(
 }
 
 fn push_in_both(sheet: &mut Sheet<'_>, file: &Table, day: Day) -> Result<(), AllocError> {
-    let mark = sheet.mark_of(Key::State, item_of(file, Key::State, day))?;
-    sheet.begin_warning(Key::State, mark)?;
+    sheet.warning_at(Key::State, item_of(file, Key::State, day))?;
     write!(sheet.text, "{day} is in the federal list too")?;
     sheet.end(", which is enough; leave it out here")
 }
 
 fn push_slips(sheet: &mut Sheet<'_>, key: Key, slips: &[(usize, Slip)]) -> Result<(), AllocError> {
     for (item, slip) in slips {
-        let mark = sheet.mark_of(key, Some(*item))?;
-        let shown = sheet.shown(mark);
-        sheet.begin_warning(key, mark)?;
+        let shown = sheet.warning_at(key, Some(*item))?;
         write!(sheet.text, "{shown} ")?;
         sheet.end(match slip {
             Slip::Outside => {
@@ -251,11 +241,9 @@ fn push_slips(sheet: &mut Sheet<'_>, key: Key, slips: &[(usize, Slip)]) -> Resul
 
 fn push_alike(sheet: &mut Sheet<'_>, key: Key, alike: &[Alike]) -> Result<(), AllocError> {
     for pair in alike {
-        let mark = sheet.mark_of(key, Some(pair.item))?;
-        let shown = sheet.shown(mark);
+        let shown = sheet.warning_at(key, Some(pair.item))?;
         let earlier = sheet.mark_of(key, Some(pair.earlier))?;
         let other = sheet.shown(earlier);
-        sheet.begin_warning(key, mark)?;
         write!(
             sheet.text,
             "{shown} and {other} differ in the case of letters alone"

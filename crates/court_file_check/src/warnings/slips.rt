@@ -60,7 +60,7 @@ fn slips_of(alloc: Global, values: &[Value], days: &Days) -> Result<Vec<(usize, 
 }
 
 /// The date that an item is.
-fn day_of_item(value: &Value) -> Option<Day>
+pub(crate) fn day_of_item(value: &Value) -> Option<Day>
     ensures { result ≡ day_of_data (view value.now) }
 {
     match value.as_str() {

@@ -6,7 +6,7 @@ use Rattle.court_holidays.specs.declared.federal.statute.FederalHoliday.{Federal
 use Rattle.court_holidays.specs.Federal.Calendar.{holiday_on, is_kept}
 use Rattle.court_holidays.specs.Federal.Observed.{beside_weekend, observed_for, observed_on, ObservedAreInPlace}
 use Rattle.court_holidays.proofs.FederalLemmas.PlaceLemmas.{if_so, some_same}
-use Rattle.court_holidays.proofs.FederalLemmas.OnDayLemmas.{days_are_their_holidays, kept}
+use Rattle.court_holidays.proofs.FederalLemmas.OnDayLemmas.{of_day}
 
 eq_is : (a b : ℕ) → (a == b) ≡ true → a ≡ b
 eq_is a b h = grind arith
@@ -35,18 +35,6 @@ second_case true y a b h k = absurd (cc)
 second_case false true a b h k = refl
 second_case false false a b h k = absurd (cc)
 
-saturday_after : (d e : ℤ) → e ≡ d +ℤ pos 1 → weekday_of d ≡ 4 → weekday_of e ≡ 5
-saturday_after d e is friday = omega (arith, signed_arith, is, friday)
-
-friday_before : (d e : ℤ) → e ≡ d +ℤ pos 1 → weekday_of e ≡ 5 → weekday_of d ≡ 4
-friday_before d e is saturday = omega (arith, signed_arith, is, saturday)
-
-sunday_before : (d e : ℤ) → e ≡ d -ℤ pos 1 → weekday_of d ≡ 0 → weekday_of e ≡ 6
-sunday_before d e is monday = omega (arith, signed_arith, is, monday)
-
-monday_after : (d e : ℤ) → e ≡ d -ℤ pos 1 → weekday_of e ≡ 6 → weekday_of d ≡ 0
-monday_after d e is sunday = omega (arith, signed_arith, is, sunday)
-
 -- the day in whose place a day beside a weekend is
 beside_cases : (e d : ℤ) → beside_weekend e ≡ Some d → ((weekday_of e ≡ 5) × (e ≡ d +ℤ pos 1)) ⊎ ((weekday_of e ≡ 6) × (e ≡ d -ℤ pos 1))
 beside_cases e d is = elim (either_case (weekday_of e == 5) (weekday_of e == 6) (Some (e -ℤ pos 1)) (Some (e +ℤ pos 1)) d is) [
@@ -67,12 +55,7 @@ beside_sunday e d is sunday =
 -- a holiday that each court has is observed beside the weekend
 observed_beside : (h : FederalHoliday) (e d : ℤ) → holiday_on e false ≡ Some h → beside_weekend e ≡ Some d → observed_for h e ≡ Some d
 unfolding observed_for
-observed_beside h e d held beside =
-    let each : is_kept false h ≡ true = kept h ((days_are_their_holidays e h).0 held).0 in
-    go (is_kept false h) each where
-      go : (b : Bool) → b ≡ true → (if b then beside_weekend e else None) ≡ Some d
-      go true is = beside
-      go false is = absurd (cc)
+observed_beside h e d held beside = rw (of_day e h held).0 beside
 
 pub observed_are_in_place : ObservedAreInPlace
 unfolding observed_for observed_on
@@ -80,11 +63,11 @@ observed_are_in_place d h = (
   (λ is. elim (either_case (weekday_of d == 4) (weekday_of d == 0) (holiday_on (d +ℤ pos 1) false) (holiday_on (d -ℤ pos 1) false) h is) [
     | inl friday ↦
         let e : ℤ = d +ℤ pos 1 in
-        let saturday = saturday_after d e refl (eq_is (weekday_of d) 4 friday.0) in
+        let saturday : weekday_of e ≡ 5 = omega (arith, signed_arith, eq_is (weekday_of d) 4 friday.0) in
         (e, (friday.1, observed_beside h e d friday.1 (beside_saturday e d refl saturday)))
     | inr monday ↦
         let e : ℤ = d -ℤ pos 1 in
-        let sunday = sunday_before d e refl (eq_is (weekday_of d) 0 monday.0) in
+        let sunday : weekday_of e ≡ 6 = omega (arith, signed_arith, eq_is (weekday_of d) 0 monday.0) in
         (e, (monday.1, observed_beside h e d monday.1 (beside_sunday e d refl sunday)))
   ]),
   (λ given.
@@ -93,10 +76,10 @@ observed_are_in_place d h = (
       let beside = if_so (is_kept false h) (beside_weekend e) d given.1.1 in
       elim (beside_cases e d beside.1) [
         | inl saturday ↦
-            let friday = friday_before d e saturday.1 saturday.0 in
+            let friday : weekday_of d ≡ 4 = omega (arith, signed_arith, saturday.0, saturday.1) in
             first_case (weekday_of d == 4) (weekday_of d == 0) (holiday_on (d +ℤ pos 1) false) (holiday_on (d -ℤ pos 1) false) (is_eq (weekday_of d) 4 friday) ∙ ap (λ x. holiday_on x false) (sym saturday.1) ∙ held
         | inr sunday ↦
-            let monday = monday_after d e sunday.1 sunday.0 in
+            let monday : weekday_of d ≡ 0 = omega (arith, signed_arith, sunday.0, sunday.1) in
             second_case (weekday_of d == 4) (weekday_of d == 0) (holiday_on (d +ℤ pos 1) false) (holiday_on (d -ℤ pos 1) false) (zero_not_four (weekday_of d) monday) (is_eq (weekday_of d) 0 monday) ∙ ap (λ x. holiday_on x false) (sym sunday.1) ∙ held
       ]),
 )

@@ -1,5 +1,5 @@
 -- The holiday that a day is: the one whose day the law sets there.
-use Rattle.std.proofs.Common.{◌≡◌, ◌⊎◌, inl, inr, ◌<◌, ℕ, zero, suc, ℤ, Bool, true, false, List, [], ◌∷◌, length, get_or, Option, Some, None, arith, refl, ap, sym, ◌∙◌}
+use Rattle.std.proofs.Common.{◌≡◌, ◌⊎◌, inl, inr, ◌<◌, ℕ, zero, suc, ℤ, Bool, true, false, List, [], ◌∷◌, length, get_or, Option, Some, None, arith, refl, ap, sym, subst, ◌∙◌}
 use Rattle.std.specs.List.{find}
 use Rattle.std.specs.Ordering.{int_eq}
 use Rattle.std.proofs.lemmas.Bool.{cases_Bool}
@@ -10,7 +10,7 @@ use Rattle.court_holidays.specs.declared.federal.statute.FederalHoliday.{Federal
 use Rattle.court_holidays.specs.declared.federal.statute.FederalHoliday.TheVariants.{NewYearsDay, BirthdayOfMartinLutherKingJr, InaugurationDay, WashingtonsBirthday, MemorialDay, Juneteenth, IndependenceDay, LaborDay, ColumbusDay, VeteransDay, ThanksgivingDay, ChristmasDay}
 use Rattle.court_holidays.specs.Federal.Statute.{set_in}
 use Rattle.court_holidays.specs.Federal.Calendar.{all_holidays, is_kept, kept_on, is_day, holiday_on, DaysAreTheirHolidays}
-use Rattle.court_holidays.proofs.FederalLemmas.PlaceLemmas.{placed, no_two_share_a_day}
+use Rattle.court_holidays.proofs.FederalLemmas.PlaceLemmas.{if_so, placed, no_two_share_a_day}
 
 -- a holiday's day is of the year for which it's set
 pub set_year : (h : FederalHoliday) (y d : ℤ) → set_in h y ≡ Some d → year_of_day d ≡ y
@@ -42,100 +42,61 @@ find-fails p (y ∷ ys) (suc i) d within none = elim (cases_Bool (p y)) [
   | inr fails ↦ find-fails p ys i d (omega (arith, within)) (rw fails at none)
 ]
 
--- the place of a holiday among all
-place : FederalHoliday → ℕ
-place NewYearsDay = 0
-place BirthdayOfMartinLutherKingJr = 1
-place InaugurationDay = 2
-place WashingtonsBirthday = 3
-place MemorialDay = 4
-place Juneteenth = 5
-place IndependenceDay = 6
-place LaborDay = 7
-place ColumbusDay = 8
-place VeteransDay = 9
-place ThanksgivingDay = 10
-place ChristmasDay = 11
-
+-- the place of a holiday among all, if it is one that each court has
 record IsAt (h : FederalHoliday) : Type 0 where
-  within : place h < length all_holidays
-  is : get_or all_holidays (place h) h ≡ h
+  place : ℕ
+  within : place < length all_holidays
+  is : get_or all_holidays place h ≡ h
+  kept : is_kept false h ≡ true
 
-at_place : (h : FederalHoliday) → IsAt h
-unfolding place
-at_place NewYearsDay = record { within = omega arith; is = refl }
-at_place BirthdayOfMartinLutherKingJr = record { within = omega arith; is = refl }
-at_place InaugurationDay = record { within = omega arith; is = refl }
-at_place WashingtonsBirthday = record { within = omega arith; is = refl }
-at_place MemorialDay = record { within = omega arith; is = refl }
-at_place Juneteenth = record { within = omega arith; is = refl }
-at_place IndependenceDay = record { within = omega arith; is = refl }
-at_place LaborDay = record { within = omega arith; is = refl }
-at_place ColumbusDay = record { within = omega arith; is = refl }
-at_place VeteransDay = record { within = omega arith; is = refl }
-at_place ThanksgivingDay = record { within = omega arith; is = refl }
-at_place ChristmasDay = record { within = omega arith; is = refl }
-
-pub kept : (h : FederalHoliday) → ¬ (h ≡ InaugurationDay) → is_kept false h ≡ true
-kept NewYearsDay other = refl
-kept BirthdayOfMartinLutherKingJr other = refl
-kept InaugurationDay other = absurd (other refl)
-kept WashingtonsBirthday other = refl
-kept MemorialDay other = refl
-kept Juneteenth other = refl
-kept IndependenceDay other = refl
-kept LaborDay other = refl
-kept ColumbusDay other = refl
-kept VeteransDay other = refl
-kept ThanksgivingDay other = refl
-kept ChristmasDay other = refl
+at_place : (h : FederalHoliday) → ¬ (h ≡ InaugurationDay) → IsAt h
+at_place NewYearsDay other = record { place = 0; within = omega arith; is = refl; kept = refl }
+at_place BirthdayOfMartinLutherKingJr other = record { place = 1; within = omega arith; is = refl; kept = refl }
+at_place InaugurationDay other = absurd (other refl)
+at_place WashingtonsBirthday other = record { place = 3; within = omega arith; is = refl; kept = refl }
+at_place MemorialDay other = record { place = 4; within = omega arith; is = refl; kept = refl }
+at_place Juneteenth other = record { place = 5; within = omega arith; is = refl; kept = refl }
+at_place IndependenceDay other = record { place = 6; within = omega arith; is = refl; kept = refl }
+at_place LaborDay other = record { place = 7; within = omega arith; is = refl; kept = refl }
+at_place ColumbusDay other = record { place = 8; within = omega arith; is = refl; kept = refl }
+at_place VeteransDay other = record { place = 9; within = omega arith; is = refl; kept = refl }
+at_place ThanksgivingDay other = record { place = 10; within = omega arith; is = refl; kept = refl }
+at_place ChristmasDay other = record { place = 11; within = omega arith; is = refl; kept = refl }
 
 -- what passes at a court outside the capital's region
-passes_is : (h : FederalHoliday) (y d : ℤ) → is_day d (kept_on false y h) ≡ true → (¬ (h ≡ InaugurationDay)) × (set_in h y ≡ Some d)
-passes_is NewYearsDay y d is = ((λ e. cc), is_day-is d _ is)
-passes_is BirthdayOfMartinLutherKingJr y d is = ((λ e. cc), is_day-is d _ is)
-passes_is InaugurationDay y d is = absurd (cc)
-passes_is WashingtonsBirthday y d is = ((λ e. cc), is_day-is d _ is)
-passes_is MemorialDay y d is = ((λ e. cc), is_day-is d _ is)
-passes_is Juneteenth y d is = ((λ e. cc), is_day-is d _ is)
-passes_is IndependenceDay y d is = ((λ e. cc), is_day-is d _ is)
-passes_is LaborDay y d is = ((λ e. cc), is_day-is d _ is)
-passes_is ColumbusDay y d is = ((λ e. cc), is_day-is d _ is)
-passes_is VeteransDay y d is = ((λ e. cc), is_day-is d _ is)
-passes_is ThanksgivingDay y d is = ((λ e. cc), is_day-is d _ is)
-passes_is ChristmasDay y d is = ((λ e. cc), is_day-is d _ is)
+pub passes_is : (h : FederalHoliday) (y d : ℤ) → is_day d (kept_on false y h) ≡ true → (is_kept false h ≡ true) × (set_in h y ≡ Some d)
+passes_is h y d is = if_so (is_kept false h) (set_in h y) d (is_day-is d (kept_on false y h) is)
 
-is_passes : (h : FederalHoliday) (y d : ℤ) → ¬ (h ≡ InaugurationDay) → set_in h y ≡ Some d → is_day d (kept_on false y h) ≡ true
-is_passes h y d other is =
-    let set : kept_on false y h ≡ Some d = rw (kept h other) is in
-    is_day-same d (kept_on false y h) set
+other : (h : FederalHoliday) → is_kept false h ≡ true → ¬ (h ≡ InaugurationDay)
+other h kept same = let no : is_kept false InaugurationDay ≡ true = subst (λ k. is_kept false k ≡ true) same kept in absurd (cc)
 
 found_or : (o : Option FederalHoliday) → (o ≡ None) ⊎ ((k : FederalHoliday) × (o ≡ Some k))
 found_or None = inl refl
 found_or (Some k) = inr (k, refl)
 
+-- the holiday that a day is
+pub of_day : (d : ℤ) (h : FederalHoliday) → holiday_on d false ≡ Some h → (is_kept false h ≡ true) × (set_in h (year_of_day d) ≡ Some d)
+unfolding holiday_on
+of_day d h found = passes_is h (year_of_day d) d (find-passes (λ k. is_day d (kept_on false (year_of_day d) k)) all_holidays h found)
+
 pub days_are_their_holidays : DaysAreTheirHolidays
 unfolding holiday_on
 days_are_their_holidays d h = (
-  (λ found.
-      let p : FederalHoliday → Bool = λ k. is_day d (kept_on false (year_of_day d) k) in
-      let is = passes_is h (year_of_day d) d (find-passes p all_holidays h found) in
-      (is.0, (year_of_day d, is.1))),
+  (λ found. let is = of_day d h found in (other h is.0, (year_of_day d, is.1))),
   (λ given.
       let p : FederalHoliday → Bool = λ k. is_day d (kept_on false (year_of_day d) k) in
       let year = set_year h given.1.0 d given.1.1 in
       let here : set_in h (year_of_day d) ≡ Some d = ap (set_in h) year ∙ given.1.1 in
-      let passes : p h ≡ true = is_passes h (year_of_day d) d given.0 here in
+      let spot = at_place h given.0 in
       elim (found_or (find p all_holidays)) [
         | inl none ↦
-            let spot = at_place h in
-            let fails : p (get_or all_holidays (place h) h) ≡ false = find-fails p all_holidays (place h) h spot.within none in
-            let misses : p h ≡ false = sym (ap p spot.is) ∙ fails in
-            let clash : true ≡ false = sym passes ∙ misses in
+            let kept : kept_on false (year_of_day d) h ≡ Some d = rw spot.kept here in
+            let fails : p (get_or all_holidays spot.place h) ≡ false = find-fails p all_holidays spot.place h spot.within none in
+            let clash : true ≡ false = sym (is_day-same d (kept_on false (year_of_day d) h) kept) ∙ sym (ap p spot.is) ∙ fails in
             absurd (cc)
         | inr found ↦
-            let is = passes_is found.0 (year_of_day d) d (find-passes p all_holidays found.0 found.1) in
-            let same = no_two_share_a_day found.0 h (year_of_day d) (year_of_day d) d is.0 given.0 is.1 here in
+            let is = of_day d found.0 found.1 in
+            let same = no_two_share_a_day found.0 h (year_of_day d) (year_of_day d) d (other found.0 is.0) given.0 is.1 here in
             found.1 ∙ ap Some same.0
       ]),
 )

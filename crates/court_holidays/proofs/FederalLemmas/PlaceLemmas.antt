@@ -14,9 +14,9 @@ use Rattle.jiff_core.proofs.DateLemmas.{civil, days_from_civil-day, epoch_day_in
 use Rattle.court_clock.specs.Words.{weekday_of}
 use Rattle.court_holidays.specs.declared.federal.statute.FederalHoliday.{FederalHoliday}
 use Rattle.court_holidays.specs.declared.federal.statute.FederalHoliday.TheVariants.{NewYearsDay, BirthdayOfMartinLutherKingJr, InaugurationDay, WashingtonsBirthday, MemorialDay, Juneteenth, IndependenceDay, LaborDay, ColumbusDay, VeteransDay, ThanksgivingDay, ChristmasDay}
-use Rattle.court_holidays.specs.Federal.Weekdays.{nth_weekday, last_weekday}
+use Rattle.court_holidays.specs.Weekdays.{nth_weekday, last_weekday}
 use Rattle.court_holidays.specs.Federal.Statute.{is_stated, is_inauguration_year, words_of, set_in, LaborDayIsAMonday, HolidaysLieInTheirYear, NoTwoShareADay}
-use Rattle.court_holidays.proofs.FederalLemmas.WeekdayLemmas.{weekdays_are_counted}
+use Rattle.court_holidays.proofs.WeekdayLemmas.{weekdays_are_counted}
 
 -- the first and the last date that a holiday may have in a year, each as 32 times the month and the day of the month
 abbrev pub low_key : FederalHoliday → ℕ

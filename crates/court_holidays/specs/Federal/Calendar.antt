@@ -1,6 +1,6 @@
 -- The holidays of a year, and the holiday that a day is.
-use Rattle.std.specs.Prelude.{◌≡◌, ◌↔◌, ℤ, Bool, true, false, List, [], ◌∷◌, Option, Some, None, option_map, if◌then◌else◌}
-use Rattle.std.specs.List.{find, filter_map}
+use Rattle.std.specs.Prelude.{◌≡◌, ◌↔◌, ℤ, Bool, true, false, List, [], ◌∷◌, Option, Some, None, if◌then◌else◌}
+use Rattle.std.specs.List.{find}
 use Rattle.std.specs.Ordering.{int_eq}
 use Rattle.jiff_tz.specs.Year.{year_of_day}
 use Rattle.court_holidays.specs.Federal.Statute.{set_in}
@@ -21,14 +21,6 @@ is_kept capital holiday = true
 -- the day of the holiday in a year, at a court that has it
 abbrev pub kept_on : Bool → ℤ → FederalHoliday → Option ℤ
 kept_on capital year holiday = if is_kept capital holiday then set_in holiday year else None
-
--- the same with the holiday
-abbrev pub dated : Bool → ℤ → FederalHoliday → Option (ℤ × FederalHoliday)
-dated capital year holiday = option_map (λ d. (d, holiday)) (kept_on capital year holiday)
-
--- the holidays of a year with their days
-unfoldable pub holidays_in : ℤ → Bool → List (ℤ × FederalHoliday)
-holidays_in year capital = filter_map (dated capital year) all_holidays
 
 -- whether it's that day
 abbrev pub is_day : ℤ → Option ℤ → Bool

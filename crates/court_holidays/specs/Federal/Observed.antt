@@ -8,7 +8,7 @@
 -- So these days are kept apart from those set by law.
 --
 -- Inauguration Day has no other day: 6103(c) itself moves it from a Sunday.
-use Rattle.std.specs.Prelude.{◌≡◌, ◌↔◌, ◌==◌, ℤ, pos, ◌+ℤ◌, ◌-ℤ◌, false, Option, Some, None, if◌then◌else◌}
+use Rattle.std.specs.Prelude.{◌≡◌, ◌↔◌, ◌==◌, ℤ, pos, ◌+ℤ◌, ◌-ℤ◌, false, ℕ, List, codes, Option, Some, None, if◌then◌else◌}
 use Rattle.court_clock.specs.Words.{weekday_of}
 use Rattle.court_holidays.specs.Federal.Calendar.{holiday_on, is_kept}
 use Rattle.court_holidays.specs.declared.federal.statute.FederalHoliday.{FederalHoliday}
@@ -31,6 +31,10 @@ observed_on d =
     if weekday_of d == 4 then holiday_on (d +ℤ pos 1) false
     else if weekday_of d == 0 then holiday_on (d -ℤ pos 1) false
     else None
+
+-- the law that has a holiday observed on a Friday, in place of the Saturday, or on a Monday, in place of the Sunday
+abbrev pub law_in_place : ℤ → List ℕ
+law_in_place d = if weekday_of d == 4 then codes "5 U.S.C. 6103(b)(1)" else codes "Executive Order 11582"
 
 -- what they mean together: a holiday is observed on the day in whose place it is
 abbrev pub ObservedAreInPlace : Type 0

@@ -1,20 +1,16 @@
 -- The days that 5 U.S.C. 6103 sets aside, in its words, for the years 1970 to 2199. Fed. R. Civ. P. 6(a)(6)(A) counts as a
 -- legal holiday 'the day set aside by statute for observing' each of these but Inauguration Day.
 use Rattle.std.specs.Prelude.{◌≡◌, ◌==◌, ℕ, ◌%◌, ℤ, pos, ◌≤ℤ◌, int_le, int_lt, Bool, ◌&&◌, unsigned_abs, List, codes, Option, Some, None, if◌then◌else◌}
-use Rattle.jiff_core.specs.Calendar.{days_from_civil}
 use Rattle.jiff_core.specs.declared.civil.weekday.Weekday.TheVariants.{Monday, Thursday}
 use Rattle.court_clock.specs.Words.{weekday_of}
-use Rattle.court_holidays.specs.Federal.Weekdays.{nth_weekday, last_weekday}
+use Rattle.court_holidays.specs.Dates.{on}
+use Rattle.court_holidays.specs.Weekdays.{nth_weekday, last_weekday}
 use Rattle.court_holidays.specs.declared.federal.statute.FederalHoliday.{FederalHoliday}
 use Rattle.court_holidays.specs.declared.federal.statute.FederalHoliday.TheVariants.{NewYearsDay, BirthdayOfMartinLutherKingJr, InaugurationDay, WashingtonsBirthday, MemorialDay, Juneteenth, IndependenceDay, LaborDay, ColumbusDay, VeteransDay, ThanksgivingDay, ChristmasDay}
 
 -- the years for which these definitions say what the law sets: from 1970, and as the law is now up to 2199
 abbrev pub is_stated : ℤ → Bool
 is_stated year = int_le (pos 1970) year && int_le year (pos 2199)
-
--- a day of a month: `on 7 4 2025` is 4 July 2025
-abbrev pub on : ℕ → ℕ → ℤ → ℤ
-on month day year = days_from_civil year month day
 
 -- none in years before the first
 abbrev pub since : ℤ → ℤ → ℤ → Option ℤ
@@ -80,6 +76,11 @@ statute_name ColumbusDay = codes "Columbus Day"
 statute_name VeteransDay = codes "Veterans Day"
 statute_name ThanksgivingDay = codes "Thanksgiving Day"
 statute_name ChristmasDay = codes "Christmas Day"
+
+-- the part of the statute that sets its day
+abbrev pub federal_statute : FederalHoliday → List ℕ
+federal_statute InaugurationDay = codes "5 U.S.C. 6103(c)"
+federal_statute holiday = codes "5 U.S.C. 6103(a)"
 
 -- what follows from these words: Labor Day is a Monday, from 1 to 7 September
 abbrev pub LaborDayIsAMonday : Type 0

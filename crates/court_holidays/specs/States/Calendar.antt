@@ -3,9 +3,13 @@ use Rattle.std.specs.Prelude.{ℤ, Bool, Option}
 use Rattle.std.specs.List.{find}
 use Rattle.jiff_tz.specs.Year.{year_of_day}
 use Rattle.court_holidays.specs.Federal.Words.{is_day}
-use Rattle.court_holidays.specs.States.Statute.{holidays_of, kept_in}
+use Rattle.court_holidays.specs.States.Statute.{holidays_of, kept_in, set_in}
 use Rattle.court_holidays.specs.declared.states.state.State.{State}
 use Rattle.court_holidays.specs.declared.states.statute.StateHoliday.{StateHoliday}
+
+-- the law sets the day itself for the holiday
+abbrev pub is_set_on : ℤ → StateHoliday → Bool
+is_set_on d holiday = is_day d (set_in holiday (year_of_day d))
 
 -- the holiday is kept on the day
 abbrev pub is_kept_on : ℤ → StateHoliday → Bool

@@ -1,7 +1,7 @@
 -- Easter of the Gregorian calendar, and Good Friday.
-use Rattle.std.specs.Prelude.{◌≡◌, ◌<◌, ◌-◌, ◌+◌, ◌%◌, ℕ, ℤ, pos, ◌+ℤ◌, ◌-ℤ◌, ◌≤ℤ◌, ◌<ℤ◌, List, [], ◌∷◌, slice_index, unsigned_abs}
+use Rattle.std.specs.Prelude.{◌≡◌, ◌-◌, ◌+◌, ◌%◌, ℕ, ℤ, pos, ◌+ℤ◌, ◌-ℤ◌, ◌≤ℤ◌, ◌<ℤ◌, List, [], ◌∷◌, slice_index, unsigned_abs}
 use Rattle.court_clock.specs.Words.{weekday_of}
-use Rattle.court_holidays.specs.States.Dates.{on}
+use Rattle.court_holidays.specs.Dates.{on}
 
 -- the paschal full moon in the years 1900 to 2199, as days after 21 March, by the year's place in the cycle of 19 years: the
 -- first of the 19 is that of the golden number 1, 14 April, and the last that of 19, 27 March

@@ -1,9 +1,9 @@
 -- The days that the law of a state sets aside and the federal list lacks, in the words of each statute.
-use Rattle.std.specs.Prelude.{◌≡◌, ◌==◌, ℕ, ◌%◌, ℤ, pos, ◌+ℤ◌, ◌-ℤ◌, int_le, Bool, true, ◌&&◌, unsigned_abs, List, [], ◌∷◌, Option, Some, None, option_map, if◌then◌else◌}
+use Rattle.std.specs.Prelude.{◌==◌, ◌%◌, ℤ, pos, ◌+ℤ◌, ◌-ℤ◌, int_le, Bool, true, ◌&&◌, unsigned_abs, List, [], ◌∷◌, Option, Some, None, option_map, if◌then◌else◌}
 use Rattle.jiff_core.specs.declared.civil.weekday.Weekday.TheVariants.{Monday, Thursday, Friday}
 use Rattle.court_clock.specs.Words.{weekday_of}
-use Rattle.court_holidays.specs.Federal.Words.{nth_weekday, last_weekday}
-use Rattle.court_holidays.specs.States.Dates.{is_stated, on}
+use Rattle.court_holidays.specs.Weekdays.{nth_weekday, last_weekday}
+use Rattle.court_holidays.specs.Dates.{on}
 use Rattle.court_holidays.specs.States.Easter.{good_friday}
 use Rattle.court_holidays.specs.declared.states.state.State.{State}
 use Rattle.court_holidays.specs.declared.states.state.State.TheVariants.{Alaska, Arizona, California, Colorado, DistrictOfColumbia, Florida, Georgia, Guam, Hawaii, Illinois, Massachusetts, NewJersey, NewYork, Pennsylvania, PuertoRico, Texas, Virginia, Washington}
@@ -181,6 +181,10 @@ kept_by Stays d = d
 kept_by SundayToMonday d = if weekday_of d == 6 then d +ℤ pos 1 else d
 kept_by NearestWeekday d =
     if weekday_of d == 5 then d -ℤ pos 1 else if weekday_of d == 6 then d +ℤ pos 1 else d
+
+-- the years for which these definitions say what the states' laws set: from 2016, and as the laws are now up to 2199
+abbrev pub is_stated : ℤ → Bool
+is_stated year = int_le (pos 2016) year && int_le year (pos 2199)
 
 -- the day that the law sets in a year, if it does, and the day on which it is kept
 unfoldable pub set_in : StateHoliday → ℤ → Option ℤ

@@ -1,8 +1,9 @@
 -- The words of clauses and definitions, for the crates above, from one place.
-pub use Rattle.court_holidays.specs.States.Dates.{is_stated, IsStated, on, IsNear}
+pub use Rattle.court_holidays.specs.Dates.{IsStated, IsNear, on}
 pub use Rattle.court_holidays.specs.States.Easter.{full_moons, full_moon, sunday_after, EasterIsASunday}
 unfoldable pub use Rattle.court_holidays.specs.States.Easter.{easter, good_friday}
-pub use Rattle.court_holidays.specs.States.Statute.{election_day, kept_by}
+pub use Rattle.court_holidays.specs.States.Statute.{is_stated, election_day, kept_by}
+pub use Rattle.court_holidays.specs.States.Names.{state_holiday_name, state_statute, is_doubtful}
 unfoldable pub use Rattle.court_holidays.specs.States.Statute.{holidays_of, words_of, is_in_force, weekend_rule, set_in, kept_in}
-pub use Rattle.court_holidays.specs.States.Calendar.{is_kept_on}
+pub use Rattle.court_holidays.specs.States.Calendar.{is_set_on, is_kept_on}
 unfoldable pub use Rattle.court_holidays.specs.States.Calendar.{state_holiday_on}

@@ -1,16 +1,13 @@
 //! The holidays of a year, and the holiday that a day is.
 
-ghost use Rattle.std.specs.Prelude.{◌≡◌, ◌++◌, OnOk, IfOk};
-ghost use Rattle.std.specs.List.{filter_map, find};
-ghost use Rattle.std.specs.Option.{option_to_list};
-ghost use Rattle.jiff_core.specs.Date.{epoch_day};
+ghost use Rattle.std.specs.Prelude.{◌≡◌};
+ghost use Rattle.std.specs.List.{find};
 ghost use Rattle.jiff_tz.specs.Year.{year_of_day};
-ghost use Rattle.court_holidays.specs.Federal.Calendar.{dated, holiday_on, holidays_in, is_day, is_kept, kept_on};
+ghost use Rattle.court_holidays.specs.Federal.Calendar.{holiday_on, is_day, is_kept, kept_on};
 
+use crate::dates::year_of;
 use crate::federal::statute::FederalHoliday;
 use court_clock::Day;
-use jiff_core::civil::Date;
-use std::alloc::{AllocError, Global};
 
 /// All holidays, in the order of their days in a year.
 const ALL: [FederalHoliday; 12] = [
@@ -28,20 +25,6 @@ const ALL: [FederalHoliday; 12] = [
     FederalHoliday::ChristmasDay,
 ];
 
-/// The holidays of a year with the days that the law sets aside for them, in their order. `capital` says whether the
-/// court is in the capital's region, which alone has Inauguration Day. There are none for a year that isn't one of 1970
-/// to 2199. An `Err` says that memory ran out.
-#[tactic(auto, unfolding(crate::specs::Federal::Calendar::holidays_in))]
-pub fn holidays_of(
-    alloc: Global,
-    year: i16,
-    capital: bool,
-) -> Result<Vec<(Day, FederalHoliday)>, AllocError>
-    ensures { IfOk result (λ h. h.items ≡ holidays_in year capital) }
-{
-    all_dated(alloc, &ALL[..], year, capital)
-}
-
 /// The holiday that the day is by law. Where it is Inauguration Day and another, the other. None for any other day, and
 /// for a day that isn't in the years 1970 to 2199.
 #[tactic(auto, unfolding(crate::specs::Federal::Calendar::holiday_on))]
@@ -49,22 +32,6 @@ pub fn holiday_on(day: Day, capital: bool) -> Option<FederalHoliday>
     ensures { result ≡ holiday_on day capital }
 {
     first_on(&ALL[..], year_of(day), day, capital)
-}
-
-/// The holidays that have a day in the year, with their days.
-fn all_dated(
-    alloc: Global,
-    holidays: &[FederalHoliday],
-    year: i16,
-    capital: bool,
-) -> Result<Vec<(Day, FederalHoliday)>, AllocError>
-    ensures { IfOk result (λ h. h.items ≡ filter_map (dated capital year) holidays.now) }
-{
-    let mut dates = Vec::new(alloc);
-    for holiday in holidays {
-        push_if(&mut dates, dated(capital, year, *holiday))?;
-    }
-    Ok(dates)
 }
 
 /// The first of the holidays that is on the day in the year.
@@ -76,12 +43,10 @@ fn first_on(
 ) -> Option<FederalHoliday>
     ensures { result ≡ find (λ h. is_day day (kept_on capital year h)) holidays.now }
 {
-    for holiday in holidays {
-        if is_on(day, capital, year, *holiday) {
-            return Some(*holiday);
-        }
-    }
-    None
+    holidays
+        .iter()
+        .copied()
+        .find(|holiday| is_on(day, capital, year, *holiday))
 }
 
 /// The day of the holiday in a year, at a court that has it.
@@ -104,16 +69,6 @@ pub(crate) fn is_kept(capital: bool, holiday: FederalHoliday) -> bool
     }
 }
 
-/// The day of the holiday in a year, at a court that has it, with the holiday.
-fn dated(capital: bool, year: i16, holiday: FederalHoliday) -> Option<(Day, FederalHoliday)>
-    ensures { result ≡ dated capital year holiday }
-{
-    match kept_on(capital, year, holiday) {
-        Some(day) => Some((day, holiday)),
-        None => None,
-    }
-}
-
 /// Whether the day is that of the holiday in the year.
 fn is_on(day: Day, capital: bool, year: i16, holiday: FederalHoliday) -> bool
     ensures { result ≡ is_day day (kept_on capital year holiday) }
@@ -121,38 +76,5 @@ fn is_on(day: Day, capital: bool, year: i16, holiday: FederalHoliday) -> bool
     match kept_on(capital, year, holiday) {
         Some(set) => set == day,
         None => false,
-    }
-}
-
-/// Puts the item, if there is one, at the end of the list.
-fn push_if(
-    list: &mut Vec<(Day, FederalHoliday)>,
-    item: Option<(Day, FederalHoliday)>,
-) -> Result<(), AllocError>
-    ensures { OnOk result (list.new.items ≡ list.old.items ++ option_to_list item) }
-{
-    match item {
-        Some(item) => {
-            list.push(item)?;
-            Ok(())
-        }
-        None => Ok(()),
-    }
-}
-
-/// The year of the day's date.
-fn year_of(day: Day) -> i16
-    ensures { result ≡ year_of_day day }
-{
-    date_of(day).year
-}
-
-/// The day's date.
-fn date_of(day: Day) -> Date
-    ensures { epoch_day result ≡ day }
-{
-    match Date::from_unix_epoch_day(i64::from(day.number())) {
-        Ok(date) => date,
-        Err(_) => unreachable!(),
     }
 }

@@ -3,7 +3,7 @@
 
 ghost use Rattle.court_holidays.specs.Federal.Calendar.{DaysAreTheirHolidays};
 ghost use Rattle.court_holidays.specs.Federal.Observed.{ObservedAreInPlace};
-ghost use Rattle.court_holidays.specs.Federal.Weekdays.{LastWeekdaysAreLast, WeekdaysAreCounted};
+ghost use Rattle.court_holidays.specs.Weekdays.{LastWeekdaysAreLast, WeekdaysAreCounted};
 ghost use Rattle.court_holidays.specs.Federal.Statute.{HolidaysLieInTheirYear, LaborDayIsAMonday, NoTwoShareADay};
 
 /// The nth Monday, or other weekday, of a month is the one before which n - 1 are in the month, for n from 1 to 4.

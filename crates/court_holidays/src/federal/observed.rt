@@ -1,9 +1,9 @@
 //! The day on which a holiday is observed that is on a Saturday or a Sunday.
 
-ghost use Rattle.std.specs.Prelude.{◌≡◌, ◌+ℤ◌, ◌-ℤ◌, pos};
-ghost use Rattle.court_clock.specs.Words.{IsDayNumber};
-ghost use Rattle.court_holidays.specs.Federal.Observed.{beside_weekend, observed_for, observed_on};
+ghost use Rattle.std.specs.Prelude.{◌≡◌};
+ghost use Rattle.court_holidays.specs.Federal.Observed.{beside_weekend, law_in_place, observed_for, observed_on};
 
+use crate::dates::{earlier, later};
 use crate::federal::calendar::{holiday_on, is_kept};
 use crate::federal::statute::FederalHoliday;
 use court_clock::Day;
@@ -29,9 +29,19 @@ pub fn observed_on(day: Day) -> Option<FederalHoliday>
     // The number's range says that the day beside the weekend is a day.
     let _number = day.number();
     match day.weekday() {
-        4 => holiday_on(after(day), false),
-        0 => holiday_on(before(day), false),
+        4 => holiday_on(later(day, 1), false),
+        0 => holiday_on(earlier(day, 1), false),
         _ => None,
+    }
+}
+
+/// The law that has a holiday observed on the day in place of a Saturday, if it is a Friday, or else of a Sunday.
+pub fn law_in_place(day: Day) -> &'static str
+    ensures { result.now ≡ law_in_place day }
+{
+    match day.weekday() {
+        4 => "5 U.S.C. 6103(b)(1)",
+        _ => "Executive Order 11582",
     }
 }
 
@@ -43,30 +53,8 @@ fn beside_weekend(day: Day) -> Option<Day>
     // The number's range says that the day beside the weekend is a day.
     let _number = day.number();
     match day.weekday() {
-        5 => Some(before(day)),
-        6 => Some(after(day)),
+        5 => Some(earlier(day, 1)),
+        6 => Some(later(day, 1)),
         _ => None,
-    }
-}
-
-/// The day before.
-fn before(day: Day) -> Day
-    requires { IsDayNumber (day -ℤ pos 1) }
-    ensures { result ≡ day -ℤ pos 1 }
-{
-    match Day::new(day.number() - 1) {
-        Some(before) => before,
-        None => unreachable!(),
-    }
-}
-
-/// The day after.
-fn after(day: Day) -> Day
-    requires { IsDayNumber (day +ℤ pos 1) }
-    ensures { result ≡ day +ℤ pos 1 }
-{
-    match Day::new(day.number() + 1) {
-        Some(after) => after,
-        None => unreachable!(),
     }
 }

@@ -1,11 +1,11 @@
 //! The holidays, and the day that the statute sets aside for each.
 
-ghost use Rattle.std.specs.Prelude.{◌≡◌, pos};
-ghost use Rattle.jiff_core.specs.Calendar.{IsBetween};
-ghost use Rattle.court_holidays.specs.Federal.Statute.{is_stated, set_in, since, statute_name, words_of};
+ghost use Rattle.std.specs.Prelude.{◌≡◌};
+ghost use Rattle.court_holidays.specs.Dates.{IsStated};
+ghost use Rattle.court_holidays.specs.Federal.Statute.{federal_statute, is_stated, set_in, since, statute_name, words_of};
 ghost use Rattle.court_holidays.specs.declared.federal.statute.FederalHoliday.TheVariants.{InaugurationDay};
 
-use crate::federal::weekdays::{last_weekday, nth_weekday, on};
+use crate::dates::{last_weekday, nth_weekday, on};
 use court_clock::Day;
 use jiff_core::civil::Weekday;
 
@@ -60,6 +60,16 @@ impl FederalHoliday {
         }
     }
 
+    /// The part of the statute that sets its day.
+    pub fn statute(self) -> &'static str
+        ensures { result.now ≡ federal_statute self }
+    {
+        match self {
+            FederalHoliday::InaugurationDay => "5 U.S.C. 6103(c)",
+            _ => "5 U.S.C. 6103(a)",
+        }
+    }
+
     /// The day that the law sets aside for the holiday in the year. None where the law has no such holiday in the year,
     /// and for a year that isn't one of 1970 to 2199.
     #[tactic(auto, unfolding(crate::specs::Federal::Statute::set_in))]
@@ -81,9 +91,9 @@ fn is_stated(year: i16) -> bool
 }
 
 /// The day that the statute sets aside in the year, if it does.
-#[tactic(auto, using(crate::proofs::FederalLemmas::DateLemmas::february_22))]
+#[tactic(auto, using(crate::proofs::DateLemmas::february_22))]
 fn words_of(holiday: FederalHoliday, year: i16) -> Option<Day>
-    requires { IsBetween (pos 1970) (pos 2199) year }
+    requires { IsStated year }
     ensures { result ≡ words_of holiday year }
 {
     match holiday {
@@ -100,7 +110,7 @@ fn words_of(holiday: FederalHoliday, year: i16) -> Option<Day>
         FederalHoliday::MemorialDay => Some(if year < 1971 {
             on(year, 5, 30)
         } else {
-            last_weekday(year, 5, Weekday::Monday)
+            last_weekday(year, 5, 31, Weekday::Monday)
         }),
         FederalHoliday::Juneteenth => since(2021, year, on(year, 6, 19)),
         FederalHoliday::IndependenceDay => Some(on(year, 7, 4)),
@@ -128,7 +138,7 @@ fn since(first: i16, year: i16, day: Day) -> Option<Day>
 
 /// The day of an inauguration, in each year after one that four divides: 20 January, or the 21st where that is a Sunday.
 fn inauguration(year: i16) -> Option<Day>
-    requires { IsBetween (pos 1970) (pos 2199) year }
+    requires { IsStated year }
     ensures { result ≡ words_of InaugurationDay year }
 {
     if year.unsigned_abs() % 4 != 1 {

@@ -2,13 +2,12 @@
 
 ghost use Rattle.std.specs.Prelude.{◌≡◌};
 ghost use Rattle.std.specs.List.{find};
-ghost use Rattle.jiff_tz.specs.Year.{year_of_day};
 ghost use Rattle.court_holidays.specs.States.Calendar.{is_kept_on, state_holiday_on};
 
+use crate::dates::year_of;
 use crate::states::state::{State, holidays_of};
 use crate::states::statute::StateHoliday;
 use court_clock::Day;
-use jiff_core::civil::Date;
 
 /// The holiday of the state that is kept on the day; where two are, the first of the state's list. None for any other
 /// day, and for a day that isn't in the years 2016 to 2199.
@@ -36,16 +35,5 @@ fn is_kept_on(day: Day, holiday: StateHoliday) -> bool
     match holiday.kept_in(year_of(day)) {
         Some(kept) => kept == day,
         None => false,
-    }
-}
-
-/// The year of the day's date.
-#[tactic(auto, using(crate::proofs::StatesLemmas::DateLemmas::year_is))]
-fn year_of(day: Day) -> i16
-    ensures { result ≡ year_of_day day }
-{
-    match Date::from_unix_epoch_day(i64::from(day.number())) {
-        Ok(date) => date.year,
-        Err(_) => unreachable!(),
     }
 }

@@ -1,10 +1,10 @@
 //! Easter and Good Friday.
 
 ghost use Rattle.std.specs.Prelude.{◌≡◌};
-ghost use Rattle.court_holidays.specs.States.Dates.{IsNear, IsStated};
+ghost use Rattle.court_holidays.specs.Dates.{IsNear, IsStated};
 ghost use Rattle.court_holidays.specs.States.Easter.{full_moon, good_friday, sunday_after};
 
-use crate::states::dates::{earlier, later, on};
+use crate::dates::{earlier, later, on};
 use court_clock::Day;
 
 /// The paschal full moons of a cycle of 19 years, as days after 21 March.

@@ -1,6 +1,7 @@
 //! The states whose holidays are known.
 
 ghost use Rattle.std.specs.Prelude.{◌≡◌};
+ghost use Rattle.court_holidays.specs.States.Names.{is_doubtful, state_statute};
 ghost use Rattle.court_holidays.specs.States.Statute.{holidays_of};
 
 use crate::states::statute::StateHoliday;
@@ -30,7 +31,9 @@ pub enum State {
 
 impl State {
     /// The statute that names its holidays.
-    pub fn statute(self) -> &'static str {
+    pub fn statute(self) -> &'static str
+        ensures { result.now ≡ state_statute self }
+    {
         match self {
             State::Alaska => "Alaska Stat. section 44.12.010 and those after it",
             State::Arizona => "Ariz. Rev. Stat. section 1-301",
@@ -51,6 +54,20 @@ impl State {
             State::Virginia => "Va. Code section 2.2-3300",
             State::Washington => "Wash. Rev. Code section 1.16.050",
         }
+    }
+
+    /// Whether it is in doubt that the state declares the day a holiday in the sense of Rule 6(a)(6)(C), though its
+    /// statute names it: the state's own courts sit on Admission Day (Cal. Civ. Proc. Code section 135), the Act that has
+    /// Good Friday is one of banks (205 ILCS 630/17), and New Jersey's offices are open on Lincoln's Birthday.
+    pub fn doubts(self, holiday: StateHoliday) -> bool
+        ensures { result ≡ is_doubtful self holiday }
+    {
+        matches!(
+            (self, holiday),
+            (State::California, StateHoliday::AdmissionDay)
+                | (State::Illinois, StateHoliday::GoodFriday)
+                | (State::NewJersey, StateHoliday::LincolnsBirthday)
+        )
     }
 }
 

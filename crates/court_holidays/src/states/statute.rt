@@ -1,13 +1,12 @@
 //! The holidays of states' laws, and the day of each.
 
 ghost use Rattle.std.specs.Prelude.{◌≡◌};
-ghost use Rattle.court_holidays.specs.States.Dates.{IsNear, IsStated, is_stated};
-ghost use Rattle.court_holidays.specs.States.Statute.{is_in_force, kept_by, kept_in, set_in, weekend_rule, words_of};
+ghost use Rattle.court_holidays.specs.Dates.{IsNear, IsStated};
+ghost use Rattle.court_holidays.specs.States.Calendar.{is_set_on};
+ghost use Rattle.court_holidays.specs.States.Names.{state_holiday_name};
+ghost use Rattle.court_holidays.specs.States.Statute.{is_in_force, is_stated, kept_by, kept_in, set_in, weekend_rule, words_of};
 
-use crate::states::dates::{
-    day_after_thanksgiving, earlier, election_day, last_monday_of_march, later, lee_jackson_day,
-    nth_weekday, on,
-};
+use crate::dates::{earlier, last_weekday, later, nth_weekday, on, year_of};
 use crate::states::easter::good_friday;
 use court_clock::Day;
 use jiff_core::civil::Weekday;
@@ -115,8 +114,10 @@ pub enum WeekendRule {
 }
 
 impl StateHoliday {
-    /// The name.
-    pub fn name(self) -> &'static str {
+    /// The name, as the statute has it.
+    pub fn name(self) -> &'static str
+        ensures { result.now ≡ state_holiday_name self }
+    {
         match self {
             StateHoliday::LincolnsBirthday => "Lincoln's Birthday",
             StateHoliday::GoodFriday => "Good Friday",
@@ -194,7 +195,7 @@ impl StateHoliday {
     /// The day that the law sets for the holiday in the year. None where it is no holiday in the year, and for a year
     /// that isn't one of 2016 to 2199.
     #[tactic(auto, unfolding(crate::specs::States::Statute::set_in))]
-    pub fn day_in(self, year: i16) -> Option<Day>
+    fn day_in(self, year: i16) -> Option<Day>
         ensures { result ≡ set_in self year }
     {
         if !is_stated(year) || !is_in_force(self, year) {
@@ -212,6 +213,13 @@ impl StateHoliday {
             return None;
         }
         Some(kept_by(self.weekend_rule(), words_of(self, year)))
+    }
+
+    /// Whether the law sets the day itself for the holiday.
+    pub fn is_set_on(self, day: Day) -> bool
+        ensures { result ≡ is_set_on day self }
+    {
+        self.day_in(year_of(day)) == Some(day)
     }
 }
 
@@ -248,10 +256,12 @@ fn words_of(holiday: StateHoliday, year: i16) -> Day
         StateHoliday::GoodFriday => good_friday(year),
         StateHoliday::ElectionDay
         | StateHoliday::ElectionDaySince2020
-        | StateHoliday::GeneralElectionDay => election_day(year),
-        StateHoliday::DayAfterThanksgiving | StateHoliday::NativeAmericanHeritageDay =>
-            day_after_thanksgiving(year),
-        StateHoliday::SewardsDay => last_monday_of_march(year),
+        | StateHoliday::GeneralElectionDay => later(nth_weekday(year, 11, 1, Weekday::Monday), 1),
+        StateHoliday::DayAfterThanksgiving | StateHoliday::NativeAmericanHeritageDay => later(
+            nth_weekday(year, 11, 4, Weekday::Thursday),
+            1,
+        ),
+        StateHoliday::SewardsDay => last_weekday(year, 3, 31, Weekday::Monday),
         StateHoliday::AlaskaDay => on(year, 10, 18),
         StateHoliday::CesarChavezDay => on(year, 3, 31),
         StateHoliday::AdmissionDay => on(year, 9, 9),
@@ -289,7 +299,7 @@ fn words_of(holiday: StateHoliday, year: i16) -> Day
         StateHoliday::LyndonBainesJohnsonDay => on(year, 8, 27),
         StateHoliday::DayBeforeChristmas => on(year, 12, 24),
         StateHoliday::DayAfterChristmas => on(year, 12, 26),
-        StateHoliday::LeeJacksonDay => lee_jackson_day(year),
+        StateHoliday::LeeJacksonDay => earlier(nth_weekday(year, 1, 3, Weekday::Monday), 3),
     }
 }
 

@@ -15,8 +15,8 @@ impl Holdings {
     ghost use Rattle.docket_core.specs.Docket.{parts_held};
     ghost use Rattle.docket_decisions.specs.Words.{CanChangeRecord, takes_memory};
     ghost use Rattle.docket_rows.specs.Words.{part_after, case_after, judge_change, room_change};
-    ghost use Rattle.docket_core.specs.Changes.{IsAfter, rebooked_docket};
-    ghost use Rattle.docket_core.specs.Rebooking.{CanChangeAll};
+    ghost use Rattle.docket_core.specs.Inside.Changes.{IsAfter, rebooked_docket};
+    ghost use Rattle.docket_core.specs.Inside.Rebooking.{CanChangeAll};
 
     /// Decides the command on the docket as it is, and changes the docket in place where the command isn't refused. A
     /// command about a case copies neither the case nor its deadlines, and a hearing that is booked after all others of

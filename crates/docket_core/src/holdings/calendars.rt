@@ -2,7 +2,7 @@
 
 ghost use Rattle.std.specs.Prelude.{◌≡◌, ◌≤◌, ◌+◌, length, IfOk, IfErr, OnOk, OnErr, if◌then◌else◌};
 ghost use Rattle.docket_rows.specs.Words.{judge_change, room_change};
-ghost use Rattle.docket_core.specs.Rebooking.{CanChange, CanChangeAll, calendar_after, calendars_after};
+ghost use Rattle.docket_core.specs.Inside.Rebooking.{CanChange, CanChangeAll, calendar_after, calendars_after};
 
 use crate::rebooking::{judge_change, room_change};
 use docket_rows::{CalendarChange, Rebooking};

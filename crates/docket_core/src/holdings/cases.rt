@@ -3,7 +3,7 @@
 ghost use Rattle.std.specs.Prelude.{◌≡◌, true, None, set, get_or, IfSome, OnOk, OnErr};
 ghost use Rattle.docket_rows.specs.Words.{case_after, hearing_after};
 ghost use Rattle.docket_decisions.specs.Words.{CanChangeRecord, takes_memory};
-ghost use Rattle.docket_core.specs.Changes.{with_case};
+ghost use Rattle.docket_core.specs.Inside.Changes.{with_case};
 
 use docket_decisions::{change_case, change_hearing};
 use docket_rows::{CaseRecord, Command};

@@ -3,7 +3,7 @@
 ghost use Rattle.std.specs.Prelude.{◌≡◌, [], Some, IfOk, unwrap_or, option_copied};
 ghost use Rattle.hearing_slots.specs.Words.{IsWithinDay, IsFree, with_booking, without_motion};
 ghost use Rattle.docket_rows.specs.Words.{changed_by, judge_written, room_written, parts_read};
-ghost use Rattle.docket_core.specs.Rebooking.{CanChange, CanRebook};
+ghost use Rattle.docket_core.specs.Inside.Rebooking.{CanChange, CanRebook};
 
 use crate::rebooking::{judge_change, rebooking_of, room_change};
 use docket_decisions::Seen;

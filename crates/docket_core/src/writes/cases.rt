@@ -2,7 +2,7 @@
 
 ghost use Rattle.std.specs.Prelude.{◌≡◌, IfOk, option_copied};
 ghost use Rattle.docket_rows.specs.Words.{case_written};
-ghost use Rattle.docket_core.specs.Changes.{CanChangeCase};
+ghost use Rattle.docket_core.specs.Inside.Changes.{CanChangeCase};
 
 use docket_decisions::{Sight, case_of_command, change_case};
 use docket_rows::{CaseRecord, Command};

@@ -19,7 +19,7 @@ use Rattle.docket_rows.specs.declared.command.Command.TheVariants.{Book}
 use Rattle.docket_rows.specs.declared.hearing.Setting.{Setting}
 use Rattle.docket_rows.specs.declared.refusal.Refusal.{Refusal}
 use Rattle.docket_rows.specs.Words.{CourtSetup, Rows, Clash, NumberedMotion, DocketedMotion, DocketedHearing, IsSettable, IsNoticed, KeepsNotice, AreSound, AreLawful, parts_of, motion_shown, motion_in, has_one, is_motion, is_hearing, hearing_asked, sits, is_within_hours, lacks_last_service, missed_service, hearing_checks, book_checks, move_checks, book_refusal, move_refusal, with_hearing, without_hearing, rows_after}
-use Rattle.docket_laws.specs.CanSet.{CanSet}
+use Rattle.docket_laws.specs.Inside.CanSet.{CanSet}
 use Rattle.docket_laws.proofs.MadeLemmas.{NoneOf, none_of, when-None, when-not-None, option_map-None, can_book, can_move}
 use Rattle.docket_laws.proofs.LawfulLemmas.SeenLemmas.{IsFound, is_open_of, is_found_of, unset_in_rows}
 use Rattle.docket_laws.proofs.LawfulLemmas.MotionLemmas.{motion_once}

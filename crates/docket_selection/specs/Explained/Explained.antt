@@ -1,5 +1,5 @@
 -- The sheets of cases, with the reasons of each deadline.
-use Rattle.std.specs.Prelude.{◌≡◌, List, [], ◌∷◌, ⊤}
+use Rattle.std.specs.Prelude.{◌≡◌, ℤ, List, [], ◌∷◌, ⊤}
 use Rattle.court_clock.specs.Words.{ClockView}
 use Rattle.court_days.specs.Words.{DaysView}
 use Rattle.rule_periods.specs.Words.{shown_of}
@@ -17,19 +17,20 @@ AreAlike R [] (y ∷ ys) = ⊥
 AreAlike R (x ∷ xs) [] = ⊥
 AreAlike R (x ∷ xs) (y ∷ ys) = R x y × AreAlike R xs ys
 
--- the deadline, with the reasons of a derivation of what is shown of it, and the end by another reading, if there is one
-pub record IsExplained (days : DaysView) (clock : ClockView) (d : SheetDeadline) (e : ExplainedDeadline) : Type 0 where
+-- the deadline, with the reasons of a derivation of what is shown of it, and the end by another reading, if there is one, where
+-- these days are doubtful
+pub record IsExplained (days : DaysView) (clock : ClockView) (doubtful : List ℤ) (d : SheetDeadline) (e : ExplainedDeadline) : Type 0 where
   pub same : e.deadline ≡ d
   pub derived : IsDerivation days clock d.row e.reasons.items (shown_of days clock d.row)
-  pub other : e.other ≡ other_end days clock d.row
+  pub other : e.other ≡ other_end days clock doubtful d.row
 
 -- the sheet, with each of its deadlines explained, in their order
-pub record IsSheetExplained (days : DaysView) (clock : ClockView) (s : Sheet) (e : ExplainedSheet) : Type 0 where
+pub record IsSheetExplained (days : DaysView) (clock : ClockView) (doubtful : List ℤ) (s : Sheet) (e : ExplainedSheet) : Type 0 where
   pub case : e.case ≡ s.case
   pub filed : e.filed ≡ s.filed
-  pub deadlines : AreAlike (IsExplained days clock) s.deadlines e.deadlines.items
+  pub deadlines : AreAlike (IsExplained days clock doubtful) s.deadlines e.deadlines.items
   pub motions : e.motions ≡ s.motions
 
 -- each of the sheets, in their order
-abbrev pub AreExplained : DaysView → ClockView → List Sheet → List ExplainedSheet → Type 0
-AreExplained days clock sheets explained = AreAlike (IsSheetExplained days clock) sheets explained
+abbrev pub AreExplained : DaysView → ClockView → (doubtful : List ℤ) → List Sheet → List ExplainedSheet → Type 0
+AreExplained days clock doubtful sheets explained = AreAlike (IsSheetExplained days clock doubtful) sheets explained

@@ -35,19 +35,21 @@ pub struct ExplainedSheet {
     pub motions: SheetMotions,
 }
 
-/// The sheets, with the reasons of each deadline by these days and this clock. `Err` says that memory ran out.
+/// The sheets, with the reasons of each deadline by these days and this clock, and its end by another reading, where these days are
+/// doubtful. `Err` says that memory ran out.
 pub fn explained_sheets(
     alloc: Global,
     days: &Days,
     clock: &Clock,
+    doubtful: &[Day],
     sheets: Vec<Sheet>,
 ) -> Result<Vec<ExplainedSheet>, AllocError>
-    ensures { IfOk result (λ list. AreExplained days.now clock.now sheets.items list.items) }
+    ensures { IfOk result (λ list. AreExplained days.now clock.now doubtful.now sheets.items list.items) }
 {
     let mut left = sheets;
     let mut list = Vec::new(alloc);
     while let Some(sheet) = left.pop() {
-        list.push(explained_sheet(alloc, days, clock, sheet)?)?;
+        list.push(explained_sheet(alloc, days, clock, doubtful, sheet)?)?;
     }
     list.reverse();
     Ok(list)
@@ -58,9 +60,10 @@ fn explained_sheet(
     alloc: Global,
     days: &Days,
     clock: &Clock,
+    doubtful: &[Day],
     sheet: Sheet,
 ) -> Result<ExplainedSheet, AllocError>
-    ensures { IfOk result (λ e. IsSheetExplained days.now clock.now sheet e) }
+    ensures { IfOk result (λ e. IsSheetExplained days.now clock.now doubtful.now sheet e) }
 {
     let Sheet {
         case,
@@ -71,7 +74,7 @@ fn explained_sheet(
     Ok(ExplainedSheet {
         case,
         filed,
-        deadlines: explained_deadlines(alloc, days, clock, deadlines.into_vec())?,
+        deadlines: explained_deadlines(alloc, days, clock, doubtful, deadlines.into_vec())?,
         motions,
     })
 }
@@ -81,14 +84,15 @@ fn explained_deadlines(
     alloc: Global,
     days: &Days,
     clock: &Clock,
+    doubtful: &[Day],
     deadlines: Vec<SheetDeadline>,
 ) -> Result<Vec<ExplainedDeadline>, AllocError>
-    ensures { IfOk result (λ list. AreAlike (IsExplained days.now clock.now) deadlines.items list.items) }
+    ensures { IfOk result (λ list. AreAlike (IsExplained days.now clock.now doubtful.now) deadlines.items list.items) }
 {
     let mut left = deadlines;
     let mut list = Vec::new(alloc);
     while let Some(deadline) = left.pop() {
-        list.push(explained_deadline(alloc, days, clock, deadline)?)?;
+        list.push(explained_deadline(alloc, days, clock, doubtful, deadline)?)?;
     }
     list.reverse();
     Ok(list)
@@ -99,12 +103,13 @@ fn explained_deadline(
     alloc: Global,
     days: &Days,
     clock: &Clock,
+    doubtful: &[Day],
     deadline: SheetDeadline,
 ) -> Result<ExplainedDeadline, AllocError>
-    ensures { IfOk result (λ e. IsExplained days.now clock.now deadline e) }
+    ensures { IfOk result (λ e. IsExplained days.now clock.now doubtful.now deadline e) }
 {
     let reasons = reasons_of(alloc, days, clock, &deadline.row)?;
-    let other = other_end(alloc, days, clock, &deadline.row)?;
+    let other = other_end(alloc, days, clock, doubtful, &deadline.row)?;
     Ok(ExplainedDeadline {
         deadline,
         reasons,

@@ -1,17 +1,23 @@
 //! What the text of an option says: the case that it calls, or the day that it writes.
 
-ghost use Rattle.std.specs.Prelude.{◌≡◌, ◌∷◌, [], true, option_map, IfErr, IfOk};
+ghost use Rattle.std.specs.Prelude.{◌≡◌, ◌∷◌, [], true, Some, is_some, option_map, IfErr, IfOk};
 ghost use Rattle.std.specs.Option.{option_and_then};
 ghost use Rattle.clap.specs.declared.error.kind.ErrorKind.{ErrorKind};
 ghost use Rattle.office_texts.specs.Names.Words.{case_called};
 ghost use Rattle.court_clock.specs.Words.{day_of_text};
 ghost use Rattle.program_main.specs.Options.Words.{IsAnswerFor, IsFaultAmong};
-ghost use Rattle.program_main.specs.Texts.Taken.{faults_unless, is_case_taken, is_day_taken};
+ghost use Rattle.program_main.specs.Texts.Days.{day_said};
+ghost use Rattle.program_main.specs.Texts.Taken.{faults_unless, is_case_taken, is_day_taken, is_said_taken};
 
 use crate::options::OptionsFault;
+use crate::texts::days::{DaySaid, day_said};
 use court_clock::Day;
 use office_texts::{CaseCalled, case_called};
 use std::alloc::Global;
+
+/// How a day is written that may be said by a word.
+const HOW_SAID: &str =
+    "write a day as 2025-09-15, today, tomorrow, yesterday, monday to sunday, +7d or -3d";
 
 /// The case that the text of `--case` calls, if it is given. BadWords where it calls none, and OutOfMemory where memory
 /// runs out.
@@ -22,11 +28,24 @@ pub fn case_option(alloc: Global, text: Option<&str>) -> Result<Option<CaseCalle
 {
     match text {
         None => Ok(None),
-        Some(text) => match case_called(alloc, text) {
-            Ok(Some(case)) => Ok(Some(case)),
-            Ok(None) => Err(no_case(alloc, text)),
-            Err(_) => Err(OptionsFault::OutOfMemory),
+        Some(text) => match case_said(alloc, "--case <N>", text) {
+            Ok(case) => Ok(Some(case)),
+            Err(fault) => Err(fault),
         },
+    }
+}
+
+/// The case that a text calls, which the words call by `shown`. BadWords where it calls none, and OutOfMemory where memory runs
+/// out.
+pub fn case_said(alloc: Global, shown: &str, text: &str) -> Result<CaseCalled, OptionsFault>
+    ensures case { IfOk result (λ case. case_called text.now ≡ Some case) }
+    ensures faults { IsAnswerFor (faults_unless (is_some (case_called text.now))) result }
+    ensures taken { is_some (case_called text.now) ≡ true → IfErr result (λ fault. fault ≡ OptionsFault.OutOfMemory) }
+{
+    match case_called(alloc, text) {
+        Ok(Some(case)) => Ok(case),
+        Ok(None) => Err(no_case(alloc, shown, text)),
+        Err(_) => Err(OptionsFault::OutOfMemory),
     }
 }
 
@@ -45,29 +64,49 @@ pub fn day_option(
         None => Ok(None),
         Some(text) => match Day::from_text(text) {
             Some(day) => Ok(Some(day)),
-            None => Err(no_day(alloc, name, text)),
+            None => Err(no_day(alloc, name, text, "write a day as 2025-09-15")),
+        },
+    }
+}
+
+/// The day that the text of the option of that name says, by its date or by a word, if it is given. BadWords where it says none,
+/// and OutOfMemory where memory runs out.
+pub fn said_option(
+    alloc: Global,
+    name: &str,
+    text: Option<&str>,
+) -> Result<Option<DaySaid>, OptionsFault>
+    ensures day { IfOk result (λ day. day ≡ option_and_then day_said (option_map (λ text. text.now) text.entry)) }
+    ensures faults { IsAnswerFor (faults_unless (is_said_taken (option_map (λ text. text.now) text.entry))) result }
+    ensures taken { is_said_taken (option_map (λ text. text.now) text.entry) ≡ true → IfErr result (λ fault. fault ≡ OptionsFault.OutOfMemory) }
+{
+    match text {
+        None => Ok(None),
+        Some(text) => match day_said(text) {
+            Some(day) => Ok(Some(day)),
+            None => Err(no_day(alloc, name, text, HOW_SAID)),
         },
     }
 }
 
 /// The text is neither the number of a case nor a name.
-fn no_case(alloc: Global, text: &str) -> OptionsFault
+fn no_case(alloc: Global, shown: &str, text: &str) -> OptionsFault
     ensures { IsFaultAmong (ErrorKind.ValueValidation ∷ []) result }
 {
     match format!(in alloc;
-        "error: invalid value '{text}' for '--case <N>': write a case as its number, 1 to 4096, or as 1:25-cv-01234-ABC\n\nFor more information, try '--help'.\n"
+        "error: invalid value '{text}' for '{shown}': write a case as its number, 1 to 4096, or as 1:25-cv-01234-ABC\n\nFor more information, try '--help'.\n"
     ) {
         Ok(text) => OptionsFault::BadWords(text),
         Err(_) => OptionsFault::OutOfMemory,
     }
 }
 
-/// The text of the option is no day.
-fn no_day(alloc: Global, name: &str, text: &str) -> OptionsFault
+/// The text of the option is no day. `advice` says how one is written.
+fn no_day(alloc: Global, name: &str, text: &str, advice: &str) -> OptionsFault
     ensures { IsFaultAmong (ErrorKind.ValueValidation ∷ []) result }
 {
     match format!(in alloc;
-        "error: invalid value '{text}' for '--{name} <DAY>': write a day as 2025-09-15\n\nFor more information, try '--help'.\n"
+        "error: invalid value '{text}' for '--{name} <DAY>': {advice}\n\nFor more information, try '--help'.\n"
     ) {
         Ok(text) => OptionsFault::BadWords(text),
         Err(_) => OptionsFault::OutOfMemory,

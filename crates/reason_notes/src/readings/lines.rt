@@ -1,58 +1,52 @@
 //! The lines of other readings.
 
 ghost use Rattle.std.specs.Prelude.{◌≡◌, ◌++◌, OnOk, string_bytes};
+ghost use Rattle.std.specs.List.{flat_map};
 ghost use Rattle.reason_notes.specs.Readings.Lines.{given_text, line_of, reading_line, reading_lines, reading_text, reading_words};
 
 use crate::margins::{end_day, push_end_time};
 use crate::readings::others::other_by;
-use crate::readings::reading::Reading;
-use court_clock::Clock;
+use crate::readings::reading::{ALL, Reading};
+use court_clock::{Clock, Day};
 use court_days::Days;
 use reason_texts::push_note;
 use rule_periods::DeadlineRow;
 use rule6::Shown;
 use std::alloc::{AllocError, Global};
 
-/// Adds a line for each other reading that gives another end than the one that is shown of the deadline. `Err` says that
-/// memory ran out.
+/// Adds a line for each other reading that gives another end than the one that is shown of the deadline, where these days are
+/// doubtful. `Err` says that memory ran out.
 #[tactic(auto, unfolding(crate::specs::Readings::Lines::reading_lines))]
 pub fn push_readings(
     alloc: Global,
     text: &mut String,
     days: &Days,
     clock: &Clock,
+    doubtful: &[Day],
     row: &DeadlineRow,
 ) -> Result<(), AllocError>
-    ensures { OnOk result (string_bytes text.new ≡ string_bytes text.old ++ reading_lines days.now clock.now row.now) }
+    ensures { OnOk result (string_bytes text.new ≡ string_bytes text.old ++ reading_lines days.now clock.now doubtful.now row.now) }
 {
-    push_reading(alloc, text, days, clock, row, Reading::OutageMovesNothing)?;
-    push_reading(alloc, text, days, clock, row, Reading::OutageMovesService)?;
-    push_reading(alloc, text, days, clock, row, Reading::ExtendedFromMovedDay)?;
-    push_reading(
-        alloc,
-        text,
-        days,
-        clock,
-        row,
-        Reading::OutageBeforeAddedDays,
-    )?;
-    push_reading(alloc, text, days, clock, row, Reading::HoursFromEndOfDay)?;
-    push_reading(alloc, text, days, clock, row, Reading::FridayIsOpen)
+    push_each(alloc, text, days, clock, doubtful, row, &ALL[..])
 }
 
-/// Adds the line of a reading, where it gives another end.
-fn push_reading(
+/// Adds a line for each of these readings that gives another end.
+fn push_each(
     alloc: Global,
     text: &mut String,
     days: &Days,
     clock: &Clock,
+    doubtful: &[Day],
     row: &DeadlineRow,
-    reading: Reading,
+    readings: &[Reading],
 ) -> Result<(), AllocError>
-    ensures { OnOk result (string_bytes text.new ≡ string_bytes text.old ++ reading_line days.now clock.now row.now reading) }
+    ensures { OnOk result (string_bytes text.new ≡ string_bytes text.old ++ flat_map (reading_line days.now clock.now doubtful.now row.now) readings.now) }
 {
-    let other = other_by(alloc, days, clock, row, reading)?;
-    push_line(alloc, text, clock, reading, other)
+    for reading in readings {
+        let other = other_by(alloc, days, clock, doubtful, row, *reading)?;
+        push_line(alloc, text, clock, *reading, other)?;
+    }
+    Ok(())
 }
 
 /// Adds the line of a reading that gives this end.
@@ -111,5 +105,6 @@ fn reading_words(reading: Reading) -> &'static str
         Reading::OutageBeforeAddedDays => "other reading: moved before the 3 days too",
         Reading::HoursFromEndOfDay => "other reading: from the end of that day",
         Reading::FridayIsOpen => "other reading: that Friday isn't a legal holiday",
+        Reading::DoubtfulIsOpen => "other reading: that day isn't a legal holiday",
     }
 }

@@ -1,64 +1,49 @@
 //! Which other readings give a deadline another end.
 
-ghost use Rattle.std.specs.Prelude.{◌≡◌, IfOk};
-ghost use Rattle.std.specs.Option.{option_or};
+ghost use Rattle.std.specs.Prelude.{◌≡◌, map, IfOk};
+ghost use Rattle.rule_periods.specs.Words.{first_of};
 ghost use Rattle.reason_notes.specs.Readings.Others.{differs, if_differs, other_by, other_end};
 
-use crate::readings::reading::{Reading, shown_by};
-use court_clock::Clock;
+use crate::readings::reading::{ALL, Reading, shown_by};
+use court_clock::{Clock, Day};
 use court_days::Days;
 use rule_periods::{DeadlineRow, shown};
 use rule6::Shown;
 use std::alloc::{AllocError, Global};
 
-/// The end by the first reading that gives the deadline another end than the one that is shown, in the order of the lines. None
-/// where no reading does, which is where the deadline has no line of another reading. `Err` says that memory ran out.
+/// The end by the first reading that gives the deadline another end than the one that is shown, in the order of the lines, where
+/// these days are doubtful. None where no reading does, which is where the deadline has no line of another reading. `Err` says that
+/// memory ran out.
 #[tactic(auto, unfolding(crate::specs::Readings::Others::other_end))]
 pub fn other_end(
     alloc: Global,
     days: &Days,
     clock: &Clock,
+    doubtful: &[Day],
     row: &DeadlineRow,
 ) -> Result<Option<Shown>, AllocError>
-    ensures { IfOk result (λ other. other ≡ other_end days.now clock.now row.now) }
+    ensures { IfOk result (λ other. other ≡ other_end days.now clock.now doubtful.now row.now) }
 {
-    let mut found = other_by(alloc, days, clock, row, Reading::OutageMovesNothing)?;
-    found = or_by(alloc, days, clock, row, found, Reading::OutageMovesService)?;
-    found = or_by(
-        alloc,
-        days,
-        clock,
-        row,
-        found,
-        Reading::ExtendedFromMovedDay,
-    )?;
-    found = or_by(
-        alloc,
-        days,
-        clock,
-        row,
-        found,
-        Reading::OutageBeforeAddedDays,
-    )?;
-    found = or_by(alloc, days, clock, row, found, Reading::HoursFromEndOfDay)?;
-    or_by(alloc, days, clock, row, found, Reading::FridayIsOpen)
+    first_other(alloc, days, clock, doubtful, row, &ALL[..])
 }
 
-/// What was found already, or else what a reading gives.
-fn or_by(
+/// The first end that one of these readings gives in place of the one that is shown.
+fn first_other(
     alloc: Global,
     days: &Days,
     clock: &Clock,
+    doubtful: &[Day],
     row: &DeadlineRow,
-    found: Option<Shown>,
-    reading: Reading,
+    readings: &[Reading],
 ) -> Result<Option<Shown>, AllocError>
-    ensures { IfOk result (λ other. other ≡ option_or found (other_by days.now clock.now row.now reading)) }
+    ensures { IfOk result (λ other. other ≡ first_of (map (other_by days.now clock.now doubtful.now row.now) readings.now)) }
 {
-    match found {
-        Some(found) => Ok(Some(found)),
-        None => other_by(alloc, days, clock, row, reading),
+    for reading in readings {
+        if let Some(other) = other_by(alloc, days, clock, doubtful, row, *reading)? {
+            return Ok(Some(other));
+        }
     }
+    Ok(None)
 }
 
 /// What a reading gives in place of the end that is shown of the deadline. None where it gives the same, or doesn't bear on the
@@ -67,12 +52,13 @@ pub(crate) fn other_by(
     alloc: Global,
     days: &Days,
     clock: &Clock,
+    doubtful: &[Day],
     row: &DeadlineRow,
     reading: Reading,
 ) -> Result<Option<Shown>, AllocError>
-    ensures { IfOk result (λ other. other ≡ other_by days.now clock.now row.now reading) }
+    ensures { IfOk result (λ other. other ≡ other_by days.now clock.now doubtful.now row.now reading) }
 {
-    let other = shown_by(alloc, days, clock, row, reading)?;
+    let other = shown_by(alloc, days, clock, doubtful, row, reading)?;
     Ok(if_differs(&shown(days, clock, row), other))
 }
 

@@ -9,8 +9,9 @@ use crate::readings::changed::{
     adds_days, before_last, counted_again, day_after, last_grant, started_on, with_act,
     without_added,
 };
+use crate::readings::doubtful::doubtful_is_open;
 use crate::readings::friday::friday_is_open;
-use court_clock::Clock;
+use court_clock::{Clock, Day};
 use court_days::Days;
 use rule_periods::{DeadlineRow, Grant, act_due, shown};
 use rule6::{Act, Shown};
@@ -31,18 +32,32 @@ pub enum Reading {
     HoursFromEndOfDay,
     /// A Friday on which a Saturday's holiday is observed (5 U.S.C. 6103(b)(1)) isn't a legal holiday (Fed. R. Civ. P. 6(a)(6)).
     FridayIsOpen,
+    /// A day that is marked as doubtful isn't one that the state declares a holiday (6(a)(6)(C)).
+    DoubtfulIsOpen,
 }
 
-/// What is shown of the deadline by another reading. None where the reading doesn't bear on the deadline. `Err` says that
-/// memory ran out.
+/// All of them, in the order of their lines.
+pub(crate) const ALL: [Reading; 7] = [
+    Reading::OutageMovesNothing,
+    Reading::OutageMovesService,
+    Reading::ExtendedFromMovedDay,
+    Reading::OutageBeforeAddedDays,
+    Reading::HoursFromEndOfDay,
+    Reading::FridayIsOpen,
+    Reading::DoubtfulIsOpen,
+];
+
+/// What is shown of the deadline by another reading. `doubtful` has the days of which it is in doubt whether the state
+/// declares them holidays, in their order. None where the reading doesn't bear on the deadline. `Err` says that memory ran out.
 pub fn shown_by(
     alloc: Global,
     days: &Days,
     clock: &Clock,
+    doubtful: &[Day],
     row: &DeadlineRow,
     reading: Reading,
 ) -> Result<Option<Shown>, AllocError>
-    ensures { IfOk result (λ other. other ≡ shown_by days.now clock.now row.now reading) }
+    ensures { IfOk result (λ other. other ≡ shown_by days.now clock.now doubtful.now row.now reading) }
 {
     match reading {
         Reading::OutageMovesNothing => outage_moves_nothing(alloc, days, clock, row),
@@ -51,6 +66,7 @@ pub fn shown_by(
         Reading::OutageBeforeAddedDays => outage_before_added(alloc, days, clock, row),
         Reading::HoursFromEndOfDay => hours_from_end(alloc, days, clock, row),
         Reading::FridayIsOpen => friday_is_open(alloc, days, clock, row),
+        Reading::DoubtfulIsOpen => doubtful_is_open(alloc, days, clock, doubtful, row),
     }
 }
 

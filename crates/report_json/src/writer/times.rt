@@ -1,14 +1,14 @@
 //! Days and instants, as texts of ISO 8601.
 
-ghost use Rattle.std.specs.Prelude.{◌≡◌, ◌+◌, ◌<◌, ◌++◌, OnOk, string_bytes};
+ghost use Rattle.std.specs.Prelude.{◌≡◌, ◌<◌, ◌++◌, OnOk, string_bytes};
 ghost use Rattle.jiff.specs.Words.{IsOffsetSeconds};
-ghost use Rattle.jiff_fmt.specs.Text.{pad2};
-ghost use Rattle.court_clock.specs.Words.{day_text, minute_text};
-ghost use Rattle.report_json.specs.Times.{civil_words, day_value, instant_value, minute_value, moment_value, offset_words, seconds_words, second_words, sign_of};
+ghost use Rattle.court_clock.specs.Words.{day_text};
+ghost use Rattle.report_json.specs.Times.{civil_words, day_value, instant_value, minute_value, moment_value, offset_time, offset_words, sign_of};
 ghost use Rattle.report_json.specs.Values.{AddsValue};
 
 use super::JsonWriter;
 use court_clock::{Clock, Day, Instant};
+use reason_texts::{push_minute, push_second};
 use std::alloc::AllocError;
 use std::fmt::Write;
 
@@ -24,7 +24,6 @@ impl JsonWriter {
 
     /// A minute of a day, as `09:30`.
     pub(crate) fn minute(&mut self, minute: u16) -> Result<(), AllocError>
-        requires { minute < 6_000 }
         ensures { OnOk result (AddsValue self.old self.new (minute_value minute)) }
     {
         self.scratch.clear();
@@ -60,12 +59,10 @@ impl JsonWriter {
 /// Adds a civil time, as `2025-09-16T15:00:00`.
 #[tactic(auto, unfolding(crate::specs::Times::civil_words))]
 fn push_civil(text: &mut String, day: Day, second: u32) -> Result<(), AllocError>
-    requires { second < 86_400 }
     ensures { OnOk result (string_bytes text.new ≡ string_bytes text.old ++ civil_words (record { day = day; second = second })) }
 {
     write!(text, "{day}T")?;
-    push_minute(text, (second / 60) as u16)?;
-    push_seconds(text, second % 60)
+    push_second(text, second)
 }
 
 /// Adds how far the clock is ahead of UTC, as `-04:00`.
@@ -74,10 +71,8 @@ fn push_offset(text: &mut String, offset: i32) -> Result<(), AllocError>
     requires { IsOffsetSeconds offset }
     ensures { OnOk result (string_bytes text.new ≡ string_bytes text.old ++ offset_words offset) }
 {
-    let seconds = offset.unsigned_abs();
     text.push(sign_of(offset))?;
-    push_minute(text, (seconds / 60) as u16)?;
-    push_rest(text, seconds)
+    push_offset_time(text, offset.unsigned_abs())
 }
 
 /// Whether the clock is ahead of UTC or behind it.
@@ -88,49 +83,14 @@ fn sign_of(offset: i32) -> char
     if 0 <= offset { '+' } else { '-' }
 }
 
-/// Adds the seconds of an offset, where it has some.
-fn push_rest(text: &mut String, seconds: u32) -> Result<(), AllocError>
-    ensures { OnOk result (string_bytes text.new ≡ string_bytes text.old ++ seconds_words seconds) }
+/// Adds how far it is, with the seconds where it has some.
+fn push_offset_time(text: &mut String, seconds: u32) -> Result<(), AllocError>
+    requires { seconds < 3_000_000 }
+    ensures { OnOk result (string_bytes text.new ≡ string_bytes text.old ++ offset_time seconds) }
 {
     if seconds % 60 == 0 {
-        Ok(())
+        push_minute(text, (seconds / 60) as u16)
     } else {
-        push_seconds(text, seconds % 60)
+        push_second(text, seconds)
     }
-}
-
-/// Adds seconds, as `:30`.
-fn push_seconds(text: &mut String, second: u32) -> Result<(), AllocError>
-    requires { second < 100 }
-    ensures { OnOk result (string_bytes text.new ≡ string_bytes text.old ++ second_words second) }
-{
-    text.push(':')?;
-    push_two_digits(text, second as u16)
-}
-
-/// Adds the minute of a day, as `09:30`.
-fn push_minute(text: &mut String, minute: u16) -> Result<(), AllocError>
-    requires { minute < 6_000 }
-    ensures { OnOk result (string_bytes text.new ≡ string_bytes text.old ++ minute_text minute) }
-{
-    push_two_digits(text, minute / 60)?;
-    text.push(':')?;
-    push_two_digits(text, minute % 60)
-}
-
-/// Adds a number below 100 as two digits.
-fn push_two_digits(text: &mut String, number: u16) -> Result<(), AllocError>
-    requires { number < 100 }
-    ensures { OnOk result (string_bytes text.new ≡ string_bytes text.old ++ pad2 number) }
-{
-    text.push(digit(number / 10))?;
-    text.push(digit(number % 10))
-}
-
-/// The digit of a number below 10.
-fn digit(number: u16) -> char
-    requires { number < 10 }
-    ensures { result ≡ 48 + number }
-{
-    (b'0' + number as u8) as char
 }

@@ -8,8 +8,9 @@ ghost use Rattle.report_sql.specs.Times.{day_value, instant_value, minute_value,
 
 use super::{Script, push_text};
 use court_clock::{Clock, Day, Instant};
+use reason_texts::push_second;
 use report_ics::slot_begins;
-use report_texts::{push_period, push_second};
+use report_texts::push_period;
 use rule_periods::Period;
 use std::alloc::AllocError;
 use std::fmt::Write;

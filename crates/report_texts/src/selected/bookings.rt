@@ -6,6 +6,7 @@ ghost use Rattle.docket_selection.specs.Words.{chosen_calendars};
 ghost use Rattle.desk_numbers.specs.Words.{numbered_booking};
 ghost use Rattle.report_texts.specs.Selected.{numbered_calendar, numbered_day};
 
+use crate::labels::Labels;
 use court_days::Court;
 use desk_numbers::MovedNumbers;
 use docket_core::Docket;
@@ -51,14 +52,14 @@ pub fn numbered_calendars(
     alloc: Global,
     court: &Court,
     docket: &Docket,
-    moved: &MovedNumbers,
+    labels: &Labels<'_>,
     choice: &Choice,
 ) -> Result<Vec<JudgeCalendar>, AllocError>
     requires court { docket.now.setup ≡ setup_of court.now }
-    ensures { (docketed : Rows) → StandsFor docket.now docketed → IfOk result (λ list. list.items ≡ map (numbered_calendar moved.now) (chosen_calendars (setup_of court.now) docketed choice.now)) }
+    ensures { (docketed : Rows) → StandsFor docket.now docketed → IfOk result (λ list. list.items ≡ map (numbered_calendar labels.now.moved) (chosen_calendars (setup_of court.now) docketed choice.now)) }
 {
     let mut calendars = calendars_of(alloc, court, docket, choice)?;
-    number_calendars(alloc, moved, &mut calendars);
+    number_calendars(alloc, labels.moved, &mut calendars);
     Ok(calendars)
 }
 

@@ -6,6 +6,7 @@ ghost use Rattle.docket_selection.specs.Words.{chosen_sheets};
 ghost use Rattle.docket_selection.specs.Explained.Words.{AreExplained};
 ghost use Rattle.desk_numbers.specs.Words.{numbered_sheet};
 
+use crate::labels::Labels;
 use crate::selected::sheets::number_sheets;
 use court_days::Court;
 use desk_numbers::MovedNumbers;
@@ -15,20 +16,20 @@ use docket_selection::{Choice, ExplainedSheet, explained_sheets, sheets_chosen};
 use std::alloc::{AllocError, Global};
 
 /// The sheets of the chosen cases, in the order of the cases' numbers, with the numbers of deadlines and motions and with the
-/// reasons of each deadline by the days that are docketed. `Err` says that memory ran out.
+/// reasons of each deadline by the days that are docketed and its end by another reading. `Err` says that memory ran out.
 pub fn explained_selection(
     alloc: Global,
     court: &Court,
     docket: &Docket,
-    moved: &MovedNumbers,
+    labels: &Labels<'_>,
     choice: &Choice,
 ) -> Result<Vec<ExplainedSheet>, AllocError>
     requires court { docket.now.setup ≡ setup_of court.now }
     ensures { (docketed : Rows) → StandsFor docket.now docketed →
-        IfOk result (λ list. AreExplained docketed.days court.now.clock (map (numbered_sheet moved.now) (chosen_sheets (setup_of court.now) docketed choice.now)) list.items) }
+        IfOk result (λ list. AreExplained docketed.days court.now.clock labels.now.doubtful (map (numbered_sheet labels.now.moved) (chosen_sheets (setup_of court.now) docketed choice.now)) list.items) }
 {
-    let sheets = numbered_sheets(alloc, docket, moved, choice)?;
-    explained_sheets(alloc, docket.days(), court.clock(), sheets)
+    let sheets = numbered_sheets(alloc, docket, labels.moved, choice)?;
+    explained_sheets(alloc, docket.days(), court.clock(), labels.doubtful, sheets)
 }
 
 // The sheets of the chosen cases, with the numbers of deadlines and motions.

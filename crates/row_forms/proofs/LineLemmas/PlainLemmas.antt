@@ -10,8 +10,8 @@ use Rattle.csv.specs.Reading.{default_config, records_from, records_next, strip_
 use Rattle.csv.specs.declared.parser.State.{State}
 use Rattle.csv.specs.declared.parser.State.TheVariants as st
 use Rattle.csv.proofs.RoundTrip.{record-same, start-same}
-use Rattle.row_forms.specs.Line.First.{BeginsWith}
-use Rattle.row_forms.specs.Line.Plain.{BeginsAtField, cut}
+use Rattle.row_forms.specs.Inside.First.{BeginsWith}
+use Rattle.row_forms.specs.Inside.Plain.{BeginsAtField, cut}
 
 -- a text that doesn't begin with the first byte of a byte order mark has none
 no_mark : (b : ℕ) (bytes : List ℕ) → (b == 239) ≡ false → strip_bom (b ∷ bytes) ≡ b ∷ bytes

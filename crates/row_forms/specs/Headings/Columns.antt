@@ -1,29 +1,7 @@
--- The command words of rows, their columns, and what these are called.
-use Rattle.std.specs.Prelude.{ℕ, ◌||◌, List, [], ◌∷◌, codes, slice_get, unwrap_or, Option, Some, None, if◌then◌else◌}
-use Rattle.std.specs.Str.{bytes_eq}
+-- The columns of rows, and what these are called.
+use Rattle.std.specs.Prelude.{ℕ, Bool, true, false, List, codes, slice_get, unwrap_or}
 use Rattle.row_forms.specs.declared.headings.columns.Column.{Column}
 use Rattle.row_forms.specs.declared.headings.columns.Column.TheVariants.{Clerk, Command, Case, Deadline, Motion, Period, Date, Time, Start, TimeOrNone, SecondOrNone, ServiceOrNone, Means, Grant, ByMotion, Cause, Neglect, Need, Holidays, From, To, Judge, Judges, Room, Slots, Notice}
-
--- the command words, as they are listed in a sentence
-abbrev pub commands_listed : List ℕ
-commands_listed = codes "open, start, file, extend, motion, book, move, cancel, holiday, inaccessible, compute, sheet or calendar"
-
--- the columns of the rows with this command word, from the first on
-unfoldable pub columns_of : List ℕ → Option (List Column)
-columns_of word =
-    if bytes_eq word (codes "open") then Some (Clerk ∷ Command ∷ Case ∷ Date ∷ [])
-    else if bytes_eq word (codes "start") then Some (Clerk ∷ Command ∷ Case ∷ Period ∷ Date ∷ TimeOrNone ∷ SecondOrNone ∷ ServiceOrNone ∷ [])
-    else if bytes_eq word (codes "file") then Some (Clerk ∷ Command ∷ Case ∷ Deadline ∷ Date ∷ Time ∷ Means ∷ [])
-    else if bytes_eq word (codes "extend") then Some (Clerk ∷ Command ∷ Case ∷ Deadline ∷ Grant ∷ Date ∷ Time ∷ ByMotion ∷ Cause ∷ Neglect ∷ [])
-    else if bytes_eq word (codes "motion") then Some (Clerk ∷ Command ∷ Case ∷ Date ∷ Need ∷ [])
-    else if bytes_eq word (codes "book") || bytes_eq word (codes "move") then Some (Clerk ∷ Command ∷ Case ∷ Motion ∷ Judges ∷ Room ∷ Date ∷ Start ∷ Slots ∷ Notice ∷ [])
-    else if bytes_eq word (codes "cancel") then Some (Clerk ∷ Command ∷ Case ∷ Motion ∷ [])
-    else if bytes_eq word (codes "holiday") then Some (Clerk ∷ Command ∷ Date ∷ Holidays ∷ [])
-    else if bytes_eq word (codes "inaccessible") then Some (Clerk ∷ Command ∷ Date ∷ From ∷ To ∷ [])
-    else if bytes_eq word (codes "compute") then Some (Clerk ∷ Command ∷ Period ∷ Date ∷ TimeOrNone ∷ SecondOrNone ∷ ServiceOrNone ∷ [])
-    else if bytes_eq word (codes "sheet") then Some (Clerk ∷ Command ∷ Case ∷ [])
-    else if bytes_eq word (codes "calendar") then Some (Clerk ∷ Command ∷ Judge ∷ Date ∷ [])
-    else None
 
 -- the column of that number, counted from 0
 abbrev pub column_at : List Column → ℕ → Column
@@ -87,3 +65,10 @@ mark_of word Judges = codes "JUDGE"
 mark_of word Room = codes "ROOM"
 mark_of word Slots = codes "SLOTS"
 mark_of word Notice = codes "NOTICE"
+
+-- the field of a column may be empty, and then says none
+abbrev pub may_be_empty : Column → Bool
+may_be_empty TimeOrNone = true
+may_be_empty SecondOrNone = true
+may_be_empty ServiceOrNone = true
+may_be_empty _ = false

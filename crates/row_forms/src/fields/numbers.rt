@@ -18,8 +18,8 @@ pub fn number_of(text: &str) -> Option<u32>
     }
 }
 
-// Whether the text is written as numbers are.
-fn is_number(text: &[u8]) -> bool
+/// Whether a text is written as the numbers of rows are: one to nine decimal digits, with no leading zero but `0` itself.
+pub fn is_number(text: &[u8]) -> bool
     ensures { result ≡ is_number text.now }
 {
     if text.is_empty() || text.len() > 9 {

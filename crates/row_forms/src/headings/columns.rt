@@ -1,7 +1,7 @@
-//! The command words of rows, their columns, and what these are called.
+//! The columns of rows, and what these are called.
 
-ghost use Rattle.std.specs.Prelude.{◌≡◌, option_map};
-ghost use Rattle.row_forms.specs.Headings.Columns.{column_at, columns_of, commands_listed, mark_of, name_of};
+ghost use Rattle.std.specs.Prelude.{◌≡◌};
+ghost use Rattle.row_forms.specs.Headings.Columns.{column_at, mark_of, may_be_empty, name_of};
 
 /// What a column of a row holds.
 #[derive(Clone, Copy, Debug, PartialEq, Eq)]
@@ -58,116 +58,6 @@ pub enum Column {
     Slots,
     /// The day on which notice was served.
     Notice,
-}
-
-/// The command words.
-pub const COMMANDS: [&str; 13] = [
-    "open",
-    "start",
-    "file",
-    "extend",
-    "motion",
-    "book",
-    "move",
-    "cancel",
-    "holiday",
-    "inaccessible",
-    "compute",
-    "sheet",
-    "calendar",
-];
-
-/// The command words, as they are listed in a sentence.
-pub fn commands_listed() -> &'static str
-    ensures { result.now ≡ commands_listed }
-{
-    "open, start, file, extend, motion, book, move, cancel, holiday, inaccessible, compute, sheet or calendar"
-}
-
-/// The columns of the rows with this command word, from the first on.
-#[tactic(auto, unfolding(crate::specs::Headings::Columns::columns_of))]
-pub fn columns_of(word: &str) -> Option<&'static [Column]>
-    ensures { option_map (λ columns. columns.now) result ≡ columns_of word.now }
-{
-    match word {
-        "open" => Some(&[Column::Clerk, Column::Command, Column::Case, Column::Date]),
-        "start" => Some(&[
-            Column::Clerk,
-            Column::Command,
-            Column::Case,
-            Column::Period,
-            Column::Date,
-            Column::TimeOrNone,
-            Column::SecondOrNone,
-            Column::ServiceOrNone,
-        ]),
-        "file" => Some(&[
-            Column::Clerk,
-            Column::Command,
-            Column::Case,
-            Column::Deadline,
-            Column::Date,
-            Column::Time,
-            Column::Means,
-        ]),
-        "extend" => Some(&[
-            Column::Clerk,
-            Column::Command,
-            Column::Case,
-            Column::Deadline,
-            Column::Grant,
-            Column::Date,
-            Column::Time,
-            Column::ByMotion,
-            Column::Cause,
-            Column::Neglect,
-        ]),
-        "motion" => Some(&[
-            Column::Clerk,
-            Column::Command,
-            Column::Case,
-            Column::Date,
-            Column::Need,
-        ]),
-        "book" | "move" => Some(&[
-            Column::Clerk,
-            Column::Command,
-            Column::Case,
-            Column::Motion,
-            Column::Judges,
-            Column::Room,
-            Column::Date,
-            Column::Start,
-            Column::Slots,
-            Column::Notice,
-        ]),
-        "cancel" => Some(&[Column::Clerk, Column::Command, Column::Case, Column::Motion]),
-        "holiday" => Some(&[
-            Column::Clerk,
-            Column::Command,
-            Column::Date,
-            Column::Holidays,
-        ]),
-        "inaccessible" => Some(&[
-            Column::Clerk,
-            Column::Command,
-            Column::Date,
-            Column::From,
-            Column::To,
-        ]),
-        "compute" => Some(&[
-            Column::Clerk,
-            Column::Command,
-            Column::Period,
-            Column::Date,
-            Column::TimeOrNone,
-            Column::SecondOrNone,
-            Column::ServiceOrNone,
-        ]),
-        "sheet" => Some(&[Column::Clerk, Column::Command, Column::Case]),
-        "calendar" => Some(&[Column::Clerk, Column::Command, Column::Judge, Column::Date]),
-        _ => None,
-    }
 }
 
 /// The column of that number, counted from 0.
@@ -239,4 +129,14 @@ pub fn mark_of(word: &str, column: Column) -> &str
         Column::Slots => "SLOTS",
         Column::Notice => "NOTICE",
     }
+}
+
+/// Whether the field of a column may be empty, and then says none.
+pub fn may_be_empty(column: Column) -> bool
+    ensures { result ≡ may_be_empty column }
+{
+    matches!(
+        column,
+        Column::TimeOrNone | Column::SecondOrNone | Column::ServiceOrNone
+    )
 }

@@ -5,7 +5,7 @@ ghost use Rattle.std.specs.List.{list_all};
 ghost use Rattle.std.specs.Str.{is_utf8};
 ghost use Rattle.csv.specs.Reading.{default_config, records, strip_bom};
 ghost use Rattle.csv.specs.Records.{fields_of};
-ghost use Rattle.row_forms.specs.Line.First.{BeginsWith};
+ghost use Rattle.row_forms.specs.Inside.First.{BeginsWith};
 
 use crate::line::plain::read_plain;
 use crate::{Next, read_next, rows_reader};
@@ -14,6 +14,7 @@ use std::alloc::{AllocError, Global};
 use std::mem;
 
 // Whether each field is text, and if so they are put into `fields`.
+#[tactic(auto, using(crate::proofs::TextLemmas::text_passes, crate::proofs::TextLemmas::else_fails))]
 fn take_text(row: ByteRecord, fields: &mut StringRecord) -> bool
     ensures text { result ≡ list_all is_utf8 (fields_of row) }
     ensures taken { result ≡ true → fields_of fields.new ≡ fields_of row }

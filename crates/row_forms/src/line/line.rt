@@ -25,6 +25,7 @@ pub enum Line {
 
 /// Reads the first row of a text, which may be a line alone, for an office with this number of clerks. The fields of the
 /// row are put into `fields`, and so are those of a row one of whose fields isn't what it should be. `Err` says that memory ran out.
+#[tactic(auto, using(crate::proofs::LineLemmas::LineLemmas::has_fields, crate::proofs::LineLemmas::LineLemmas::says_nothing))]
 pub fn read_line(
     alloc: Global,
     bytes: &[u8],

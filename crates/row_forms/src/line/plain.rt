@@ -2,13 +2,14 @@
 
 ghost use Rattle.std.specs.Prelude.{◌≡◌, [], true, Some, Ok};
 ghost use Rattle.csv.specs.Records.{fields_of};
-ghost use Rattle.row_forms.specs.Line.First.{BeginsWith};
-ghost use Rattle.row_forms.specs.Line.Plain.{BeginsAtField, cut};
+ghost use Rattle.row_forms.specs.Inside.First.{BeginsWith};
+ghost use Rattle.row_forms.specs.Inside.Plain.{BeginsAtField, cut};
 
 use csv::{ByteRecord, StringRecord};
 use std::alloc::{AllocError, Global};
 
 // Whether a text begins with a field: with no end of a line, and no byte order mark.
+#[tactic(auto, using(crate::proofs::LineLemmas::PlainLemmas::begins_at_field))]
 fn begins_at_field(bytes: &[u8]) -> bool
     ensures { result ≡ true → BeginsAtField bytes.now }
 {
@@ -43,6 +44,7 @@ fn cut_line(bytes: &[u8], row: &mut ByteRecord) -> Result<bool, AllocError>
 }
 
 // Reads the first record of a text, where it begins with a plain line.
+#[tactic(auto, using(crate::proofs::LineLemmas::PlainLemmas::cut_begins))]
 pub(crate) fn read_plain(bytes: &[u8], row: &mut ByteRecord) -> Result<bool, AllocError>
     ensures { result ≡ Ok true → BeginsWith bytes.now (fields_of row.new) }
 {

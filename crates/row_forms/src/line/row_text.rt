@@ -50,6 +50,7 @@ fn push_field_text(text: &mut Vec<u8>, field: &[u8]) -> Result<(), AllocError>
 
 // Whether a row would be written as nothing.
 
+#[tactic(auto, using(crate::proofs::LineLemmas::RowTextLemmas::blank_of_many, crate::proofs::LineLemmas::RowTextLemmas::blank_of_none, crate::proofs::LineLemmas::RowTextLemmas::blank_of_one))]
 fn is_blank(fields: &StringRecord) -> bool
     ensures { result ≡ is_blank default_writer (fields_of fields.now) }
 {

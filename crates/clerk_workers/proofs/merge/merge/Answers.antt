@@ -1,7 +1,7 @@
 use Rattle.std.proofs.Common.{◌≡◌, ◌+◌, ◌-◌, ◌++◌, ◌∷◌, [], List, length, map, sym, subst, arith}
 use Rattle.std.proofs.lemmas.List.{length-map}
 use Rattle.clerk_workers.specs.declared.answer.SharedReply.{SharedReply}
-use Rattle.clerk_workers.specs.Merged.{AreFromTheLast}
+use Rattle.clerk_workers.specs.Inside.Merged.{AreFromTheLast}
 use Rattle.row_forms.specs.Words.{IsClerk}
 use Rattle.clerk_workers.proofs.MergeLemmas.{from_more, next_answer, next_clerk}
 use Rattle.clerk_workers.proofs.merge.merge.Goals as goal

@@ -1,5 +1,5 @@
 use Rattle.std.proofs.Common.{◌+◌, ◌≤◌, length, map, vec_capacity}
-use Rattle.clerk_workers.specs.Merged.{AreFromTheLast}
+use Rattle.clerk_workers.specs.Inside.Merged.{AreFromTheLast}
 use Rattle.clerk_workers.proofs.merge.merge.Given as goal
 
 -- the last rows have their answers

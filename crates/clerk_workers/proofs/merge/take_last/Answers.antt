@@ -1,5 +1,5 @@
 use Rattle.std.proofs.Common.{◌≡◌, ◌-◌, ◌<◌, ℕ, length, map, ap, sym, subst, arith, set}
-use Rattle.clerk_workers.specs.Merged.{IsTaken}
+use Rattle.clerk_workers.specs.Inside.Merged.{IsTaken}
 use Rattle.clerk_workers.proofs.MergeLemmas.{taken}
 use Rattle.clerk_workers.proofs.merge.take_last.Goals as goal
 

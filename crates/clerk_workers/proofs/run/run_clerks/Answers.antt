@@ -1,6 +1,6 @@
 use Rattle.std.proofs.Common.{◌≡◌, ℕ, List, subst, sym}
 use Rattle.clerk_workers.specs.declared.answer.SharedReply.{SharedReply}
-use Rattle.clerk_workers.specs.Merged.{AreAsMany, AreMerged}
+use Rattle.clerk_workers.specs.Inside.Merged.{AreAsMany, AreMerged}
 use Rattle.clerk_workers.specs.Rows.{AreOfClerks}
 use Rattle.clerk_workers.proofs.NotedLemmas.{are_noted, held_items, noted_long}
 use Rattle.clerk_workers.proofs.run.run_clerks.Goals as goal

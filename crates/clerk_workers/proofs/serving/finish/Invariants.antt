@@ -1,4 +1,4 @@
-use Rattle.clerk_workers.specs.Steps.{FinishesNothing}
+use Rattle.clerk_workers.specs.Inside.Steps.{FinishesNothing}
 use Rattle.clerk_workers.proofs.serving.finish.Given as goal
 
 -- nothing is finished so far

@@ -4,7 +4,7 @@ use mathlib.Core.List.{IsPrefix}
 use Rattle.row_forms.specs.declared.row.Row.{Row}
 use Rattle.clerk_workers.specs.Noted.{IsNoted}
 use Rattle.clerk_workers.specs.Rows.{works_of}
-use Rattle.clerk_workers.specs.Steps.{HasLeft}
+use Rattle.clerk_workers.specs.Inside.Steps.{HasLeft}
 use Rattle.clerk_workers.specs.Worked.{HasStopped, tally_of}
 use Rattle.clerk_workers.proofs.WorkLemmas.{left_first, noted_all}
 use Rattle.clerk_workers.proofs.serving.serve.Goals as goal

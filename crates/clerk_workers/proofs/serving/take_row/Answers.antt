@@ -1,5 +1,5 @@
 use Rattle.std.proofs.Common.{◌∙◌, sym, arith}
-use Rattle.clerk_workers.specs.Steps.{FinishesNothing, IsDone}
+use Rattle.clerk_workers.specs.Inside.Steps.{FinishesNothing, IsDone}
 use Rattle.clerk_workers.proofs.WorkLemmas.{left_after, left_before, noted_other, noted_row}
 use Rattle.clerk_workers.proofs.serving.take_row.Goals as goal
 

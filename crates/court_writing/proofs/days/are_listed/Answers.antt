@@ -1,4 +1,4 @@
-use Rattle.std.proofs.Common.{◌≤◌, arith}
+use Rattle.std.proofs.Common.{◌≡◌, ◌≤◌, ◌+ℤ◌, pos, ap, ◌∙◌, arith}
 use Rattle.court_clock.specs.Words.{days_through}
 use Rattle.court_writing.specs.Written.{IsListed}
 use Rattle.court_writing.proofs.SpanLemmas.{of_each, one_more}
@@ -6,9 +6,11 @@ use Rattle.court_writing.proofs.days.are_listed.Goals as goal
 
 pub loop-place-preserved : goal.loop-place-preserved
 loop-place-preserved c =
-    one_more (IsListed c.args.state c.args.days.now) c.args.days.now.from c.covered_day.result c.loop-place.place c.covered_day.ensures c.loop-place.invariant (c.is_listed.ensures c.if-not-is_listed.false)
+    let here : c.day_at.result ≡ c.args.days.now.from +ℤ pos c.loop-place.place = c.day_at.ensures ∙ ap (λ f. f +ℤ pos c.loop-place.place) c.from-first.ensures.value in
+    one_more (IsListed c.args.state c.args.days.now) c.args.days.now.from c.day_at.result c.loop-place.place here c.loop-place.invariant (c.is_listed.ensures c.if-not-is_listed.false)
 
 pub returns : goal.returns
 returns c =
-    let all : days_through c.args.days.now.from c.args.days.now.to ≤ c.loop-place.place = omega (arith, c.loop-place-test.false, c.count_of-count.ensures) in
+    let count : c.count_through-count.result ≡ days_through c.args.days.now.from c.args.days.now.to = c.count_through-count.ensures ∙ ap (λ f. days_through f c.to-last.result) c.from-first.ensures.value ∙ ap (λ t. days_through c.args.days.now.from t) c.to-last.ensures.value in
+    let all : days_through c.args.days.now.from c.args.days.now.to ≤ c.loop-place.place = omega (arith, c.loop-place-test.false, count) in
     λ _. of_each (IsListed c.args.state c.args.days.now) c.args.days.now.from c.args.days.now.to c.loop-place.place all c.loop-place.invariant

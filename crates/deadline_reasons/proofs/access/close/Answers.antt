@@ -1,7 +1,7 @@
 use Rattle.std.proofs.Common.{false, [], subst}
 use Rattle.rule6.specs.declared.timeliness.Shown.TheVariants as shown
 use Rattle.deadline_reasons.specs.Derivation.{Lead}
-use Rattle.deadline_reasons.specs.Leading.{with_day}
+use Rattle.deadline_reasons.specs.Inside.Leading.{with_day}
 use Rattle.deadline_reasons.specs.Standing.{ToCome, Unstarted, Runs, Ended}
 use Rattle.deadline_reasons.proofs.DerivationLemmas.{closing_follows}
 use Rattle.deadline_reasons.proofs.access.close.Goals as goal

@@ -3,7 +3,7 @@ use Rattle.court_days.specs.Words.{is_open}
 use Rattle.rule6.specs.declared.timeliness.Shown.TheVariants as shown
 use Rattle.rule_periods.specs.Words.{act_due}
 use Rattle.deadline_reasons.specs.Derivation.{Lead}
-use Rattle.deadline_reasons.specs.Leading.{sought}
+use Rattle.deadline_reasons.specs.Inside.Leading.{sought}
 use Rattle.deadline_reasons.specs.Follows.{Closes}
 use Rattle.deadline_reasons.specs.Passing.{for_access, day_later}
 use Rattle.deadline_reasons.specs.Standing.{AccessibleDay, Unstarted, Looking, Runs, Moved, Nowhere, Ended}

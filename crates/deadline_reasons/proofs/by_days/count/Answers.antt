@@ -1,7 +1,7 @@
 use Rattle.std.proofs.Common.{◌≡◌, true, IfSome, refl, ◌∙◌, ap, subst, rules, SFits, w32, to_z-of_z}
 use Rattle.court_days.specs.Words.{is_covered, is_open}
 use Rattle.deadline_reasons.specs.Derivation.{Lead}
-use Rattle.deadline_reasons.specs.Leading.{sought}
+use Rattle.deadline_reasons.specs.Inside.Leading.{sought}
 use Rattle.deadline_reasons.specs.Standing.{LastDay, Unstarted, Counting, Looking, Runs}
 use Rattle.deadline_reasons.proofs.by_days.count.Goals as goal
 

@@ -1,6 +1,6 @@
 use Rattle.std.proofs.Common.{false, drop}
 use Rattle.court_clock.specs.Words.{ClockView}
-use Rattle.deadline_reasons.specs.Leading.{LeadsOn, with_day}
+use Rattle.deadline_reasons.specs.Inside.Leading.{LeadsOn, with_day}
 use Rattle.deadline_reasons.proofs.by_days.extend_all.Given as goal
 
 -- the extensions so far are passed

@@ -1,7 +1,7 @@
 use Rattle.std.proofs.Common.{true, false, refl, subst}
 use Rattle.court_clock.specs.declared.direction.Direction.TheVariants.{After}
 use Rattle.deadline_reasons.specs.Derivation.{Lead}
-use Rattle.deadline_reasons.specs.Leading.{with_day}
+use Rattle.deadline_reasons.specs.Inside.Leading.{with_day}
 use Rattle.deadline_reasons.specs.Standing.{ToCome, Unstarted, Counting, Runs}
 use Rattle.deadline_reasons.proofs.DerivationLemmas.{if_ok}
 use Rattle.deadline_reasons.proofs.by_days.three_more.Goals as goal

@@ -1,7 +1,7 @@
 use Rattle.std.proofs.Common.{[], refl, subst}
 use Rattle.rule6.specs.declared.timeliness.Shown.TheVariants as shown
 use Rattle.deadline_reasons.specs.Derivation.{Lead}
-use Rattle.deadline_reasons.specs.Leading.{with_instant}
+use Rattle.deadline_reasons.specs.Inside.Leading.{with_instant}
 use Rattle.deadline_reasons.specs.Standing.{Unstarted, RunsUntil, Ended}
 use Rattle.deadline_reasons.proofs.by_hours.close.Goals as goal
 

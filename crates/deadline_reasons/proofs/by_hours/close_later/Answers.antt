@@ -4,7 +4,7 @@ use Rattle.court_clock.specs.Words.{civil_of}
 use Rattle.rule6.specs.declared.timeliness.Shown.TheVariants as shown
 use Rattle.rule6.specs.Words.{meets_last_hour}
 use Rattle.deadline_reasons.specs.Derivation.{Lead}
-use Rattle.deadline_reasons.specs.Leading.{moved_to}
+use Rattle.deadline_reasons.specs.Inside.Leading.{moved_to}
 use Rattle.deadline_reasons.specs.Passing.{for_access, day_later}
 use Rattle.deadline_reasons.specs.Row.{needs_access}
 use Rattle.deadline_reasons.specs.Standing.{AccessibleHour, Unstarted, Looking, RunsUntil, MovedUntil, Nowhere, Ended}

@@ -2,7 +2,7 @@ use Rattle.std.proofs.Common.{◌∷◌, refl, subst}
 use Rattle.court_clock.specs.declared.direction.Direction.TheVariants.{After}
 use Rattle.rule_periods.specs.declared.grant.Grant.TheVariants.{ByHours}
 use Rattle.deadline_reasons.specs.Derivation.{Lead}
-use Rattle.deadline_reasons.specs.Leading.{with_instant}
+use Rattle.deadline_reasons.specs.Inside.Leading.{with_instant}
 use Rattle.deadline_reasons.specs.Standing.{Unstarted, CountingHours, RunsUntil}
 use Rattle.deadline_reasons.proofs.DerivationLemmas.{if_ok}
 use Rattle.deadline_reasons.proofs.by_hours.extend.Goals as goal

@@ -1,5 +1,5 @@
 use Rattle.std.proofs.Common.{drop}
-use Rattle.deadline_reasons.specs.Leading.{LeadsOn, with_instant}
+use Rattle.deadline_reasons.specs.Inside.Leading.{LeadsOn, with_instant}
 use Rattle.deadline_reasons.proofs.by_hours.extend_all.Given as goal
 
 -- the extensions so far are passed

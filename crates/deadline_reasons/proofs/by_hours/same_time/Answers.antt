@@ -1,7 +1,7 @@
 use Rattle.std.proofs.Common.{◌≡◌, true, IfSome, refl, sym, subst, rules, SFits, w32, to_z-of_z}
 use Rattle.court_days.specs.Words.{is_open}
 use Rattle.deadline_reasons.specs.Derivation.{Lead}
-use Rattle.deadline_reasons.specs.Leading.{sought}
+use Rattle.deadline_reasons.specs.Inside.Leading.{sought}
 use Rattle.deadline_reasons.specs.Standing.{Hour, AccessibleHour, Unstarted, Looking, RunsUntil, MovedUntil}
 use Rattle.deadline_reasons.proofs.by_hours.same_time.Goals as goal
 

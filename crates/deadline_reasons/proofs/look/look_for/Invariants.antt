@@ -4,7 +4,7 @@ use Rattle.court_clock.specs.declared.direction.Direction.TheVariants.{After, Be
 use Rattle.court_clock.specs.Words.{ClockView}
 use Rattle.court_days.specs.Words.{DaysView}
 use Rattle.rule_periods.specs.Words.{DeadlineRowView}
-use Rattle.deadline_reasons.specs.Leading.{LeadsOn}
+use Rattle.deadline_reasons.specs.Inside.Leading.{LeadsOn}
 use Rattle.deadline_reasons.specs.Standing.{Aim, Looking}
 use Rattle.deadline_reasons.proofs.look.look_for.Given as goal
 

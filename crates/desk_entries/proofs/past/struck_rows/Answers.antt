@@ -1,47 +1,50 @@
-use Rattle.std.proofs.Common.{◌≡◌, ◌∙◌, ◌+◌, ◌<◌, ◌++◌, ◌∷◌, ℕ, List, [], ap, length, sym, arith, take, take_all}
+use Rattle.std.proofs.Common.{◌≡◌, ◌∙◌, ◌+◌, ◌++◌, ℕ, List, ap, append_assoc, append-nil, arith, drop, sym}
 use Rattle.std.specs.Prelude.{Vec}
 use Rattle.std.specs.declared.alloc.Global.{Global}
-use Rattle.std.proofs.lemmas.List.{length-take-le}
+use Rattle.row_forms.specs.declared.numbered.NumberedRow.{NumberedRow}
 use Rattle.desk_journal.specs.Words.{batch_of}
-use Rattle.desk_entries.specs.Entries.{next_number, note_in, row_entries, row_only}
-use Rattle.desk_entries.specs.Past.{rows_struck}
-use Rattle.desk_entries.proofs.PastLemmas.{nothing_struck, number_more, rows_struck-more}
-use Rattle.desk_entries.proofs.ListLemmas.{begun_batch, length_batch, next_number-few, no_rows_first, take_batch}
+use Rattle.desk_entries.specs.Entries.{note_in}
+use Rattle.desk_entries.specs.Past.{row_struck_as, rows_struck, rows_with}
+use Rattle.desk_entries.proofs.PastLemmas.{all_struck, later_batch, rows_few, rows_struck-next}
 use Rattle.desk_entries.proofs.past.struck_rows.Goals as goal
 
 pub loop-place-init : goal.loop-place-init
 loop-place-init c = record {
   begun = omega arith;
-  rows = c.new-rows.ensures.items ∙ sym (ap (rows_struck c.args.under.now c.args.moved.now 1) (no_rows_first c.args.entries.now) ∙ nothing_struck c.args.under.now c.args.moved.now 1);
-  next = sym (ap (λ (l : List (List ℕ)). length l + 1) (no_rows_first c.args.entries.now));
+  few = omega arith;
+  rows = ap (λ (l : List NumberedRow). l ++ rows_struck c.args.under.now c.args.moved.now 1 (batch_of (drop 1 c.args.entries.now))) c.new-rows.ensures.items
+      ∙ ap (rows_struck c.args.under.now c.args.moved.now 1) (later_batch c.args.entries.now);
 }
 
 pub push_if_row-requires : goal.push_if_row-requires
-push_if_row-requires c =
-    let taken = take c.loop-place.place c.args.entries.now in
-    let some : 0 < length (batch_of taken) = begun_batch c.args.entries.now c.loop-place.place c.loop-place.invariant.begun c.loop-place-test.true in
-    let short : length taken ≡ c.loop-place.place = length-take-le c.loop-place.place c.args.entries.now (omega (arith, c.loop-place-test.true)) in
-    record { few = omega (arith, c.loop-place.invariant.next, next_number-few (batch_of taken) some, length_batch taken, short, c.loop-place-test.true, c.requires.few) }
+push_if_row-requires c = record { few = omega (arith, c.loop-place.invariant.few, c.loop-place-test.true, c.requires.few) }
 
 pub loop-place-preserved : goal.loop-place-preserved
 loop-place-preserved c =
     let under = c.args.under.now in
     let moved = c.args.moved.now in
-    let kept : List (List ℕ) = batch_of (take c.loop-place.place c.args.entries.now) in
+    let entries = c.args.entries.now in
+    let place = c.loop-place.place in
+    let number = c.loop-place.number in
     let entry : List ℕ = c.index-entries-place.result.items in
-    let some : 0 < length kept = begun_batch c.args.entries.now c.loop-place.place c.loop-place.invariant.begun c.loop-place-test.true in
-    let added : c.push_if_row.new.rows.items ≡ c.loop-place.rows.items ++ rows_struck under moved c.loop-place.number (row_only (note_in entry) entry) =
-    c.in_ok-number.ensures.rows ∙ ap (λ (e : List ℕ). c.loop-place.rows.items ++ rows_struck under moved c.loop-place.number (row_only (note_in e) e)) c.deref.ensures.value in
-    let after : batch_of (take (c.loop-place.place + 1) c.args.entries.now) ≡ kept ++ entry ∷ [] = take_batch c.args.entries.now c.loop-place.place c.index-entries-place.result c.loop-place-test.true c.index-entries-place.is in
+    let left : List (List ℕ) = batch_of (drop (place + 1) entries) in
+    let next : c.in_ok-number.number ≡ rows_with (note_in entry) number = c.in_ok-number.ensures.next ∙ ap (λ (e : List ℕ). rows_with (note_in e) number) c.deref.ensures.value in
+    let added : c.push_if_row.new.rows.items ≡ c.loop-place.rows.items ++ row_struck_as (note_in entry) under moved number entry left =
+    c.in_ok-number.ensures.rows
+    ∙ ap (λ (e : List ℕ). c.loop-place.rows.items ++ row_struck_as (note_in e) under moved number e (batch_of c.split_at.result.1.now)) c.deref.ensures.value
+    ∙ ap (λ (l : List (Vec ℕ Global)). c.loop-place.rows.items ++ row_struck_as (note_in entry) under moved number entry (batch_of l)) c.split_at.ensures.back in
     record {
-      begun = omega (arith, c.loop-place.invariant.begun);
-      rows = rows_struck-more under moved c.loop-place.rows.items c.push_if_row.new.rows.items kept entry c.loop-place.number some c.loop-place.invariant.next c.loop-place.invariant.rows added
-          ∙ ap (λ (l : List (List ℕ)). rows_struck under moved 1 (row_entries l)) (sym after);
-      next = number_more kept entry c.loop-place.number c.in_ok-number.number some c.loop-place.invariant.next (c.in_ok-number.ensures.next ∙ ap (λ (e : List ℕ). c.loop-place.number + length (row_only (note_in e) e)) c.deref.ensures.value) ∙ ap next_number (sym after);
+      begun = omega arith;
+      few = omega (arith, next, rows_few (note_in entry) number, c.loop-place.invariant.few);
+      rows = ap (λ (l : List NumberedRow). l ++ rows_struck under moved c.in_ok-number.number left) added
+          ∙ append_assoc c.loop-place.rows.items (row_struck_as (note_in entry) under moved number entry left) (rows_struck under moved c.in_ok-number.number left)
+          ∙ ap (λ (l : List NumberedRow). c.loop-place.rows.items ++ l)
+          (ap (λ (n : ℕ). row_struck_as (note_in entry) under moved number entry left ++ rows_struck under moved n left) next ∙ sym (rows_struck-next under moved number entries place c.index-entries-place.result c.loop-place-test.true c.index-entries-place.is))
+          ∙ c.loop-place.invariant.rows;
     }
 
 pub returns : goal.returns
 returns c =
-    let all : take c.loop-place.place c.args.entries.now ≡ c.args.entries.now = take_all c.loop-place.place c.args.entries.now (omega (arith, c.loop-place-test.false)) in
-    c.loop-place.invariant.rows
-    ∙ ap (λ (l : List (Vec ℕ Global)). rows_struck c.args.under.now c.args.moved.now 1 (row_entries (batch_of l))) all
+    sym (append-nil c.loop-place.rows.items)
+    ∙ ap (λ (l : List NumberedRow). c.loop-place.rows.items ++ l) (sym (all_struck c.args.under.now c.args.moved.now c.loop-place.number c.args.entries.now c.loop-place.place (omega (arith, c.loop-place-test.false))))
+    ∙ c.loop-place.invariant.rows

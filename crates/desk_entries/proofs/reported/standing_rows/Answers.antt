@@ -1,9 +1,11 @@
-use Rattle.std.proofs.Common.{◌≡◌, ◌∙◌, ◌+◌, ◌<◌, ◌++◌, ◌∷◌, ℕ, List, [], ap, length, sym, subst, arith, take}
+use Rattle.std.proofs.Common.{◌≡◌, ◌∙◌, ◌+◌, ◌<◌, ◌++◌, ◌∷◌, ℕ, List, [], ap, length, map, sym, subst, arith, take}
 use Rattle.desk_journal.specs.Words.{batch_of}
 use Rattle.row_forms.specs.declared.numbered.NumberedRow.{NumberedRow}
+use Rattle.desk_entries.specs.Differences.{Change, change_as, change_in, changes_by}
 use Rattle.desk_entries.specs.Entries.{note_in}
 use Rattle.desk_entries.specs.Register.{StandsAt}
 use Rattle.desk_entries.specs.Reported.{rows_standing, standing_as}
+use Rattle.desk_entries.proofs.ChangeLemmas.{changes_by-more, none_first}
 use Rattle.desk_entries.proofs.ListLemmas.{begun_batch, some_first, take_batch}
 use Rattle.desk_entries.proofs.ReportedLemmas.{none_standing, rows_standing-more}
 use Rattle.desk_entries.proofs.reported.standing_rows.Goals as goal
@@ -15,6 +17,7 @@ loop-place-init c =
       begun = omega arith;
       stands = subst (StandsAt c.args.under.now c.in_ok-register.register) (sym is) (c.in_ok-register.ensures.stands first);
       rows = c.new-rows.ensures.items ∙ sym (ap (rows_standing c.args.under.now) is ∙ none_standing c.args.under.now first);
+      changes = ap (map change_in) c.new-differences.ensures.items ∙ sym (ap (changes_by c.args.under.now) is ∙ none_first c.args.under.now first);
     }
 
 pub loop-place-preserved : goal.loop-place-preserved
@@ -32,4 +35,8 @@ loop-place-preserved c =
           ∙ ap (λ (l : List NumberedRow). l ++ standing_as (note_in c.deref.result.now) c.args.under.now kept c.deref.result.now) c.loop-place.invariant.rows
           ∙ sym (rows_standing-more c.args.under.now kept c.deref.result.now begun)
           ∙ ap (rows_standing c.args.under.now) read;
+      changes = c.in_ok-decide_entry.ensures.changes kept c.loop-place.invariant.stands
+          ∙ ap (λ (l : List Change). l ++ change_as (note_in c.deref-in-loop-place.result.now) c.args.under.now kept c.deref-in-loop-place.result.now) c.loop-place.invariant.changes
+          ∙ sym (changes_by-more c.args.under.now kept c.deref-in-loop-place.result.now begun)
+          ∙ ap (changes_by c.args.under.now) taken;
     }

@@ -1,8 +1,7 @@
 use Rattle.std.proofs.Common.{◌∙◌, inl, ℕ, List, ◌++◌, ap, subst}
 use Rattle.std.specs.Io.KnownBytes.{Appends}
 use Rattle.std.proofs.lemmas.Result.{err_from_is_err_and}
-use Rattle.desk_journal.specs.Words.{IsKept, batch_of}
-use Rattle.desk_journal.proofs.CallerLemmas.{rest_kept}
+use Rattle.desk_journal.specs.Words.{batch_of}
 use Rattle.program_streams.specs.Words.{watched}
 use Rattle.desk_session.specs.Lines.{lines_from}
 use Rattle.desk_session.specs.Taken.{left_by, told_to}
@@ -13,7 +12,7 @@ use Rattle.desk_session.proofs.batch.serve_bytes.Goals as goal
 pub returns-in_err-gather-clause-promised : goal.returns-in_err-gather-clause-promised
 returns-in_err-gather-clause-promised g c = λ kept keeps stands.
     unanswered (g.O.Register.leaves c.args.setup.now) (g.O.Register.answers c.args.setup.now) kept (lines_from c.args.begun.now.items c.args.bytes.now) _ _ _
-    (λ file left. inl (rest_kept g.D.Disk.seen g.D.Disk.may_leave g.D.Disk.is_usable c.args.journal.now kept keeps file left))
+    (λ file left. inl (g.met.K.Keeper.rest c.args.keeper.now kept keeps file left))
 
 pub returns-in_err-publish-clause-fault : goal.returns-in_err-publish-clause-fault
 returns-in_err-publish-clause-fault g c =
@@ -49,7 +48,7 @@ returns-clause-served g c = λ kept keeps stands.
     let batch_is = ap batch_of c.deref.ensures.value ∙ taken.left ∙ ap (λ l. batch_of l ++ left_by leaves kept lines) c.new-batch.ensures.items in
     let text_is = c.deref-2.ensures.value ∙ taken.told ∙ ap (λ l. l ++ told_to leaves answers kept lines) c.new-text.ensures.items in
     record {
-      keeps = subst (λ (more : List (List ℕ)). IsKept g.D.Disk.seen g.D.Disk.may_leave g.D.Disk.is_usable (kept ++ more) c.publish.new.journal) batch_is (c.in_ok-publish.ensures.kept kept keeps);
+      keeps = subst (λ (more : List (List ℕ)). g.K.Keeper.keeps c.publish.new.keeper (kept ++ more)) batch_is (c.in_ok-publish.ensures.kept kept keeps);
       stands = taken.stands;
       told = subst (Appends (g.W.Write.contents (watched c.args.writer.now)) (g.W.Write.contents (watched c.publish.new.writer))) text_is c.in_ok-publish.ensures.told;
     }

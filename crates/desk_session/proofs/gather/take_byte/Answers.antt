@@ -1,4 +1,4 @@
-use Rattle.std.proofs.Common.{◌≡◌, ◌∙◌, ℕ, List, [], ◌∷◌, ap, sym, subst}
+use Rattle.std.proofs.Common.{◌∙◌, ℕ, List, [], ◌∷◌, ap, sym, subst}
 use Rattle.desk_journal.specs.Words.{batch_of}
 use Rattle.desk_session.specs.Outcomes.{counted_with, tally_after}
 use Rattle.desk_session.specs.Taken.{TakesLines}

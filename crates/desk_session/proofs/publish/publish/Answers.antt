@@ -1,17 +1,15 @@
-use Rattle.std.proofs.Common.{◌≡◌, ◌∙◌, inl, inr, ℕ, List, ◌++◌, ap, subst}
+use Rattle.std.proofs.Common.{inr, ℕ, List, ◌++◌, subst}
 use Rattle.std.specs.Prelude.{◌⊎◌}
 use Rattle.std.specs.Io.KnownBytes.{Appends}
 use Rattle.desk_journal.specs.Words.{StandsFor, batch_of}
-use Rattle.desk_journal.proofs.CallerLemmas.{rest_kept}
 use Rattle.program_streams.specs.Words.{AppendsFront, watched}
-use Rattle.desk_session.specs.Taken.{left_by, told_to}
 use Rattle.desk_session.proofs.PromiseLemmas.{answered, unanswered, whole_front}
 use Rattle.desk_session.proofs.publish.publish.Goals as goal
 
-pub returns-in_err-append-clause-promised : goal.returns-in_err-append-clause-promised
-returns-in_err-append-clause-promised g c = λ leaves answers kept lines keeps batch_is text_is.
+pub returns-in_err-keep-clause-promised : goal.returns-in_err-keep-clause-promised
+returns-in_err-keep-clause-promised g c = λ leaves answers kept lines keeps batch_is text_is.
     unanswered leaves answers kept lines _ _ _
-    (λ file left. subst (λ (more : List (List ℕ)). StandsFor file kept ⊎ StandsFor file (kept ++ more)) batch_is (c.append.ensures.crash kept keeps file left))
+    (λ file left. subst (λ (more : List (List ℕ)). StandsFor file kept ⊎ StandsFor file (kept ++ more)) batch_is (c.keep.ensures.crash kept keeps file left))
 
 pub returns-clause-promised : goal.returns-clause-promised
 returns-clause-promised g c = λ leaves answers kept lines keeps batch_is text_is.
@@ -19,7 +17,7 @@ returns-clause-promised g c = λ leaves answers kept lines keeps batch_is text_i
     (whole_front leaves answers _ _ _ (subst (Appends (g.W.Write.contents (watched c.args.writer.now)) (g.W.Write.contents (watched c.write_all.new.writer))) text_is c.in-Ok.ensures.written))
     (λ working. subst (Appends (g.W.Write.contents (watched c.args.writer.now)) (g.W.Write.contents (watched c.write_all.new.writer))) text_is c.in-Ok.ensures.written)
     (λ file left. subst (λ (more : List (List ℕ)). StandsFor file (kept ++ more)) batch_is
-    (rest_kept g.D.Disk.seen g.D.Disk.may_leave g.D.Disk.is_usable c.append.new.self (kept ++ batch_of c.args.batch.now) (c.in_ok-append.ensures.kept kept keeps) file left))
+    (g.met.K.Keeper.rest c.keep.new.self (kept ++ batch_of c.args.batch.now) (c.in_ok-keep.ensures.kept kept keeps) file left))
 
 pub returns-in-Err-clause-promised : goal.returns-in-Err-clause-promised
 returns-in-Err-clause-promised g c = λ leaves answers kept lines keeps batch_is text_is.
@@ -27,13 +25,13 @@ returns-in-Err-clause-promised g c = λ leaves answers kept lines keeps batch_is
     (subst (AppendsFront (g.W.Write.contents (watched c.args.writer.now)) (g.W.Write.contents (watched c.write_all.new.writer))) text_is c.in-Err.ensures.front)
     (λ working. cc (c.in-Err.ensures.failed, working))
     (λ file left. subst (λ (more : List (List ℕ)). StandsFor file (kept ++ more)) batch_is
-    (rest_kept g.D.Disk.seen g.D.Disk.may_leave g.D.Disk.is_usable c.append.new.self (kept ++ batch_of c.args.batch.now) (c.in_ok-append.ensures.kept kept keeps) file left))
+    (g.met.K.Keeper.rest c.keep.new.self (kept ++ batch_of c.args.batch.now) (c.in_ok-keep.ensures.kept kept keeps) file left))
 
-pub returns-in_err-append-clause-crash : goal.returns-in_err-append-clause-crash
-returns-in_err-append-clause-crash g c = λ kept keeps file left. c.append.ensures.crash kept keeps file left
+pub returns-in_err-keep-clause-crash : goal.returns-in_err-keep-clause-crash
+returns-in_err-keep-clause-crash g c = λ kept keeps file left. c.keep.ensures.crash kept keeps file left
 
 pub returns-clause-crash : goal.returns-clause-crash
-returns-clause-crash g c = λ kept keeps file left. inr (rest_kept g.D.Disk.seen g.D.Disk.may_leave g.D.Disk.is_usable c.append.new.self (kept ++ batch_of c.args.batch.now) (c.in_ok-append.ensures.kept kept keeps) file left)
+returns-clause-crash g c = λ kept keeps file left. inr (g.met.K.Keeper.rest c.keep.new.self (kept ++ batch_of c.args.batch.now) (c.in_ok-keep.ensures.kept kept keeps) file left)
 
 pub returns-in-Err-clause-crash : goal.returns-in-Err-clause-crash
-returns-in-Err-clause-crash g c = λ kept keeps file left. inr (rest_kept g.D.Disk.seen g.D.Disk.may_leave g.D.Disk.is_usable c.append.new.self (kept ++ batch_of c.args.batch.now) (c.in_ok-append.ensures.kept kept keeps) file left)
+returns-in-Err-clause-crash g c = λ kept keeps file left. inr (g.met.K.Keeper.rest c.keep.new.self (kept ++ batch_of c.args.batch.now) (c.in_ok-keep.ensures.kept kept keeps) file left)

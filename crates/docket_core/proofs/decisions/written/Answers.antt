@@ -1,5 +1,5 @@
 use Rattle.docket_rows.specs.Words.{parts_read}
-use Rattle.docket_core.specs.Written.{written_into}
+use Rattle.docket_core.specs.Inside.Written.{written_into}
 use Rattle.docket_core.proofs.WrittenLemmas.{written_step}
 use Rattle.docket_core.proofs.decisions.written.Goals as goal
 

@@ -1,6 +1,6 @@
 use Rattle.std.proofs.Common.{◌≡◌, take, filter_map}
 use Rattle.docket_rows.specs.Words.{parts_read}
-use Rattle.docket_core.specs.Written.{written_into}
+use Rattle.docket_core.specs.Inside.Written.{written_into}
 use Rattle.docket_core.proofs.decisions.written.Given as goal
 
 -- what is written on the reads so far

@@ -1,7 +1,7 @@
 use Rattle.std.proofs.Common.{◌≡◌, ◌∙◌, ◌-◌, List, drop, filter, length, take, ap, sym}
 use Rattle.hearing_slots.specs.declared.booking.Booking.{Booking}
 use Rattle.hearing_slots.specs.Words.{BlockView, all_in}
-use Rattle.docket_decisions.specs.Holidays.{least_before, sought_test}
+use Rattle.docket_decisions.specs.Inside.Holidays.{least_before, sought_test}
 use Rattle.docket_decisions.proofs.HolidayLemmas.{first_of_both, first_block}
 use Rattle.docket_decisions.proofs.holidays.+least_in_blocks.Goals as goal
 

@@ -1,7 +1,7 @@
 use Rattle.std.proofs.Common.{◌≡◌, ◌≤◌, ◌-◌, filter, flat_map}
 use Rattle.std.specs.List.{range_with_len}
 use Rattle.docket_rows.specs.Words.{least}
-use Rattle.docket_decisions.specs.Holidays.{sought_test}
+use Rattle.docket_decisions.specs.Inside.Holidays.{sought_test}
 use Rattle.docket_decisions.proofs.holidays.least_booked.Given as goal
 
 -- the least of the bookings of the judges from this one on

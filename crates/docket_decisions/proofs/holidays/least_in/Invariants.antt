@@ -1,5 +1,5 @@
 use Rattle.std.proofs.Common.{◌≡◌, ◌≤◌, length, drop, filter}
-use Rattle.docket_decisions.specs.Holidays.{least_before, sought_test}
+use Rattle.docket_decisions.specs.Inside.Holidays.{least_before, sought_test}
 use Rattle.docket_decisions.proofs.holidays.least_in.Given as goal
 
 -- the least of the bookings from this place on

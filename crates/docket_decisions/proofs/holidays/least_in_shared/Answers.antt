@@ -1,7 +1,7 @@
 use Rattle.std.proofs.Common.{◌≡◌, ◌∙◌, ◌++◌, List, filter, ap, sym}
 use Rattle.hearing_slots.specs.declared.booking.Booking.{Booking}
 use Rattle.hearing_slots.specs.Words.{all_in}
-use Rattle.docket_decisions.specs.Holidays.{least_before, sought_test}
+use Rattle.docket_decisions.specs.Inside.Holidays.{least_before, sought_test}
 use Rattle.docket_decisions.proofs.HolidayLemmas.{first_of_both}
 use Rattle.docket_decisions.proofs.holidays.least_in_shared.Goals as goal
 

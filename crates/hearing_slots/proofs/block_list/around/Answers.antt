@@ -1,5 +1,5 @@
 use Rattle.std.proofs.Common.{◌∙◌, ap, refl}
-use Rattle.hearing_slots.specs.Blocks.{BlockView, block_of}
+use Rattle.hearing_slots.specs.Inside.Blocks.{BlockView, block_of}
 use Rattle.hearing_slots.specs.Calendar.{on_day}
 use Rattle.hearing_slots.proofs.BlockLemmas.{on_day-at, on_day-gap}
 use Rattle.hearing_slots.proofs.block_list.around.Goals as goal

@@ -1,6 +1,6 @@
 use Rattle.std.proofs.Common.{◌≡◌, ◌∙◌, List, ap, subst, sym}
 use Rattle.std.specs.List.{insert}
-use Rattle.hearing_slots.specs.Blocks.{AreBlocks, BlockView, IsGapForBlock, all_in, block_of}
+use Rattle.hearing_slots.specs.Inside.Blocks.{AreBlocks, BlockView, IsGapForBlock, all_in, block_of}
 use Rattle.hearing_slots.proofs.BlockLemmas.{no_block, opened_blocks, opened_same}
 use Rattle.hearing_slots.proofs.block_list.place_for.Goals as goal
 

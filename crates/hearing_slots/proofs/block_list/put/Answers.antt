@@ -1,7 +1,7 @@
 use Rattle.std.proofs.Common.{◌∙◌, Some, List, ap, refl, subst, sym}
 use Rattle.hearing_slots.specs.declared.booking.Booking.{Booking}
 use Rattle.hearing_slots.specs.Calendar.{IsFree, with_booking}
-use Rattle.hearing_slots.specs.Blocks.{BlockView, LiesIn, block_of}
+use Rattle.hearing_slots.specs.Inside.Blocks.{BlockView, LiesIn, block_of}
 use Rattle.hearing_slots.proofs.BlockLemmas.{free_at, put_all, put_blocks}
 use Rattle.hearing_slots.proofs.block_list.put.Goals as goal
 

@@ -1,7 +1,7 @@
 use Rattle.std.proofs.Common.{◌≡◌, ◌<◌, ℤ, int_lt, length, get_or, of_z, w32, ◌∙◌, ap, subst, arith, rules}
 use Rattle.std.proofs.lemmas.Int.{ints}
 use Rattle.std.proofs.lemmas.List.Sorted.{IsPartitionPoint-from_clause}
-use Rattle.hearing_slots.specs.Blocks.{BlockView, IsBlockAt, IsGapForBlock}
+use Rattle.hearing_slots.specs.Inside.Blocks.{BlockView, IsBlockAt, IsGapForBlock}
 use Rattle.hearing_slots.proofs.Places.{searchable, found_at, absent_at_end, absent_at}
 use Rattle.hearing_slots.proofs.block_list.search.Goals as goal
 

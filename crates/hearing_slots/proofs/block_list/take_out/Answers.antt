@@ -1,6 +1,6 @@
 use Rattle.std.proofs.Common.{◌∙◌, ap, subst, sym}
 use Rattle.hearing_slots.specs.Calendar.{without_motion}
-use Rattle.hearing_slots.specs.Blocks.{BlockView, LiesIn, block_of}
+use Rattle.hearing_slots.specs.Inside.Blocks.{BlockView, LiesIn, block_of}
 use Rattle.hearing_slots.proofs.BlockLemmas.{taken_all, taken_blocks}
 use Rattle.hearing_slots.proofs.block_list.take_out.Goals as goal
 

@@ -2,7 +2,7 @@ use Rattle.std.proofs.Common.{◌≡◌, ◌∙◌, ap, not, sym, rules}
 use Rattle.std.specs.List.{filter}
 use Rattle.std.proofs.lemmas.Fn.{filter_same}
 use Rattle.hearing_slots.specs.declared.day_notes.NotedDay.{NotedDay}
-use Rattle.hearing_slots.specs.DayNotes.{is_noted}
+use Rattle.hearing_slots.specs.Inside.DayNotes.{is_noted}
 use Rattle.hearing_slots.proofs.Finds.{filter_absent}
 use Rattle.hearing_slots.proofs.day_notes.others.Goals as goal
 

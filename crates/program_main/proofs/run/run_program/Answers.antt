@@ -2,7 +2,7 @@ use Rattle.std.proofs.Common.{Ok, Err, ap, arith, map, string_bytes}
 use Rattle.program_main.specs.declared.options.fault.OptionsFault.TheVariants.{BadWords, Help}
 use Rattle.program_main.specs.Options.Words.{arguments_in}
 use Rattle.program_streams.specs.Words.{has_failed, watched}
-use Rattle.program_streams.proofs.CallerLemmas.{told_is_past_1}
+use Rattle.program_runs.proofs.CallerLemmas.{told_is_past_1}
 use Rattle.program_main.specs.Program.{AnswersWords}
 use Rattle.program_main.proofs.EndingLemmas.{ends_if_known}
 use Rattle.program_main.proofs.HelpLemmas.{ends_with_help, if_any, not_mistaken}

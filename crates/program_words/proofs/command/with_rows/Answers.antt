@@ -1,7 +1,7 @@
 -- The subcommands are added one by one, as in the definition.
 use Rattle.std.proofs.Common.{refl, codes}
 use Rattle.std.proofs.lemmas.Result.{IfOk-weaker}
-use Rattle.report_program.proofs.ShapeLemmas.{shape_made}
+use Rattle.program_main.proofs.ShapeLemmas.{shape_made}
 use Rattle.program_words.specs.CommandLine.{enter_line, init_line, lines_line, plain_line, rows_line}
 use Rattle.program_words.proofs.command.with_rows.Goals as goal
 

@@ -1,7 +1,7 @@
 -- The subcommands are added one by one, as in the definition.
 use Rattle.std.proofs.Common.{refl}
 use Rattle.std.proofs.lemmas.Result.{IfOk-weaker}
-use Rattle.report_program.proofs.ShapeLemmas.{shape_made}
+use Rattle.program_main.proofs.ShapeLemmas.{shape_made}
 use Rattle.program_words.specs.CommandLine.{change_line, check_line, write_line}
 use Rattle.program_words.proofs.court_commands.court_command.Goals as goal
 

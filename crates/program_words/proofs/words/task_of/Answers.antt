@@ -17,10 +17,13 @@ pub returns-in-Plain-clause-task : goal.returns-in-Plain-clause-task
 returns-in-Plain-clause-task c = rw c.in-Plain.is (c.plain.ensures.task c.args.clock_time c.args.name.now)
 
 pub returns-in-Strike-clause-task : goal.returns-in-Strike-clause-task
-returns-in-Strike-clause-task c = rw c.in-Strike.is (c.strike.ensures.task c.args.clock_time c.args.name.now)
+returns-in-Strike-clause-task c = rw c.in-Strike.is (c.strike.ensures.task c.args.name.now)
 
 pub returns-in-Memo-clause-task : goal.returns-in-Memo-clause-task
 returns-in-Memo-clause-task c = rw c.in-Memo.is (c.memo.ensures.task c.args.clock_time c.args.name.now)
+
+pub returns-in-Sheet-clause-task : goal.returns-in-Sheet-clause-task
+returns-in-Sheet-clause-task c = rw c.in-Sheet.is (c.sheet.ensures.task c.args.name.now)
 
 pub returns-in-CourtCheck-clause-task : goal.returns-in-CourtCheck-clause-task
 returns-in-CourtCheck-clause-task c = rw c.in-CourtCheck.is (c.check.ensures.task c.args.clock_time c.args.name.now)

@@ -8,7 +8,7 @@ pub returns : goal.returns
 unfolding event_lines
 returns c =
     let court = c.args.court.now in
-    let named = c.args.cases.now.named in
+    let named = c.args.labels.now.cases in
     let a = c.args.appointment.now in
     let begin = begin_lines c.args.stamp a.item in
     let sequence = sequence_lines a.revision in

@@ -7,6 +7,7 @@ use Rattle.office_texts.specs.declared.run.reply.Reply.{Reply}
 use Rattle.office_texts.specs.Run.Words.{Holds, docketed_after, docketed_then, reply_to}
 use Rattle.row_forms.specs.declared.numbered.NumberedRow.{NumberedRow}
 use Rattle.row_forms.specs.Words.{rows_of}
+use Rattle.report_texts.specs.Words.{LabelsView}
 use Rattle.report_texts.proofs.CallerLemmas.{docketed_at_number}
 use Rattle.desk_numbers.specs.Words.{numbered}
 use Rattle.report_json.specs.Answers.{answered_value}
@@ -21,8 +22,8 @@ pub loop-numbered-preserved : goal.loop-numbered-preserved
 unfolding answers_from
 loop-numbered-preserved c =
     let court = c.args.court.now in
-    let named = c.args.cases.now.named in
-    let moved = c.args.moved.now in
+    let labels = c.args.labels.now in
+    let moved : c.labels.inside.moved.now ≡ labels.moved = ap (λ (l : LabelsView). l.moved) c.labels.view_is in
     let setup = setup_of court in
     let rows = c.args.rows.now in
     let i = c.loop-numbered.numbered-index in
@@ -33,11 +34,11 @@ loop-numbered-preserved c =
     let replied = c.in_ok-reply.ensures setup docketed c.loop-numbered.invariant.holds in
     let more : docketed_after setup (opening_rows setup) (rows_of (take (i + 1) rows)) ≡ docketed_then setup docketed row.work =
     docketed_at_number setup (opening_rows setup) rows i c.numbered-item.result c.loop-numbered-test.true ∙ ap (λ (r : NumberedRow). docketed_then setup docketed r.row.work) (sym c.numbered-item.is) in
-    let reply = numbered moved row.work (reply_to setup docketed row.work) in
-    let line = λ (reply : Reply). json_tokens (answered_value court named (record { number = n; clerk = row.clerk; reply = reply })) in
-    let later = flat_map json_tokens (answers_from court named moved (docketed_then setup docketed row.work) (drop (i + 1) rows)) in
-    let same : line c.number_reply.result ≡ line reply = ap line (c.number_reply.ensures ∙ ap (numbered moved row.work) replied.0) in
-    let step = at_drop_more (λ rest. flat_map json_tokens (answers_from court named moved docketed rest)) rows i c.numbered-item.result c.loop-numbered-test.true ∙ ap (λ (r : NumberedRow). flat_map json_tokens (answers_from court named moved docketed (r ∷ drop (i + 1) rows))) (sym c.numbered-item.is) in
+    let reply = numbered labels.moved row.work (reply_to setup docketed row.work) in
+    let line = λ (reply : Reply). json_tokens (answered_value court labels.cases (record { number = n; clerk = row.clerk; reply = reply })) in
+    let later = flat_map json_tokens (answers_from court labels (docketed_then setup docketed row.work) (drop (i + 1) rows)) in
+    let same : line c.number_reply.result ≡ line reply = ap line (rw moved at c.number_reply.ensures ∙ ap (numbered labels.moved row.work) replied.0) in
+    let step = at_drop_more (λ rest. flat_map json_tokens (answers_from court labels docketed rest)) rows i c.numbered-item.result c.loop-numbered-test.true ∙ ap (λ (r : NumberedRow). flat_map json_tokens (answers_from court labels docketed (r ∷ drop (i + 1) rows))) (sym c.numbered-item.is) in
     record {
       holds = subst (Holds setup c.reply_to.new.docket) (sym more) replied.1;
       so_far = rw (c.in_ok-write.ensures, more) (append_assoc before (line c.number_reply.result) later ∙ ap (λ l. before ++ l) (ap (λ l. l ++ later) same ∙ sym step) ∙ c.loop-numbered.invariant.so_far);
@@ -47,8 +48,7 @@ pub returns-clause-answers : goal.returns-clause-answers
 unfolding answers_from
 returns-clause-answers c =
     let court = c.args.court.now in
-    let named = c.args.cases.now.named in
     let setup = setup_of court in
     let past : length c.args.rows.now ≤ c.loop-numbered.numbered-index = omega (arith, c.loop-numbered-test.false) in
-    let none = at_drop_all (λ rest. flat_map json_tokens (answers_from court named c.args.moved.now (docketed_after setup (opening_rows setup) (rows_of (take c.loop-numbered.numbered-index c.args.rows.now))) rest)) c.args.rows.now c.loop-numbered.numbered-index past in
+    let none = at_drop_all (λ rest. flat_map json_tokens (answers_from court c.args.labels.now (docketed_after setup (opening_rows setup) (rows_of (take c.loop-numbered.numbered-index c.args.rows.now))) rest)) c.args.rows.now c.loop-numbered.numbered-index past in
     sym (append-nil _) ∙ rw none at c.loop-numbered.invariant.so_far

@@ -15,5 +15,5 @@ invariant-loop-numbered l =
     let docketed = docketed_after setup (opening_rows setup) (rows_of (take l.numbered-index l.rows)) in
     record {
       holds : Holds setup l.docket docketed;
-      so_far : l.out ++ flat_map json_tokens (answers_from l.court l.cases.named l.moved docketed (drop l.numbered-index l.rows)) ≡ l.fn.out ++ flat_map json_tokens (answers_from l.court l.cases.named l.moved (opening_rows setup) l.rows);
+      so_far : l.out ++ flat_map json_tokens (answers_from l.court l.labels docketed (drop l.numbered-index l.rows)) ≡ l.fn.out ++ flat_map json_tokens (answers_from l.court l.labels (opening_rows setup) l.rows);
     }

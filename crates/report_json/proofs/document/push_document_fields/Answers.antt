@@ -12,12 +12,11 @@ returns-clause-sheets c =
 pub returns-clause-fields : goal.returns-clause-fields
 returns-clause-fields c =
     let court = c.args.court.now in
-    let named = c.args.cases.now.named in
-    let moved = c.args.moved.now in
+    let labels = c.args.labels.now in
     let rows = c.args.rows.now in
     let sheets = c.in_ok-sheets.sheets.items in
     let all =
-    four_fields (field (codes "court") (court_value court)) (field (codes "answers") (array_of (answers_from court named moved (opening_rows (setup_of court)) rows)))
-    (cases_field court named sheets) (calendars_field court named moved c.args.choice.now (docketed_by court rows)) c.args.out.now in
+    four_fields (field (codes "court") (court_value court)) (field (codes "answers") (array_of (answers_from court labels (opening_rows (setup_of court)) rows)))
+    (cases_field court labels.cases sheets) (calendars_field court labels c.args.choice.now (docketed_by court rows)) c.args.out.now in
     rw (← all, ← c.in_ok-push_court.ensures, ← c.in_ok-push_answers.ensures.answers, ← c.deref.ensures.value, ← c.in_ok-list_field.ensures)
     (c.in_ok-push_calendars.ensures (docketed_by court rows) c.in_ok-push_answers.ensures.docket.stands)

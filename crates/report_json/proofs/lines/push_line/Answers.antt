@@ -10,10 +10,10 @@ use Rattle.report_json.proofs.lines.push_line.Goals as goal
 
 pub returns-clause-read : goal.returns-clause-read
 returns-clause-read c =
-    let value = answered_value c.args.court.now c.args.cases.now.named c.args.answered.now in
+    let value = answered_value c.args.court.now c.args.labels.now.cases c.args.answered.now in
     let written : c.write.new.out ≡ json_tokens value = rw c.new-out.ensures at c.in_ok-write.ensures in
     let reads : tokens (print (json_tokens value)) ≡ json_tokens value = subst (λ ts. tokens (print ts) ≡ ts) written c.into_text-line.ensures.reads_back in
     record {
-      reads = document_reads value (answered_reads_within c.args.court.now c.args.cases.now.named c.args.answered.now) reads;
+      reads = document_reads value (answered_reads_within c.args.court.now c.args.labels.now.cases c.args.answered.now) reads;
       utf8 = subst (λ ts. IsUtf8 (print ts)) written c.into_text-line.ensures.utf8;
     }

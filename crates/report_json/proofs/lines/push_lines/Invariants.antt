@@ -13,9 +13,9 @@ abbrev pub invariant-loop-numbered : goal.invariant-loop-numbered
 invariant-loop-numbered l =
     let setup = setup_of l.court in
     let docketed = docketed_after setup (opening_rows setup) (rows_of (take l.numbered-index l.rows)) in
-    let left = answers_from l.court l.cases.named l.moved docketed (drop l.numbered-index l.rows) in
+    let left = answers_from l.court l.labels docketed (drop l.numbered-index l.rows) in
     record {
       holds : Holds setup l.docket docketed;
-      so_far : l.text.items ++ flat_map line_of left ≡ l.fn.text.items ++ flat_map line_of (answers_of l.court l.cases.named l.moved l.rows);
-      read : All ReadsBack left → All ReadsBack (answers_of l.court l.cases.named l.moved l.rows);
+      so_far : l.text.items ++ flat_map line_of left ≡ l.fn.text.items ++ flat_map line_of (answers_of l.court l.labels l.rows);
+      read : All ReadsBack left → All ReadsBack (answers_of l.court l.labels l.rows);
     }

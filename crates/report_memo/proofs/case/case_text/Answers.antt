@@ -4,7 +4,7 @@ use Rattle.docket_rows.specs.Words.{opening_rows, setup_of, view_of}
 use Rattle.desk_numbers.specs.Words.{numbered_view}
 use Rattle.row_forms.specs.Words.{rows_of}
 use Rattle.office_texts.specs.Run.Words.{docketed_after}
-use Rattle.report_memo.specs.Labels.{LabelsView}
+use Rattle.report_texts.specs.Words.{LabelsView}
 use Rattle.report_memo.specs.Sources.{numbered_source, sources_made}
 use Rattle.report_memo.proofs.DocketLemmas.{days_held}
 use Rattle.report_memo.proofs.case.case_text.Goals as goal

@@ -4,7 +4,7 @@ use Rattle.docket_core.specs.Words.{parts_held}
 use Rattle.office_texts.specs.Named.Words.{motion_called}
 use Rattle.reason_refusals.specs.Commands.Words.{why_refused}
 use Rattle.reason_refusals.proofs.CommandsLemmas.CallerLemmas.{parts_same}
-use Rattle.report_memo.specs.Labels.{LabelsView}
+use Rattle.report_texts.specs.Words.{LabelsView}
 use Rattle.report_memo.specs.Notes.{motion_refused}
 use Rattle.report_memo.proofs.notes.push_refused.Goals as goal
 

@@ -4,7 +4,7 @@ use Rattle.desk_numbers.specs.Words.{numbered}
 use Rattle.office_texts.specs.Run.Words.{row_numbers}
 use Rattle.office_texts.specs.Named.Words.{named_line_of}
 use Rattle.report_memo.specs.declared.detail.Detail.TheVariants.{Reasons}
-use Rattle.report_memo.specs.Labels.{LabelsView}
+use Rattle.report_texts.specs.Words.{LabelsView}
 use Rattle.report_memo.specs.Replies.{IsTold, sheet_replied}
 use Rattle.report_memo.specs.Sheets.{IsSheet}
 use Rattle.report_memo.specs.Texts.{Is}

@@ -1,9 +1,10 @@
-use Rattle.std.proofs.Common.{◌≡◌, ◌≤◌, ◌+◌, take, length, string_bytes, sym, subst, arith}
+use Rattle.std.proofs.Common.{◌≡◌, ◌≤◌, ◌+◌, ◌∙◌, take, length, string_bytes, sym, ap, subst, arith}
 use Rattle.docket_rows.specs.Words.{Rows, setup_of, opening_rows}
+use Rattle.row_forms.specs.declared.numbered.NumberedRow.{NumberedRow}
 use Rattle.row_forms.specs.Words.{rows_of}
 use Rattle.office_texts.specs.Run.Words.{Holds, docketed_after, docketed_then}
+use Rattle.report_texts.proofs.CallerLemmas.{docketed_at_number}
 use Rattle.report_memo.proofs.ReplyLemmas.{replies_end, replies_more}
-use Rattle.report_memo.proofs.RowLemmas.{docketed_at}
 use Rattle.report_memo.proofs.replies.push_replies.Goals as goal
 
 pub loop-row-init : goal.loop-row-init
@@ -20,7 +21,7 @@ loop-row-preserved c =
     let docketed : Rows = docketed_after setup (opening_rows setup) (rows_of (take i rows)) in
     let is = sym c.row-item.is in
     let more : docketed_after setup (opening_rows setup) (rows_of (take (i + 1) rows)) ≡ docketed_then setup docketed row.row.work =
-    docketed_at setup (opening_rows setup) rows i row c.loop-row-test.true is in
+    docketed_at_number setup (opening_rows setup) rows i row c.loop-row-test.true ∙ ap (λ (n : NumberedRow). docketed_then setup docketed n.row.work) is in
     let holds = c.loop-row.invariant.holds in
     record {
       holds = subst (Holds setup c.push_row.new.docket) (sym more) (c.in_ok-push_row.ensures.docket docketed holds);

@@ -1,8 +1,8 @@
 use Rattle.std.proofs.Common.{◌≡◌, ℕ, Option, ap, string_bytes, subst}
 use Rattle.std.specs.Prelude.{IfOk, MatchOption}
-use Rattle.program_streams.specs.Words.{IsFinding}
+use Rattle.program_runs.specs.Words.{IsFinding}
 use Rattle.report_memo.specs.Answer.{no_case}
-use Rattle.report_memo.specs.Labels.{LabelsView}
+use Rattle.report_texts.specs.Words.{LabelsView}
 use Rattle.report_memo.specs.Case.{IsCaseClosed, IsCaseMemo}
 use Rattle.report_memo.proofs.report.called_text.Goals as goal
 

@@ -2,7 +2,7 @@ use Rattle.std.proofs.Common.{◌≡◌, ◌+◌, ◌-◌, ◌∙◌, string_byt
 use Rattle.docket_rows.specs.declared.query.Query.TheVariants as query
 use Rattle.docket_rows.specs.Words.{setup_of, view_of}
 use Rattle.desk_numbers.specs.Words.{numbered_view}
-use Rattle.report_memo.specs.Labels.{LabelsView}
+use Rattle.report_texts.specs.Words.{LabelsView}
 use Rattle.report_memo.specs.Memo.{IsSheetOf}
 use Rattle.report_memo.specs.Texts.{Adds}
 use Rattle.report_memo.proofs.DocketLemmas.{days_held}

@@ -4,7 +4,7 @@ use Rattle.docket_rows.specs.Words.{Rows, opening_rows, setup_of}
 use Rattle.row_forms.specs.declared.numbered.NumberedRow.{NumberedRow}
 use Rattle.row_forms.specs.Words.{rows_of}
 use Rattle.office_texts.specs.Run.Words.{Holds, docketed_after, docketed_then, reply_to}
-use Rattle.report_memo.proofs.RowLemmas.{docketed_at}
+use Rattle.report_texts.proofs.CallerLemmas.{docketed_at_number}
 use Rattle.report_memo.specs.Sources.{source_in, sources_made}
 use Rattle.report_memo.proofs.sources.carry_out.Goals as goal
 
@@ -24,7 +24,7 @@ loop-row-preserved c =
     let docketed : Rows = docketed_after setup (opening_rows setup) (rows_of (take i rows)) in
     let replied = c.in_ok-reply.ensures setup docketed c.loop-row.invariant.holds in
     let more : docketed_after setup (opening_rows setup) (rows_of (take (i + 1) rows)) ≡ docketed_then setup docketed row.row.work =
-    docketed_at setup (opening_rows setup) rows i row c.loop-row-test.true (sym c.row-item.is) in
+    docketed_at_number setup (opening_rows setup) rows i row c.loop-row-test.true ∙ ap (λ (n : NumberedRow). docketed_then setup docketed n.row.work) (sym c.row-item.is) in
     let later = sources_made setup case (docketed_then setup docketed row.row.work) (drop (i + 1) rows) in
     let step = at_drop_more (sources_made setup case docketed) rows i row c.loop-row-test.true ∙ ap (λ (n : NumberedRow). option_to_list (source_in case n.number n.row.work (reply_to setup docketed n.row.work)) ++ sources_made setup case (docketed_then setup docketed n.row.work) (drop (i + 1) rows)) (sym c.row-item.is) in
     let same = ap (λ r. option_to_list (source_in case row.number row.row.work r)) replied.0 in

@@ -1,15 +1,9 @@
--- The subcommand has a plain shape, and so no global argument.
-use Rattle.std.proofs.Common.{◌≡◌, ◌∙◌, ◌&&◌, Bool, true, false, not, ap}
-use Rattle.std.proofs.lemmas.Bool.{and_parts, not-true}
+-- The subcommand has the shape of the definition.
+use Rattle.std.proofs.Common.{refl}
 use Rattle.std.proofs.lemmas.Result.{IfOk-weaker}
-use Rattle.clap.specs.Words.{App, app_of, with_subcommand}
+use Rattle.program_main.proofs.ShapeLemmas.{shape_added}
+use Rattle.report_memo.specs.CommandLine.{memo_shape}
 use Rattle.report_memo.proofs.subcommand.with_memo.Goals as goal
 
--- where all hold, what the third denies doesn't
-third_not : (a b c d : Bool) → (a && (b && (not c && d))) ≡ true → c ≡ false
-third_not a b c d all = not-true c (and_parts (not c) d (and_parts b _ (and_parts a _ all).1).1).0
-
 pub returns : goal.returns
-returns c =
-    let is = c.in_ok-memo.ensures in
-    IfOk-weaker c.subcommand.result _ _ (λ whole adds. adds.shape (third_not _ _ _ _ (ap (λ (x : App). x.top.is_plain) is)) ∙ ap (λ (x : App). with_subcommand (app_of c.args.command) x.top) is) c.subcommand.ensures
+returns c = IfOk-weaker c.subcommand.result _ _ (λ whole adds. shape_added _ _ whole _ memo_shape refl refl c.in_ok-memo.ensures adds) c.subcommand.ensures

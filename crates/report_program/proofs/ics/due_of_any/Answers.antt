@@ -3,4 +3,4 @@ use Rattle.report_program.proofs.ics.due_of_any.Goals as goal
 
 pub returns-in-Some : goal.returns-in-Some
 returns-in-Some c = λ docketed holds.
-    IfOk-weaker c.due_of.result _ _ (λ list due some. due) (rw c.of_any_judge.ensures at (c.due_of.ensures docketed holds.stands))
+    IfOk-weaker c.placed_due.result _ _ (λ list due some. due) (rw c.of_any_judge.ensures at (c.placed_due.ensures docketed holds))

@@ -11,3 +11,6 @@ returns-in-Page c = λ docketed holds. rw c.in-Page.is (c.page_text.ensures dock
 
 pub returns-in-Ics : goal.returns-in-Ics
 returns-in-Ics c = λ docketed holds. rw c.in-Ics.is (c.ics_text.ensures docketed holds)
+
+pub returns-in-Sheet : goal.returns-in-Sheet
+returns-in-Sheet c = λ docketed holds. rw c.in-Sheet.is (c.sheet_text.ensures docketed holds)

@@ -1,7 +1,7 @@
 -- The subcommands are added one by one, as in the definition.
 use Rattle.std.proofs.Common.{refl}
 use Rattle.std.proofs.lemmas.Result.{IfOk-weaker}
-use Rattle.report_program.proofs.ShapeLemmas.{shape_made}
+use Rattle.program_main.proofs.ShapeLemmas.{shape_made}
 use Rattle.report_program.proofs.subcommands.with_reports.Goals as goal
 
 pub returns : goal.returns

@@ -7,6 +7,7 @@ use Rattle.docket_core.specs.Words.{parts_held}
 use Rattle.docket_laws.proofs.CallerLemmas.{hold_same}
 use Rattle.docket_selection.specs.Words.{open_sheets}
 use Rattle.desk_numbers.specs.Words.{numbered_sheet}
+use Rattle.report_texts.specs.Words.{LabelsView}
 use Rattle.report_sql.specs.Rows.{numbered}
 use Rattle.report_sql.specs.Script.{outage_row, sheet_rows}
 use Rattle.report_sql.proofs.sheets.push_docketed.Goals as goal
@@ -18,10 +19,12 @@ returns c = λ docketed stands.
     let before = c.args.out.now in
     let held : (parts_held c.args.docket.now).days ≡ docketed.days = (hold_same (parts_held c.args.docket.now) (parts_of docketed) stands).days in
     let outages : c.outages.result.now ≡ docketed.days.outages = c.outages.ensures ∙ ap (λ (days : DaysView). days.outages) (c.days.ensures ∙ held) in
-    let numbers = map (numbered_sheet c.args.moved.now) in
+    let labels = c.args.labels.now in
+    let moved : c.labels.inside.moved.now ≡ labels.moved = ap (λ (l : LabelsView). l.moved) c.labels.view_is in
+    let numbers = map (numbered_sheet labels.moved) in
     let sheets : c.deref.result.now ≡ numbers (open_sheets (setup_of court) docketed) =
-    c.deref.ensures.value ∙ c.in_ok-sheets.ensures docketed stands ∙ ap (λ setup. numbers (open_sheets setup docketed)) c.requires.court in
-    let cases : List Sheet → List ℕ = λ ss. flat_map (sheet_rows court c.args.cases.now.named) ss in
+    c.deref.ensures.value ∙ rw moved at c.in_ok-sheets.ensures docketed stands ∙ ap (λ setup. numbers (open_sheets setup docketed)) c.requires.court in
+    let cases : List Sheet → List ℕ = λ ss. flat_map (sheet_rows court c.args.labels.now.cases) ss in
     c.in_ok-push_sheets.ensures
     ∙ ap (λ t. t ++ cases c.deref.result.now) c.in_ok-push_outages.ensures
     ∙ append_assoc before (numbered outage_row 1 c.outages.result.now) (cases c.deref.result.now)

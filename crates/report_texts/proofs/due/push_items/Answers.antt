@@ -8,7 +8,7 @@ pub loop-item-preserved : goal.loop-item-preserved
 unfolding lines_after
 loop-item-preserved c =
     let court = c.args.court.now in
-    let named = c.args.cases.now.named in
+    let named = c.args.labels.now.cases in
     let items = c.args.items.now in
     let i = c.loop-item.item-index in
     let item = c.item-item.result in
@@ -26,5 +26,5 @@ pub returns : goal.returns
 unfolding lines_after
 returns c =
     let past : length c.args.items.now ≤ c.loop-item.item-index = omega (arith, c.loop-item-test.false) in
-    let none = at_drop_all (lines_after c.args.court.now c.args.cases.now.named c.loop-item.before) c.args.items.now c.loop-item.item-index past in
+    let none = at_drop_all (lines_after c.args.court.now c.args.labels.now.cases c.loop-item.before) c.args.items.now c.loop-item.item-index past in
     sym (append-nil _) ∙ rw none at c.loop-item.invariant

@@ -5,4 +5,4 @@ use Rattle.report_texts.proofs.week.push_bookings.Given as goal
 
 -- the lines so far, and those that are left, are all
 abbrev pub invariant-loop-booking : goal.invariant-loop-booking
-invariant-loop-booking l = string_bytes l.text ++ flat_map (booked_line l.court l.cases.named) (drop l.booking-index l.bookings) ≡ string_bytes l.fn.text ++ flat_map (booked_line l.court l.cases.named) l.bookings
+invariant-loop-booking l = string_bytes l.text ++ flat_map (booked_line l.court l.labels.cases) (drop l.booking-index l.bookings) ≡ string_bytes l.fn.text ++ flat_map (booked_line l.court l.labels.cases) l.bookings

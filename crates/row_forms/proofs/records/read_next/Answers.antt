@@ -2,7 +2,8 @@ use Rattle.std.proofs.Common.{◌≡◌, ◌∙◌, true, inl, refl}
 use Rattle.csv.specs.Reading.{error_kind}
 use Rattle.csv.specs.Records.{fields_of}
 use Rattle.row_forms.specs.Records.{tells_no_text}
-use Rattle.row_forms.proofs.ReadingLemmas.{all_text-passes, explains_no_text, takes_next, takes_none}
+use Rattle.row_forms.proofs.ReadingLemmas.{explains_no_text, takes_next, takes_none}
+use Rattle.row_forms.proofs.TextLemmas.{text_passes}
 use Rattle.row_forms.proofs.records.read_next.Goals as goal
 
 pub returns-then-found-clause-text : goal.returns-then-found-clause-text
@@ -12,7 +13,7 @@ returns-then-found-clause-text c e =
     let read = rw c.if-found.true at (c.in-Ok.ensures.reads whole c.requires.ready) in
     record {
       next = takes_next c.args.reader.now c.read_record.new.self fields c.requires read;
-      text = all_text-passes fields (c.in-Ok.ensures.text whole);
+      text = text_passes fields (c.in-Ok.ensures.text whole);
       onward = record {
         whole = read.3 ∙ whole;
         usual = read.2 ∙ c.requires.usual;

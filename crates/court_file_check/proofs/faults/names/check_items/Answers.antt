@@ -1,4 +1,4 @@
-use Rattle.court_file_check.specs.Names.{texts_of}
+use Rattle.court_file_check.specs.Inside.Names.{texts_of}
 use Rattle.court_file_check.proofs.ItemLemmas.{name_goes_on, names_done}
 use Rattle.court_file_check.proofs.faults.names.check_items.Goals as goal
 

@@ -1,6 +1,6 @@
 use Rattle.std.proofs.Common.{◌≡◌, ◌++◌, [], drop}
 use Rattle.toml.specs.View.{items_view}
-use Rattle.court_file_check.specs.Names.{texts_of}
+use Rattle.court_file_check.specs.Inside.Names.{texts_of}
 use Rattle.court_file_check.specs.Faults.{each_name}
 use Rattle.court_file_check.proofs.faults.names.check_items.Given as goal
 

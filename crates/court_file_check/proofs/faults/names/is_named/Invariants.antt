@@ -1,7 +1,7 @@
 use Rattle.std.proofs.Common.{◌≡◌, take}
 use Rattle.std.specs.List.{list_any}
 use Rattle.std.specs.Str.{bytes_eq}
-use Rattle.court_file_check.specs.Names.{texts_of}
+use Rattle.court_file_check.specs.Inside.Names.{texts_of}
 use Rattle.court_file_check.proofs.faults.names.is_named.Given as goal
 
 -- whether the text is one of the names so far

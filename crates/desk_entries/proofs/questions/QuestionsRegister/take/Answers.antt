@@ -1,18 +1,15 @@
-use Rattle.std.proofs.Common.{◌∙◌, ◌++◌, ℕ, Bool, List, append-nil, ap, refl, sym, subst}
+use Rattle.std.proofs.Common.{◌∙◌, ◌++◌, ℕ, List, append-nil, ap, refl, sym, subst}
 use Rattle.desk_journal.specs.Words.{batch_of}
 use Rattle.docket_rows.specs.Words.{setup_of}
 use Rattle.row_forms.specs.declared.row.Work.{Work}
 use Rattle.office_texts.specs.Run.Words.{Holds}
 use Rattle.desk_numbers.specs.Words.{placed}
 use Rattle.row_forms.specs.declared.line.line.Line.TheVariants as says
-use Rattle.case_numbers.specs.Words.{CasesView}
-use Rattle.row_forms.specs.Words.{names_of}
 use Rattle.desk_entries.specs.declared.cause.LineCause.{LineCause}
-use Rattle.desk_entries.specs.CaseLines.{opens_too_many}
 use Rattle.desk_entries.specs.Entries.{next_number}
-use Rattle.desk_entries.specs.LineCauses.{cause_as, fault_told}
+use Rattle.desk_entries.specs.LineCauses.{fault_told}
 use Rattle.desk_entries.specs.Questions.{came_shown, came_to, command_text, shown_for}
-use Rattle.desk_entries.specs.Rows.{too_many_at}
+use Rattle.desk_entries.specs.Rows.{special_at}
 use Rattle.desk_entries.specs.Register.{StandsAt}
 use Rattle.desk_entries.specs.Run.{docketed_with, run_by}
 use Rattle.desk_entries.proofs.QuestionLemmas.{line_asked, shown_plain}
@@ -25,7 +22,7 @@ returns-in-Blank-clause-taken c = λ kept stands.
     let is = sym (c.in_ok-said.ensures.said kept stands).said ∙ c.in-Blank.is in
     line_asked under (record { register = c.heard.new.self }) kept c.args.line.now (batch_of c.args._batch.now.items) c.args.text.now.items says.Blank is
     (as_it_was under c.args.self.now.register c.heard.new.self kept stands c.heard.ensures.docket c.heard.ensures.numbers c.heard.ensures.cases c.heard.ensures.number c.heard.ensures.count) c.args.text.now.items
-    (sym (append-nil c.args.text.now.items) ∙ shown_plain under kept c.args.line.now c.args.text.now.items says.Blank is refl)
+    (sym (append-nil c.args.text.now.items) ∙ shown_plain under kept c.args.line.now c.args.text.now.items says.Blank is refl refl)
 
 pub returns-in-Blank-clause-came : goal.returns-in-Blank-clause-came
 unfolding came_shown
@@ -37,13 +34,12 @@ returns-in_ok-push_cause-in-Fault-clause-taken c = λ kept stands.
     let line = c.args.line.now in
     let text = c.args.text.now.items in
     let before = as_it_was under c.args.self.now.register c.heard.new.self kept stands c.heard.ensures.docket c.heard.ensures.numbers c.heard.ensures.cases c.heard.ensures.number c.heard.ensures.count in
-    let too_many = c.in_ok-too_many-in-Fault.ensures ∙ ap (λ (k : CasesView). opens_too_many (names_of under.court) k line) (c.cases-cases.ensures under kept before) in
     line_asked under (record { register = c.heard.new.self }) kept line (batch_of c.args._batch.now.items) text (says.Fault c.in-Fault.cause) (sym (c.in_ok-said.ensures.said kept stands).said ∙ c.in-Fault.is)
     before c.push_cause.new.text.items
     (c.in_ok-push_cause-in-Fault.ensures
-    ∙ ap (λ (n : ℕ). text ++ fault_told n c.cause_as-cause.result) (c.next_number.ensures under kept before)
-    ∙ ap (λ (cause : LineCause). text ++ fault_told (next_number kept) cause) (c.cause_as-cause.ensures ∙ ap (λ (b : Bool). cause_as b c.in-Fault.cause) too_many)
-    ∙ ap (λ (l : List ℕ). text ++ l) (cause_told under kept (too_many_at under kept line) c.in-Fault.cause))
+    ∙ ap (λ (n : ℕ). text ++ fault_told n c.in_ok-cause-in-Fault.cause) (c.next_number.ensures under kept before)
+    ∙ ap (λ (cause : LineCause). text ++ fault_told (next_number kept) cause) (c.in_ok-cause-in-Fault.ensures kept before)
+    ∙ ap (λ (l : List ℕ). text ++ l) (cause_told under kept (special_at under kept line) c.in-Fault.cause))
 
 pub returns-in_ok-push_cause-in-Fault-clause-came : goal.returns-in_ok-push_cause-in-Fault-clause-came
 unfolding came_shown
@@ -59,7 +55,7 @@ returns-in_ok-push_command-in-Command-clause-taken c = λ kept stands.
     before c.push_command.new.text.items
     (c.in_ok-push_command-in-Command.ensures ∙ ap (λ (n : ℕ). text ++ command_text n) (c.next_number-in-Command.ensures under kept before)
     ∙ ap (λ (w : Work). text ++ shown_for under kept c.in-Row.row w) (sym c.in-Command.is)
-    ∙ shown_plain under kept c.args.line.now text (says.Row c.in-Row.row) is refl)
+    ∙ shown_plain under kept c.args.line.now text (says.Row c.in-Row.row) is refl refl)
 
 pub returns-in_ok-push_command-in-Command-clause-came : goal.returns-in_ok-push_command-in-Command-clause-came
 unfolding came_shown
@@ -85,7 +81,7 @@ returns-in_ok-extend_from_slice-in-Query-clause-taken c = λ kept stands.
     after c.extend_from_slice.new.self.items
     (c.in_ok-extend_from_slice-in-Query.ensures.items ∙ ap (λ (l : List ℕ). text ++ l) (c.as_bytes.ensures.value ∙ c.in_ok-answer-in-Query.ensures.answer kept before)
     ∙ ap (λ (w : Work). text ++ shown_for under kept c.in-Row.row w) (sym c.in-Query.is)
-    ∙ shown_plain under kept c.args.line.now text (says.Row c.in-Row.row) is refl)
+    ∙ shown_plain under kept c.args.line.now text (says.Row c.in-Row.row) is refl refl)
 
 pub returns-in_ok-extend_from_slice-in-Query-clause-came : goal.returns-in_ok-extend_from_slice-in-Query-clause-came
 unfolding came_shown

@@ -3,8 +3,8 @@ use Rattle.row_forms.specs.Words.{names_of}
 use Rattle.row_forms.specs.Line.Words.{line_read}
 use Rattle.desk_session.specs.Words.{numbered_from, numbered_lines, unmarked, unmarked_lines}
 use Rattle.desk_entries.specs.Entries.{most_clerks}
-use Rattle.desk_entries.specs.LineFaults.{CountsAs, fault_as, fault_in, faults_of}
-use Rattle.desk_entries.specs.Rows.{leaves, reading_at, too_many_at, within}
+use Rattle.desk_entries.specs.LineFaults.{CountsAs, fault_as, fault_in, faults_of, left_before, read_before}
+use Rattle.desk_entries.specs.Rows.{too_many_at, within}
 use Rattle.desk_entries.proofs.LineFaultLemmas.{faults_all, faults_more, number_within}
 use Rattle.desk_entries.proofs.register.DocketRegister.line_faults.Goals as goal
 
@@ -22,11 +22,11 @@ loop-split-preserved c = (
       let reads : c.unmarked.result.now ≡ read = c.unmarked.ensures in
       let found = map fault_in c.loop-split.reading.faults.items in
       let found_then = map fault_in c.read.new.self.faults.items in (
-        then ++ leaves under then read,
-        subst (λ (l : List ℕ). CountsAs under (then ++ leaves under then l) c.read.new.self.count c.read.new.self.cases) reads (c.in_ok-read.ensures.counts then count),
-        subst (λ (n : ℕ). found_then ++ faults_of under (then ++ leaves under then read) (unmarked_lines marked (numbered_from n [] c.in-Some.split.rest.now)) ≡ all) (sym c.number_after-number.ensures)
+        then ++ left_before under then read,
+        subst (λ (l : List ℕ). CountsAs under (then ++ left_before under then l) c.read.new.self.count c.read.new.self.cases) reads (c.in_ok-read.ensures.counts then count),
+        subst (λ (n : ℕ). found_then ++ faults_of under (then ++ left_before under then read) (unmarked_lines marked (numbered_from n [] c.in-Some.split.rest.now)) ≡ all) (sym c.number_after-number.ensures)
             (faults_more under marked then c.loop-split.number c.loop-split.rest.now line c.in-Some.split.end c.in-Some.split.rest.now found found_then all c.in-Some.ensures so_far
-            (subst (λ (l : List ℕ). found_then ≡ found ++ fault_as c.loop-split.number l (too_many_at under then l) (within then (line_read most_clerks (names_of under.court) (reading_at under then l).text))) reads (c.in_ok-read.ensures.faults then count))),
+            (subst (λ (l : List ℕ). found_then ≡ found ++ fault_as c.loop-split.number l (too_many_at under then l) (within then (line_read most_clerks (names_of under.court) (read_before under then l).text))) reads (c.in_ok-read.ensures.faults then count))),
       ),
 )
 

@@ -10,8 +10,8 @@ use Rattle.case_numbers.specs.Words.{after_name}
 use Rattle.row_forms.specs.Line.Words.{fields_read, line_read}
 use Rattle.desk_entries.specs.Cases.{cases_of, opened_as, with_opened}
 use Rattle.desk_entries.specs.Rows.{within}
-use Rattle.program_streams.specs.declared.fault.OfficeFault.TheVariants.{Row as RowFault}
-use Rattle.program_streams.specs.Words.{told_line}
+use Rattle.program_runs.specs.declared.fault.OfficeFault.TheVariants.{Row as RowFault}
+use Rattle.program_runs.specs.Words.{told_line}
 use Rattle.desk_numbers.specs.Strikes.Words.{is_struck}
 use Rattle.desk_entries.specs.Entries.{most_clerks, most_entries}
 use Rattle.desk_entries.proofs.EntryLemmas.{within_row}

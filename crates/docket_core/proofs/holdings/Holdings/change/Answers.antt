@@ -1,6 +1,6 @@
 use Rattle.std.proofs.Common.{option_and_then, ap, sym, subst, ◌∙◌}
 use Rattle.std.proofs.lemmas.Result.{on_ok_weaker}
-use Rattle.docket_core.specs.Changes.{IsAfter}
+use Rattle.docket_core.specs.Inside.Changes.{IsAfter}
 use Rattle.docket_core.specs.Docket.{DocketView, HasPlaces, parts_held}
 use Rattle.docket_core.proofs.ApplyLemmas.{hearing_changed, only_case_changed}
 use Rattle.docket_core.proofs.CaseLemmas.{can_change_record}

@@ -5,7 +5,7 @@ use Rattle.docket_selection.proofs.explained.explained.explained_sheets.Given as
 
 -- those that are left, and those that are explained, last first, are all
 abbrev pub invariant-loop-sheet : goal.invariant-loop-sheet
-invariant-loop-sheet l = AreLeft (IsSheetExplained l.days l.clock) l.fn.sheets.items l.left.items l.list.items
+invariant-loop-sheet l = AreLeft (IsSheetExplained l.days l.clock l.doubtful) l.fn.sheets.items l.left.items l.list.items
 
 abbrev pub decreases-loop-sheet : goal.decreases-loop-sheet
 decreases-loop-sheet l = length l.left.items

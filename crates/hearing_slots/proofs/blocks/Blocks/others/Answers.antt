@@ -1,7 +1,7 @@
 use Rattle.std.proofs.Common.{◌≡◌, ◌∙◌, ℤ, Some, None, List, ap, arith, subst, sym}
 use Rattle.std.proofs.lemmas.Int.{ints}
-use Rattle.hearing_slots.specs.Blocks.{BlockView, LiesIn, all_in, block_of}
-use Rattle.hearing_slots.specs.DayNotes.{booked_day}
+use Rattle.hearing_slots.specs.Inside.Blocks.{BlockView, LiesIn, all_in, block_of}
+use Rattle.hearing_slots.specs.Inside.DayNotes.{booked_day}
 use Rattle.hearing_slots.proofs.BlockDays.{LiesIn-absent, LiesIn-booked, LiesIn-without}
 use Rattle.hearing_slots.proofs.blocks.Blocks.others.Goals as goal
 

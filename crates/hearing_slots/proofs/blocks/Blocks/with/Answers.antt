@@ -1,8 +1,8 @@
 use Rattle.std.proofs.Common.{◌≡◌, ◌∙◌, Some, List, ap, subst, sym}
 use Rattle.hearing_slots.specs.declared.booking.Booking.{Booking}
 use Rattle.hearing_slots.specs.Calendar.{IsCalendar, IsFree, with_booking}
-use Rattle.hearing_slots.specs.Blocks.{all_in}
-use Rattle.hearing_slots.specs.DayNotes.{NotesDays}
+use Rattle.hearing_slots.specs.Inside.Blocks.{all_in}
+use Rattle.hearing_slots.specs.Inside.DayNotes.{NotesDays}
 use Rattle.hearing_slots.proofs.BlockDays.{free_of_either, with_either}
 use Rattle.hearing_slots.proofs.Holdings.{booking_keeps}
 use Rattle.hearing_slots.proofs.DayNoteLemmas.{days_with}

@@ -1,8 +1,8 @@
 use Rattle.std.proofs.Common.{◌≡◌, ◌∙◌, List, ap, subst, sym}
 use Rattle.hearing_slots.specs.declared.booking.Booking.{Booking}
 use Rattle.hearing_slots.specs.Calendar.{IsCalendar, without_motion}
-use Rattle.hearing_slots.specs.Blocks.{BlockView, LiesIn, all_in, block_of}
-use Rattle.hearing_slots.specs.DayNotes.{NotesDays, booked_day}
+use Rattle.hearing_slots.specs.Inside.Blocks.{BlockView, LiesIn, all_in, block_of}
+use Rattle.hearing_slots.specs.Inside.DayNotes.{NotesDays, booked_day}
 use Rattle.hearing_slots.proofs.BlockDays.{LiesIn-booked}
 use Rattle.hearing_slots.proofs.Holdings.{removal_keeps}
 use Rattle.hearing_slots.proofs.DayNoteLemmas.{days_without}

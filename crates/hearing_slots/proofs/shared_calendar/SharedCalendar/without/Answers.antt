@@ -1,7 +1,7 @@
 use Rattle.std.proofs.Common.{◌≡◌, ◌∙◌, List, IfOk, None, ap, subst, sym}
 use Rattle.std.specs.Arc.{arc_value}
 use Rattle.hearing_slots.specs.declared.booking.Booking.{Booking}
-use Rattle.hearing_slots.specs.DayNotes.{booked_day}
+use Rattle.hearing_slots.specs.Inside.DayNotes.{booked_day}
 use Rattle.hearing_slots.proofs.Holdings.{held_without}
 use Rattle.hearing_slots.proofs.BlockDays.{without_motion-not_booked}
 use Rattle.hearing_slots.proofs.shared_calendar.SharedCalendar.without.Goals as goal

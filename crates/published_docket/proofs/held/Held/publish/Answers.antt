@@ -1,7 +1,7 @@
 use Rattle.std.proofs.Common.{fold, sym, subst}
 use Rattle.published_docket.specs.Boards.{BoardView}
 use Rattle.published_docket.specs.Changes.{applied_to}
-use Rattle.published_docket.specs.Held.{HeldView}
+use Rattle.published_docket.specs.Inside.Held.{HeldView}
 use Rattle.published_docket.specs.Published.{MayShow}
 use Rattle.published_docket.proofs.PublishedLemmas.{turns}
 use Rattle.published_docket.proofs.held.Held.publish.Goals as goal

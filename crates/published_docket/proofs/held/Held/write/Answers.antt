@@ -3,7 +3,7 @@ use Rattle.docket_rows.specs.declared.part.PartId.{PartId}
 use Rattle.docket_rows.specs.declared.part.PartValue.{PartValue}
 use Rattle.published_docket.specs.declared.change.BoardChange.TheVariants.{Put}
 use Rattle.published_docket.specs.Changes.{puts_of}
-use Rattle.published_docket.specs.Held.{HeldView}
+use Rattle.published_docket.specs.Inside.Held.{HeldView}
 use Rattle.published_docket.proofs.ChangeLemmas.{puts_more}
 use Rattle.published_docket.proofs.held.Held.write.Goals as goal
 

@@ -3,7 +3,7 @@ use Rattle.versioned_steps.proofs.CallerLemmas.{legal_empty}
 use Rattle.shared_docket.specs.Words.{docket_rules}
 use Rattle.published_docket.specs.Boards.{BoardView}
 use Rattle.published_docket.specs.Changes.{applied_to}
-use Rattle.published_docket.specs.Held.{HeldView}
+use Rattle.published_docket.specs.Inside.Held.{HeldView}
 use Rattle.published_docket.specs.Cells.{IsSmall}
 use Rattle.published_docket.proofs.OwedLemmas.{nothing_more}
 use Rattle.published_docket.proofs.PublishedLemmas.{opening_shown}

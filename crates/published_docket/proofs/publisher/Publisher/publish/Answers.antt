@@ -1,5 +1,5 @@
 use Rattle.published_docket.specs.declared.known.Known.{Known}
-use Rattle.published_docket.specs.Held.{AllShown}
+use Rattle.published_docket.specs.Inside.Held.{AllShown}
 use Rattle.published_docket.proofs.PublishingLemmas.{publishing, publishing_shows, publishing_keeps}
 use Rattle.published_docket.proofs.publisher.Publisher.publish.Goals as goal
 

@@ -3,5 +3,5 @@ use Rattle.report_json.proofs.writer.JsonWriter.array.Goals as goal
 
 pub returns : goal.returns
 returns g c =
-    rw (← array_is (g.T.ToJson.value c.args.court.now c.args.cases.now.named) c.args.items.now c.args.self.now, ← c.in_ok-begin_array.ensures, ← c.in_ok-items.ensures)
+    rw (← array_is (g.T.ToJson.value c.args.court.now c.args.labels.now.cases) c.args.items.now c.args.self.now, ← c.in_ok-begin_array.ensures, ← c.in_ok-items.ensures)
     c.end_array.ensures

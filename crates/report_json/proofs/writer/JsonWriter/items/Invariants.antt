@@ -5,4 +5,4 @@ use Rattle.report_json.proofs.writer.JsonWriter.items.Given as goal
 
 -- the items so far, and those that are left, are all
 abbrev pub invariant-loop-item : goal.invariant-loop-item
-invariant-loop-item g l = l.self ++ flat_map (λ x. json_tokens (g.T.ToJson.value l.court l.cases.named x)) (drop l.item-index l.items) ≡ l.fn.self ++ flat_map (λ x. json_tokens (g.T.ToJson.value l.court l.cases.named x)) l.items
+invariant-loop-item g l = l.self ++ flat_map (λ x. json_tokens (g.T.ToJson.value l.court l.labels.cases x)) (drop l.item-index l.items) ≡ l.fn.self ++ flat_map (λ x. json_tokens (g.T.ToJson.value l.court l.labels.cases x)) l.items

@@ -1,9 +1,9 @@
 use Rattle.std.proofs.Common.{◌≡◌, ◌∙◌, [], List, ℕ, ap, refl}
 use Rattle.std.proofs.lemmas.Result.{IfOk-weaker}
-use Rattle.program_streams.specs.Words.{input_checked}
+use Rattle.program_runs.specs.Words.{input_checked}
 use Rattle.row_forms.specs.Words.{numbered_from}
 use Rattle.report_memo.specs.Answer.{IsAnswer, IsAnswerOf, IsMissing, IsMissingOf}
-use Rattle.report_memo.specs.Labels.{labels_of}
+use Rattle.report_texts.specs.Words.{labels_of}
 use Rattle.report_memo.proofs.AnswerLemmas.{finding_weaker}
 use Rattle.report_memo.proofs.report.AskedReport.text.Goals as goal
 

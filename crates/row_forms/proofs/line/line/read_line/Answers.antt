@@ -2,34 +2,21 @@ use Rattle.std.proofs.Common.{Ok, Err, ap, sym}
 use Rattle.csv.specs.Records.{fields_of}
 use Rattle.row_forms.specs.declared.fault.RowCause.TheVariants.{NotText}
 use Rattle.row_forms.specs.Words.{names_of}
-use Rattle.row_forms.proofs.CallerLemmas.{row_of-no_text}
-use Rattle.row_forms.proofs.LineLemmas.LineLemmas.{has_fields, says_first, says_nothing}
+use Rattle.row_forms.proofs.RowsLemmas.{row_of_no_text}
+use Rattle.row_forms.proofs.LineLemmas.LineLemmas.{says_first}
 use Rattle.row_forms.proofs.line.line.read_line.Goals as goal
-
-pub returns-in-End-clause-said : goal.returns-in-End-clause-said
-returns-in-End-clause-said c = says_nothing c.args.clerks (names_of c.args.court.now) c.args.bytes.now (c.in_ok-read_first.ensures.end (ap Ok c.in-End.is))
 
 pub returns-in-NotText-clause-said : goal.returns-in-NotText-clause-said
 returns-in-NotText-clause-said c =
     let (met, begins, no_text) = c.in_ok-read_first.ensures.no_text (ap Ok c.in-NotText.is) in
-    says_first c.args.clerks (names_of c.args.court.now) c.args.bytes.now met begins.later (Err NotText) begins.is (row_of-no_text c.args.clerks (names_of c.args.court.now) met no_text)
+    says_first c.args.clerks (names_of c.args.court.now) c.args.bytes.now met begins.later (Err NotText) begins.is (row_of_no_text c.args.clerks (names_of c.args.court.now) met no_text)
 
 pub returns-in-Ok-clause-said : goal.returns-in-Ok-clause-said
 returns-in-Ok-clause-said c =
     let (begins, text) = c.in_ok-read_first.ensures.text (ap Ok c.in-Text.is) in
     says_first c.args.clerks (names_of c.args.court.now) c.args.bytes.now (fields_of c.read_first.new.fields) begins.later (Ok c.in-Ok.row) begins.is (sym c.in-Ok.ensures)
 
-pub returns-in-Ok-clause-fields : goal.returns-in-Ok-clause-fields
-returns-in-Ok-clause-fields c = λ row same.
-    let (begins, text) = c.in_ok-read_first.ensures.text (ap Ok c.in-Text.is) in
-    has_fields c.args.clerks (names_of c.args.court.now) c.args.bytes.now (fields_of c.read_first.new.fields) begins.later begins.is
-
 pub returns-in-Err-clause-said : goal.returns-in-Err-clause-said
 returns-in-Err-clause-said c =
     let (begins, text) = c.in_ok-read_first.ensures.text (ap Ok c.in-Text.is) in
     says_first c.args.clerks (names_of c.args.court.now) c.args.bytes.now (fields_of c.read_first.new.fields) begins.later (Err c.in-Err.cause) begins.is (sym c.in-Err.ensures)
-
-pub returns-in-Err-clause-field : goal.returns-in-Err-clause-field
-returns-in-Err-clause-field c = λ column same.
-    let (begins, text) = c.in_ok-read_first.ensures.text (ap Ok c.in-Text.is) in
-    has_fields c.args.clerks (names_of c.args.court.now) c.args.bytes.now (fields_of c.read_first.new.fields) begins.later begins.is

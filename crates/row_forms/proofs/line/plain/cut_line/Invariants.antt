@@ -1,7 +1,7 @@
 use Rattle.std.proofs.Common.{◌≡◌, ◌≤◌, [], drop}
 use Rattle.std.specs.List.{slice_range}
 use Rattle.csv.specs.Records.{fields_of, partial_of}
-use Rattle.row_forms.specs.Line.Plain.{cut}
+use Rattle.row_forms.specs.Inside.Plain.{cut}
 use Rattle.row_forms.proofs.line.plain.cut_line.Given as goal
 
 -- what is cut already, and what is left of the line, is the line

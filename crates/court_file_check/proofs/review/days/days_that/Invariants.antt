@@ -1,7 +1,0 @@
-use Rattle.std.proofs.Common.{◌≡◌, filter_map}
-use Rattle.court_file_check.specs.Review.Review.{days_from, if_passes}
-use Rattle.court_file_check.proofs.review.days.days_that.Given as goal
-
--- the list has those of the days so far that pass
-abbrev pub invariant-loop-place : goal.invariant-loop-place
-invariant-loop-place l = l.found.items ≡ filter_map (if_passes l.days l.test) (days_from l.days.from l.place)

@@ -1,5 +1,0 @@
-use Rattle.court_file_check.proofs.ReviewLemmas.ExactLemmas.{review_is_in_order}
-use Rattle.court_file_check.proofs.review.laws.review_is_in_order.Goals as goal
-
-pub returns : goal.returns
-returns c = review_is_in_order

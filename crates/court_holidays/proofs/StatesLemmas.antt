@@ -1,2 +1,0 @@
-pub mod DateLemmas
-pub mod EasterLemmas

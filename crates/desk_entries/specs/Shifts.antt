@@ -1,0 +1,97 @@
+-- The deadlines that move when days change: each that ends otherwise than it did by the days before, with both ends.
+use Rattle.std.specs.Prelude.{◌≡◌, ℕ, Bool, true, false, List, [], ◌∷◌, ◌++◌, Option, Some, None, codes, if◌then◌else◌}
+use Rattle.std.specs.Fmt.{decimal}
+use Rattle.std.specs.List.{flat_map, range_with_len}
+use Rattle.std.specs.Str.{bytes_eq}
+use Rattle.case_numbers.specs.Words.{case_text}
+use Rattle.case_numbers.specs.declared.names.NamedCase.{NamedCase}
+use Rattle.court_clock.specs.Words.{ClockView}
+use Rattle.court_days.specs.Words.{DaysView}
+use Rattle.rule_periods.specs.Words.{shown_of}
+use Rattle.docket_rows.specs.declared.command.Command.TheVariants.{Holiday, Inaccessible}
+use Rattle.docket_rows.specs.declared.query.Query.TheVariants as query
+use Rattle.docket_rows.specs.declared.sheet.SheetDeadline.{SheetDeadline}
+use Rattle.docket_rows.specs.declared.view.View.{View}
+use Rattle.docket_rows.specs.declared.view.View.TheVariants as view
+use Rattle.docket_rows.specs.Words.{CourtSetup, Rows, last_case, setup_of, view_of}
+use Rattle.row_forms.specs.declared.line.line.Line.{Line}
+use Rattle.row_forms.specs.declared.line.line.Line.TheVariants as line
+use Rattle.row_forms.specs.declared.row.Row.{Row}
+use Rattle.row_forms.specs.declared.row.Work.{Work}
+use Rattle.row_forms.specs.declared.row.Work.TheVariants.{Command}
+use Rattle.row_forms.specs.Words.{names_of}
+use Rattle.row_forms.specs.Line.Words.{line_read}
+use Rattle.office_texts.specs.Words.{shown_text}
+use Rattle.desk_session.specs.declared.outcome.Outcome.TheVariants.{Refused}
+use Rattle.desk_numbers.specs.declared.moved.Moved.{Moved}
+use Rattle.desk_numbers.specs.Words.{numbered_view}
+use Rattle.desk_entries.specs.declared.standing.Standing.{Standing}
+use Rattle.desk_entries.specs.Cases.{cases_of}
+use Rattle.desk_entries.specs.Entries.{most_clerks, next_number}
+use Rattle.desk_entries.specs.Rows.{answers, outcome, reading_at, within}
+use Rattle.desk_entries.specs.Run.{docketed_by, run_by, run_with}
+
+-- `  case 1:25-cv-01234-ABC deadline 2: last 2025-09-02, now last 2025-09-03`; nothing where both ends are shown alike
+abbrev pub shift_line : List NamedCase → (case number : ℕ) → (was is : List ℕ) → List ℕ
+shift_line named case number was is =
+    if bytes_eq was is then []
+    else codes "  case " ++ case_text named case ++ codes " deadline " ++ decimal number ++ codes ": " ++ was ++ codes ", now " ++ is ++ 10 ∷ []
+
+-- the line of a deadline of a sheet, which ended so by the days before
+abbrev pub deadline_shift : ClockView → (before : DaysView) → List NamedCase → (case : ℕ) → SheetDeadline → List ℕ
+deadline_shift clock before named case d = shift_line named case d.number (shown_text clock (shown_of before clock d.row)) (shown_text clock d.shown)
+
+-- those of the deadlines of a sheet; a case that isn't open has none
+abbrev pub sheet_shifts : ClockView → (before : DaysView) → List NamedCase → View → List ℕ
+sheet_shifts clock before named (view.Sheet sheet) = flat_map (deadline_shift clock before named sheet.case) sheet.deadlines
+sheet_shifts clock before named other = []
+
+-- those of a number of cases, from a first number on
+unfoldable pub shifts_from : CourtSetup → (docketed : Rows) → List Moved → List NamedCase → (before : DaysView) → (first count : ℕ) → List ℕ
+shifts_from setup docketed moved named before first count =
+    flat_map (λ case. sheet_shifts setup.clock before named (numbered_view moved (view_of setup docketed (query.Sheet case)))) (range_with_len first count)
+
+-- A line for each deadline of an open case that is shown with another end than by the days before, by the numbers of the cases.
+abbrev pub shifts : CourtSetup → (docketed : Rows) → List Moved → List NamedCase → (before : DaysView) → List ℕ
+shifts setup docketed moved named before = shifts_from setup docketed moved named before 1 last_case
+
+-- a row enters a holiday or an outage
+abbrev pub changes_days : Work → Bool
+changes_days (Command (Holiday day list)) = true
+changes_days (Command (Inaccessible day from to)) = true
+changes_days other = false
+
+-- the days before a row that enters a holiday or an outage
+abbrev pub days_before : (docketed : Rows) → Work → Option DaysView
+days_before docketed work = if changes_days work then Some docketed.days else None
+
+-- the deadlines that moved since these days, if there are some
+abbrev pub shifts_since : CourtSetup → (docketed : Rows) → List Moved → List NamedCase → Option DaysView → List ℕ
+shifts_since setup docketed moved named None = []
+shifts_since setup docketed moved named (Some before) = shifts setup docketed moved named before
+
+-- the deadlines that a row moves which comes after entries, where it enters a holiday or an outage
+abbrev pub shifts_by : Standing → (kept : List (List ℕ)) → Row → List ℕ
+shifts_by under kept row =
+    let after = run_with under (run_by under kept) (next_number kept) row.work in
+    shifts_since (setup_of under.court) after.docketed after.numbers.moved (cases_of under kept).named (days_before (docketed_by under kept) row.work)
+
+-- those that a line moves which says this
+abbrev pub shifts_said : Standing → (kept : List (List ℕ)) → Line → List ℕ
+shifts_said under kept line.Blank = []
+shifts_said under kept (line.Fault cause) = []
+shifts_said under kept (line.Row row) = shifts_by under kept row
+
+-- What is told of a line: what it is answered, which its entry keeps, and after it the deadlines that it moves.
+unfoldable pub told : Standing → (kept : List (List ℕ)) → (line : List ℕ) → List ℕ
+told under kept line = answers under kept line ++ shifts_said under kept (within kept (line_read most_clerks (names_of under.court) (reading_at under kept line).text))
+
+-- A line whose row enters no holiday and no outage, or which says no row, is told just its answer.
+abbrev pub OthersAreToldTheirAnswers : Type 0
+OthersAreToldTheirAnswers = (under : Standing) (kept : List (List ℕ)) (bytes : List ℕ)
+    → ((row : Row) → within kept (line_read most_clerks (names_of under.court) (reading_at under kept bytes).text) ≡ line.Row row → changes_days row.work ≡ false)
+    → told under kept bytes ≡ answers under kept bytes
+
+-- A row that is refused changes no day, and so it is told just its answer.
+abbrev pub RefusedAreToldTheirAnswers : Type 0
+RefusedAreToldTheirAnswers = (under : Standing) (kept : List (List ℕ)) (bytes : List ℕ) → outcome under kept bytes ≡ Refused → told under kept bytes ≡ answers under kept bytes

@@ -1,0 +1,234 @@
+//! The deadlines that move when days change.
+ghost use Rattle.std.specs.Prelude.{◌≡◌, ◌+◌, ◌<◌, ◌≤◌, ◌++◌, ◌∷◌, [], ℕ, List, IfOk, OnOk, string_bytes};
+ghost use Rattle.std.specs.List.{flat_map};
+ghost use Rattle.csv.specs.Records.{fields_of};
+ghost use Rattle.docket_rows.specs.Words.{Rows, setup_of};
+ghost use Rattle.docket_core.specs.Words.{StandsFor};
+ghost use Rattle.office_texts.specs.Run.Words.{Holds};
+ghost use Rattle.office_texts.specs.Words.{AddsText, shown_text};
+ghost use Rattle.desk_entries.specs.Entries.{most_entries};
+ghost use Rattle.desk_entries.specs.Rows.{answer_to};
+ghost use Rattle.desk_entries.specs.Shifts.{changes_days, days_before, deadline_shift, sheet_shifts, shift_line, shifts, shifts_by, shifts_from, shifts_since};
+
+use crate::register::{DocketRegister, Done};
+use crate::standing::Standing;
+use case_numbers::{CaseName, Cases, push_case_text};
+use court_days::{Court, Days};
+use desk_numbers::MovedNumbers;
+use docket_core::Docket;
+use docket_rows::{Command, LAST_CASE, Query, SheetDeadline, View};
+use office_texts::push_view;
+use row_forms::{Row, Work};
+use rule_periods::shown;
+use rule6::Shown;
+use std::alloc::{AllocError, Global};
+use std::fmt::Write;
+
+// Whether a row enters a holiday or an outage.
+fn changes_days(work: &Work) -> bool
+    ensures { result ≡ changes_days work.now }
+{
+    match work {
+        Work::Command(Command::Holiday { .. }) => true,
+        Work::Command(Command::Inaccessible { .. }) => true,
+        _ => false,
+    }
+}
+
+// The days before a row that enters a holiday or an outage, and none before another.
+fn days_before(register: &DocketRegister, work: &Work) -> Result<Option<Days>, AllocError>
+    ensures { (docketed : Rows) → StandsFor register.now.docket docketed → IfOk result (λ before. before ≡ days_before docketed work.now) }
+{
+    if changes_days(work) {
+        Ok(Some(register.docket.days().copy()?))
+    } else {
+        Ok(None)
+    }
+}
+
+// The end of a deadline, as answers show it, in a line.
+#[tactic(auto, unfolding(office_texts::specs::Words::view_lines))]
+fn end_line(alloc: Global, court: &Court, end: Shown) -> Result<String, AllocError>
+    ensures { IfOk result (λ line. string_bytes line ≡ shown_text court.now.clock end ++ 10 ∷ []) }
+{
+    let mut line = String::new(alloc);
+    let view = View::Computed(end);
+    push_view(&mut line, court, &view)?;
+    Ok(line)
+}
+
+// A line without its end.
+fn without_end(line: &str) -> &str
+    ensures { (text : List ℕ) → line.now ≡ text ++ 10 ∷ [] → result.now ≡ text }
+{
+    match line.strip_suffix('\n') {
+        Some(text) => text,
+        None => line,
+    }
+}
+
+// Adds the line of a deadline that ended so, unless it still does.
+fn push_shift(
+    text: &mut String,
+    cases: &Cases,
+    case: u32,
+    number: u32,
+    was: &str,
+    is: &str,
+) -> Result<(), AllocError>
+    ensures { OnOk result (AddsText text.old text.new (shift_line cases.now.named case number was.now is.now)) }
+{
+    if was == is {
+        return Ok(());
+    }
+    text.push_str("  case ")?;
+    push_case_text(text, cases, case)?;
+    write!(text, " deadline {number}: {was}, now {is}\n")
+}
+
+// Adds the line of a deadline of a sheet, unless it ends as by the days before.
+fn push_deadline(
+    alloc: Global,
+    text: &mut String,
+    court: &Court,
+    cases: &Cases,
+    before: &Days,
+    case: u32,
+    deadline: &SheetDeadline,
+) -> Result<(), AllocError>
+    ensures { OnOk result (AddsText text.old text.new (deadline_shift court.now.clock before.now cases.now.named case deadline.now)) }
+{
+    let was = end_line(alloc, court, shown(before, court.clock(), &deadline.row))?;
+    let is = end_line(alloc, court, deadline.shown)?;
+    let (was, is) = (without_end(was.as_str()), without_end(is.as_str()));
+    push_shift(text, cases, case, deadline.number, was, is)
+}
+
+// Adds the lines of the deadlines of a sheet.
+fn push_deadlines(
+    alloc: Global,
+    text: &mut String,
+    court: &Court,
+    cases: &Cases,
+    before: &Days,
+    case: u32,
+    deadlines: &[SheetDeadline],
+) -> Result<(), AllocError>
+    ensures { OnOk result (AddsText text.old text.new (flat_map (deadline_shift court.now.clock before.now cases.now.named case) deadlines.now)) }
+{
+    for deadline in deadlines {
+        push_deadline(alloc, text, court, cases, before, case, deadline)?;
+    }
+    Ok(())
+}
+
+// Adds the lines of a sheet, where the view is one.
+fn push_sheet(
+    alloc: Global,
+    text: &mut String,
+    court: &Court,
+    cases: &Cases,
+    before: &Days,
+    view: &View,
+) -> Result<(), AllocError>
+    ensures { OnOk result (AddsText text.old text.new (sheet_shifts court.now.clock before.now cases.now.named view.now)) }
+{
+    match view {
+        View::Sheet(sheet) => push_deadlines(
+            alloc,
+            text,
+            court,
+            cases,
+            before,
+            sheet.case,
+            sheet.deadlines.as_slice(),
+        ),
+        _ => Ok(()),
+    }
+}
+
+// Adds the lines of those of `count` cases that are open, from the first number on.
+fn push_sheets(
+    alloc: Global,
+    text: &mut String,
+    court: &Court,
+    docket: &Docket,
+    moved: &MovedNumbers,
+    cases: &Cases,
+    before: &Days,
+    first: u32,
+    count: u32,
+) -> Result<(), AllocError>
+    requires numbers { first + count ≤ 5_000 }
+    ensures { (docketed : Rows) → Holds (setup_of court.now) docket.now docketed → OnOk result (AddsText text.old text.new (shifts_from (setup_of court.now) docketed moved.now cases.now.named before.now first count)) }
+{
+    for case in first..first + count {
+        let seen = docket.show(alloc, &Query::Sheet(case))?;
+        let view = moved.number_view(seen);
+        push_sheet(alloc, text, court, cases, before, &view)?;
+    }
+    Ok(())
+}
+
+// The deadlines of a docket that end otherwise than by the days before, a line for each.
+fn shifts_text(
+    alloc: Global,
+    court: &Court,
+    docket: &Docket,
+    moved: &MovedNumbers,
+    cases: &Cases,
+    before: &Days,
+) -> Result<String, AllocError>
+    ensures { (docketed : Rows) → Holds (setup_of court.now) docket.now docketed → IfOk result (λ text. string_bytes text ≡ shifts (setup_of court.now) docketed moved.now cases.now.named before.now) }
+{
+    let mut text = String::new(alloc);
+    push_sheets(
+        alloc, &mut text, court, docket, moved, cases, before, 1, LAST_CASE,
+    )?;
+    Ok(text)
+}
+
+// Adds the deadlines of a docket that moved since these days, if there are some.
+fn push_shifts(
+    alloc: Global,
+    text: &mut Vec<u8>,
+    court: &Court,
+    register: &DocketRegister,
+    before: &Option<Days>,
+) -> Result<(), AllocError>
+    ensures { (docketed : Rows) → Holds (setup_of court.now) register.now.docket docketed → OnOk result (text.new.items ≡ text.old.items ++ shifts_since (setup_of court.now) docketed register.now.numbers.moved register.now.cases.named before.now) }
+{
+    match before {
+        Some(before) => {
+            let (docket, cases) = (&register.docket, &register.cases);
+            let moved = register.numbers.moved();
+            let shifts = shifts_text(alloc, court, docket, moved, cases, before)?;
+            text.extend_from_slice(shifts.as_bytes())
+        }
+        None => Ok(()),
+    }
+}
+
+impl DocketRegister {
+    ghost use Rattle.desk_entries.specs.Register.{IsDone, StandsAt};
+
+    // Does a row, perhaps with a new name, and tells its answer and the deadlines that it moves.
+    pub(crate) fn tell(
+        &mut self,
+        alloc: Global,
+        under: &Standing,
+        row: &Row,
+        name: Option<CaseName>,
+        text: &mut Vec<u8>,
+    ) -> Result<Done, AllocError>
+        requires { self.old.count < most_entries }
+        ensures done { (kept : List (List ℕ)) → StandsAt under.now self.old kept → IfOk result (IsDone under.now kept (fields_of self.old.fields) row.now name self.new) }
+        ensures told { (kept : List (List ℕ)) → StandsAt under.now self.old kept → OnOk result (text.new.items ≡ text.old.items ++ (answer_to under.now kept row.now ++ shifts_by under.now kept row.now)) }
+    {
+        let before = days_before(self, &row.work)?;
+        let done = self.done(alloc, under, row, name)?;
+        text.extend_from_slice(done.answer.as_bytes())?;
+        push_shifts(alloc, text, &under.court, self, &before)?;
+        Ok(done)
+    }
+}

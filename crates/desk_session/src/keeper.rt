@@ -1,0 +1,55 @@
+//! What keeps the entries that lines leave.
+ghost use Rattle.std.specs.Prelude.{◌⊎◌, ◌++◌, ℕ, List, OnOk};
+ghost use Rattle.desk_journal.specs.Words.{StandsFor, batch_of};
+
+use desk_journal::{Journal, JournalFault};
+use sqlite_disk::Disk;
+
+/// What keeps the entries that lines leave, before the lines are answered.
+pub(crate) trait Keeper {
+    // It keeps these entries.
+    ghost keeps: { Self → (entries : List (List ℕ)) → Type 0 };
+
+    // A crash may leave this file.
+    ghost may_leave: { Self → (file : List ℕ) → Type 0 };
+
+    /// Keeps a batch after the entries before it.
+    fn keep(&mut self, batch: &[Vec<u8>]) -> Result<(), JournalFault>
+        ensures kept { (entries : List (List ℕ)) → keeps self.old entries → OnOk result (keeps self.new (entries ++ batch_of batch.now)) }
+        ensures crash { (entries : List (List ℕ)) → keeps self.old entries → (file : List ℕ) → may_leave self.new file
+            → StandsFor file entries ⊎ StandsFor file (entries ++ batch_of batch.now) };
+
+    // Whatever a crash leaves stands for the entries that are kept.
+    ghost rest: { (keeper : Self) (entries : List (List ℕ)) → keeps keeper entries → (file : List ℕ) → may_leave keeper file → StandsFor file entries };
+}
+
+impl<D: Disk> Keeper for Journal<D> {
+    ghost use Rattle.desk_journal.specs.Words.{IsKept, disk_of};
+    ghost use Rattle.desk_journal.proofs.CallerLemmas.{rest_kept};
+
+    ghost keeps = { λ journal entries. IsKept D.Disk.seen D.Disk.may_leave D.Disk.is_usable entries journal };
+
+    ghost may_leave = { λ journal. D.Disk.may_leave (disk_of journal) };
+
+    ghost rest = { λ journal entries. rest_kept D.Disk.seen D.Disk.may_leave D.Disk.is_usable journal entries };
+
+    fn keep(&mut self, batch: &[Vec<u8>]) -> Result<(), JournalFault> {
+        self.append(batch)
+    }
+}
+
+/// Keeps nothing: there is no file that a crash may leave.
+#[derive(Clone, Copy, Debug)]
+pub(crate) struct NoJournal;
+
+impl Keeper for NoJournal {
+    ghost keeps = { λ _ _. Unit {0} };
+
+    ghost may_leave = { λ _ _. ⊥ };
+
+    ghost rest = { λ _ _ _ _ left. absurd left };
+
+    fn keep(&mut self, _batch: &[Vec<u8>]) -> Result<(), JournalFault> {
+        Ok(())
+    }
+}

@@ -1,0 +1,13 @@
+use Rattle.std.proofs.Common.{◌≡◌, ◌∙◌, ap}
+use Rattle.std.proofs.lemmas.Result.{IfOk-weaker}
+use Rattle.row_forms.specs.declared.line.line.Line.{Line}
+use Rattle.desk_entries.specs.Words.{within}
+use Rattle.desk_warnings.specs.Careful.{warnings_at, warnings_said}
+use Rattle.desk_warnings.proofs.register.CarefulRegister.warnings_at.Goals as goal
+
+pub returns : goal.returns
+unfolding warnings_at
+returns c = λ kept stands.
+    IfOk-weaker c.warned_said.result _ _
+    (λ text is. is ∙ ap (λ (l : Line). warnings_said c.args.standing.now c.args.today kept (within kept l)) (c.in_ok-said.ensures kept stands))
+    (c.warned_said.ensures kept stands)

@@ -1,0 +1,5 @@
+pub mod Endings
+pub mod Folder
+pub mod Lines
+pub mod Reports
+pub mod Sessions

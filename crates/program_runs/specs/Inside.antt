@@ -1,0 +1,3 @@
+-- What only proofs rest on, and no reader has to believe.
+pub mod Division
+pub mod Joining

@@ -1,2 +1,0 @@
-use Rattle.std.proofs.Common.{◌∙◌}
-use Rattle.report_memo.proofs.report.memo_of.Goals as goal

@@ -1,0 +1,75 @@
+-- The table of forms: the command word of each, and its columns. Rows are read, refused, headed and shown by it.
+use Rattle.std.specs.Prelude.{◌≡◌, ◌↔◌, ℕ, Bool, List, [], ◌∷◌, ◌++◌, codes, find, map, Option, Some, option_map}
+use Rattle.std.specs.Str.{bytes_eq}
+use Rattle.row_forms.specs.declared.forms.table.Form.{Form}
+use Rattle.row_forms.specs.declared.forms.table.Form.TheVariants as form
+use Rattle.row_forms.specs.declared.headings.columns.Column.{Column}
+use Rattle.row_forms.specs.declared.headings.columns.Column.TheVariants.{Clerk, Command, Case, Deadline, Motion, Period, Date, Time, Start, TimeOrNone, SecondOrNone, ServiceOrNone, Means, Grant, ByMotion, Cause, Neglect, Need, Holidays, From, To, Judge, Judges, Room, Slots, Notice}
+
+-- the forms of rows
+abbrev pub forms : List Form
+forms =
+    form.Open ∷ form.Start ∷ form.File ∷ form.Extend ∷ form.Motion ∷ form.Book ∷ form.Move ∷ form.Cancel ∷ form.Holiday ∷ form.Inaccessible ∷ form.Compute ∷ form.Sheet ∷ form.Calendar ∷ []
+
+-- the command word of a form
+abbrev pub command_word : Form → List ℕ
+command_word form.Open = codes "open"
+command_word form.Start = codes "start"
+command_word form.File = codes "file"
+command_word form.Extend = codes "extend"
+command_word form.Motion = codes "motion"
+command_word form.Book = codes "book"
+command_word form.Move = codes "move"
+command_word form.Cancel = codes "cancel"
+command_word form.Holiday = codes "holiday"
+command_word form.Inaccessible = codes "inaccessible"
+command_word form.Compute = codes "compute"
+command_word form.Sheet = codes "sheet"
+command_word form.Calendar = codes "calendar"
+
+-- the columns of rows that set a hearing
+abbrev pub setting_columns : List Column
+setting_columns = Clerk ∷ Command ∷ Case ∷ Motion ∷ Judges ∷ Room ∷ Date ∷ Start ∷ Slots ∷ Notice ∷ []
+
+-- the columns of a form's rows, from the first on
+abbrev pub columns_of_form : Form → List Column
+columns_of_form form.Open = Clerk ∷ Command ∷ Case ∷ Date ∷ []
+columns_of_form form.Start = Clerk ∷ Command ∷ Case ∷ Period ∷ Date ∷ TimeOrNone ∷ SecondOrNone ∷ ServiceOrNone ∷ []
+columns_of_form form.File = Clerk ∷ Command ∷ Case ∷ Deadline ∷ Date ∷ Time ∷ Means ∷ []
+columns_of_form form.Extend = Clerk ∷ Command ∷ Case ∷ Deadline ∷ Grant ∷ Date ∷ Time ∷ ByMotion ∷ Cause ∷ Neglect ∷ []
+columns_of_form form.Motion = Clerk ∷ Command ∷ Case ∷ Date ∷ Need ∷ []
+columns_of_form form.Book = setting_columns
+columns_of_form form.Move = setting_columns
+columns_of_form form.Cancel = Clerk ∷ Command ∷ Case ∷ Motion ∷ []
+columns_of_form form.Holiday = Clerk ∷ Command ∷ Date ∷ Holidays ∷ []
+columns_of_form form.Inaccessible = Clerk ∷ Command ∷ Date ∷ From ∷ To ∷ []
+columns_of_form form.Compute = Clerk ∷ Command ∷ Period ∷ Date ∷ TimeOrNone ∷ SecondOrNone ∷ ServiceOrNone ∷ []
+columns_of_form form.Sheet = Clerk ∷ Command ∷ Case ∷ []
+columns_of_form form.Calendar = Clerk ∷ Command ∷ Judge ∷ Date ∷ []
+
+-- the word is this form's
+unfoldable pub is_word_of : List ℕ → Form → Bool
+is_word_of word f = bytes_eq word (command_word f)
+
+-- the form with this command word
+unfoldable pub form_of : List ℕ → Option Form
+form_of word = find (is_word_of word) forms
+
+-- the columns of the rows with this command word
+unfoldable pub columns_of : List ℕ → Option (List Column)
+columns_of word = option_map columns_of_form (form_of word)
+
+-- words in a sentence: commas between them, and `or` before the last
+unfoldable pub listed : List (List ℕ) → List ℕ
+listed [] = []
+listed (word ∷ []) = word
+listed (word ∷ last ∷ []) = word ++ codes " or " ++ last
+listed (word ∷ more) = word ++ codes ", " ++ listed more
+
+-- the command words, as they are listed in a sentence
+unfoldable pub commands_listed : List ℕ
+commands_listed = listed (map command_word forms)
+
+-- A word is that of one form, and of no other.
+abbrev pub CommandWordsNameForms : Type 0
+CommandWordsNameForms = (word : List ℕ) (f : Form) → (form_of word ≡ Some f) ↔ (command_word f ≡ word)

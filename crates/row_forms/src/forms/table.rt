@@ -1,0 +1,181 @@
+//! The table of forms: the command word of each, and its columns. Rows are read, refused, headed and shown by it.
+
+ghost use Rattle.std.specs.Prelude.{◌≡◌, find, map, option_map};
+ghost use Rattle.row_forms.specs.Forms.Table.{columns_of, columns_of_form, command_word, commands_listed, form_of, forms, is_word_of};
+
+use crate::headings::Column::{
+    self, ByMotion, Case, Cause, Clerk, Command, Date, Deadline, From, Grant, Holidays, Judge,
+    Judges, Means, Motion, Need, Neglect, Notice, Period, Room, SecondOrNone, ServiceOrNone, Slots,
+    Start, Time, TimeOrNone, To,
+};
+
+/// The form of a row: which command or query it asks for.
+#[derive(Clone, Copy, Debug, PartialEq, Eq)]
+pub enum Form {
+    /// Opens a case.
+    Open,
+    /// Starts a deadline.
+    Start,
+    /// Records the act by which a deadline was met, or missed.
+    File,
+    /// Extends the time of a deadline.
+    Extend,
+    /// Enters a motion.
+    Motion,
+    /// Books a hearing.
+    Book,
+    /// Moves a hearing.
+    Move,
+    /// Takes a hearing off the calendar.
+    Cancel,
+    /// Enters a holiday.
+    Holiday,
+    /// Enters that the clerk's office was inaccessible.
+    Inaccessible,
+    /// Asks for the end of a period.
+    Compute,
+    /// Asks for the sheet of a case.
+    Sheet,
+    /// Asks for a judge's day.
+    Calendar,
+}
+
+/// The forms of rows.
+pub const FORMS: [Form; 13] = [
+    Form::Open,
+    Form::Start,
+    Form::File,
+    Form::Extend,
+    Form::Motion,
+    Form::Book,
+    Form::Move,
+    Form::Cancel,
+    Form::Holiday,
+    Form::Inaccessible,
+    Form::Compute,
+    Form::Sheet,
+    Form::Calendar,
+];
+
+/// The command words, in the order of the forms.
+pub const COMMANDS: [&str; 13] = [
+    "open",
+    "start",
+    "file",
+    "extend",
+    "motion",
+    "book",
+    "move",
+    "cancel",
+    "holiday",
+    "inaccessible",
+    "compute",
+    "sheet",
+    "calendar",
+];
+
+/// The columns of a form's rows, from the first on.
+pub fn columns_of_form(form: Form) -> &'static [Column]
+    ensures { result.now ≡ columns_of_form form }
+{
+    match form {
+        Form::Open => &[Clerk, Command, Case, Date],
+        Form::Start => &[
+            Clerk,
+            Command,
+            Case,
+            Period,
+            Date,
+            TimeOrNone,
+            SecondOrNone,
+            ServiceOrNone,
+        ],
+        Form::File => &[Clerk, Command, Case, Deadline, Date, Time, Means],
+        Form::Extend => &[
+            Clerk, Command, Case, Deadline, Grant, Date, Time, ByMotion, Cause, Neglect,
+        ],
+        Form::Motion => &[Clerk, Command, Case, Date, Need],
+        Form::Book | Form::Move => &[
+            Clerk, Command, Case, Motion, Judges, Room, Date, Start, Slots, Notice,
+        ],
+        Form::Cancel => &[Clerk, Command, Case, Motion],
+        Form::Holiday => &[Clerk, Command, Date, Holidays],
+        Form::Inaccessible => &[Clerk, Command, Date, From, To],
+        Form::Compute => &[
+            Clerk,
+            Command,
+            Period,
+            Date,
+            TimeOrNone,
+            SecondOrNone,
+            ServiceOrNone,
+        ],
+        Form::Sheet => &[Clerk, Command, Case],
+        Form::Calendar => &[Clerk, Command, Judge, Date],
+    }
+}
+
+/// The command word of a form.
+pub fn command_word(form: Form) -> &'static str
+    ensures { result.now ≡ command_word form }
+{
+    COMMANDS[form as usize]
+}
+
+/// The command words of all forms, in their order.
+pub fn commands() -> &'static [&'static str]
+    ensures { map (λ word. word.now) result.now ≡ map command_word forms }
+{
+    &COMMANDS
+}
+
+/// The command words, as they are listed in a sentence.
+#[tactic(auto, unfolding(crate::specs::Forms::Table::commands_listed, crate::specs::Forms::Table::listed))]
+pub fn commands_listed() -> &'static str
+    ensures { result.now ≡ commands_listed }
+{
+    "open, start, file, extend, motion, book, move, cancel, holiday, inaccessible, compute, sheet or calendar"
+}
+
+// Whether the word is this form's.
+#[tactic(auto, unfolding(crate::specs::Forms::Table::is_word_of))]
+fn is_word_of(word: &str, form: Form) -> bool
+    ensures { result ≡ is_word_of word.now form }
+{
+    word == command_word(form)
+}
+
+// The first of these forms that has this command word.
+fn form_in(forms: &[Form], word: &str) -> Option<Form>
+    ensures { result ≡ find (is_word_of word.now) forms.now }
+{
+    match forms {
+        [] => None,
+        [form, rest @ ..] => {
+            if is_word_of(word, *form) {
+                Some(*form)
+            } else {
+                form_in(rest, word)
+            }
+        }
+    }
+}
+
+/// The form of the rows with this command word.
+#[tactic(auto, unfolding(crate::specs::Forms::Table::form_of))]
+pub fn form_of(word: &str) -> Option<Form>
+    ensures { result ≡ form_of word.now }
+{
+    form_in(&FORMS, word)
+}
+
+/// The columns of the rows with this command word, from the first on.
+#[tactic(auto, unfolding(crate::specs::Forms::Table::columns_of))]
+pub fn columns_of(word: &str) -> Option<&'static [Column]>
+    ensures { option_map (λ columns. columns.now) result ≡ columns_of word.now }
+{
+    match form_of(word) {
+        Some(form) => Some(columns_of_form(form)),
+        None => None,
+    }
+}

@@ -1,0 +1,237 @@
+//! Stored calls of the desk, one after another, over one disk in memory.
+
+ghost use Rattle.std.specs.Prelude.{◌≡◌, ◌<◌, ◌≤◌, false, length};
+ghost use Rattle.program_streams.specs.Words.{has_failed};
+
+use crate::calendar::{first_instant, push_ending};
+use crate::stored::push_name;
+use desk_entries::Docketed;
+use desk_program::{
+    Desk, DeskFault, all_taken, ask, ended_by, write_cases, write_count, write_rows, write_struck,
+};
+use program_main::today_by;
+use program_runs::refused;
+use program_streams::{Watched, write_all};
+use program_words::{Keeping, Striking, Task, asked_of};
+use sqlite_disk::Memory;
+use std::alloc::{AllocError, Global};
+
+// No clause says what is written; what is stored to be written shows it.
+
+/// How a call ended, and the disk after it.
+type Ended = (Result<(), DeskFault>, Memory);
+
+/// Adds the line `%%%% NAME`, and then, for each call in the text, its line, what it writes and how it ended, if not well. A
+/// call begins with `$ `, as at a shell: the rest of the line has the words of `docket`, and the lines after it are its input,
+/// which for `init` and `court change` is the court's file. All calls are of one disk, on which each opens the desk anew. `Err`
+/// says that memory ran out.
+pub fn push_calls(
+    alloc: Global,
+    output: &mut Vec<u8>,
+    name: &str,
+    text: &str,
+) -> Result<(), AllocError> {
+    push_name(output, name)?;
+    let mut disk = Memory::new(alloc);
+    for call in text.split("$ ").skip(1) {
+        if let Some((line, input)) = call.split_once('\n') {
+            disk = push_call(alloc, output, disk, line, input.as_bytes())?;
+        }
+    }
+    Ok(())
+}
+
+// Adds what a call writes, and gives the disk after it.
+fn push_call(
+    alloc: Global,
+    output: &mut Vec<u8>,
+    disk: Memory,
+    line: &str,
+    input: &[u8],
+) -> Result<Memory, AllocError> {
+    let shown = format!(in alloc; "$ {line}\n")?;
+    output.extend_from_slice(shown.as_bytes())?;
+    let words: Vec<&str> = line.split(' ').collect(alloc)?;
+    let Ok(task) = asked_of(alloc, first_instant(), words.as_slice()) else {
+        output.extend_from_slice(b"these words are none of docket\n")?;
+        return Ok(disk);
+    };
+    let mut writer = Watched::new(Vec::new(alloc));
+    let mut errors = Watched::new(Vec::new(alloc));
+    let (ended, disk) = done(alloc, disk, &task, input, &mut writer, &mut errors);
+    output.extend_from_slice(writer.inner().as_slice())?;
+    let status = match ended {
+        Ok(()) => 0,
+        Err(fault) => ended_by(alloc, &mut errors, &fault),
+    };
+    push_ending(alloc, output, status, errors.inner().as_slice())?;
+    Ok(disk)
+}
+
+// Does what is asked for on the disk.
+fn done(
+    alloc: Global,
+    disk: Memory,
+    task: &Task,
+    input: &[u8],
+    writer: &mut Watched<Vec<u8>>,
+    errors: &mut Watched<Vec<u8>>,
+) -> Ended
+    requires { has_failed writer.old ≡ false }
+{
+    match task {
+        Task::Init(_, _) => begun(alloc, disk, input),
+        _ => match Desk::open(alloc, disk) {
+            Ok((desk, entries)) => opened(alloc, desk, &entries, task, input, writer, errors),
+            Err((fault, disk)) => (Err(fault), disk),
+        },
+    }
+}
+
+// Begins the docket of a court's file.
+fn begun(alloc: Global, disk: Memory, file: &[u8]) -> Ended {
+    let Ok(file) = Vec::from_slice(alloc, file) else {
+        return (Err(DeskFault::OutOfMemory), disk);
+    };
+    match Desk::begin(alloc, disk, file) {
+        Ok(disk) => (Ok(()), disk),
+        Err((fault, disk)) => (Err(fault), disk),
+    }
+}
+
+// Does what is asked for at a desk that was opened, whose journal has these entries.
+fn opened(
+    alloc: Global,
+    mut desk: Desk<Memory>,
+    entries: &[Vec<u8>],
+    task: &Task,
+    input: &[u8],
+    writer: &mut Watched<Vec<u8>>,
+    errors: &mut Watched<Vec<u8>>,
+) -> Ended
+    requires works { has_failed writer.old ≡ false }
+    requires some { 0 < length entries.now }
+    requires few { length entries.now ≤ 1000000 }
+{
+    let ended = match task {
+        Task::Enter(_, _, held_back, keeping) => {
+            desk.hold_back(*held_back);
+            entered(alloc, &mut desk, *keeping, input, writer, errors)
+        }
+        Task::Try(_, _, held_back) => {
+            desk.hold_back(*held_back);
+            return tried(alloc, desk, input, writer);
+        }
+        Task::Strike(_, striking) => struck(alloc, &mut desk, entries, striking, writer),
+        Task::CourtChange(_, _, accept) => desk.change(alloc, entries, input, *accept, writer),
+        Task::Cases(_) => {
+            let disk = desk.into_disk();
+            let ended = copied_cases(alloc, disk.bytes(), writer);
+            return (ended, disk);
+        }
+        Task::Ask(_, _) => asked(alloc, entries, input, writer),
+        Task::Struck(_) => write_struck(alloc, entries, writer),
+        Task::Check(_) => write_count(alloc, desk.rows(), writer),
+        _ => write_rows(alloc, desk.standing(), desk.moved(), entries, writer),
+    };
+    (ended, desk.into_disk())
+}
+
+// Keeps rows. What is said of rows that are kept together and then aren't goes to `errors`.
+fn entered(
+    alloc: Global,
+    desk: &mut Desk<Memory>,
+    keeping: Keeping,
+    input: &[u8],
+    writer: &mut Watched<Vec<u8>>,
+    errors: &mut Watched<Vec<u8>>,
+) -> Result<(), DeskFault>
+    requires { has_failed writer.old ≡ false }
+{
+    match keeping {
+        Keeping::Each => {
+            let mut reader = Watched::new(input);
+            match desk.enter(alloc, &mut reader, writer) {
+                Ok(tally) => all_taken(tally),
+                Err(fault) => Err(DeskFault::Session(fault)),
+            }
+        }
+        Keeping::Together(keep_refused) => {
+            let mut said = Watched::new(Vec::new(alloc));
+            match desk.enter_together(alloc, input, keep_refused, &mut said) {
+                Ok(()) => match write_all(writer, said.inner()) {
+                    Ok(()) => Ok(()),
+                    Err(_) => Err(DeskFault::Write),
+                },
+                Err(fault) => {
+                    if let Ok(text) = str::from_utf8(said.inner()) {
+                        let _ = refused(errors, text);
+                    }
+                    Err(fault)
+                }
+            }
+        }
+    }
+}
+
+// Answers rows, and keeps none.
+fn tried(alloc: Global, desk: Desk<Memory>, input: &[u8], writer: &mut Watched<Vec<u8>>) -> Ended
+    requires { has_failed writer.old ≡ false }
+{
+    let mut reader = Watched::new(input);
+    match desk.try_rows(alloc, &mut reader, writer) {
+        (Ok(tally), disk) => (all_taken(tally), disk),
+        (Err(fault), disk) => (Err(DeskFault::Unkept(fault)), disk),
+    }
+}
+
+// Answers questions.
+fn asked(
+    alloc: Global,
+    entries: &[Vec<u8>],
+    input: &[u8],
+    writer: &mut Watched<Vec<u8>>,
+) -> Result<(), DeskFault>
+    requires works { has_failed writer.old ≡ false }
+    requires few { length entries.now ≤ 1000000 }
+{
+    let docketed = Docketed::of(alloc, entries)?;
+    let mut reader = Watched::new(input);
+    all_taken(ask(alloc, docketed, &mut reader, writer)?)
+}
+
+// Strikes a row.
+fn struck(
+    alloc: Global,
+    desk: &mut Desk<Memory>,
+    entries: &[Vec<u8>],
+    striking: &Striking,
+    writer: &mut Watched<Vec<u8>>,
+) -> Result<(), DeskFault>
+    requires works { has_failed writer.old ≡ false }
+    requires some { 0 < length entries.now }
+    requires few { length entries.now ≤ 1000000 }
+{
+    let today = today_by(desk.court().clock(), striking.clock_time);
+    let (day, by, reason) = (striking.today.on(today), &striking.by, &striking.reason);
+    let remark = format!(in alloc; "struck {day} by {by}: {reason}\n")?;
+    let remark = remark.as_bytes();
+    desk.strike(
+        alloc,
+        entries,
+        striking.row,
+        remark,
+        striking.accept,
+        writer,
+    )
+}
+
+// Writes the cases that have names, of a copy of a journal's file.
+fn copied_cases(alloc: Global, file: &[u8], writer: &mut Watched<Vec<u8>>) -> Result<(), DeskFault>
+    requires { has_failed writer.old ≡ false }
+{
+    match Desk::copied(alloc, Memory::new(alloc), file) {
+        Ok(desk) => write_cases(alloc, desk.cases(), writer),
+        Err((fault, _)) => Err(fault),
+    }
+}
