@@ -35,6 +35,7 @@ fn of_input<H: Threads + Wait + Sync, R: Read + Drop, W: Write, P: Report>(
     asked: &P,
 ) -> Result<(), Fault>
     requires { has_failed writer.old ≡ false }
+    ensures { IfSome (R.remaining reader) (λ input. EndsRun (λ answer. IsReportRun (P.clerk_count asked.now) (P.is_text asked.now) (P.is_missing asked.now) (W.contents (watched writer.old)) (W.contents (watched writer.new)) answer input) result) }
 {
     let mut reader = Watched::new(reader);
     match run_report(threads, alloc, &mut reader, writer, asked) {
@@ -56,6 +57,8 @@ fn put_report<H: Threads + Wait + Sync, E: Write + IsTerminal + Send + Drop, W: 
 ) -> Result<(), Fault>
     requires works { has_failed writer.old ≡ false }
     requires few { length entries.now ≤ most_entries }
+    ensures written { OnOk result ((text : List ℕ) × IsReport asked.now (batch_of entries.now) text × Appends (W.contents (watched writer.old)) (W.contents (watched writer.new)) text) }
+    ensures missing { (line : String Global) → result ≡ Err (Fault.Missing line) → IsNoReport asked.now (batch_of entries.now) (string_bytes line) × (writer.new ≡ writer.old) }
 {
     let found = told_while(threads, errors, "reading", folder, || {
         report_found(alloc, entries, asked)
@@ -74,6 +77,7 @@ fn past_of<'a>(
     differences: &[Difference],
 ) -> Result<Past<'a>, AllocError>
     requires few { length entries.now ≤ most_entries }
+    ensures { IsDocketed docketed.now (batch_of entries.now) → map change_in differences.now ≡ changes_by docketed.now.standing (batch_of entries.now) → IfOk result (λ past. past ≡ past_of docketed.now.standing (batch_of entries.now)) }
 {
     let numbers = docketed.register.numbers();
     let moved = numbers.moved();
@@ -98,6 +102,7 @@ fn report_on(
 ) -> Result<Finding<Vec<u8>>, AllocError>
     requires some { 0 < length entries.now }
     requires few { length entries.now ≤ most_entries }
+    ensures { IsDocketed docketed.now (batch_of entries.now) → IfOk result (IsFinding (λ text. text.items) (IsReport asked.now (batch_of entries.now)) (IsNoReport asked.now (batch_of entries.now))) }
 {
     let reported = standing_rows(alloc, &docketed.standing, entries)?;
     let past = past_of(alloc, docketed, entries, &reported.differences)?;
@@ -123,12 +128,17 @@ fn report_found(
     asked: &ReportAsked,
 ) -> Result<Finding<Vec<u8>>, Fault>
     requires few { length entries.now ≤ most_entries }
+    ensures found { IfOk result (IsFinding (λ text. text.items) (IsReport asked.now (batch_of entries.now)) (IsNoReport asked.now (batch_of entries.now))) }
+    ensures fault { IfErr result (λ fault. (cause : DeskFaultOf) × (fault ≡ Fault.Desk cause)) }
 {
     if entries.is_empty() {
         return Err(Fault::Desk(DeskFault::NoJournal));
     }
     let docketed = Docketed::of(alloc, entries)?;
-    Ok(report_on(alloc, &docketed, entries, asked)?)
+    match report_on(alloc, &docketed, entries, asked) {
+        Ok(found) => Ok(found),
+        Err(_) => Err(Fault::Desk(DeskFault::OutOfMemory)),
+    }
 }
 
 // Writes the memo of a folder with these entries.
@@ -143,6 +153,8 @@ fn put_memo<H: Threads + Wait + Sync, E: Write + IsTerminal + Send + Drop, W: Wr
 ) -> Result<(), Fault>
     requires works { has_failed writer.old ≡ false }
     requires few { length entries.now ≤ most_entries }
+    ensures written { OnOk result ((text : List ℕ) × IsMemo asked.now (batch_of entries.now) text × Appends (W.contents (watched writer.old)) (W.contents (watched writer.new)) text) }
+    ensures missing { (line : String Global) → result ≡ Err (Fault.Missing line) → IsNoMemo asked.now (batch_of entries.now) (string_bytes line) × (writer.new ≡ writer.old) }
 {
     let found = told_while(threads, errors, "reading", folder, || {
         memo_found(alloc, entries, asked)
@@ -162,6 +174,7 @@ fn memo_on(
 ) -> Result<Finding<Vec<u8>>, AllocError>
     requires some { 0 < length entries.now }
     requires few { length entries.now ≤ most_entries }
+    ensures { IsDocketed docketed.now (batch_of entries.now) → IfOk result (IsFinding (λ text. text.items) (IsMemo asked.now (batch_of entries.now)) (IsNoMemo asked.now (batch_of entries.now))) }
 {
     let rows = standing_rows(alloc, &docketed.standing, entries)?.rows;
     let register = &docketed.register;
@@ -178,12 +191,17 @@ fn memo_found(
     asked: &MemoAsked,
 ) -> Result<Finding<Vec<u8>>, Fault>
     requires few { length entries.now ≤ most_entries }
+    ensures found { IfOk result (IsFinding (λ text. text.items) (IsMemo asked.now (batch_of entries.now)) (IsNoMemo asked.now (batch_of entries.now))) }
+    ensures fault { IfErr result (λ fault. (cause : DeskFaultOf) × (fault ≡ Fault.Desk cause)) }
 {
     if entries.is_empty() {
         return Err(Fault::Desk(DeskFault::NoJournal));
     }
     let docketed = Docketed::of(alloc, entries)?;
-    Ok(memo_on(alloc, &docketed, entries, asked)?)
+    match memo_on(alloc, &docketed, entries, asked) {
+        Ok(found) => Ok(found),
+        Err(_) => Err(Fault::Desk(DeskFault::OutOfMemory)),
+    }
 }
 
 /// Writes a report.
