@@ -5,6 +5,7 @@ pub mod DamageLemmas
 pub mod DiskLemmas
 pub mod FaultLemmas
 pub mod FrameLemmas
+pub mod HiddenLemmas
 pub mod KeptLemmas
 pub mod NextLemmas
 pub mod OneList
