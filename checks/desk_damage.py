@@ -4,9 +4,10 @@
     desk_damage.py DOCKET [SEED [COUNT]]
 
 A journal of COUNT entries (200 without it), drawn from SEED, is cut after each of its bytes, and each byte is changed to
-another and to that of a shut latch. The desk must then say what the reader in lib/journal.py finds: the number of
+another, each latch also to the shut one. The desk must then say what the reader in lib/journal.py finds: the number of
 the entry that is damaged, with status 10 and the file as it was; or the journal is opened with the first of its rows and
-their answers, and never with others. No changed byte hides an entry. It needs Python 3.8 or later.
+their answers, and never with others. Where a changed byte hides entries without a word, it is the first latch of the last
+batch: so it would look if a crash had come before that batch was published. It needs Python 3.8 or later.
 """
 import concurrent.futures
 import os
@@ -16,7 +17,7 @@ import tempfile
 from collections import Counter
 
 from lib.desk import Desk, REFUSED, SHORT_COURT, drawn_rows
-from lib.journal import SHUT, Damaged, read_journal, rows_of
+from lib.journal import OPEN, SHUT, Damaged, read_journal, rows_of
 from lib.programs import programs_of, seed_and_count
 
 # How many desks are asked at the same time.
@@ -39,7 +40,7 @@ def files_of(data, draw, last):
     for at in range(len(data) - last, len(data)):
         yield "cut at", at, data[:at]
     for at in range(len(data) - last, len(data)):
-        others = [data[at] ^ draw.randint(1, 255)] + ([SHUT[0]] if data[at] != SHUT[0] else [])
+        others = [data[at] ^ draw.randint(1, 255)] + ([SHUT] if data[at] == OPEN else [])
         for byte in others:
             yield "changed at", at, data[:at] + bytes([byte]) + data[at + 1:]
 
@@ -94,10 +95,16 @@ def damaged(programs, draw, count, last=None):
         ended = pool.map(lambda part: check_part(programs, SHORT_COURT, data, part), parts)
         results = [result for part in ended for result in part]
     hidden = {at for how, at, result in results if how == "changed at" and result == FEWER}
-    assert not hidden, hidden
+    assert hidden <= {last_latch(journal)}, hidden
     counts = Counter((how, result) for how, at, result in results)
     told = ", ".join("{} {} and {}".format(number, how.split()[0], result) for (how, result), number in sorted(counts.items()))
     return "a journal of {} entries and {} bytes: {}".format(count, len(data), told)
+
+
+def last_latch(journal):
+    """The place of the latch that opens the last batch."""
+    durable = journal.frames[-1].durable
+    return journal.frames[durable - 1].end if durable else 0
 
 
 def main(words):

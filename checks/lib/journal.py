@@ -2,8 +2,8 @@
 import hashlib
 from typing import NamedTuple
 
-OPEN, SHUT = b"++", b"--"
-FIRST_CHECKSUM = hashlib.sha256(b"durable journal, version 2").digest()
+OPEN, SHUT = 43, 45
+FIRST_CHECKSUM = hashlib.sha256(b"durable journal, version 1").digest()
 # What comes between a latch and the entry: two numbers of four bytes, and a checksum.
 HEAD = 4 + 4 + 32
 MOST_ENTRIES = 1_000_000
@@ -28,7 +28,7 @@ class TooMany(Exception):
 
 
 class Frame(NamedTuple):
-    """What follows a latch that isn't shut: how many entries were durable before its batch, its checksum, and where it ends."""
+    """What follows an open latch: how many entries were durable before its batch, its checksum, and where it ends."""
     durable: int
     checksum: bytes
     entry: bytes
@@ -49,9 +49,9 @@ def frame_at(data, at, previous):
     return Frame(int.from_bytes(durable, "big"), checksum, entry, end)
 
 
-def has_latch(data, at):
-    """Whether a latch is there that isn't shut."""
-    return at + 2 <= len(data) and data[at:at + 2] != SHUT
+def is_open(data, at):
+    """Whether an open latch is there, with something after it."""
+    return at + 1 < len(data) and data[at] == OPEN
 
 
 class Journal(NamedTuple):
@@ -70,31 +70,28 @@ class Journal(NamedTuple):
         return [after - before for before, after in zip(starts, starts[1:] + [len(self.frames)])]
 
 
-def is_foreign(data, at, previous, count):
-    """Whether what is here, after a shut latch, is no crash's: whole frames of which one says another number than there are entries
-    before it, or another journal."""
-    frame = frame_at(data, at, previous)
+def was_open(data, at, previous, count):
+    """Whether whole frames follow this shut latch of which one says another number than there are entries before it."""
+    frame = frame_at(data, at + 1, previous)
     while frame is not None:
         if frame.durable != count:
             return True
-        frame = frame_at(data, frame.end + 2, frame.checksum) if has_latch(data, frame.end) else None
-    return has_latch(data, at) and frame_at(data, at + 2, FIRST_CHECKSUM) is not None
+        frame = frame_at(data, frame.end + 1, frame.checksum) if is_open(data, frame.end) else None
+    return False
 
 
 def read_journal(data):
-    """The journal of these bytes. `Damaged` or `TooMany` where they are none; at most two bytes have no entries."""
+    """The journal of these bytes. `Damaged` or `TooMany` where they are none."""
     frames, at, previous = [], 0, FIRST_CHECKSUM
-    if len(data) <= 2:
-        return Journal(frames, at)
-    while data[at:at + 2] != SHUT:
+    while is_open(data, at):
         if len(frames) == MOST_ENTRIES:
             raise TooMany
-        frame = frame_at(data, at + 2, previous) if has_latch(data, at) else None
+        frame = frame_at(data, at + 1, previous)
         if frame is None:
             raise Damaged(len(frames) + 1)
         frames.append(frame)
         at, previous = frame.end, frame.checksum
-    if is_foreign(data, at + 2, previous, len(frames)):
+    if was_open(data, at, previous, len(frames)):
         raise Damaged(len(frames) + 1)
     return Journal(frames, at)
 
@@ -135,6 +132,6 @@ def packed(batches):
         for entry in batch:
             head = count.to_bytes(4, "big") + len(entry).to_bytes(4, "big")
             previous = hashlib.sha256(previous + head + entry).digest()
-            data += OPEN + head + previous + entry
+            data += bytes([OPEN]) + head + previous + entry
         count += len(batch)
-    return bytes(data + SHUT)
+    return bytes(data + bytes([SHUT]))

@@ -4,8 +4,7 @@ use Rattle.std.proofs.lemmas.List.{take_at, drop_at, append-nil}
 use Rattle.std.proofs.lemmas.Nat.{from_be_bytes-to_be_bytes_4}
 use Rattle.std.specs.Int.{w32, to_be_bytes}
 use Rattle.sha2.proofs.Facts256.{length-sha256}
-use Rattle.desk_journal.specs.Frames.{AreShut, Frame, IsFrame, number_of, framed, checksum, packed, frames, last_checksum}
-use Rattle.desk_journal.specs.Reading.{latched}
+use Rattle.desk_journal.specs.Frames.{Frame, IsFrame, number_of, framed, checksum, packed, frames, last_checksum}
 
 pub length-checksum : (previous : List ℕ) (f : Frame) → length (checksum previous f) ≡ 32
 unfolding checksum
@@ -14,17 +13,17 @@ length-checksum previous f = length-sha256 (previous ++ f.durable ++ f.size ++ f
 pub frames-append : (previous : List ℕ) (fs gs : List Frame) → frames previous (fs ++ gs) ≡ frames previous fs ++ frames (last_checksum previous fs) gs
 frames-append previous [] gs = refl
 frames-append previous (f ∷ fs) gs =
-    ap (λ (l : List ℕ). f.latch ∷ f.second ∷ (packed previous f ++ l)) (frames-append (checksum previous f) fs gs)
-    ∙ ap (λ (l : List ℕ). f.latch ∷ f.second ∷ l) (sym (append_assoc (packed previous f) (frames (checksum previous f) fs) (frames (last_checksum (checksum previous f) fs) gs)))
+    ap (λ (l : List ℕ). 43 ∷ (packed previous f ++ l)) (frames-append (checksum previous f) fs gs)
+    ∙ ap (λ (l : List ℕ). 43 ∷ l) (sym (append_assoc (packed previous f) (frames (checksum previous f) fs) (frames (last_checksum (checksum previous f) fs) gs)))
 
 pub last_checksum-append : (previous : List ℕ) (fs gs : List Frame) → last_checksum previous (fs ++ gs) ≡ last_checksum (last_checksum previous fs) gs
 last_checksum-append previous [] gs = refl
 last_checksum-append previous (f ∷ fs) gs = last_checksum-append (checksum previous f) fs gs
 
-pub frames-push : (previous : List ℕ) (fs : List Frame) (f : Frame) → frames previous (fs ++ f ∷ []) ≡ frames previous fs ++ latched (last_checksum previous fs) f
+pub frames-push : (previous : List ℕ) (fs : List Frame) (f : Frame) → frames previous (fs ++ f ∷ []) ≡ frames previous fs ++ 43 ∷ packed (last_checksum previous fs) f
 frames-push previous fs f =
     frames-append previous fs (f ∷ [])
-    ∙ ap (λ (l : List ℕ). frames previous fs ++ f.latch ∷ f.second ∷ l) (append-nil (packed (last_checksum previous fs) f))
+    ∙ ap (λ (l : List ℕ). frames previous fs ++ 43 ∷ l) (append-nil (packed (last_checksum previous fs) f))
 
 -- the bytes of a frame, and of what comes after it
 pub record Laid (previous : List ℕ) (f : Frame) (rest bytes : List ℕ) : Type 0 where
@@ -59,14 +58,14 @@ laid previous f rest bytes is e =
     third : drop 4 (drop 4 bytes) ≡ checksum previous f ++ (f.entry ++ rest)
     third = ap (λ (l : List ℕ). drop 4 l) second ∙ drop_at f.size (checksum previous f ++ (f.entry ++ rest)) 4 is.four_more
 
--- two frames with the same bytes after the same latch, whatever follows, are one
+-- two frames with the same bytes, whatever follows, are one
 pub record SameFrame (f g : Frame) (r s : List ℕ) : Type 0 where
   pub frame : f ≡ g
   pub rest : r ≡ s
 
-pub same_frame : (previous : List ℕ) (f g : Frame) (r s : List ℕ) → IsFrame f → IsFrame g → f.latch ≡ g.latch → f.second ≡ g.second → packed previous f ++ r ≡ packed previous g ++ s → SameFrame f g r s
-same_frame previous f g r s is_f is_g latch second e =
-    record { frame = λ i. record { latch = latch i; second = second i; durable = durables i; size = sizes i; entry = entries i }; rest = rests }
+pub same_frame : (previous : List ℕ) (f g : Frame) (r s : List ℕ) → IsFrame f → IsFrame g → packed previous f ++ r ≡ packed previous g ++ s → SameFrame f g r s
+same_frame previous f g r s is_f is_g e =
+    record { frame = λ i. record { durable = durables i; size = sizes i; entry = entries i }; rest = rests }
   where
     of_f : Laid previous f r (packed previous g ++ s)
     of_f = laid previous f r (packed previous g ++ s) is_f (sym e)
@@ -111,39 +110,13 @@ number_there n small = from_be_bytes-to_be_bytes_4 n small
 pub durable-framed : (durable : ℕ) (entry : List ℕ) → durable < 2 ^ 32 → number_of (framed durable entry).durable ≡ durable
 durable-framed durable entry small = ap number_of (framed-durable durable entry) ∙ number_there durable small
 
-pub framed-latch : (durable : ℕ) (entry : List ℕ) → (framed durable entry).latch ≡ 43
-unfolding framed
-framed-latch durable entry = refl
-
-pub framed-second : (durable : ℕ) (entry : List ℕ) → (framed durable entry).second ≡ 43
-unfolding framed
-framed-second durable entry = refl
-
 pub IsFrame-framed : (durable : ℕ) (entry : List ℕ) → length entry < 2 ^ 32 → IsFrame (framed durable entry)
 IsFrame-framed durable entry small = record {
-  opened = λ shut. omega (arith, shut.0, framed-latch durable entry);
   four = ap length (framed-durable durable entry);
   four_more = ap length (framed-size durable entry);
   sized = ap number_of (framed-size durable entry) ∙ number_there (length entry) small ∙ sym (ap length (framed-entry durable entry));
 }
 
 -- a frame from its parts
-pub same_parts : (f : Frame) (latch second : ℕ) (d s entry : List ℕ) → latch ≡ f.latch → second ≡ f.second → d ≡ f.durable → s ≡ f.size → entry ≡ f.entry
-    → ◌≡◌ {A = Frame} (record { latch = latch; second = second; durable = d; size = s; entry = entry }) f
-same_parts f latch second d s entry latch_is second_is d_is s_is entry_is =
-    λ i. record { latch = latch_is i; second = second_is i; durable = d_is i; size = s_is i; entry = entry_is i }
-
--- the frame with another latch
-abbrev pub relatched : (latch second : ℕ) → Frame → Frame
-relatched latch second f = record { latch = latch; second = second; durable = f.durable; size = f.size; entry = f.entry }
-
-pub checksum-relatched : (previous : List ℕ) (latch second : ℕ) (f : Frame) → checksum previous (relatched latch second f) ≡ checksum previous f
-unfolding checksum
-checksum-relatched previous latch second f = refl
-
-pub frames-relatched : (previous : List ℕ) (latch second : ℕ) (f : Frame) (fs : List Frame) → frames previous (relatched latch second f ∷ fs) ≡ latch ∷ second ∷ (packed previous f ++ frames (checksum previous f) fs)
-unfolding checksum
-frames-relatched previous latch second f fs = refl
-
-pub IsFrame-relatched : (latch second : ℕ) (f : Frame) → (AreShut latch second → ⊥) → IsFrame f → IsFrame (relatched latch second f)
-IsFrame-relatched latch second f opened is = record { opened = opened; four = is.four; four_more = is.four_more; sized = is.sized }
+pub same_parts : (f : Frame) (d s entry : List ℕ) → d ≡ f.durable → s ≡ f.size → entry ≡ f.entry → ◌≡◌ {A = Frame} (record { durable = d; size = s; entry = entry }) f
+same_parts f d s entry d_is s_is entry_is = λ i. record { durable = d_is i; size = s_is i; entry = entry_is i }

@@ -8,32 +8,30 @@ use Rattle.desk_journal.specs.Batches.{batch_of, frames_of}
 use Rattle.desk_journal.specs.Disks.{IsLonger, IsAround}
 use Rattle.desk_journal.specs.Kept.{KeepsFrames, IsKept}
 use Rattle.desk_journal.specs.declared.journal.Journal.{Journal}
-use Rattle.desk_journal.proofs.CrashLemmas.{stands, stands_longer, stands_around}
+use Rattle.desk_journal.proofs.CrashLemmas.{stands, shut_latch, stands_longer, stands_around}
 use Rattle.desk_journal.proofs.FrameLemmas.{frames-append, last_checksum-append}
 use Rattle.desk_journal.proofs.BatchLemmas.{entries_of-frames_of, are_frames}
 
-begins : (previous : List ℕ) (durable : ℕ) (batch : List (Vec ℕ Global)) → 0 < length batch
-    → 43 ∷ 43 ∷ drop 2 (frames previous (frames_of durable batch) ++ 45 ∷ 45 ∷ []) ≡ frames previous (frames_of durable batch) ++ 45 ∷ 45 ∷ []
-unfolding framed
-begins previous durable [] some = absurd (omega arith)
-begins previous durable (v ∷ batch) some = refl
+begins : (previous : List ℕ) (gs : List Frame) → 0 < length gs → 43 ∷ drop 1 (frames previous gs ++ 45 ∷ []) ≡ frames previous gs ++ 45 ∷ []
+begins previous [] some = absurd (omega arith)
+begins previous (g ∷ gs) some = refl
 
 module _ (fs : List Frame) (batch : List (Vec ℕ Global)) (some : 0 < length batch) (count : ℕ) (last buffer behind : List ℕ)
     (count_is : count ≡ length fs) (last_is : last ≡ last_checksum first_checksum fs)
-    (buffer_is : buffer ≡ frames last (frames_of count batch) ++ 45 ∷ 45 ∷ []) (behind_is : behind ≡ drop 2 buffer) where
-  here : buffer ≡ frames (last_checksum first_checksum fs) (frames_of (length fs) batch) ++ 45 ∷ 45 ∷ []
-  here = buffer_is ∙ (λ i. frames (last_is i) (frames_of (count_is i) batch) ++ 45 ∷ 45 ∷ [])
+    (buffer_is : buffer ≡ frames last (frames_of count batch) ++ 45 ∷ []) (behind_is : behind ≡ drop 1 buffer) where
+  here : buffer ≡ frames (last_checksum first_checksum fs) (frames_of (length fs) batch) ++ 45 ∷ []
+  here = buffer_is ∙ (λ i. frames (last_is i) (frames_of (count_is i) batch) ++ 45 ∷ [])
 
   as_many : length (frames_of (length fs) batch) ≡ length batch
   as_many = length-map batch (λ (v : Vec ℕ Global). framed (length fs) v.items)
 
-  pub packed_is : 43 ∷ 43 ∷ behind ≡ frames (last_checksum first_checksum fs) (frames_of (length fs) batch) ++ 45 ∷ 45 ∷ []
+  pub packed_is : 43 ∷ behind ≡ frames (last_checksum first_checksum fs) (frames_of (length fs) batch) ++ 45 ∷ []
   packed_is =
-      ap (λ (l : List ℕ). 43 ∷ 43 ∷ l) (behind_is ∙ ap (drop 2) here)
-      ∙ begins (last_checksum first_checksum fs) (length fs) batch some
+      ap (λ (l : List ℕ). 43 ∷ l) (behind_is ∙ ap (drop 1) here)
+      ∙ begins (last_checksum first_checksum fs) (frames_of (length fs) batch) (omega (arith, as_many))
 
   pub length_behind : length behind ≡ length (frames (last_checksum first_checksum fs) (frames_of (length fs) batch))
-  length_behind = omega (arith, ap length packed_is, length-append (frames (last_checksum first_checksum fs) (frames_of (length fs) batch)) (45 ∷ 45 ∷ []))
+  length_behind = omega (arith, ap length packed_is, length-append (frames (last_checksum first_checksum fs) (frames_of (length fs) batch)) (45 ∷ []))
 
   pub end_more : (end next : ℕ) → length (frames first_checksum fs) ≡ end → next ≡ end + length behind → length (frames first_checksum (fs ++ frames_of (length fs) batch)) ≡ next
   end_more end next end_is next_is =
@@ -47,7 +45,7 @@ module _ (fs : List Frame) (batch : List (Vec ℕ Global)) (some : 0 < length ba
   last_more next next_is = next_is ∙ (λ i. last_checksum (last_is i) (frames_of (count_is i) batch)) ∙ sym (last_checksum-append first_checksum fs (frames_of (length fs) batch))
 
   -- whatever a crash leaves of the file, all of the batch counts or none of it
-  pub left_of_append : All IsFrame fs → All (λ v. length v.items ≤ 16777216) batch → (c : List ℕ) → IsLonger (frames first_checksum fs ++ 45 ∷ 45 ∷ []) c ⊎ IsAround (frames first_checksum fs) behind c
+  pub left_of_append : All IsFrame fs → All (λ v. length v.items ≤ 16777216) batch → (c : List ℕ) → IsLonger (frames first_checksum fs ++ 45 ∷ []) c ⊎ IsAround (frames first_checksum fs) behind c
       → StandsFor c (entries_of fs) ⊎ StandsFor c (entries_of (fs ++ frames_of (length fs) batch))
   left_of_append whole short c (inl longer) = inl (stands_longer fs whole c longer)
   left_of_append whole short c (inr around) =
@@ -66,7 +64,7 @@ either_stands c fs n batch entries same (inr after) = inr (subst (StandsFor c) (
 module _ {D : Type 0} (seen : D → List ℕ) (may_leave : D → List ℕ → Type 0) (is_usable : D → Bool) (journal : Journal D) where
   -- between two calls a crash leaves what is kept
   pub rest_stands : (fs : List Frame) → KeepsFrames seen may_leave is_usable fs journal → (c : List ℕ) → may_leave journal.disk c → StandsFor c (entries_of fs)
-  rest_stands fs kept c left = stands c fs (45 ∷ 45 ∷ []) kept.whole (kept.file.only c left) (refl, refl)
+  rest_stands fs kept c left = stands c fs (45 ∷ []) kept.whole (kept.file.only c left) (shut_latch [])
 
   pub rest_kept : (entries : List (List ℕ)) → IsKept seen may_leave is_usable entries journal → (c : List ℕ) → may_leave journal.disk c → StandsFor c entries
   rest_kept entries kept c left = subst (StandsFor c) (sym kept.same) (rest_stands kept.fs kept.kept c left)

@@ -5,7 +5,6 @@ pub mod DamageLemmas
 pub mod DiskLemmas
 pub mod FaultLemmas
 pub mod FrameLemmas
-pub mod HiddenLemmas
 pub mod KeptLemmas
 pub mod NextLemmas
 pub mod OneList

@@ -11,7 +11,7 @@ use Rattle.desk_journal.specs.declared.fault.JournalFault.TheVariants.{Damaged, 
 -- how many bytes the frames of entries take, with their latches
 abbrev pub taken : List (List ℕ) → ℕ
 taken [] = 0
-taken (entry ∷ entries) = 42 + length entry + taken entries
+taken (entry ∷ entries) = 41 + length entry + taken entries
 
 -- an entry is longer than 16,777,216 bytes
 abbrev pub HasLong : List (Vec ℕ Global) → Type 0

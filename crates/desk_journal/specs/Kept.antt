@@ -19,7 +19,7 @@ end_of journal = journal.end
 -- these frames and a shut latch are all of the file, and all of it is on the disk
 pub record KeepsFrames {D : Type 0} (seen : D → List ℕ) (may_leave : D → List ℕ → Type 0) (is_usable : D → Bool) (fs : List Frame) (journal : Journal D) : Type 0 where
   pub whole : All IsFrame fs
-  pub file : IsDurable seen may_leave is_usable (frames first_checksum fs ++ 45 ∷ 45 ∷ []) journal.disk
+  pub file : IsDurable seen may_leave is_usable (frames first_checksum fs ++ 45 ∷ []) journal.disk
   pub end : length (frames first_checksum fs) ≡ journal.end
   pub count : journal.count ≡ length fs
   pub last : journal.last ≡ last_checksum first_checksum fs

@@ -1,12 +1,8 @@
 -- What is read from a file's bytes.
-use Rattle.std.specs.Prelude.{◌≡◌, ◌≢◌, ◌<◌, ◌≤◌, ◌+◌, ◌⊎◌, ℕ, List, [], ◌∷◌, length, ◌++◌, All, Vec}
+use Rattle.std.specs.Prelude.{◌≡◌, ◌≢◌, ◌≤◌, ◌+◌, ◌⊎◌, ℕ, List, [], ◌∷◌, length, ◌++◌, All, Vec}
 use Rattle.std.specs.declared.alloc.Global.{Global}
-use Rattle.desk_journal.specs.Frames.{AreShut, Frame, IsFrame, IsShut, number_of, checksum, first_checksum, last_checksum, packed, frames, entries_of}
+use Rattle.desk_journal.specs.Frames.{Frame, IsFrame, IsShut, number_of, checksum, first_checksum, last_checksum, packed, frames, entries_of}
 use Rattle.desk_journal.specs.Batches.{batch_of}
-
--- a frame as it is written with its latch
-abbrev pub latched : List ℕ → Frame → List ℕ
-latched previous f = f.latch ∷ f.second ∷ packed previous f
 
 -- a frame is here, with this number, checksum and entry, and `rest` after it
 pub record IsNext (previous bytes : List ℕ) (durable : ℕ) (sum entry rest : List ℕ) : Type 0 where
@@ -15,7 +11,7 @@ pub record IsNext (previous bytes : List ℕ) (durable : ℕ) (sum entry rest : 
   pub entry_is : frame.entry ≡ entry
   pub durable_is : number_of frame.durable ≡ durable
   pub sum_is : sum ≡ checksum previous frame
-  pub parts : bytes ≡ latched previous frame ++ rest
+  pub parts : bytes ≡ packed previous frame ++ rest
 
 -- the file is frames of these entries, of which the last has this checksum, and then `rest`
 pub record IsReadTo (file : List ℕ) (entries : List (Vec ℕ Global)) (last rest : List ℕ) : Type 0 where
@@ -25,51 +21,29 @@ pub record IsReadTo (file : List ℕ) (entries : List (Vec ℕ Global)) (last re
   pub last_is : last ≡ last_checksum first_checksum fs
   pub same : batch_of entries ≡ entries_of fs
 
--- this comes after a latch that isn't shut
-pub record IsBehind (bytes behind : List ℕ) : Type 0 where
-  pub latch : ℕ
-  pub second : ℕ
-  pub opened : AreShut latch second → ⊥
-  pub parts : bytes ≡ latch ∷ second ∷ behind
-
--- the bytes end, or the latch here is shut
-abbrev pub HasNoLatch : List ℕ → Type 0
-HasNoLatch bytes = (behind : List ℕ) → IsBehind bytes behind → ⊥
-
--- no whole frame is here
-abbrev pub HasNoFrame : List ℕ → List ℕ → Type 0
-HasNoFrame previous bytes = (f : Frame) (rest : List ℕ) → IsFrame f → bytes ≡ latched previous f ++ rest → ⊥
-
--- After a shut latch comes what would be whole frames if it were open, of which one says another number of durable entries: so the
--- latch was once open.
+-- After a latch come whole frames of which one says another number of durable entries: so the latch was once open.
 pub record SaysOther (durable : ℕ) (previous behind : List ℕ) : Type 0 where
   pub before : List Frame
   pub frame : Frame
   pub more : List ℕ
   pub whole : All IsFrame (before ++ frame ∷ [])
-  pub parts : 43 ∷ 43 ∷ behind ≡ frames previous (before ++ frame ∷ []) ++ more
+  pub parts : 43 ∷ behind ≡ frames previous (before ++ frame ∷ []) ++ more
   pub other : number_of frame.durable ≢ durable
 
--- A journal begins here: so two were joined.
-abbrev pub HasFirst : List ℕ → Type 0
-HasFirst bytes = (f : Frame) × (rest : List ℕ) × IsFrame f × (bytes ≡ latched first_checksum f ++ rest)
+-- no whole frame follows an open latch
+abbrev pub HasNoFrame : List ℕ → List ℕ → Type 0
+HasNoFrame previous behind = (f : Frame) (rest : List ℕ) → IsFrame f → behind ≡ packed previous f ++ rest → ⊥
 
--- what comes after a shut latch isn't what a crash leaves there
-abbrev pub IsForeign : (durable : ℕ) (previous behind : List ℕ) → Type 0
-IsForeign durable previous behind = SaysOther durable previous behind ⊎ HasFirst behind
-
--- The entry of this number is damaged, or the latch before it, or the end of the journal: the file has more than two bytes, and after
--- the entries before it comes no whole frame and no shut latch, or a shut latch that was once open, or after which another journal
--- begins.
+-- The entry of this number is damaged, or the latch before it: after the entries before it comes an open latch and no
+-- frame, or a shut latch that was once open.
 pub record IsDamaged (file : List ℕ) (number : ℕ) : Type 0 where
   pub fs : List Frame
-  pub rest : List ℕ
+  pub latch : ℕ
+  pub behind : List ℕ
   pub whole : All IsFrame fs
-  pub parts : file ≡ frames first_checksum fs ++ rest
-  pub begun : 2 < length file
+  pub parts : file ≡ frames first_checksum fs ++ latch ∷ behind
   pub counts : number ≡ length fs + 1
-  pub cause : ((IsShut rest → ⊥) × HasNoFrame (last_checksum first_checksum fs) rest)
-      ⊎ ((behind : List ℕ) × (rest ≡ 45 ∷ 45 ∷ behind) × IsForeign (length fs) (last_checksum first_checksum fs) behind)
+  pub cause : ((latch ≡ 43) × (behind ≢ []) × HasNoFrame (last_checksum first_checksum fs) behind) ⊎ (IsShut (latch ∷ behind) × SaysOther (length fs) (last_checksum first_checksum fs) behind)
 
 -- no entry of the file is damaged
 abbrev pub IsWhole : List ℕ → Type 0
@@ -83,11 +57,11 @@ pub record IsFound (file : List ℕ) (entries : List (Vec ℕ Global)) (last : L
   pub end_is : length (frames first_checksum read.fs) ≡ end
   pub few : length entries ≤ 1000000
 
--- no shut latch follows 1,000,000 entries
+-- an open latch follows 1,000,000 entries
 pub record HasTooMany (file : List ℕ) : Type 0 where
   pub fs : List Frame
-  pub rest : List ℕ
+  pub behind : List ℕ
   pub whole : All IsFrame fs
   pub many : length fs ≡ 1000000
-  pub parts : file ≡ frames first_checksum fs ++ rest
-  pub some : IsShut rest → ⊥
+  pub parts : file ≡ frames first_checksum fs ++ 43 ∷ behind
+  pub some : behind ≢ []

@@ -7,7 +7,7 @@ use sha2::{Digest, Sha256};
 /// The checksum of the frame of these two numbers, each as four bytes, and this entry.
 #[tactic(auto, unfolding(crate::specs::Frames::checksum))]
 pub fn checksum_of(previous: &[u8; 32], durable: &[u8], size: &[u8], entry: &[u8]) -> [u8; 32]
-    ensures { result ≡ checksum previous.now (record { latch = 43; second = 43; durable = durable.now; size = size.now; entry = entry.now }) }
+    ensures { result ≡ checksum previous.now (record { durable = durable.now; size = size.now; entry = entry.now }) }
 {
     let mut hasher = Sha256::new();
     hasher.update(previous.as_slice());
@@ -23,7 +23,7 @@ pub fn checksum_of(previous: &[u8; 32], durable: &[u8], size: &[u8], entry: &[u8
 pub fn first() -> [u8; 32]
     ensures { result ≡ first_checksum }
 {
-    Sha256::digest(b"durable journal, version 2")
+    Sha256::digest(b"durable journal, version 1")
 }
 
 /// Four bytes as a number, the highest first.

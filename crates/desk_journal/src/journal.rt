@@ -36,14 +36,14 @@ fn pack_whole(
     durable: u32,
     batch: &[Vec<u8>],
 ) -> Result<[u8; 32], JournalFault>
-    ensures bytes { IfOk result (λ _. buffer.new.items ≡ frames previous.now (frames_of durable batch.now) ++ 45 ∷ 45 ∷ []) }
+    ensures bytes { IfOk result (λ _. buffer.new.items ≡ frames previous.now (frames_of durable batch.now) ++ 45 ∷ []) }
     ensures sum { IfOk result (λ sum. sum ≡ last_checksum previous.now (frames_of durable batch.now)) }
     ensures short { IfOk result (λ _. All (λ v. length v.items ≤ 16777216) batch.now) }
     ensures cause { IfErr result (HasPackFault batch.now) }
 {
     buffer.clear();
     let last = pack(buffer, previous, durable, batch)?;
-    buffer.extend_from_slice(b"--")?;
+    buffer.push(45)?;
     Ok(last)
 }
 
@@ -73,7 +73,7 @@ impl<D: Disk> Journal<D> {
             → IfErr result (HasAppendFault (D.Disk.faults self.old.disk) (D.Disk.faults self.new.disk) (entries_of fs) batch.now) }
     {
         let last = pack_whole(&mut self.buffer, &self.last, self.count, batch)?;
-        let (_, behind) = self.buffer.split_at(2);
+        let (_, behind) = self.buffer.split_at(1);
         match self.end.checked_add(behind.len()) {
             None => Err(JournalFault::Full),
             Some(end) => {

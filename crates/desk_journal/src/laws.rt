@@ -1,5 +1,5 @@
 //! Laws of the definitions, each the contract of a function that does nothing.
-ghost use Rattle.desk_journal.specs.Damage.{CutFilesKeepTheFirst, NoByteHidesAnEntry, NoEntryIsAnother};
+ghost use Rattle.desk_journal.specs.Damage.{CutFilesKeepTheFirst, NoEntryIsAnother};
 ghost use Rattle.desk_journal.specs.Frames.{StandForOneList};
 
 /// A file stands for at most one list of entries.
@@ -13,13 +13,6 @@ pub fn stands_for_one_list()
 #[tactic(auto, using(crate::proofs::DamageLemmas::no_entry_is_another))]
 pub fn no_entry_is_another()
     ensures { NoEntryIsAnother }
-{}
-
-/// Where one byte of a file is changed that a session left, and entries are read from it, they are those that it had, unless two texts
-/// have the same SHA-256.
-#[tactic(auto, using(crate::proofs::HiddenLemmas::no_byte_hides_an_entry))]
-pub fn no_byte_hides_an_entry()
-    ensures { NoByteHidesAnEntry }
 {}
 
 /// Where a file was cut and entries are read from it, they are the first of those that it had.

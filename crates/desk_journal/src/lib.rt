@@ -15,7 +15,5 @@ mod walk;
 
 pub use fault::JournalFault;
 pub use journal::Journal;
-pub use laws::{
-    cut_files_keep_the_first, no_byte_hides_an_entry, no_entry_is_another, stands_for_one_list,
-};
+pub use laws::{cut_files_keep_the_first, no_entry_is_another, stands_for_one_list};
 pub use recovery::{Recovered, entries_in, recover};

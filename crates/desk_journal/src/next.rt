@@ -1,11 +1,11 @@
 //! One frame, read from known bytes.
-ghost use Rattle.std.specs.Prelude.{◌<◌, ◌↔◌, ◌∷◌, ℕ, length, IsTrue, IfSome, IfNone, MatchOption};
-ghost use Rattle.desk_journal.specs.Frames.{AreShut, IsShut};
-ghost use Rattle.desk_journal.specs.Reading.{HasNoFrame, HasNoLatch, IsBehind, IsNext};
+ghost use Rattle.std.specs.Prelude.{◌≡◌, ◌++◌, List, ℕ, IfSome, IfNone};
+ghost use Rattle.desk_journal.specs.Frames.{Frame, IsFrame, packed};
+ghost use Rattle.desk_journal.specs.Reading.{IsNext};
 
 use crate::checksum::{checksum_of, number_in};
 
-/// A frame, and what comes after it.
+/// A frame that follows a latch, and what comes after the frame.
 #[derive(Clone, Copy)]
 pub struct Found<'a> {
     /// How many entries were durable before the entry's batch.
@@ -15,34 +15,16 @@ pub struct Found<'a> {
     pub rest: &'a [u8],
 }
 
-/// Whether a shut latch is here.
-pub fn is_shut(bytes: &[u8]) -> bool
-    ensures { IsTrue result ↔ IsShut bytes.now }
+/// The frame that these bytes begin with, where the entry before it has that checksum: none where the frame is cut short
+/// or has another checksum.
+pub fn next_frame<'a>(bytes: &'a [u8], previous: &[u8; 32]) -> Option<Found<'a>>
+    ensures some { IfSome result (λ found. IsNext previous.now bytes.now found.durable found.checksum found.entry.now found.rest.now) }
+    ensures none { IfNone result ((f : Frame) (rest : List ℕ) → IsFrame f → bytes.now ≡ packed previous.now f ++ rest → ⊥) }
 {
-    bytes.len() >= 2 && bytes[0] == 45 && bytes[1] == 45
-}
-
-/// What comes after a latch that isn't shut, where one is here.
-pub fn behind_latch(bytes: &[u8]) -> Option<&[u8]>
-    ensures { MatchOption result (HasNoLatch bytes.now) (λ behind. IsBehind bytes.now behind.now) }
-{
-    if bytes.len() < 2 || is_shut(bytes) {
+    if bytes.len() < 40 {
         return None;
     }
-    Some(bytes.split_at(2).1)
-}
-
-/// The frame that these bytes begin with after its latch, where the entry before it has that checksum: none where the frame is cut
-/// short or has another checksum.
-pub fn next_body<'a>(behind: &'a [u8], previous: &[u8; 32]) -> Option<Found<'a>>
-    ensures some { IfSome result (λ found. (latch second : ℕ) → (AreShut latch second → ⊥) → IsNext previous.now (latch ∷ second ∷ behind.now) found.durable found.checksum found.entry.now found.rest.now) }
-    ensures none { IfNone result ((latch second : ℕ) → HasNoFrame previous.now (latch ∷ second ∷ behind.now)) }
-    ensures shorter { IfSome result (λ found. length found.rest.now < length behind.now) }
-{
-    if behind.len() < 40 {
-        return None;
-    }
-    let (durable, after_durable) = behind.split_at(4);
+    let (durable, after_durable) = bytes.split_at(4);
     let (size, after_size) = after_durable.split_at(4);
     let (sum, after_sum) = after_size.split_at(32);
     let long = number_in(size) as usize;
@@ -60,16 +42,4 @@ pub fn next_body<'a>(behind: &'a [u8], previous: &[u8; 32]) -> Option<Found<'a>>
         entry,
         rest,
     })
-}
-
-/// The frame that these bytes begin with, with its latch: none also where the latch is shut.
-pub fn next_frame<'a>(bytes: &'a [u8], previous: &[u8; 32]) -> Option<Found<'a>>
-    ensures some { IfSome result (λ found. IsNext previous.now bytes.now found.durable found.checksum found.entry.now found.rest.now) }
-    ensures none { IfNone result (HasNoFrame previous.now bytes.now) }
-    ensures shorter { IfSome result (λ found. length found.rest.now < length bytes.now) }
-{
-    match behind_latch(bytes) {
-        None => None,
-        Some(behind) => next_body(behind, previous),
-    }
 }

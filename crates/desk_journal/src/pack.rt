@@ -18,14 +18,14 @@ fn push_frame(
     entry: &[u8],
 ) -> Result<[u8; 32], JournalFault>
     requires { length entry.now < 2 ^ 32 }
-    ensures bytes { IfOk result (λ _. buffer.new.items ≡ buffer.old.items ++ 43 ∷ 43 ∷ packed previous.now (framed durable entry.now)) }
+    ensures bytes { IfOk result (λ _. buffer.new.items ≡ buffer.old.items ++ 43 ∷ packed previous.now (framed durable entry.now)) }
     ensures sum { IfOk result (λ sum. sum ≡ checksum previous.now (framed durable entry.now)) }
     ensures cause { IfErr result (λ e. e ≡ JournalFault.OutOfMemory) }
 {
     let durable = durable.to_be_bytes();
     let size = (entry.len() as u32).to_be_bytes();
     let sum = checksum_of(previous, &durable, &size, entry);
-    buffer.extend_from_slice(b"++")?;
+    buffer.push(43)?;
     buffer.extend_from_slice(&durable)?;
     buffer.extend_from_slice(&size)?;
     buffer.extend_from_slice(&sum)?;

@@ -1,17 +1,16 @@
-//! A file that a crash may have left: its entries are read, and what a crash left after them is cut.
+//! A file that a crash may have left: its entries are read, and its end is repaired.
 ghost use Rattle.std.specs.Prelude.{◌≡◌, ◌<◌, ◌≤◌, ◌+◌, ◌^◌, ℕ, [], ◌∷◌, ◌++◌, List, length, IsTrue, IfOk, IfErr, OnOk, IsErrOf, MatchResult, ◌↔◌};
 ghost use Rattle.sqlite_disk.specs.Disk.{CountsFault, MoreFaults};
-ghost use Rattle.desk_journal.specs.Frames.{IsShut, StandsFor};
+ghost use Rattle.desk_journal.specs.Frames.{StandsFor};
 ghost use Rattle.desk_journal.specs.Batches.{batch_of};
-ghost use Rattle.desk_journal.specs.Disks.{IsDurable};
+ghost use Rattle.desk_journal.specs.Disks.{IsDurable, StaysShut};
 ghost use Rattle.desk_journal.specs.Faults.{HasFileFault, HasOpenFault, HasReadFault, HasWriteFault};
 ghost use Rattle.desk_journal.specs.Reading.{IsFound, IsWhole};
-ghost use Rattle.desk_journal.specs.Recovered.{EndsForeign, IsRepaired};
+ghost use Rattle.desk_journal.specs.Recovered.{IsRepaired, WasOpen};
 
 use crate::JournalFault;
-use crate::checksum::first;
-use crate::latch::{cut_behind, write_shut};
-use crate::walk::{is_foreign, walk_entries};
+use crate::latch::{cut_behind, write_latch};
+use crate::walk::{says_other, walk_entries};
 use sqlite_disk::Disk;
 use std::alloc::Global;
 
@@ -46,24 +45,25 @@ fn read_all<D: Disk>(alloc: Global, disk: &mut D) -> Result<Vec<u8>, JournalFaul
     }
 }
 
-// Whether after the shut latch with which these bytes begin comes what no crash leaves there.
-fn ends_foreign(rest: &[u8], last: &[u8; 32], count: u32) -> bool
-    requires { IsShut rest.now }
-    ensures { IsTrue result ↔ EndsForeign count last.now rest.now }
+// Whether frames after this latch show that it was once open.
+fn was_open(rest: &[u8], last: &[u8; 32], count: u32) -> bool
+    ensures { IsTrue result ↔ WasOpen count last.now rest.now }
 {
-    is_foreign(rest.split_at(2).1, last, count)
+    if rest.is_empty() {
+        return false;
+    }
+    says_other(rest.split_at(1).1, last, count)
 }
 
-// The entries of these bytes, where none is damaged, and where they end.
+// The entries of these bytes, where none is damaged, and what their end needs to be repaired.
 fn read_file(alloc: Global, bytes: &[u8]) -> Result<Recovered, JournalFault>
-    requires { 2 < length bytes.now }
     ensures found { IfOk result (λ r. IsFound bytes.now r.entries.items r.last r.end) }
     ensures whole { OnOk result (IsWhole bytes.now) }
     ensures cause { IfErr result (HasFileFault bytes.now) }
 {
     let walked = walk_entries(alloc, bytes)?;
     let count = walked.entries.len() as u32;
-    if ends_foreign(walked.rest, &walked.last, count) {
+    if was_open(walked.rest, &walked.last, count) {
         return Err(JournalFault::Damaged(count + 1));
     }
     Ok(Recovered {
@@ -73,43 +73,38 @@ fn read_file(alloc: Global, bytes: &[u8]) -> Result<Recovered, JournalFault>
     })
 }
 
-/// The entries of a journal's bytes, as they are read beside a program that appends to them: nothing is written. At most two bytes
-/// have none. `Damaged` names an entry that is damaged, and `Full` says that more than 1,000,000 entries follow one another.
+/// The entries of a journal's bytes, as they are read beside a program that appends to them: nothing is written. `Damaged`
+/// names an entry that is damaged, and `Full` says that more than 1,000,000 entries follow one another.
 pub fn entries_in(alloc: Global, bytes: &[u8]) -> Result<Vec<Vec<u8>>, JournalFault>
     ensures entries { IfOk result (λ entries. StandsFor bytes.now (batch_of entries.items)) }
     ensures whole { OnOk result (IsWhole bytes.now) }
     ensures few { IfOk result (λ entries. length entries.items ≤ 1000000) }
     ensures cause { IfErr result (HasFileFault bytes.now) }
 {
-    if bytes.len() <= 2 {
-        return Ok(Vec::new(alloc));
-    }
     let found = read_file(alloc, bytes)?;
     Ok(found.entries)
 }
 
-// A journal without entries, in a file of at most two bytes.
-fn unbegun<D: Disk>(alloc: Global, disk: &mut D) -> Result<Recovered, JournalFault>
-    requires { IsTrue (D.Disk.is_usable disk.old) }
-    ensures begun { (file : List ℕ) → length file ≤ 2 → IsDurable D.Disk.seen D.Disk.may_leave D.Disk.is_usable file disk.old
-        → IfOk result (λ r. IsRepaired D.Disk.seen D.Disk.may_leave D.Disk.is_usable file r.entries.items r.last r.end disk.new) }
-    ensures none { IfOk result (λ r. r.entries.items ≡ []) }
-    ensures crash { (file : List ℕ) → length file ≤ 2 → IsDurable D.Disk.seen D.Disk.may_leave D.Disk.is_usable file disk.old
-        → (c : List ℕ) → D.Disk.may_leave disk.new c → length c ≤ 2 }
+// Cuts what comes after the latch at this place, and then shuts it: in this order, since a torn write could open it.
+fn repair<D: Disk>(disk: &mut D, end: usize) -> Result<(), JournalFault>
+    requires usable { IsTrue (D.Disk.is_usable disk.old) }
+    requires fits { end + 1 < 2 ^ 64 }
+    ensures durable { (front tail : List ℕ) → length front ≡ end → IsDurable D.Disk.seen D.Disk.may_leave D.Disk.is_usable (front ++ tail) disk.old
+        → OnOk result (IsDurable D.Disk.seen D.Disk.may_leave D.Disk.is_usable (front ++ 45 ∷ []) disk.new) }
+    ensures crash { (front tail : List ℕ) → length front ≡ end → IsDurable D.Disk.seen D.Disk.may_leave D.Disk.is_usable (front ++ tail) disk.old
+        → (c : List ℕ) → D.Disk.may_leave disk.new c → StaysShut front tail c }
     ensures clean { D.Disk.is_clean disk.new ≡ D.Disk.is_clean disk.old }
     ensures faults { CountsFault result (D.Disk.faults disk.old) (D.Disk.faults disk.new) }
     ensures cause { IfErr result HasWriteFault }
 {
-    write_shut(disk)?;
-    Ok(Recovered {
-        entries: Vec::new(alloc),
-        end: 0,
-        last: first(),
-    })
+    match cut_behind(disk, end) {
+        Ok(()) => write_latch(disk, end, 45),
+        Err(fault) => Err(fault),
+    }
 }
 
-/// Reads the entries of a file that a crash may have left, and cuts what comes after its shut latch. A crash within it leaves a file
-/// that stands for the same entries. Where an entry is damaged, nothing is written.
+/// Reads the entries of a file that a crash may have left, and repairs its end. A crash within it leaves a file that stands
+/// for the same entries. Where an entry is damaged, nothing is written.
 pub fn recover<D: Disk>(alloc: Global, disk: &mut D) -> Result<Recovered, JournalFault>
     ensures entries { (file : List ℕ) → IsDurable D.Disk.seen D.Disk.may_leave D.Disk.is_usable file disk.old
         → IfOk result (λ r. IsTrue (D.Disk.is_clean disk.new) → IsRepaired D.Disk.seen D.Disk.may_leave D.Disk.is_usable file r.entries.items r.last r.end disk.new) }
@@ -125,10 +120,7 @@ pub fn recover<D: Disk>(alloc: Global, disk: &mut D) -> Result<Recovered, Journa
         return Err(JournalFault::Sync);
     }
     let bytes = read_all(alloc, disk)?;
-    if bytes.len() <= 2 {
-        return unbegun(alloc, disk);
-    }
     let found = read_file(alloc, &bytes)?;
-    cut_behind(disk, found.end)?;
+    repair(disk, found.end)?;
     Ok(found)
 }

@@ -1,7 +1,7 @@
 use Rattle.std.proofs.Common.{sym, ◌∙◌, ap}
 use Rattle.desk_journal.specs.Frames.{framed, checksum}
 use Rattle.desk_journal.proofs.pack.push_frame.Goals as goal
-use Rattle.desk_journal.proofs.FrameLemmas.{framed-durable, framed-size, framed-entry, framed-latch, framed-second, same_parts}
+use Rattle.desk_journal.proofs.FrameLemmas.{framed-durable, framed-size, framed-entry, same_parts}
 use Rattle.desk_journal.proofs.BatchLemmas.{pushed}
 
 pub returns-clause-bytes : goal.returns-clause-bytes
@@ -10,10 +10,10 @@ returns-clause-bytes c =
     let d_is = c.to_be_bytes-durable.ensures ∙ sym (framed-durable c.args.durable c.args.entry.now) in
     let s_is = c.to_be_bytes-size.ensures ∙ sym (framed-size c.args.durable c.args.entry.now) in
     let entry_is = sym (framed-entry c.args.durable c.args.entry.now) in
-    pushed c.args.previous.now c.args.buffer.now.items c.extend_from_slice.new.self.items c.extend_from_slice-2.new.self.items c.extend_from_slice-3.new.self.items c.extend_from_slice-4.new.self.items c.extend_from_slice-5.new.self.items
+    pushed c.args.previous.now c.args.buffer.now.items c.push.new.self.items c.extend_from_slice.new.self.items c.extend_from_slice-2.new.self.items c.extend_from_slice-3.new.self.items c.extend_from_slice-4.new.self.items
     c.to_be_bytes-durable.result c.to_be_bytes-size.result c.checksum_of-sum.result c.args.entry.now f
-    c.in_ok-extend_from_slice.ensures.items c.in_ok-extend_from_slice-2.ensures.items c.in_ok-extend_from_slice-3.ensures.items c.in_ok-extend_from_slice-4.ensures.items c.in_ok-extend_from_slice-5.ensures.items
-    d_is s_is (c.checksum_of-sum.ensures ∙ ap (checksum c.args.previous.now) (same_parts f 43 43 c.to_be_bytes-durable.result c.to_be_bytes-size.result c.args.entry.now (sym (framed-latch c.args.durable c.args.entry.now)) (sym (framed-second c.args.durable c.args.entry.now)) d_is s_is entry_is)) entry_is
+    c.in_ok-push.ensures.items c.in_ok-extend_from_slice.ensures.items c.in_ok-extend_from_slice-2.ensures.items c.in_ok-extend_from_slice-3.ensures.items c.in_ok-extend_from_slice-4.ensures.items
+    d_is s_is (c.checksum_of-sum.ensures ∙ ap (checksum c.args.previous.now) (same_parts f c.to_be_bytes-durable.result c.to_be_bytes-size.result c.args.entry.now d_is s_is entry_is)) entry_is
 
 pub returns-clause-sum : goal.returns-clause-sum
 returns-clause-sum c =
@@ -21,4 +21,4 @@ returns-clause-sum c =
     let d_is = c.to_be_bytes-durable.ensures ∙ sym (framed-durable c.args.durable c.args.entry.now) in
     let s_is = c.to_be_bytes-size.ensures ∙ sym (framed-size c.args.durable c.args.entry.now) in
     let entry_is = sym (framed-entry c.args.durable c.args.entry.now) in
-    c.checksum_of-sum.ensures ∙ ap (checksum c.args.previous.now) (same_parts f 43 43 c.to_be_bytes-durable.result c.to_be_bytes-size.result c.args.entry.now (sym (framed-latch c.args.durable c.args.entry.now)) (sym (framed-second c.args.durable c.args.entry.now)) d_is s_is entry_is)
+    c.checksum_of-sum.ensures ∙ ap (checksum c.args.previous.now) (same_parts f c.to_be_bytes-durable.result c.to_be_bytes-size.result c.args.entry.now d_is s_is entry_is)

@@ -1,10 +1,7 @@
 use Rattle.std.proofs.Common.{◌≡◌, refl, arith}
 use Rattle.std.proofs.lemmas.Bool.{false≢true}
 use Rattle.desk_journal.proofs.walk.says_other.Goals as goal
-use Rattle.desk_journal.proofs.WalkLemmas.{other_found, walked_more, walked_none, none_latched, none_behind}
-
-pub loop-found-init : goal.loop-found-init
-loop-found-init c = walked_none c.args.durable c.args.previous.now c.args.start.now
+use Rattle.desk_journal.proofs.WalkLemmas.{other_found, walked_more, none_shut, none_behind}
 
 pub returns-then-found-durable : goal.returns-then-found-durable
 returns-then-found-durable c = (
@@ -16,14 +13,14 @@ returns-then-found-durable c = (
 pub returns-in-None : goal.returns-in-None
 returns-in-None c = (
   λ never. absurd (false≢true never),
-  λ says. absurd (none_latched c.args.durable c.args.previous.now c.args.start.now c.loop-found.last c.loop-found.behind.now c.loop-found.invariant
+  λ says. absurd (none_shut c.args.durable c.args.previous.now c.args.start.now c.loop-found.last c.loop-found.behind.now c.loop-found.invariant
       c.in-Some.found.durable c.in-Some.found.checksum c.in-Some.found.entry.now c.in-Some.found.rest.now c.in-Some.ensures.some (omega arith) c.in-None.ensures says),
 )
 
 pub loop-found-preserved : goal.loop-found-preserved
 loop-found-preserved c =
     walked_more c.args.durable c.args.previous.now c.args.start.now c.loop-found.last c.loop-found.behind.now c.loop-found.invariant
-    c.in-Some.found.durable c.in-Some.found.checksum c.in-Some.found.entry.now c.in-Some.found.rest.now c.in-Some.ensures.some (omega arith) c.in-Some-behind_latch.next.now c.in-Some-behind_latch.ensures
+    c.in-Some.found.durable c.in-Some.found.checksum c.in-Some.found.entry.now c.in-Some.found.rest.now c.in-Some.ensures.some (omega arith) c.in-Some-behind_latch.next.now c.in-Some-behind_latch.ensures.0
 
 pub returns : goal.returns
 returns c = (
