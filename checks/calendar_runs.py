@@ -34,6 +34,8 @@ from reference.text_out import shown_text
 REFERENCE = CHECKS / "office_reference.py"
 # With how many choices of words each input goes through the checks: a large one takes a minute each.
 SMALL, LARGE = range(8), range(2)
+# Of a row that is struck, the day and the account with which the merge gate strikes it, in place of those of this machine.
+STRUCK, BY = re.compile(rb"^(row \d+ struck )[-\d]+ by [^:]+: ", re.MULTILINE), rb"\g<1>1969-12-31 by clerk@court (1000): "
 
 
 def written(programs, run):
@@ -115,7 +117,7 @@ def calls_text(programs, run):
             if "court.toml" in words:
                 (pathlib.Path(folder) / "court.toml").write_bytes(given)
             ended = run_program([programs.docket, *words], given, cwd=folder)
-            text += "$ {}\n".format(" ".join(words)).encode() + ended.output
+            text += "$ {}\n".format(" ".join(words)).encode() + STRUCK.sub(BY, ended.output)
             if ended.status != 0:
                 text += "status {}\n".format(ended.status).encode() + ended.errors
     return text

@@ -22,7 +22,7 @@ from desk_compare import check_rows, compared
 from desk_damage import damaged
 from desk_kill import killed, killed_together
 from lib.desk import Desk, FAULTS, FAULTY, KEEP_REFUSED, REFUSED, SHORT_COURT, TOGETHER, divided, drawn_rows, told_of
-from lib.journal import courts_of, names_of, read_journal, rows_of
+from lib.journal import SHUT, courts_of, names_of, read_journal, rows_of
 from lib.programs import TOP, programs_of, run, seed_and_count
 from strike_check import drawn_row, opened
 
@@ -54,10 +54,30 @@ def check_folder(programs):
         assert ended.status == REFUSED and b"journal already" in ended.errors, ended
         ended = desk.call("enter", given=b"1,open,1,2025-03-03\n1,open,2,2025-03-03")
         assert ended.status == UNREAD and ended.output == b"1 1 opened\n" and b"no end" in ended.errors, ended
-        assert desk.journal.read_bytes().startswith(whole[:-1])
+        assert desk.journal.read_bytes().startswith(whole[:-len(SHUT)])
         ended = run([programs.docket, "check", parent + "/nowhere"])
         assert ended.status != 0 and not ended.output and ended.errors.count(b"\n") == 1, ended
     return "folders that are opened twice, aren't there, or get half a line"
+
+
+def check_cut(programs):
+    """What stands after the journal's end is saved before it is cut off, by a program that has the folder alone, and by no other."""
+    with tempfile.TemporaryDirectory() as parent:
+        desk = Desk(programs, parent, SHORT_COURT)
+        desk.enter([b"1,open,1,2025-03-03\n"])
+        for count, said in ((57, b"57 bytes after the last entry: they are"), (1, b"1 byte after the last entry: it is")):
+            tail, whole = b"x" * count, desk.journal.read_bytes()
+            desk.journal.write_bytes(whole + tail)
+            cut = desk.cut()
+            for task in ("check", "rows", "log", "due"):
+                assert desk.call(task).status == 0 and desk.cut() == cut and desk.tail() == tail, task
+            ended = desk.call("enter")
+            (name, saved), = desk.cut().items() - cut.items()
+            assert ended.status == 0 and saved == tail and desk.journal.read_bytes() == whole, ended
+            line = b"docket: a crash left %s saved in %s and cut off\n" % (said, str(desk.folder / name).encode())
+            assert ended.errors == line and re.fullmatch(r"cut-\d{4}-\d\d-\d\d-\d+", name), (ended, name)
+        assert len(desk.cut()) == 2 and not desk.call("enter").errors
+    return "what a crash left is saved before it is cut off"
 
 
 def check_second(programs):
@@ -68,10 +88,13 @@ def check_second(programs):
             session.stdin.write(b"1,open,1,2025-03-03\n")
             session.stdin.flush()
             assert session.stdout.readline() == b"1 1 opened\n"
-            for task in ("enter", "check", "rows"):
-                ended = desk.call(task)
+            for words in (("enter",), ("strike", 1, "--reason", "twice")):
+                ended = desk.call(*words)
                 assert ended.status == REFUSED and b"another program" in ended.errors and not ended.output, ended
             whole = desk.journal.read_bytes()
+            ended = desk.call("check")
+            assert ended.status == 0 and ended.output.startswith(b"rows kept: 1,"), ended
+            assert desk.rows() == desk.input_of([b"1,open,1,2025-03-03\n"])
             ended = desk.call("ask", given=b"1,sheet,1\n1,compute,59e,2025-08-04,,,\n1,open,2,2025-03-03\n")
             sheet, case, last, told = ended.output.splitlines()
             assert ended.status == 0 and sheet == b"2 1 sheet" and case.startswith(b"case 1 "), ended
@@ -464,7 +487,7 @@ def check_court(programs):
 def main(words):
     programs, (seed, count) = programs_of(words[:2]), seed_and_count(words[2:], 300)
     draw = random.Random(seed)
-    for check in (lambda: check_examples(programs, draw), lambda: check_folder(programs), lambda: check_second(programs),
+    for check in (lambda: check_examples(programs, draw), lambda: check_folder(programs), lambda: check_cut(programs), lambda: check_second(programs),
                   lambda: check_trial(programs, draw), lambda: check_warnings(programs), lambda: check_choices(programs, draw), lambda: check_together(programs, draw),
                   lambda: check_refused(programs), lambda: check_faulty(programs), lambda: check_cases(programs),
                   lambda: check_numbers(programs), lambda: check_moves(programs, draw), lambda: check_court(programs),

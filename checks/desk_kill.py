@@ -6,7 +6,8 @@
 COUNT sessions (2,000 without it), drawn from SEED, are given rows in bursts and end in one of four ways: killed (most of
 them), stopped by SIGTERM, by a reader that closes the pipe of the answers, or by the end of the input. After each one
 the journal is read byte by byte, by the reader in lib/journal.py. It must have the rows that were given, in their order,
-up to one of them; and what was written must be a beginning of the answers in it. The next session goes on with the same
+up to one of them; and what was written must be a beginning of the answers in it. What stands after the journal's end then must be in
+a file of its own once another session has answered a row, and nothing else may be saved. The next session goes on with the same
 folder; after 50 of them the answers of all rows must be those of clerk_office, and so must those of what `rows` writes.
 The last line says how many rows were kept and how many of them weren't answered any more. Then COUNT / 4 sessions that keep
 their rows together are killed: each must have kept all of them or none, and all where it has answered one. It needs Python
@@ -96,8 +97,11 @@ def serve(desk, rows, way, draw, pace):
 
 def check_session(desk, rows, way, draw, pace):
     """A session after which each row that it answered must be kept: how many rows it kept, and of these answered."""
-    before = rows_of(desk.read())
+    before, tail, cut = rows_of(desk.read()), desk.tail(), desk.cut()
     written = serve(desk, rows[len(before):len(before) + draw.choice([5, 60, 400])], way, draw, pace)
+    saved = [data for name, data in desk.cut().items() if name not in cut]
+    assert all(tail.startswith(data) for data in saved), "other bytes were saved than stood after the journal's end"
+    assert not (tail and written) or saved == [tail], "what was cut off wasn't saved"
     kept = rows_of(desk.read())
     assert kept[:len(before)] == before, "rows of earlier sessions were changed"
     assert [row for row, _ in kept] == rows[:len(kept)], "other rows were kept than were given"

@@ -121,12 +121,15 @@ def check_read_only(programs, draw):
         how = {"preexec_fn": as_nobody} if os.getuid() == 0 else {}
         try:
             ended = desk.call("enter", given=b"1,sheet,1\n", **how)
+            for task in ("check", "rows", "cases", "struck", "log", "ask", "due"):
+                read = desk.call(task, given=b"1,sheet,1\n" if task == "ask" else b"", **how)
+                assert read.status == 0 and not read.errors, (task, read)
         except PermissionError:
             return "a folder that can't be written to: NOT CHECKED, since nobody else may run the program where it stands"
         os.chmod(desk.folder, 0o755)
         assert ended.status in (4, REFUSED) and not ended.output and ended.errors, ended
         assert desk.journal.read_bytes() == data
-    return "a folder that can't be written to: refused with '{}'".format(ended.errors.decode().strip())
+    return "a folder that can't be written to: read, and otherwise refused with '{}'".format(ended.errors.decode().strip())
 
 
 def check_second(programs):
@@ -137,8 +140,8 @@ def check_second(programs):
         session.stdin.write(b"1,sheet,1\n")
         session.stdin.flush()
         assert session.stdout.readline()
-        for task in ("enter", "check", "rows"):
-            ended = desk.call(task, given=b"1,sheet,1\n")
+        for words in (("enter",), ("strike", 1, "--reason", "twice")):
+            ended = desk.call(*words, given=b"1,sheet,1\n")
             assert ended.status == REFUSED and b"another program" in ended.errors and not ended.output, ended
         session.kill()
         session.communicate()

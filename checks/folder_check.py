@@ -6,6 +6,8 @@
 COUNT dockets (30 without it) are drawn from SEED, of clerks 1 to 64. Some rows are entered in a session, and once they are
 answered each report is asked of the folder; then more rows, and again; and again when the session has ended. What a report of the
 folder says must be what it says of the court's file and these rows as an input, byte by byte, and the journal must be as it was.
+As of the last row that there was then, each report must at the end be what it was then, byte by byte, and so must the rows, the
+cases, the rows that are struck and the answers to questions; also once a row is struck.
 It needs Python 3.8 or later.
 """
 import random
@@ -21,6 +23,8 @@ from strike_check import drawn_row, opened
 # A row whose answer no other row has: once it is there, all before it are kept.
 LAST, ANSWER = b"64,compute,59e,2025-08-04,,,\n", re.compile(rb"\d+ 64 last ")
 MOST_CLERKS = 64
+# What is asked of a folder, and the statuses with which a call ends that asks for what isn't there, or strikes a row that is none.
+QUESTIONS, ABSENT, FAULT = b"1,sheet,1\n1,sheet,2\n1,calendar,Ames,2025-05-05\n", 6, 3
 
 
 def of_clerks(draw, rows):
@@ -47,11 +51,34 @@ def compare(desk, draw):
     return len(rows)
 
 
+def told_then(desk, calls, *as_of):
+    """What each of these calls writes."""
+    for words in calls:
+        ended = desk.call(*words, *as_of, given=QUESTIONS if words == ["ask"] else b"")
+        assert ended.status in (0, ABSENT), (words, as_of, ended)
+        yield ended.status, ended.output, ended.errors
+
+
+def seen(desk, draw):
+    """The last row that there is, and what calls write now."""
+    calls = [*reports(draw), ["rows"], ["cases"], ["struck"], ["ask"]]
+    return len(rows_of(desk.read())), calls, list(told_then(desk, calls))
+
+
+def compare_then(desk, moments):
+    """Compares what was written then with what is written as of that row."""
+    for row, calls, told in moments:
+        assert list(told_then(desk, calls, "--as-of", row)) == told, (row, calls)
+        ended = desk.call("rows", "--as-of", "today")
+        assert ended == desk.call("rows"), ended
+
+
 def check_docket(programs, draw):
     """One docket. How many rows it has."""
     with tempfile.TemporaryDirectory() as parent:
         desk = Desk(programs, parent, SHORT_COURT)
         compare(desk, draw)
+        moments = []
         with desk.session() as session:
             for _ in range(2):
                 rows = of_clerks(draw, opened(draw) + [drawn_row(draw) for _ in range(draw.randint(1, 60))]) + [LAST]
@@ -60,8 +87,16 @@ def check_docket(programs, draw):
                 while not ANSWER.match(session.stdout.readline()):
                     pass
                 compare(desk, draw)
+                moments.append(seen(desk, draw))
             session.stdin.close()
-        return compare(desk, draw)
+        count = compare(desk, draw)
+        compare_then(desk, moments[:1])
+        desk.enter([LAST])
+        assert desk.call("strike", count + 1, "--reason", "twice").status == FAULT
+        ended = desk.call("strike", 1, "--accept", "--reason", "twice")
+        assert ended.status in (0, FAULT), ended
+        compare_then(desk, moments)
+        return count
 
 
 def main(words):

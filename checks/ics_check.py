@@ -49,7 +49,7 @@ from lib.programs import programs_of, run, seed_and_count
 
 
 STAMP = datetime.datetime(2025, 9, 15, 12, tzinfo=datetime.timezone.utc)
-WHO = ["--reason", "entered twice", "--by", "R. Ames", "--today", "2025-09-02"]
+WHY = ["--reason", "entered twice"]
 
 
 # What a calendar has
@@ -153,7 +153,7 @@ def struck_differs(seen, chance, given):
     row = chance.choice(starts)
     lost = lost_of(office.rows[row], int(office.answers[row].split(" ")[1]))
     old = events_of(given)
-    ended = run([given.programs.docket, "strike", *given.place, row, "--accept", *WHO])
+    ended = run([given.programs.docket, "strike", *given.place, row, "--accept", *WHY])
     new, name = events_of(given), uid(lost.case, 0, lost.number)
     gone = [other for other in old if other not in new and other not in office.docket.beyond]
     item = lost_item(given.names, lost)

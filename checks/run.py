@@ -63,6 +63,8 @@ ALL = [
           "the desk and clerk_office agree; it is killed", "1 min", quick=True, seeded=True, seeds=(2, 3)),
     Check("strike_check", [["strike_check.py", DOCKET, CLERK]],
           "rows that are struck, and a replay of the others", "30 s", quick=True, seeded=True, seeds=(2, 3)),
+    Check("log_check", [["log_check.py", DOCKET]],
+          "who entered what and when, and docket log", "5 s", quick=True, seeded=True, seeds=(2, 3)),
     Check("written_check", [["written_check.py", DOCKET]],
           "rows as people write them, and their faults", "20 s", quick=True, seeded=True, seeds=(2, 3)),
     Check("desk_kill", [["desk_kill.py", DOCKET, CLERK]],

@@ -22,7 +22,7 @@ ROWS = [b"1,open,1,2025-03-03\n", b"1,start,1,59e,2025-03-03,,,\n", b"1,holiday,
 FAULT, REFUSED, AS_WRITTEN = b"1,open,1\n", b"1,open,1,2025-03-03\n", b'1,Open,2,"Mar 4, 2025"\n'
 QUESTION, NEW, CUT = b"1,sheet,1\n", b"1,open,2,2025-03-04\n", b"1,sheet,1"
 WORDS, COURT, LINES, STREAM, ABSENT, DIFFERS, SOME, DOUBT, JOURNAL = 1, 2, 3, 4, 6, 7, 8, 9, 10
-STRIKE = "--reason twice --by R.Ames --today 2025-09-02"
+STRIKE = "--reason twice"
 # What stands in the place of standard output in a call that ends with FULL: a disk that is full. In one that ends with UNREAD
 # standard input can't be read, and in one that ends with BESIDE another program enters rows.
 FULL, UNREAD, BESIDE = " > full", " < folder", " beside"
@@ -38,6 +38,9 @@ FILES = {
 }
 REPORTS = ("due", "week --judge Ames --of 2025-03-03", "page", "ics --stamp 20250901T120000Z", "json", "json --lines", "sql", "memo",
            "memo --case 1 --today 2025-03-10")
+# As of when a folder is read: before any case was opened, and after that.
+BEFORE = ("0", "yesterday", "-1d", "2025-03-03")
+AS_OF = (*BEFORE, "2", "3", "99", "today", "+7d", "monday", "2190-01-01")
 
 
 def of_report(words):
@@ -48,7 +51,9 @@ def of_report(words):
     yield from ((words + place, b"", WORDS) for place in ("", " F --input sound.txt", " F F", " F --nothing", " --input"))
     yield from ((words + " --input " + file, b"", status) for file, status in (("faulty.txt", COURT), ("rows.txt", LINES), ("none.txt", STREAM)))
     yield from ((words + place, b"", STREAM) for place in (" F" + FULL, " --input sound.txt" + FULL, " --input -" + UNREAD))
-    yield from ((words + place, b"", JOURNAL) for place in (" N", " E"))
+    yield from ((words + place, b"", JOURNAL) for place in (" N", " E", " N --as-of 1", " E --as-of today"))
+    yield from ((words + " F --as-of=" + then, b"", ABSENT if "--case" in words and then in BEFORE else 0) for then in AS_OF)
+    yield from ((words + place, b"", WORDS) for place in (" F --as-of x", " F --as-of=", " --input sound.txt --as-of 2", " --as-of 2"))
     if name not in ("week", "sql") and "--case" not in words and "--lines" not in words:
         yield from ((words + " F --case " + case, b"", ABSENT) for case in ("2", "1:25-cv-1"))
         yield words + " F --case 4097", b"", WORDS
@@ -83,10 +88,18 @@ def of_rows(words):
     yield from ((words + place, QUESTION, JOURNAL) for place in (" N", " E"))
 
 
-def of_folder(words, *, may_be_read_beside):
-    """The calls of a command that takes a folder alone."""
+def of_kept(words):
+    """The calls of a command that takes a folder, and as of when it is read."""
+    yield from of_folder(words)
+    yield from ((words + " F --as-of=" + then, b"", 0) for then in AS_OF)
+    yield from ((words + more, b"", WORDS) for more in (" F --as-of x", " F --as-of", " F --as-of 1 --as-of 2", " --as-of 1"))
+    yield from ((words + place, b"", JOURNAL) for place in (" N --as-of 1", " E --as-of 1"))
+
+
+def of_folder(words):
+    """The calls of a command that reads a folder."""
     yield words + " F", b"", 0
-    yield words + " F" + BESIDE, b"", 0 if may_be_read_beside else JOURNAL
+    yield words + " F" + BESIDE, b"", 0
     yield from ((words + more, b"", WORDS) for more in ("", " F F", " F --nothing"))
     yield from ((words + place, b"", JOURNAL) for place in (" N", " E"))
     yield words + " S" + FULL, b"", STREAM
@@ -109,11 +122,14 @@ TABLE = [
     ("plain F --json", FAULT, LINES), ("plain F" + FULL, AS_WRITTEN, STREAM), ("plain F" + UNREAD, b"", STREAM), ("plain N", AS_WRITTEN, JOURNAL),
     ("plain", AS_WRITTEN, WORDS), ("plain F --as-written", AS_WRITTEN, WORDS),
     ("strike F 1 " + STRIKE, b"", DIFFERS), ("strike F 3 --accept " + STRIKE, b"", 0), ("strike F 99 " + STRIKE, b"", LINES), ("strike F 0 " + STRIKE, b"", LINES),
-    ("strike F 3 --accept --reason twice --by R.Ames --today yesterday", b"", 0), ("strike F 3 --reason r --by b --today later", b"", WORDS),
-    ("strike F x " + STRIKE, b"", WORDS), ("strike F 3", b"", WORDS), ("strike F " + STRIKE, b"", WORDS), ("strike F 3 --reason r --by b --today x", b"", WORDS),
+    ("strike F 3 --reason r --by b", b"", WORDS), ("strike F 3 --reason r --today 2025-09-02", b"", WORDS), ("strike F 3 --reason=", b"", WORDS),
+    ("strike F x " + STRIKE, b"", WORDS), ("strike F 3", b"", WORDS), ("strike F " + STRIKE, b"", WORDS),
     ("strike F 1 " + STRIKE + FULL, b"", STREAM), ("strike N 3 " + STRIKE, b"", JOURNAL), ("strike F 3 " + STRIKE + BESIDE, b"", JOURNAL),
-    *of_folder("struck", may_be_read_beside=True), *of_folder("cases", may_be_read_beside=True), *of_folder("check", may_be_read_beside=False),
-    *of_folder("rows", may_be_read_beside=False),
+    *of_kept("struck"), *of_kept("cases"), *of_kept("rows"), *of_folder("check"), *of_folder("log"), ("check F --as-of 1", b"", WORDS),
+    *((("log S --" + more, b"", 0) for more in ("row 3", "row 99", "by x", "from today", "to yesterday", "row 1 --by x --from=-3d --to today"))),
+    *((("log S --" + more, b"", WORDS) for more in ("row x", "row=", "by=", "from x", "to 2025-02-30", "as-of 1"))),
+    ("ask F --as-of 2", QUESTION, 0), ("ask F --as-of=-1d", QUESTION, 0), ("ask F --as-of x", QUESTION, WORDS), ("ask N --as-of 1", QUESTION, JOURNAL),
+    ("enter F --as-of 1", NEW, WORDS), ("try F --as-of 1", NEW, WORDS),
     *(call for report in REPORTS for call in of_report(report)),
     ("week F --judge Ames", b"", WORDS), ("week F --of 2025-03-03", b"", WORDS), ("week F --judge Nobody --of 2025-03-03", b"", ABSENT),
     ("week F --judge Ames --of 2030-03-03", b"", ABSENT), ("week F --judge Ames --today 2025-03-03 --of tuesday", b"", 0),

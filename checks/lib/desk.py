@@ -82,6 +82,15 @@ class Desk:
         """The journal, read byte by byte."""
         return read_journal(self.journal.read_bytes())
 
+    def tail(self):
+        """What stands in the journal after its end, which the next opening cuts off."""
+        data = self.journal.read_bytes()
+        return data[read_journal(data).end + 2:]
+
+    def cut(self):
+        """What was cut off, by the names of the files in which it is saved."""
+        return {path.name: path.read_bytes() for path in self.folder.glob("cut-*")}
+
     def words(self, *words):
         """The words of a call: what is to be done, as `enter` or `court change`, then the folder, then the others."""
         task, *others = words

@@ -2,11 +2,13 @@
 import hashlib
 from typing import NamedTuple
 
-OPEN, SHUT = 43, 45
-FIRST_CHECKSUM = hashlib.sha256(b"durable journal, version 1").digest()
-# What comes between a latch and the entry: two numbers of four bytes, and a checksum.
+OPEN, SHUT = b"++", b"--"
+FIRST_CHECKSUM = hashlib.sha256(b"durable journal, version 2").digest()
+# What comes between a latch and the content: two numbers of four bytes, and a checksum.
 HEAD = 4 + 4 + 32
 MOST_ENTRIES = 1_000_000
+# How many bytes the time of a stamp has.
+TIME = 8
 # The line with which the entry of a later court's file begins.
 COURT_LINE = b"%%\n"
 # With what the line begins in which a row's entry has the new name of its case, before the row.
@@ -27,12 +29,34 @@ class TooMany(Exception):
     """More than 1,000,000 entries follow one another."""
 
 
+class Stamp(NamedTuple):
+    """When something was entered, in seconds of UTC since 1970, and by which account."""
+    time: int
+    account: bytes
+
+    @property
+    def bytes(self):
+        """As a journal has it before an entry."""
+        return bytes([TIME + len(self.account)]) + self.time.to_bytes(TIME, "big") + self.account
+
+
+
 class Frame(NamedTuple):
-    """What follows an open latch: how many entries were durable before its batch, its checksum, and where it ends."""
+    """What follows a latch that isn't shut: how many entries were durable before its batch, its checksum, who entered it and when,
+    and where it ends."""
     durable: int
     checksum: bytes
+    stamp: Stamp
     entry: bytes
     end: int
+
+
+def divided(content):
+    """The stamp with which a frame's content begins, and the entry after it; None where it has no whole stamp."""
+    size = content[0] + 1 if content else 0
+    if size < 1 + TIME or len(content) < size:
+        return None
+    return Stamp(int.from_bytes(content[1:1 + TIME], "big"), content[1 + TIME:size]), content[size:]
 
 
 def frame_at(data, at, previous):
@@ -43,15 +67,16 @@ def frame_at(data, at, previous):
     end = at + HEAD + int.from_bytes(size, "big")
     if end > len(data):
         return None
-    entry = data[at + HEAD:end]
-    if hashlib.sha256(previous + durable + size + entry).digest() != checksum:
+    content = data[at + HEAD:end]
+    parts = divided(content)
+    if parts is None or hashlib.sha256(previous + durable + size + content).digest() != checksum:
         return None
-    return Frame(int.from_bytes(durable, "big"), checksum, entry, end)
+    return Frame(int.from_bytes(durable, "big"), checksum, *parts, end)
 
 
-def is_open(data, at):
-    """Whether an open latch is there, with something after it."""
-    return at + 1 < len(data) and data[at] == OPEN
+def has_latch(data, at):
+    """Whether a latch is there that isn't shut."""
+    return at + 2 <= len(data) and data[at:at + 2] != SHUT
 
 
 class Journal(NamedTuple):
@@ -64,34 +89,41 @@ class Journal(NamedTuple):
         return [frame.entry for frame in self.frames]
 
     @property
+    def stamps(self):
+        return [frame.stamp for frame in self.frames]
+
+    @property
     def batches(self):
         """How many entries each batch has."""
         starts = sorted({frame.durable for frame in self.frames})
         return [after - before for before, after in zip(starts, starts[1:] + [len(self.frames)])]
 
 
-def was_open(data, at, previous, count):
-    """Whether whole frames follow this shut latch of which one says another number than there are entries before it."""
-    frame = frame_at(data, at + 1, previous)
+def is_foreign(data, at, previous, count):
+    """Whether what is here, after a shut latch, is no crash's: whole frames of which one says another number than there are entries
+    before it, or another journal."""
+    frame = frame_at(data, at, previous)
     while frame is not None:
         if frame.durable != count:
             return True
-        frame = frame_at(data, frame.end + 1, frame.checksum) if is_open(data, frame.end) else None
-    return False
+        frame = frame_at(data, frame.end + 2, frame.checksum) if has_latch(data, frame.end) else None
+    return has_latch(data, at) and frame_at(data, at + 2, FIRST_CHECKSUM) is not None
 
 
 def read_journal(data):
-    """The journal of these bytes. `Damaged` or `TooMany` where they are none."""
+    """The journal of these bytes. `Damaged` or `TooMany` where they are none; at most two bytes have no entries."""
     frames, at, previous = [], 0, FIRST_CHECKSUM
-    while is_open(data, at):
+    if len(data) <= 2:
+        return Journal(frames, at)
+    while data[at:at + 2] != SHUT:
         if len(frames) == MOST_ENTRIES:
             raise TooMany
-        frame = frame_at(data, at + 1, previous)
+        frame = frame_at(data, at + 2, previous) if has_latch(data, at) else None
         if frame is None:
             raise Damaged(len(frames) + 1)
         frames.append(frame)
         at, previous = frame.end, frame.checksum
-    if was_open(data, at, previous, len(frames)):
+    if is_foreign(data, at + 2, previous, len(frames)):
         raise Damaged(len(frames) + 1)
     return Journal(frames, at)
 
@@ -125,13 +157,21 @@ def courts_of(journal):
     return journal.entries[:1] + later
 
 
+def frame_bytes(count, previous, stamp, entry):
+    """The bytes of an entry's frame after its latch, where so many entries are durable before its batch and the one before it has that
+    checksum; and its own checksum."""
+    content = stamp.bytes + entry
+    head = count.to_bytes(4, "big") + len(content).to_bytes(4, "big")
+    checksum = hashlib.sha256(previous + head + content).digest()
+    return head + checksum + content, checksum
+
+
 def packed(batches):
-    """The bytes of a journal to which these batches of entries were appended."""
+    """The bytes of a journal to which these batches were appended, of entries with their stamps."""
     data, previous, count = bytearray(), FIRST_CHECKSUM, 0
     for batch in batches:
-        for entry in batch:
-            head = count.to_bytes(4, "big") + len(entry).to_bytes(4, "big")
-            previous = hashlib.sha256(previous + head + entry).digest()
-            data += bytes([OPEN]) + head + previous + entry
+        for stamp, entry in batch:
+            frame, previous = frame_bytes(count, previous, stamp, entry)
+            data += OPEN + frame
         count += len(batch)
-    return bytes(data + bytes([SHUT]))
+    return bytes(data + SHUT)

@@ -1,15 +1,17 @@
 -- A changed byte is found, unless two texts have one checksum.
-use Rattle.std.proofs.Common.{◌≡◌, ◌≢◌, ◌⊎◌, inl, inr, ℕ, Bool, true, false, List, [], ◌∷◌, ◌++◌, length, refl, sym, ◌∙◌, ap, arith, append_assoc}
-use Rattle.std.specs.Prelude.{All}
+use Rattle.std.proofs.Common.{◌≡◌, ◌≢◌, ◌≤◌, ◌⊎◌, inl, inr, ℕ, Bool, true, false, List, [], ◌∷◌, ◌++◌, length, refl, sym, ◌∙◌, ap, arith, append_assoc, length-append}
+use Rattle.std.specs.Prelude.{All, ⊤}
 use Rattle.std.specs.Str.{bytes_eq}
 use Rattle.std.proofs.lemmas.List.{append-nil, append_cancel_left, map-append}
 use Rattle.std.proofs.lemmas.Bool.Decides.{not_from_Decides}
 use Rattle.std.proofs.lemmas.Slice.Eq.{bytes_eq-Decides}
-use Rattle.std.proofs.lemmas.List.Elements.{All-head, All-tail}
+use Rattle.std.proofs.lemmas.List.Elements.{All-cons, All-head, All-tail}
+use Rattle.sha2.specs.Sha256.{sha256}
 use Rattle.desk_journal.specs.Damage.{DifferInOne, BeginsWith, Collide, NoEntryIsAnother, CutFilesKeepTheFirst}
-use Rattle.desk_journal.specs.Frames.{Frame, IsFrame, IsShut, number_of, checksum, first_checksum, last_checksum, packed, frames, entries_of}
-use Rattle.desk_journal.proofs.FrameLemmas.{apart, length-checksum}
-use Rattle.desk_journal.proofs.OneList.{ends_shut, further, same_walk}
+use Rattle.desk_journal.specs.Frames.{Frame, IsFrame, IsJournal, IsShut, number_of, checksum, first_checksum, last_checksum, packed, frames, entries_of}
+use Rattle.desk_journal.specs.Stamps.{entry_in}
+use Rattle.desk_journal.proofs.FrameLemmas.{IsFrame-relatched, apart, frames-relatched, length-checksum, relatched}
+use Rattle.desk_journal.proofs.OneList.{ends_shut, further, none_framed, same_walk}
 
 -- equal texts that are cut at one length
 record SameHalves (p q x y : List ℕ) : Type 0 where
@@ -69,136 +71,183 @@ decided xs ys = by (bytes_eq xs ys) refl
     by true e = inl ((bytes_eq-Decides xs ys).0 e)
     by false e = inr (not_from_Decides (bytes_eq xs ys) (bytes_eq-Decides xs ys) e)
 
--- what is found of the entries of two files
-abbrev Found : List Frame → List Frame → Type 0
-Found fs gs = (BeginsWith (entries_of fs) (entries_of gs) ⊎ BeginsWith (entries_of gs) (entries_of fs)) ⊎ Collide
-
--- files that are the same
-equal : (previous : List ℕ) (fs gs : List Frame) (end more : List ℕ) → All IsFrame fs → All IsFrame gs → IsShut end → IsShut more → frames previous fs ++ end ≡ frames previous gs ++ more → Found fs gs
-equal previous fs gs end more are_f are_g shut shut' e =
-    let walk = same_walk previous fs gs end more are_f are_g (ends_shut (last_checksum previous fs) end shut) (ends_shut (last_checksum previous gs) more shut') e in
-    inl (inl ([], ap entries_of walk.frames_are ∙ sym (append-nil (entries_of gs))))
-
--- one frame before them
-onward : (f g : Frame) (fs gs : List Frame) → f.entry ≡ g.entry → Found fs gs → Found (f ∷ fs) (g ∷ gs)
-onward f g fs gs same (inl (inl both)) = inl (inl (both.0, λ i. same i ∷ both.1 i))
-onward f g fs gs same (inl (inr both)) = inl (inr (both.0, λ i. sym same i ∷ both.1 i))
-onward f g fs gs same (inr collide) = inr collide
+-- What is to be shown of the frames of two files: it holds where their entries are the same, after one frame more whose contents are,
+-- and where two texts collide.
+pub record IsShown (Rel : List Frame → List Frame → Type 0) : Type 0 where
+  pub same : (fs gs : List Frame) → entries_of fs ≡ entries_of gs → Rel fs gs
+  pub onward : (f g : Frame) (fs gs : List Frame) → f.content ≡ g.content → Rel fs gs → Rel (f ∷ fs) (g ∷ gs)
+  pub broken : (fs gs : List Frame) → Collide → Rel fs gs
 
 split_text : (previous d s e : List ℕ) → previous ++ d ++ s ++ e ≡ previous ++ (d ++ (s ++ e))
 split_text previous d s e = append_assoc (previous ++ d) s e ∙ append_assoc previous d (s ++ e)
 
--- Two frames after the same bytes, of which each begins its file's rest.
-module _ (previous : List ℕ) (f g : Frame) (fs gs : List Frame) (end more : List ℕ) (is_f : IsFrame f) (is_g : IsFrame g) (are_f : All IsFrame fs) (are_g : All IsFrame gs) (shut : IsShut end) (shut' : IsShut more)
-    (next : DifferInOne (frames (checksum previous f) fs ++ end) (frames (checksum previous f) gs ++ more) → Found fs gs) where
-  abbrev x : List ℕ
-  x = frames (checksum previous f) fs ++ end
+-- a checksum is of the numbers and the entry alone
+same_sum : (previous : List ℕ) (f g : Frame) → f.durable ≡ g.durable → f.size ≡ g.size → f.content ≡ g.content → checksum previous f ≡ checksum previous g
+unfolding checksum
+same_sum previous f g durables sizes entries = λ i. sha256 (previous ++ durables i ++ sizes i ++ entries i)
 
-  abbrev y : List ℕ
-  y = frames (checksum previous g) gs ++ more
+-- Of two files that end so.
+module _ (Rel : List Frame → List Frame → Type 0) (shown : IsShown Rel) (end more : List ℕ) (shut : IsShut end) (shut' : IsShut more) where
+  -- files that are the same
+  equal : (previous : List ℕ) (fs gs : List Frame) → All IsFrame fs → All IsFrame gs → frames previous fs ++ end ≡ frames previous gs ++ more → Rel fs gs
+  equal previous fs gs are_f are_g e =
+      let walk = same_walk previous fs gs end more are_f are_g (ends_shut (last_checksum previous fs) end shut) (ends_shut (last_checksum previous gs) more shut') e in
+      shown.same fs gs (ap entries_of walk.frames_are)
 
-  -- the sums and all after the frames are the same, and so are the entries
-  rest_same : f.entry ≡ g.entry → checksum previous f ≡ checksum previous g → x ≡ y → Found (f ∷ fs) (g ∷ gs)
-  rest_same entries sums rests = onward f g fs gs entries (equal (checksum previous f) fs gs end more are_f are_g shut shut' (rests ∙ ap (λ (s : List ℕ). frames s gs ++ more) (sym sums)))
+  -- Two frames after the same bytes, of which each begins its file's rest.
+  module _ (previous : List ℕ) (f g : Frame) (fs gs : List Frame) (is_f : IsFrame f) (is_g : IsFrame g) (are_f : All IsFrame fs) (are_g : All IsFrame gs)
+      (next : DifferInOne (frames (checksum previous f) fs ++ end) (frames (checksum previous f) gs ++ more) → Rel fs gs) where
+    abbrev x : List ℕ
+    x = frames (checksum previous f) fs ++ end
 
-  -- the texts of which the checksums are taken
-  abbrev text_f : List ℕ
-  text_f = previous ++ f.durable ++ f.size ++ f.entry
+    abbrev y : List ℕ
+    y = frames (checksum previous g) gs ++ more
 
-  abbrev text_g : List ℕ
-  text_g = previous ++ g.durable ++ g.size ++ g.entry
+    -- the sums and all after the frames are the same, and so are the entries
+    rest_same : f.content ≡ g.content → checksum previous f ≡ checksum previous g → x ≡ y → Rel (f ∷ fs) (g ∷ gs)
+    rest_same entries sums rests = shown.onward f g fs gs entries (equal (checksum previous f) fs gs are_f are_g (rests ∙ ap (λ (s : List ℕ). frames s gs ++ more) (sym sums)))
 
-  collide : text_f ≢ text_g → checksum previous f ≡ checksum previous g → Collide
-  unfolding checksum
-  collide differ sums = record { one = text_f; another = text_g; differ = differ; same = sums }
+    -- the texts of which the checksums are taken
+    abbrev text_f : List ℕ
+    text_f = previous ++ f.durable ++ f.size ++ f.content
 
-  same_text : text_f ≡ text_g → SameHalves f.size g.size f.entry g.entry
-  same_text e =
-      let parts = same_halves f.durable g.durable (f.size ++ f.entry) (g.size ++ g.entry) (is_f.four ∙ sym is_g.four) (append_cancel_left previous (f.durable ++ (f.size ++ f.entry)) (g.durable ++ (g.size ++ g.entry)) (sym (split_text previous f.durable f.size f.entry) ∙ e ∙ split_text previous g.durable g.size g.entry)) in
-      same_halves f.size g.size f.entry g.entry (is_f.four_more ∙ sym is_g.four_more) parts.rest
+    abbrev text_g : List ℕ
+    text_g = previous ++ g.durable ++ g.size ++ g.content
 
-  sized : f.size ≡ g.size → length f.entry ≡ length g.entry
-  sized sizes = sym is_f.sized ∙ ap number_of sizes ∙ is_g.sized
+    collide : text_f ≢ text_g → checksum previous f ≡ checksum previous g → Collide
+    unfolding checksum
+    collide differ sums = record { one = text_f; another = text_g; differ = differ; same = sums }
 
-  -- the lengths are the same, and so is all from the checksums on
-  sums_same : f.size ≡ g.size → checksum previous f ≡ checksum previous g → f.entry ++ x ≡ g.entry ++ y → Found (f ∷ fs) (g ∷ gs)
-  sums_same sizes sums behind = let parts = same_halves f.entry g.entry x y (sized sizes) behind in rest_same parts.first sums parts.rest
+    same_text : text_f ≡ text_g → SameHalves f.size g.size f.content g.content
+    same_text e =
+        let parts = same_halves f.durable g.durable (f.size ++ f.content) (g.size ++ g.content) (is_f.sized.four ∙ sym is_g.sized.four) (append_cancel_left previous (f.durable ++ (f.size ++ f.content)) (g.durable ++ (g.size ++ g.content)) (sym (split_text previous f.durable f.size f.content) ∙ e ∙ split_text previous g.durable g.size g.content)) in
+        same_halves f.size g.size f.content g.content (is_f.sized.four_more ∙ sym is_g.sized.four_more) parts.rest
 
-  -- the changed byte is after the checksum
-  behind_sum : f.size ≡ g.size → checksum previous f ≡ checksum previous g → Half f.entry g.entry x y → Found (f ∷ fs) (g ∷ gs)
-  behind_sum sizes sums (inl both) = onward f g fs gs both.0 (next (record {
-    front = both.1.front;
-    byte = both.1.byte;
-    changed = both.1.changed;
-    tail = both.1.tail;
-    file_is = both.1.file_is;
-    other_is = ap (λ (s : List ℕ). frames s gs ++ more) sums ∙ both.1.other_is;
-  }))
-  behind_sum sizes sums (inr both) = by (decided f.entry g.entry)
-    where
-      by : (f.entry ≡ g.entry) ⊎ (f.entry ≢ g.entry) → Found (f ∷ fs) (g ∷ gs)
-      by (inl entries) = rest_same entries sums both.0
-      by (inr differ) = inr (collide (λ e. differ (same_text e).rest) sums)
+    sized : f.size ≡ g.size → length f.content ≡ length g.content
+    sized sizes = sym is_f.sized.long ∙ ap number_of sizes ∙ is_g.sized.long
 
-  -- the changed byte is in the checksum or after it
-  at_sum : f.durable ≡ g.durable → f.size ≡ g.size → Half (checksum previous f) (checksum previous g) (f.entry ++ x) (g.entry ++ y) → Found (f ∷ fs) (g ∷ gs)
-  at_sum durables sizes (inl both) = behind_sum sizes both.0 (halved f.entry g.entry x y (sized sizes) both.1)
-  at_sum durables sizes (inr both) =
-      let parts = same_halves f.entry g.entry x y (sized sizes) both.0 in
-      let one : f ≡ g = λ i. record { durable = durables i; size = sizes i; entry = parts.first i } in
-      rest_same parts.first (ap (checksum previous) one) parts.rest
+    -- the lengths are the same, and so is all from the checksums on
+    sums_same : f.size ≡ g.size → checksum previous f ≡ checksum previous g → f.content ++ x ≡ g.content ++ y → Rel (f ∷ fs) (g ∷ gs)
+    sums_same sizes sums behind = let parts = same_halves f.content g.content x y (sized sizes) behind in rest_same parts.first sums parts.rest
 
-  -- the changed byte is in the length or after it
-  at_size : f.durable ≡ g.durable → Half f.size g.size (checksum previous f ++ (f.entry ++ x)) (checksum previous g ++ (g.entry ++ y)) → Found (f ∷ fs) (g ∷ gs)
-  at_size durables (inl both) = at_sum durables both.0 (halved (checksum previous f) (checksum previous g) (f.entry ++ x) (g.entry ++ y) (length-checksum previous f ∙ sym (length-checksum previous g)) both.1)
-  at_size durables (inr both) = by (decided f.size g.size)
-    where
-      parts : SameHalves (checksum previous f) (checksum previous g) (f.entry ++ x) (g.entry ++ y)
-      parts = same_halves (checksum previous f) (checksum previous g) (f.entry ++ x) (g.entry ++ y) (length-checksum previous f ∙ sym (length-checksum previous g)) both.0
+    -- the changed byte is after the checksum
+    behind_sum : f.size ≡ g.size → checksum previous f ≡ checksum previous g → Half f.content g.content x y → Rel (f ∷ fs) (g ∷ gs)
+    behind_sum sizes sums (inl both) = shown.onward f g fs gs both.0 (next (record {
+      front = both.1.front;
+      byte = both.1.byte;
+      changed = both.1.changed;
+      tail = both.1.tail;
+      file_is = both.1.file_is;
+      other_is = ap (λ (s : List ℕ). frames s gs ++ more) sums ∙ both.1.other_is;
+    }))
+    behind_sum sizes sums (inr both) = by (decided f.content g.content)
+      where
+        by : (f.content ≡ g.content) ⊎ (f.content ≢ g.content) → Rel (f ∷ fs) (g ∷ gs)
+        by (inl entries) = rest_same entries sums both.0
+        by (inr differ) = shown.broken (f ∷ fs) (g ∷ gs) (collide (λ e. differ (same_text e).rest) sums)
 
-      by : (f.size ≡ g.size) ⊎ (f.size ≢ g.size) → Found (f ∷ fs) (g ∷ gs)
-      by (inl sizes) = sums_same sizes parts.first parts.rest
-      by (inr differ) = inr (collide (λ e. differ (same_text e).first) parts.first)
+    -- the changed byte is in the checksum or after it
+    at_sum : f.durable ≡ g.durable → f.size ≡ g.size → Half (checksum previous f) (checksum previous g) (f.content ++ x) (g.content ++ y) → Rel (f ∷ fs) (g ∷ gs)
+    at_sum durables sizes (inl both) = behind_sum sizes both.0 (halved f.content g.content x y (sized sizes) both.1)
+    at_sum durables sizes (inr both) =
+        let parts = same_halves f.content g.content x y (sized sizes) both.0 in
+        rest_same parts.first (same_sum previous f g durables sizes parts.first) parts.rest
 
-  -- the changed byte is anywhere
-  at_durable : Half f.durable g.durable (f.size ++ (checksum previous f ++ (f.entry ++ x))) (g.size ++ (checksum previous g ++ (g.entry ++ y))) → Found (f ∷ fs) (g ∷ gs)
-  at_durable (inl both) = at_size both.0 (halved f.size g.size (checksum previous f ++ (f.entry ++ x)) (checksum previous g ++ (g.entry ++ y)) (is_f.four_more ∙ sym is_g.four_more) both.1)
-  at_durable (inr both) =
-      let sizes = same_halves f.size g.size (checksum previous f ++ (f.entry ++ x)) (checksum previous g ++ (g.entry ++ y)) (is_f.four_more ∙ sym is_g.four_more) both.0 in
-      let sums = same_halves (checksum previous f) (checksum previous g) (f.entry ++ x) (g.entry ++ y) (length-checksum previous f ∙ sym (length-checksum previous g)) sizes.rest in
-      sums_same sizes.first sums.first sums.rest
+    -- the changed byte is in the length or after it
+    at_size : f.durable ≡ g.durable → Half f.size g.size (checksum previous f ++ (f.content ++ x)) (checksum previous g ++ (g.content ++ y)) → Rel (f ∷ fs) (g ∷ gs)
+    at_size durables (inl both) = at_sum durables both.0 (halved (checksum previous f) (checksum previous g) (f.content ++ x) (g.content ++ y) (length-checksum previous f ∙ sym (length-checksum previous g)) both.1)
+    at_size durables (inr both) = by (decided f.size g.size)
+      where
+        parts : SameHalves (checksum previous f) (checksum previous g) (f.content ++ x) (g.content ++ y)
+        parts = same_halves (checksum previous f) (checksum previous g) (f.content ++ x) (g.content ++ y) (length-checksum previous f ∙ sym (length-checksum previous g)) both.0
 
-  at_frame : (front : List ℕ) (byte changed : ℕ) (tail : List ℕ) → packed previous f ++ x ≡ front ++ byte ∷ tail → packed previous g ++ y ≡ front ++ changed ∷ tail → Found (f ∷ fs) (g ∷ gs)
-  at_frame front byte changed tail e h =
-      at_durable (half f.durable g.durable (f.size ++ (checksum previous f ++ (f.entry ++ x))) (g.size ++ (checksum previous g ++ (g.entry ++ y))) front byte changed tail (is_f.four ∙ sym is_g.four)
-      (sym (apart previous f x) ∙ e) (sym (apart previous g y) ∙ h))
+        by : (f.size ≡ g.size) ⊎ (f.size ≢ g.size) → Rel (f ∷ fs) (g ∷ gs)
+        by (inl sizes) = sums_same sizes parts.first parts.rest
+        by (inr differ) = shown.broken (f ∷ fs) (g ∷ gs) (collide (λ e. differ (same_text e).first) parts.first)
 
-found : (previous : List ℕ) (fs gs : List Frame) (end more front : List ℕ) (byte changed : ℕ) (tail : List ℕ) → All IsFrame fs → All IsFrame gs → IsShut end → IsShut more
-    → frames previous fs ++ end ≡ front ++ byte ∷ tail → frames previous gs ++ more ≡ front ++ changed ∷ tail → Found fs gs
-found previous [] gs end more front byte changed tail are_f are_g shut shut' e h = inl (inr (entries_of gs, refl))
-found previous (f ∷ fs) [] end more front byte changed tail are_f are_g shut shut' e h = inl (inl (entries_of (f ∷ fs), refl))
-found previous (f ∷ fs) (g ∷ gs) end more [] byte changed tail are_f are_g shut shut' e h =
-    let same : frames previous (f ∷ fs) ++ end ≡ frames previous (g ∷ gs) ++ more = cc in
-    equal previous (f ∷ fs) (g ∷ gs) end more are_f are_g shut shut' same
-found previous (f ∷ fs) (g ∷ gs) end more (c ∷ front) byte changed tail are_f are_g shut shut' e h =
-    let before : (packed previous f ++ frames (checksum previous f) fs) ++ end ≡ front ++ byte ∷ tail = cc in
-    let after : (packed previous g ++ frames (checksum previous g) gs) ++ more ≡ front ++ changed ∷ tail = cc in
-    at_frame previous f g fs gs end more (All-head IsFrame f fs are_f) (All-head IsFrame g gs are_g) (All-tail IsFrame f fs are_f) (All-tail IsFrame g gs are_g) shut shut'
-    (λ d. found (checksum previous f) fs gs end more d.front d.byte d.changed d.tail (All-tail IsFrame f fs are_f) (All-tail IsFrame g gs are_g) shut shut' d.file_is d.other_is)
-    front byte changed tail
-    (sym (append_assoc (packed previous f) (frames (checksum previous f) fs) end) ∙ before)
-    (sym (append_assoc (packed previous g) (frames (checksum previous g) gs) more) ∙ after)
+    -- the changed byte is anywhere
+    at_durable : Half f.durable g.durable (f.size ++ (checksum previous f ++ (f.content ++ x))) (g.size ++ (checksum previous g ++ (g.content ++ y))) → Rel (f ∷ fs) (g ∷ gs)
+    at_durable (inl both) = at_size both.0 (halved f.size g.size (checksum previous f ++ (f.content ++ x)) (checksum previous g ++ (g.content ++ y)) (is_f.sized.four_more ∙ sym is_g.sized.four_more) both.1)
+    at_durable (inr both) =
+        let sizes = same_halves f.size g.size (checksum previous f ++ (f.content ++ x)) (checksum previous g ++ (g.content ++ y)) (is_f.sized.four_more ∙ sym is_g.sized.four_more) both.0 in
+        let sums = same_halves (checksum previous f) (checksum previous g) (f.content ++ x) (g.content ++ y) (length-checksum previous f ∙ sym (length-checksum previous g)) sizes.rest in
+        sums_same sizes.first sums.first sums.rest
+
+    at_frame : (front : List ℕ) (byte changed : ℕ) (tail : List ℕ) → packed previous f ++ x ≡ front ++ byte ∷ tail → packed previous g ++ y ≡ front ++ changed ∷ tail → Rel (f ∷ fs) (g ∷ gs)
+    at_frame front byte changed tail e h =
+        at_durable (half f.durable g.durable (f.size ++ (checksum previous f ++ (f.content ++ x))) (g.size ++ (checksum previous g ++ (g.content ++ y))) front byte changed tail (is_f.sized.four ∙ sym is_g.sized.four)
+        (sym (apart previous f x) ∙ e) (sym (apart previous g y) ∙ h))
+
+  -- the changed byte is in a latch: the entries are the same
+  at_latch : (previous : List ℕ) (f g : Frame) (fs gs : List Frame) → All IsFrame (f ∷ fs) → All IsFrame (g ∷ gs)
+      → (packed previous f ++ frames (checksum previous f) fs) ++ end ≡ (packed previous g ++ frames (checksum previous g) gs) ++ more → Rel (f ∷ fs) (g ∷ gs)
+  at_latch previous f g fs gs are_f are_g same =
+      shown.same (f ∷ fs) (g ∷ gs) (ap entries_of (same_walk previous (relatched g.latch g.second f ∷ fs) (g ∷ gs) end more
+      (All-cons IsFrame (relatched g.latch g.second f) fs (IsFrame-relatched g.latch g.second f (All-head IsFrame g gs are_g).opened (All-head IsFrame f fs are_f)) (All-tail IsFrame f fs are_f)) are_g
+      (ends_shut (last_checksum previous (relatched g.latch g.second f ∷ fs)) end shut) (ends_shut (last_checksum previous (g ∷ gs)) more shut')
+      (ap (λ (l : List ℕ). l ++ end) (frames-relatched previous g.latch g.second f fs) ∙ ap (λ (l : List ℕ). g.latch ∷ g.second ∷ l) same)).frames_are)
+
+  -- One byte is changed: what is to be shown holds, if it holds where one of the files has no frames left.
+  module _ (Ok : List Frame → Type 0) (rest_ok : (f : Frame) (fs : List Frame) → Ok (f ∷ fs) → Ok fs)
+      (base : (previous : List ℕ) (fs gs : List Frame) (front : List ℕ) (byte changed : ℕ) (tail : List ℕ) → Ok fs → All IsFrame gs → (fs ≡ []) ⊎ (gs ≡ [])
+      → frames previous fs ++ end ≡ front ++ byte ∷ tail → frames previous gs ++ more ≡ front ++ changed ∷ tail → Rel fs gs) where
+    pub found : (previous : List ℕ) (fs gs : List Frame) (front : List ℕ) (byte changed : ℕ) (tail : List ℕ) → Ok fs → All IsFrame fs → All IsFrame gs
+        → frames previous fs ++ end ≡ front ++ byte ∷ tail → frames previous gs ++ more ≡ front ++ changed ∷ tail → Rel fs gs
+    found previous [] gs front byte changed tail ok are_f are_g e h = base previous [] gs front byte changed tail ok are_g (inl refl) e h
+    found previous (f ∷ fs) [] front byte changed tail ok are_f are_g e h = base previous (f ∷ fs) [] front byte changed tail ok are_g (inr refl) e h
+    found previous (f ∷ fs) (g ∷ gs) [] byte changed tail ok are_f are_g e h = at_latch previous f g fs gs are_f are_g cc
+    found previous (f ∷ fs) (g ∷ gs) (c ∷ []) byte changed tail ok are_f are_g e h = at_latch previous f g fs gs are_f are_g cc
+    found previous (f ∷ fs) (g ∷ gs) (c ∷ d ∷ front) byte changed tail ok are_f are_g e h =
+        let before : (packed previous f ++ frames (checksum previous f) fs) ++ end ≡ front ++ byte ∷ tail = cc in
+        let after : (packed previous g ++ frames (checksum previous g) gs) ++ more ≡ front ++ changed ∷ tail = cc in
+        at_frame previous f g fs gs (All-head IsFrame f fs are_f) (All-head IsFrame g gs are_g) (All-tail IsFrame f fs are_f) (All-tail IsFrame g gs are_g)
+        (λ d. found (checksum previous f) fs gs d.front d.byte d.changed d.tail (rest_ok f fs ok) (All-tail IsFrame f fs are_f) (All-tail IsFrame g gs are_g) d.file_is d.other_is)
+        front byte changed tail
+        (sym (append_assoc (packed previous f) (frames (checksum previous f) fs) end) ∙ before)
+        (sym (append_assoc (packed previous g) (frames (checksum previous g) gs) more) ∙ after)
+
+-- the entries of one begin with those of the other
+abbrev Found : List Frame → List Frame → Type 0
+Found fs gs = (BeginsWith (entries_of fs) (entries_of gs) ⊎ BeginsWith (entries_of gs) (entries_of fs)) ⊎ Collide
+
+found_shown : IsShown Found
+found_shown = record {
+  same = λ fs gs same. inl (inl ([], same ∙ sym (append-nil (entries_of gs))));
+  onward = onward;
+  broken = λ fs gs collide. inr collide;
+}
+  where
+    onward : (f g : Frame) (fs gs : List Frame) → f.content ≡ g.content → Found fs gs → Found (f ∷ fs) (g ∷ gs)
+    onward f g fs gs same (inl (inl both)) = inl (inl (both.0, λ i. entry_in (same i) ∷ both.1 i))
+    onward f g fs gs same (inl (inr both)) = inl (inr (both.0, λ i. entry_in (sym same i) ∷ both.1 i))
+    onward f g fs gs same (inr collide) = inr collide
+
+none_left : (fs gs : List Frame) → (fs ≡ []) ⊎ (gs ≡ []) → Found fs gs
+none_left fs gs (inl none) = inl (inr (entries_of gs, ap (λ (l : List Frame). entries_of l ++ entries_of gs) (sym none)))
+none_left fs gs (inr none) = inl (inl (entries_of fs, ap (λ (l : List Frame). entries_of l ++ entries_of fs) (sym none)))
 
 pub no_entry_is_another : NoEntryIsAnother
-no_entry_is_another file other entries others a b d = named (found first_checksum a.fs b.fs a.end b.end d.front d.byte d.changed d.tail a.is.whole b.is.whole a.is.shut b.is.shut (sym a.is.parts ∙ d.file_is) (sym b.is.parts ∙ d.other_is))
+no_entry_is_another file other entries others (inl a) (inl b) d =
+    named (found Found found_shown a.end b.end a.is.shut b.is.shut (λ fs. ⊤) (λ f fs ok. tt) (λ previous fs gs front byte changed tail ok are_g none e h. none_left fs gs none)
+    first_checksum a.fs b.fs d.front d.byte d.changed d.tail tt a.is.whole b.is.whole (sym a.is.parts ∙ d.file_is) (sym b.is.parts ∙ d.other_is))
   where
     named : Found a.fs b.fs → (BeginsWith entries others ⊎ BeginsWith others entries) ⊎ Collide
     named (inl (inl both)) = inl (inl (both.0, a.same ∙ both.1 ∙ ap (λ (l : List (List ℕ)). l ++ both.0) (sym b.same)))
     named (inl (inr both)) = inl (inr (both.0, b.same ∙ both.1 ∙ ap (λ (l : List (List ℕ)). l ++ both.0) (sym a.same)))
     named (inr collide) = inr collide
+no_entry_is_another file other entries others (inr a) b d = inl (inr (others, ap (λ (l : List (List ℕ)). l ++ others) (sym a.1)))
+no_entry_is_another file other entries others (inl a) (inr b) d = inl (inl (entries, ap (λ (l : List (List ℕ)). l ++ entries) (sym b.1)))
 
-pub cut_files_keep_the_first : CutFilesKeepTheFirst
-cut_files_keep_the_first file tail entries others a b =
+-- of journals that are cut
+cut_journals : (file tail : List ℕ) (entries others : List (List ℕ)) → IsJournal (file ++ tail) entries → IsJournal file others → BeginsWith entries others
+cut_journals file tail entries others a b =
     let on = further first_checksum b.fs a.fs a.end (b.end ++ tail) b.is.whole a.is.whole (ends_shut (last_checksum first_checksum a.fs) a.end a.is.shut)
     (sym (append_assoc (frames first_checksum b.fs) b.end tail) ∙ ap (λ (l : List ℕ). l ++ tail) (sym b.is.parts) ∙ a.is.parts) in
-    (entries_of on.others, a.same ∙ ap entries_of on.same ∙ map-append (λ (f : Frame). f.entry) b.fs on.others ∙ ap (λ (l : List (List ℕ)). l ++ entries_of on.others) (sym b.same))
+    (entries_of on.others, a.same ∙ ap entries_of on.same ∙ map-append (λ (f : Frame). entry_in f.content) b.fs on.others ∙ ap (λ (l : List (List ℕ)). l ++ entries_of on.others) (sym b.same))
+
+pub cut_files_keep_the_first : CutFilesKeepTheFirst
+cut_files_keep_the_first file tail entries others (inl a) (inl b) = cut_journals file tail entries others a b
+cut_files_keep_the_first file tail entries others a (inr b) = (entries, ap (λ (l : List (List ℕ)). l ++ entries) (sym b.1))
+cut_files_keep_the_first file tail entries others (inr a) (inl b) =
+    let short : length file ≤ 2 = omega (arith, a.0, length-append file tail) in
+    (entries, ap (λ (l : List (List ℕ)). l ++ entries) (sym (none_framed file others b short)))

@@ -1,9 +1,8 @@
 -- What torn writes and cuts leave, as lists.
-use Rattle.std.proofs.Common.{◌≡◌, ◌≢◌, ℕ, ◌+◌, ◌<◌, ◌≤◌, List, [], ◌∷◌, ◌++◌, length, take, drop, get_or, refl, sym, ◌∙◌, ap, subst, arith, add-zero, append_assoc, length-append, take-append-drop, length-drop}
-use Rattle.std.proofs.lemmas.List.{take_at, drop_at, drop_all, drop_more, ext_get_or, append-nil, length-take-le, get_or-take, get_or-drop, get_or_at}
+use Rattle.std.proofs.Common.{◌≡◌, ℕ, ◌+◌, ◌<◌, ◌≤◌, List, [], ◌∷◌, ◌++◌, length, take, drop, get_or, refl, sym, ◌∙◌, ap, subst, arith, add-zero, zero-add, append_assoc, length-append, take-append-drop, length-drop}
+use Rattle.std.proofs.lemmas.List.{take_at, drop_at, drop_all, drop_more, ext_get_or, append-nil, length-take-le, get_or-take, get_or-drop}
 use Rattle.sqlite_disk.specs.Disk.{Holds, Torn, Cut, Follows, Only}
-use Rattle.desk_journal.specs.Frames.{IsShut}
-use Rattle.desk_journal.specs.Disks.{IsLonger, IsAround, StaysShut}
+use Rattle.desk_journal.specs.Disks.{IsLonger, IsAround}
 
 front_kept : (at : ℕ) (old c : List ℕ) → at ≤ length old → at ≤ length c → ((i : ℕ) → i < at → get_or c i 0 ≡ get_or old i 0) → take at c ≡ take at old
 front_kept at old c in_old in_c same =
@@ -44,78 +43,72 @@ written_end file bytes c torn holds =
     there = ext_get_or 0 (drop (length file) c) bytes (omega (arith, length-drop (length file) c, long))
         (λ i inside. get_or-drop (length file) c i 0 ∙ holds.each i (omega (arith, length-drop (length file) c, long)))
 
--- a write of one byte leaves what comes before and after it
-pub torn_latch : (front tail c : List ℕ) (old : ℕ) → Torn (length front) 1 (front ++ old ∷ tail) c → c ≡ front ++ get_or c (length front) 0 ∷ tail
-torn_latch front tail c old torn =
-    fronted front (old ∷ tail) c (omega (arith, long, whole)) (λ i low. torn.below i (omega (arith, whole)) low)
-    ∙ ap (λ (l : List ℕ). front ++ l) (drop_more c (length front) 0 (omega (arith, long, whole)) ∙ ap (λ (l : List ℕ). get_or c (length front) 0 ∷ l) behind)
+-- a write of two bytes leaves what comes before and after them
+torn_latch : (front tail c : List ℕ) (a b : ℕ) → Torn (length front) 2 (front ++ a ∷ b ∷ tail) c → c ≡ front ++ get_or c (length front) 0 ∷ get_or c (length front + 1) 0 ∷ tail
+torn_latch front tail c a b torn =
+    fronted front (a ∷ b ∷ tail) c (omega (arith, long, whole)) (λ i low. torn.below i (omega (arith, whole)) low)
+    ∙ ap (λ (l : List ℕ). front ++ l)
+    (drop_more c (length front) 0 (omega (arith, long, whole))
+    ∙ ap (λ (l : List ℕ). get_or c (length front) 0 ∷ l)
+    (drop_more c (length front + 1) 0 (omega (arith, long, whole)) ∙ ap (λ (l : List ℕ). get_or c (length front + 1) 0 ∷ l) behind))
   where
-    whole : length (front ++ old ∷ tail) ≡ length front + 1 + length tail
-    whole = omega (arith, length-append front (old ∷ tail))
+    whole : length (front ++ a ∷ b ∷ tail) ≡ length front + 2 + length tail
+    whole = omega (arith, length-append front (a ∷ b ∷ tail))
 
-    long : length c ≡ length (front ++ old ∷ tail)
+    long : length c ≡ length (front ++ a ∷ b ∷ tail)
     long = omega (arith, torn.no_shorter, torn.no_longer, whole)
 
-    split : front ++ old ∷ tail ≡ (front ++ old ∷ []) ++ tail
-    split = sym (append_assoc front (old ∷ []) tail)
+    split : front ++ a ∷ b ∷ tail ≡ (front ++ a ∷ b ∷ []) ++ tail
+    split = sym (append_assoc front (a ∷ b ∷ []) tail)
 
-    behind : drop (length front + 1) c ≡ tail
-    behind = back_kept (length front + 1) (front ++ old ∷ tail) c long (λ i past low. torn.above i low past)
-        ∙ ap (λ (l : List ℕ). drop (length front + 1) l) split
-        ∙ drop_at (front ++ old ∷ []) tail (length front + 1) (omega (arith, length-append front (old ∷ [])))
+    two : length front + 1 + 1 ≡ length front + 2
+    two = omega arith
 
-pub written_latch : (front tail c : List ℕ) (old latch : ℕ) → Torn (length front) 1 (front ++ old ∷ tail) c → Holds c (length front) (latch ∷ []) → c ≡ front ++ latch ∷ tail
-written_latch front tail c old latch torn holds =
-    torn_latch front tail c old torn ∙ ap (λ (b : ℕ). front ++ b ∷ tail) here
+    behind : drop (length front + 1 + 1) c ≡ tail
+    behind = ap (λ (n : ℕ). drop n c) two
+        ∙ back_kept (length front + 2) (front ++ a ∷ b ∷ tail) c long (λ i past low. torn.above i low past)
+        ∙ ap (λ (l : List ℕ). drop (length front + 2) l) split
+        ∙ drop_at (front ++ a ∷ b ∷ []) tail (length front + 2) (omega (arith, length-append front (a ∷ b ∷ [])))
+
+pub written_latch : (front tail c : List ℕ) (a b latch second : ℕ) → Torn (length front) 2 (front ++ a ∷ b ∷ tail) c → Holds c (length front) (latch ∷ second ∷ []) → c ≡ front ++ latch ∷ second ∷ tail
+written_latch front tail c a b latch second torn holds =
+    torn_latch front tail c a b torn ∙ (λ i. front ++ here i ∷ there i ∷ tail)
   where
     here : get_or c (length front) 0 ≡ latch
     here = ap (λ (i : ℕ). get_or c i 0) (sym (add-zero (length front))) ∙ holds.each 0 (omega arith)
 
--- a cut one byte after the front leaves the front, and begins no frame
-short_shut : (l : List ℕ) → length l ≤ 1 → IsShut l
-short_shut [] short = tt
-short_shut (a ∷ []) short = tt
-short_shut (a ∷ b ∷ l) short = absurd (omega arith)
+    there : get_or c (length front + 1) 0 ≡ second
+    there = holds.each 1 (omega arith)
 
-first_shut : (l : List ℕ) (latch : ℕ) → get_or l 0 0 ≡ latch → latch ≢ 43 → IsShut l
-first_shut [] latch is shut = tt
-first_shut (a ∷ []) latch is shut = tt
-first_shut (a ∷ b ∷ l) latch is shut = λ is_open. shut (sym is ∙ is_open)
-
-pub cut_front : (front end c : List ℕ) → Cut (length front + 1) (front ++ end) c → c ≡ front ++ drop (length front) c
+-- a cut after a file's front leaves the front
+pub cut_front : (front end c : List ℕ) → Cut (length front) (front ++ end) c → c ≡ front ++ drop (length front) c
 cut_front front end c cut =
     fronted front end c (omega (arith, cut.no_shorter, length-append front end))
-    (λ i low. cut.below i (omega (arith, length-append front end)) (omega arith))
+    (λ i low. cut.below i (omega (arith, length-append front end)) low)
 
-pub cut_shut : (front end c : List ℕ) → Cut (length front + 1) (front ++ end) c → IsShut end → IsShut (drop (length front) c)
-cut_shut front [] c cut shut = short_shut (drop (length front) c) (omega (arith, length-drop (length front) c, cut.no_longer, length-append front []))
-cut_shut front (a ∷ []) c cut shut = short_shut (drop (length front) c) (omega (arith, length-drop (length front) c, cut.no_longer, length-append front (a ∷ [])))
-cut_shut front (a ∷ b ∷ end) c cut shut =
-    first_shut (drop (length front) c) a
-    (get_or-drop (length front) c 0 0
-    ∙ ap (λ (i : ℕ). get_or c i 0) (add-zero (length front))
-    ∙ cut.below (length front) (omega (arith, length-append front (a ∷ b ∷ end))) (omega arith)
-    ∙ get_or_at front a (b ∷ end) 0 (length front) refl)
-    shut
-
-pub cut_done : (front end c : List ℕ) → Cut (length front + 1) (front ++ end) c → length c ≡ length front + 1 → c ≡ front ++ get_or c (length front) 0 ∷ []
+cut_done : (front end c : List ℕ) → Cut (length front) (front ++ end) c → length c ≡ length front → c ≡ front
 cut_done front end c cut long =
-    cut_front front end c cut
-    ∙ ap (λ (l : List ℕ). front ++ l)
-    (drop_more c (length front) 0 (omega (arith, long)) ∙ ap (λ (l : List ℕ). get_or c (length front) 0 ∷ l) (drop_all (length front + 1) c (omega (arith, long))))
+    cut_front front end c cut ∙ ap (λ (l : List ℕ). front ++ l) (drop_all (length front) c (omega (arith, long))) ∙ append-nil front
+
+-- the file up to its shut latch
+shut_front : (front tail : List ℕ) → front ++ 45 ∷ 45 ∷ tail ≡ (front ++ 45 ∷ 45 ∷ []) ++ tail
+shut_front front tail = sym (append_assoc front (45 ∷ 45 ∷ []) tail)
+
+two_more : (front : List ℕ) (at : ℕ) → length front ≡ at → length (front ++ 45 ∷ 45 ∷ []) ≡ at + 2
+two_more front at is = omega (arith, is, length-append front (45 ∷ 45 ∷ []))
 
 -- the same where the file before it and the place are known by other names
-pub latch_written : (front tail : List ℕ) (at old latch : ℕ) (before after : List ℕ) → length front ≡ at → before ≡ front ++ old ∷ tail → Torn at 1 before after → Holds after at (latch ∷ []) → after ≡ front ++ latch ∷ tail
-latch_written front tail at old latch before after is was torn holds =
-    written_latch front tail after old latch
-    (subst (λ (a : ℕ). Torn a 1 (front ++ old ∷ tail) after) (sym is) (subst (λ (f : List ℕ). Torn at 1 f after) was torn))
-    (subst (λ (a : ℕ). Holds after a (latch ∷ [])) (sym is) holds)
+pub latch_written : (front tail : List ℕ) (at a b latch second : ℕ) (before after : List ℕ) → length front ≡ at → before ≡ front ++ a ∷ b ∷ tail → Torn at 2 before after → Holds after at (latch ∷ second ∷ []) → after ≡ front ++ latch ∷ second ∷ tail
+latch_written front tail at a b latch second before after is was torn holds =
+    written_latch front tail after a b latch second
+    (subst (λ (n : ℕ). Torn n 2 (front ++ a ∷ b ∷ tail) after) (sym is) (subst (λ (f : List ℕ). Torn at 2 f after) was torn))
+    (subst (λ (n : ℕ). Holds after n (latch ∷ second ∷ [])) (sym is) holds)
 
-pub cut_made : (front end : List ℕ) (at : ℕ) (before after : List ℕ) → length front ≡ at → before ≡ front ++ end → Cut (at + 1) before after → length after ≡ at + 1 → after ≡ front ++ get_or after (length front) 0 ∷ []
-cut_made front end at before after is was cut long =
-    cut_done front end after
-    (subst (λ (a : ℕ). Cut (a + 1) (front ++ end) after) (sym is) (subst (λ (f : List ℕ). Cut (at + 1) f after) was cut))
-    (long ∙ ap (λ (a : ℕ). a + 1) (sym is))
+pub cut_made : (front tail : List ℕ) (at : ℕ) (before after : List ℕ) → length front ≡ at → before ≡ front ++ 45 ∷ 45 ∷ tail → Cut (at + 2) before after → length after ≡ at + 2 → after ≡ front ++ 45 ∷ 45 ∷ []
+cut_made front tail at before after is was cut long =
+    cut_done (front ++ 45 ∷ 45 ∷ []) tail after
+    (subst (λ (n : ℕ). Cut n ((front ++ 45 ∷ 45 ∷ []) ++ tail) after) (sym (two_more front at is)) (subst (λ (f : List ℕ). Cut (at + 2) f after) (was ∙ shut_front front tail) cut))
+    (long ∙ sym (two_more front at is))
 
 -- the same of what a crash may leave, of which there was one content before
 pub crash_end : (file : List ℕ) (at n : ℕ) (old new : List ℕ → Type 0) → length file ≡ at → Only file old → Follows (Torn at n) old new → (c : List ℕ) → new c → IsLonger file c
@@ -124,14 +117,26 @@ crash_end file at n old new is only follows c left =
     let torn : Torn (length file) n file c = subst (λ (a : ℕ). Torn a n file c) (sym is) (subst (λ (f : List ℕ). Torn at n f c) (only from.0 from.1) from.2) in
     (drop (length file) c, torn_end file c n torn)
 
-pub crash_latch : (front tail : List ℕ) (at was : ℕ) (old new : List ℕ → Type 0) → length front ≡ at → Only (front ++ was ∷ tail) old → Follows (Torn at 1) old new → (c : List ℕ) → new c → IsAround front tail c
-crash_latch front tail at was old new is only follows c left =
+pub crash_latch : (front tail : List ℕ) (at a b : ℕ) (old new : List ℕ → Type 0) → length front ≡ at → Only (front ++ a ∷ b ∷ tail) old → Follows (Torn at 2) old new → (c : List ℕ) → new c → IsAround front tail c
+crash_latch front tail at a b old new is only follows c left =
     let from = follows c left in
-    let torn : Torn (length front) 1 (front ++ was ∷ tail) c = subst (λ (a : ℕ). Torn a 1 (front ++ was ∷ tail) c) (sym is) (subst (λ (f : List ℕ). Torn at 1 f c) (only from.0 from.1) from.2) in
-    (get_or c (length front) 0, torn_latch front tail c was torn)
+    let torn : Torn (length front) 2 (front ++ a ∷ b ∷ tail) c = subst (λ (n : ℕ). Torn n 2 (front ++ a ∷ b ∷ tail) c) (sym is) (subst (λ (f : List ℕ). Torn at 2 f c) (only from.0 from.1) from.2) in
+    (get_or c (length front) 0, get_or c (length front + 1) 0, torn_latch front tail c a b torn)
 
-pub crash_cut : (front end : List ℕ) (at : ℕ) (old new : List ℕ → Type 0) → length front ≡ at → Only (front ++ end) old → Follows (Cut (at + 1)) old new → (c : List ℕ) → new c → StaysShut front end c
-crash_cut front end at old new is only follows c left =
+pub crash_cut : (front tail : List ℕ) (at : ℕ) (old new : List ℕ → Type 0) → length front ≡ at → Only (front ++ 45 ∷ 45 ∷ tail) old → Follows (Cut (at + 2)) old new → (c : List ℕ) → new c → IsLonger (front ++ 45 ∷ 45 ∷ []) c
+crash_cut front tail at old new is only follows c left =
     let from = follows c left in
-    let cut : Cut (length front + 1) (front ++ end) c = subst (λ (a : ℕ). Cut (a + 1) (front ++ end) c) (sym is) (subst (λ (f : List ℕ). Cut (at + 1) f c) (only from.0 from.1) from.2) in
-    (drop (length front) c, cut_front front end c cut, cut_shut front end c cut)
+    let cut : Cut (length (front ++ 45 ∷ 45 ∷ [])) ((front ++ 45 ∷ 45 ∷ []) ++ tail) c =
+    subst (λ (n : ℕ). Cut n ((front ++ 45 ∷ 45 ∷ []) ++ tail) c) (sym (two_more front at is)) (subst (λ (f : List ℕ). Cut (at + 2) f c) (only from.0 from.1 ∙ shut_front front tail) from.2) in
+    (drop (length (front ++ 45 ∷ 45 ∷ [])) c, cut_front (front ++ 45 ∷ 45 ∷ []) tail c cut)
+
+-- a shut latch that is written into at most two bytes
+pub shut_written : (before after : List ℕ) → length before ≤ 2 → Torn 0 2 before after → Holds after 0 (45 ∷ 45 ∷ []) → after ≡ 45 ∷ 45 ∷ []
+shut_written before after short torn holds =
+    ext_get_or 0 after (45 ∷ 45 ∷ []) (omega (arith, short, torn.no_longer, holds.within)) (λ i inside. ap (λ (n : ℕ). get_or after n 0) (sym (zero-add i)) ∙ holds.each i (omega (arith, inside, short, torn.no_longer)))
+
+pub crash_shut : (file : List ℕ) (old new : List ℕ → Type 0) → length file ≤ 2 → Only file old → Follows (Torn 0 2) old new → (c : List ℕ) → new c → length c ≤ 2
+crash_shut file old new short only follows c left =
+    let from = follows c left in
+    let torn : Torn 0 2 file c = subst (λ (f : List ℕ). Torn 0 2 f c) (only from.0 from.1) from.2 in
+    omega (arith, short, torn.no_longer)

@@ -5,8 +5,10 @@ pub mod DamageLemmas
 pub mod DiskLemmas
 pub mod FaultLemmas
 pub mod FrameLemmas
+pub mod HiddenLemmas
 pub mod KeptLemmas
 pub mod NextLemmas
 pub mod OneList
 pub mod RecoverLemmas
+pub mod StampLemmas
 pub mod WalkLemmas

@@ -1,7 +1,11 @@
 -- What damage can make of a journal's file.
-use Rattle.std.specs.Prelude.{◌≡◌, ◌≢◌, ◌⊎◌, ℕ, List, ◌∷◌, ◌++◌}
+use Rattle.std.specs.Prelude.{◌≡◌, ◌≢◌, ◌⊎◌, ℕ, All, List, [], ◌∷◌, ◌++◌}
 use Rattle.sha2.specs.Sha256.{sha256}
-use Rattle.desk_journal.specs.Frames.{StandsFor}
+use Rattle.desk_journal.specs.Frames.{Frame, IsFrame, StandsFor, entries_of, first_checksum, frames}
+
+-- a frame's latch is `++`
+abbrev pub IsOpen : Frame → Type 0
+IsOpen f = (f.latch ≡ 43) × (f.second ≡ 43)
 
 -- at one place each file has a byte of its own, and all others are the same
 pub record DifferInOne (file other : List ℕ) : Type 0 where
@@ -22,6 +26,20 @@ pub record Collide : Type 0 where
   pub another : List ℕ
   pub differ : one ≢ another
   pub same : sha256 one ≡ sha256 another
+
+-- the file of a journal as a session leaves it: each latch is open, and nothing comes after the shut one
+pub record IsSettled (file : List ℕ) (entries : List (List ℕ)) : Type 0 where
+  pub fs : List Frame
+  pub whole : All IsFrame fs
+  pub latches : All IsOpen fs
+  pub parts : file ≡ frames first_checksum fs ++ 45 ∷ 45 ∷ []
+  pub same : entries ≡ entries_of fs
+
+-- Where one byte of such a file is changed, and the file stands for entries, it stands for the same, unless two texts collide. So no
+-- byte that changes hides an entry.
+abbrev pub NoByteHidesAnEntry : Type 0
+NoByteHidesAnEntry = (file other : List ℕ) (entries others : List (List ℕ)) → IsSettled file entries → StandsFor other others → DifferInOne file other
+    → (others ≡ entries) ⊎ Collide
 
 -- Where one byte of a journal's file is changed, and both files stand for entries, one of the lists begins with the other,
 -- unless two texts collide. So no entry is ever read as another.

@@ -4,14 +4,14 @@ use Rattle.std.specs.List.{Any}
 use Rattle.std.specs.declared.alloc.Global.{Global}
 use Rattle.sqlite_disk.specs.Disk.{MoreFaults}
 use Rattle.desk_journal.specs.Batches.{batch_of}
-use Rattle.desk_journal.specs.Reading.{IsDamaged, HasTooMany}
+use Rattle.desk_journal.specs.Reading.{IsDamaged, IsOlder, HasTooMany}
 use Rattle.desk_journal.specs.declared.fault.JournalFault.{JournalFault}
-use Rattle.desk_journal.specs.declared.fault.JournalFault.TheVariants.{Damaged, Full, Read, Write, Sync, OutOfMemory}
+use Rattle.desk_journal.specs.declared.fault.JournalFault.TheVariants.{Damaged, Older, Full, Read, Write, Sync, OutOfMemory}
 
--- how many bytes the frames of entries take, with their latches
+-- how many bytes the frames of entries take at most, with their latches and their stamps: 209 are the most that a stamp takes
 abbrev pub taken : List (List ℕ) → ℕ
 taken [] = 0
-taken (entry ∷ entries) = 41 + length entry + taken entries
+taken (entry ∷ entries) = 42 + 209 + length entry + taken entries
 
 -- an entry is longer than 16,777,216 bytes
 abbrev pub HasLong : List (Vec ℕ Global) → Type 0
@@ -24,6 +24,7 @@ IsTooMuch entries batch = (1000000 < length entries + length batch) ⊎ (HasLong
 -- a write or a sync has failed
 abbrev pub HasWriteFault : JournalFault → Type 0
 HasWriteFault (Damaged number) = ⊥
+HasWriteFault Older = ⊥
 HasWriteFault Full = ⊥
 HasWriteFault Read = ⊥
 HasWriteFault Write = Unit {0}
@@ -33,6 +34,7 @@ HasWriteFault OutOfMemory = ⊥
 -- a read has failed, or memory ran out
 abbrev pub HasReadFault : JournalFault → Type 0
 HasReadFault (Damaged number) = ⊥
+HasReadFault Older = ⊥
 HasReadFault Full = ⊥
 HasReadFault Read = Unit {0}
 HasReadFault Write = ⊥
@@ -42,6 +44,7 @@ HasReadFault OutOfMemory = Unit {0}
 -- a batch isn't packed, since an entry is long or memory ran out
 abbrev pub HasPackFault : List (Vec ℕ Global) → JournalFault → Type 0
 HasPackFault batch (Damaged number) = ⊥
+HasPackFault batch Older = ⊥
 HasPackFault batch Full = HasLong batch
 HasPackFault batch Read = ⊥
 HasPackFault batch Write = ⊥
@@ -52,15 +55,17 @@ HasPackFault batch OutOfMemory = Unit {0}
 -- out.
 abbrev pub HasAppendFault : ℕ → ℕ → List (List ℕ) → List (Vec ℕ Global) → JournalFault → Type 0
 HasAppendFault before after entries batch (Damaged number) = ⊥
+HasAppendFault before after entries batch Older = ⊥
 HasAppendFault before after entries batch Full = IsTooMuch entries batch
 HasAppendFault before after entries batch Read = ⊥
 HasAppendFault before after entries batch Write = MoreFaults before after
 HasAppendFault before after entries batch Sync = MoreFaults before after
 HasAppendFault before after entries batch OutOfMemory = Unit {0}
 
--- A file isn't read: an entry is damaged, there are too many, or memory ran out.
+-- A file isn't read: an entry is damaged, the file is of the format before this one, there are too many entries, or memory ran out.
 abbrev pub HasFileFault : List ℕ → JournalFault → Type 0
 HasFileFault file (Damaged number) = IsDamaged file number
+HasFileFault file Older = IsDamaged file 1 × IsOlder file
 HasFileFault file Full = HasTooMany file
 HasFileFault file Read = ⊥
 HasFileFault file Write = ⊥
@@ -70,6 +75,7 @@ HasFileFault file OutOfMemory = Unit {0}
 -- A journal isn't opened: that, or the disk has failed between these two counts of its faults.
 abbrev pub HasOpenFault : ℕ → ℕ → List ℕ → JournalFault → Type 0
 HasOpenFault before after file (Damaged number) = IsDamaged file number
+HasOpenFault before after file Older = IsDamaged file 1 × IsOlder file
 HasOpenFault before after file Full = HasTooMany file
 HasOpenFault before after file Read = MoreFaults before after
 HasOpenFault before after file Write = MoreFaults before after

@@ -1,6 +1,7 @@
 -- What a journal keeps on its disk.
-use Rattle.std.specs.Prelude.{◌≡◌, ℕ, List, [], ◌∷◌, ◌++◌, length, Bool, All}
-use Rattle.desk_journal.specs.Frames.{Frame, IsFrame, first_checksum, last_checksum, frames, entries_of}
+use Rattle.std.specs.Prelude.{◌≡◌, ◌≤◌, ℕ, List, [], ◌∷◌, ◌++◌, length, Bool, All}
+use Rattle.desk_journal.specs.Frames.{Frame, IsFrame, first_checksum, last_checksum, frames, entries_of, last_time}
+use Rattle.desk_journal.specs.Stamps.{StampView}
 use Rattle.desk_journal.specs.Disks.{IsDurable}
 use Rattle.desk_journal.specs.declared.journal.Journal.{Journal}
 
@@ -16,13 +17,19 @@ count_of journal = journal.count
 abbrev pub end_of : {D : Type 0} → Journal D → ℕ
 end_of journal = journal.end
 
--- these frames and a shut latch are all of the file, and all of it is on the disk
+-- the stamp that it gives to what is appended
+abbrev pub stamp_of : {D : Type 0} → Journal D → StampView
+stamp_of journal = journal.stamp
+
+-- These frames and a shut latch are all of the file, and all of it is on the disk. The time that the journal gives to what is appended
+-- isn't before theirs.
 pub record KeepsFrames {D : Type 0} (seen : D → List ℕ) (may_leave : D → List ℕ → Type 0) (is_usable : D → Bool) (fs : List Frame) (journal : Journal D) : Type 0 where
   pub whole : All IsFrame fs
-  pub file : IsDurable seen may_leave is_usable (frames first_checksum fs ++ 45 ∷ []) journal.disk
+  pub file : IsDurable seen may_leave is_usable (frames first_checksum fs ++ 45 ∷ 45 ∷ []) journal.disk
   pub end : length (frames first_checksum fs) ≡ journal.end
   pub count : journal.count ≡ length fs
   pub last : journal.last ≡ last_checksum first_checksum fs
+  pub time : last_time fs ≤ journal.stamp.time
 
 -- the entries are kept: a read gives their frames and a shut latch, and so does each read after a crash
 pub record IsKept {D : Type 0} (seen : D → List ℕ) (may_leave : D → List ℕ → Type 0) (is_usable : D → Bool) (entries : List (List ℕ)) (journal : Journal D) : Type 0 where

@@ -6,4 +6,5 @@ pub mod Frames
 pub mod Kept
 pub mod Reading
 pub mod Recovered
+pub mod Stamps
 pub mod Words

@@ -1,17 +1,40 @@
 -- What is read from a file's bytes.
-use Rattle.std.specs.Prelude.{◌≡◌, ◌≢◌, ◌≤◌, ◌+◌, ◌⊎◌, ℕ, List, [], ◌∷◌, length, ◌++◌, All, Vec}
+use Rattle.std.specs.Prelude.{◌≡◌, ◌≢◌, ◌<◌, ◌≤◌, ◌+◌, ◌⊎◌, ℕ, List, [], ◌∷◌, length, ◌++◌, All, Vec}
 use Rattle.std.specs.declared.alloc.Global.{Global}
-use Rattle.desk_journal.specs.Frames.{Frame, IsFrame, IsShut, number_of, checksum, first_checksum, last_checksum, packed, frames, entries_of}
+use Rattle.desk_journal.specs.Frames.{AreShut, Frame, IsFrame, IsShut, IsSized, number_of, checksum, first_checksum, older_checksum, last_checksum, packed, frames, entries_of, stamps_of}
+use Rattle.desk_journal.specs.Stamps.{StampView}
 use Rattle.desk_journal.specs.Batches.{batch_of}
 
--- a frame is here, with this number, checksum and entry, and `rest` after it
-pub record IsNext (previous bytes : List ℕ) (durable : ℕ) (sum entry rest : List ℕ) : Type 0 where
+-- a frame as it is written with its latch
+abbrev pub latched : List ℕ → Frame → List ℕ
+latched previous f = f.latch ∷ f.second ∷ packed previous f
+
+-- a frame is here, with this number, checksum and content, and `rest` after it
+pub record IsNext (previous bytes : List ℕ) (durable : ℕ) (sum content rest : List ℕ) : Type 0 where
   pub frame : Frame
   pub whole : IsFrame frame
-  pub entry_is : frame.entry ≡ entry
+  pub content_is : frame.content ≡ content
   pub durable_is : number_of frame.durable ≡ durable
   pub sum_is : sum ≡ checksum previous frame
-  pub parts : bytes ≡ packed previous frame ++ rest
+  pub parts : bytes ≡ latched previous frame ++ rest
+
+-- what comes after a frame's latch is here, with this number, checksum and content, and `rest` after it
+pub record IsBody (previous behind : List ℕ) (durable : ℕ) (sum content rest : List ℕ) : Type 0 where
+  pub frame : Frame
+  pub sized : IsSized frame
+  pub content_is : frame.content ≡ content
+  pub durable_is : number_of frame.durable ≡ durable
+  pub sum_is : sum ≡ checksum previous frame
+  pub parts : behind ≡ packed previous frame ++ rest
+
+-- nothing is here that would come after a frame's latch, whatever its content is
+abbrev pub HasNoBody : List ℕ → List ℕ → Type 0
+HasNoBody previous behind = (f : Frame) (rest : List ℕ) → IsSized f → behind ≡ packed previous f ++ rest → ⊥
+
+-- The file is a journal of the format before this one, of at least one entry: a latch of one byte, `+`, and a frame that has no stamp and
+-- another first checksum.
+abbrev pub IsOlder : List ℕ → Type 0
+IsOlder file = (f : Frame) × (rest : List ℕ) × IsSized f × (file ≡ 43 ∷ (packed older_checksum f ++ rest))
 
 -- the file is frames of these entries, of which the last has this checksum, and then `rest`
 pub record IsReadTo (file : List ℕ) (entries : List (Vec ℕ Global)) (last rest : List ℕ) : Type 0 where
@@ -21,47 +44,79 @@ pub record IsReadTo (file : List ℕ) (entries : List (Vec ℕ Global)) (last re
   pub last_is : last ≡ last_checksum first_checksum fs
   pub same : batch_of entries ≡ entries_of fs
 
--- After a latch come whole frames of which one says another number of durable entries: so the latch was once open.
+-- that, and these are the stamps of the frames
+pub record IsStampedTo (file : List ℕ) (entries : List (Vec ℕ Global)) (stamps : List StampView) (last rest : List ℕ) : Type 0 where
+  pub read : IsReadTo file entries last rest
+  pub stamped : stamps ≡ stamps_of read.fs
+
+-- this comes after a latch that isn't shut
+pub record IsBehind (bytes behind : List ℕ) : Type 0 where
+  pub latch : ℕ
+  pub second : ℕ
+  pub opened : AreShut latch second → ⊥
+  pub parts : bytes ≡ latch ∷ second ∷ behind
+
+-- the bytes end, or the latch here is shut
+abbrev pub HasNoLatch : List ℕ → Type 0
+HasNoLatch bytes = (behind : List ℕ) → IsBehind bytes behind → ⊥
+
+-- no whole frame is here
+abbrev pub HasNoFrame : List ℕ → List ℕ → Type 0
+HasNoFrame previous bytes = (f : Frame) (rest : List ℕ) → IsFrame f → bytes ≡ latched previous f ++ rest → ⊥
+
+-- After a shut latch comes what would be whole frames if it were open, of which one says another number of durable entries: so the
+-- latch was once open.
 pub record SaysOther (durable : ℕ) (previous behind : List ℕ) : Type 0 where
   pub before : List Frame
   pub frame : Frame
   pub more : List ℕ
   pub whole : All IsFrame (before ++ frame ∷ [])
-  pub parts : 43 ∷ behind ≡ frames previous (before ++ frame ∷ []) ++ more
+  pub parts : 43 ∷ 43 ∷ behind ≡ frames previous (before ++ frame ∷ []) ++ more
   pub other : number_of frame.durable ≢ durable
 
--- no whole frame follows an open latch
-abbrev pub HasNoFrame : List ℕ → List ℕ → Type 0
-HasNoFrame previous behind = (f : Frame) (rest : List ℕ) → IsFrame f → behind ≡ packed previous f ++ rest → ⊥
+-- A journal begins here: so two were joined.
+abbrev pub HasFirst : List ℕ → Type 0
+HasFirst bytes = (f : Frame) × (rest : List ℕ) × IsFrame f × (bytes ≡ latched first_checksum f ++ rest)
 
--- The entry of this number is damaged, or the latch before it: after the entries before it comes an open latch and no
--- frame, or a shut latch that was once open.
+-- what comes after a shut latch isn't what a crash leaves there
+abbrev pub IsForeign : (durable : ℕ) (previous behind : List ℕ) → Type 0
+IsForeign durable previous behind = SaysOther durable previous behind ⊎ HasFirst behind
+
+-- The entry of this number is damaged, or the latch before it, or the end of the journal: the file has more than two bytes, and after
+-- the entries before it comes no whole frame and no shut latch, or a shut latch that was once open, or after which another journal
+-- begins.
 pub record IsDamaged (file : List ℕ) (number : ℕ) : Type 0 where
   pub fs : List Frame
-  pub latch : ℕ
-  pub behind : List ℕ
+  pub rest : List ℕ
   pub whole : All IsFrame fs
-  pub parts : file ≡ frames first_checksum fs ++ latch ∷ behind
+  pub parts : file ≡ frames first_checksum fs ++ rest
+  pub begun : 2 < length file
   pub counts : number ≡ length fs + 1
-  pub cause : ((latch ≡ 43) × (behind ≢ []) × HasNoFrame (last_checksum first_checksum fs) behind) ⊎ (IsShut (latch ∷ behind) × SaysOther (length fs) (last_checksum first_checksum fs) behind)
+  pub cause : ((IsShut rest → ⊥) × HasNoFrame (last_checksum first_checksum fs) rest)
+      ⊎ ((behind : List ℕ) × (rest ≡ 45 ∷ 45 ∷ behind) × IsForeign (length fs) (last_checksum first_checksum fs) behind)
 
 -- no entry of the file is damaged
 abbrev pub IsWhole : List ℕ → Type 0
 IsWhole file = (number : ℕ) → IsDamaged file number → ⊥
 
--- The file's entries are read up to its shut latch, which is at `end`.
-pub record IsFound (file : List ℕ) (entries : List (Vec ℕ Global)) (last : List ℕ) (end : ℕ) : Type 0 where
+-- The file's entries and their stamps are read up to its shut latch, which is at `end`.
+pub record IsFound (file : List ℕ) (entries : List (Vec ℕ Global)) (stamps : List StampView) (last : List ℕ) (end : ℕ) : Type 0 where
   pub rest : List ℕ
   pub read : IsReadTo file entries last rest
   pub shut : IsShut rest
   pub end_is : length (frames first_checksum read.fs) ≡ end
   pub few : length entries ≤ 1000000
+  pub stamped : stamps ≡ stamps_of read.fs
 
--- an open latch follows 1,000,000 entries
+-- these bytes come after the shut latch of a journal: a file of at most two bytes has none
+abbrev pub IsTail : List ℕ → List ℕ → Type 0
+IsTail file tail = ((fs : List Frame) × All IsFrame fs × (file ≡ frames first_checksum fs ++ 45 ∷ 45 ∷ tail)) ⊎ ((length file ≤ 2) × (tail ≡ []))
+
+-- no shut latch follows 1,000,000 entries
 pub record HasTooMany (file : List ℕ) : Type 0 where
   pub fs : List Frame
-  pub behind : List ℕ
+  pub rest : List ℕ
   pub whole : All IsFrame fs
   pub many : length fs ≡ 1000000
-  pub parts : file ≡ frames first_checksum fs ++ 43 ∷ behind
-  pub some : behind ≢ []
+  pub parts : file ≡ frames first_checksum fs ++ rest
+  pub some : IsShut rest → ⊥

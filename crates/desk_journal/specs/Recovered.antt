@@ -1,16 +1,26 @@
 -- What recovery finds and leaves.
-use Rattle.std.specs.Prelude.{◌≡◌, ℕ, List, [], ◌∷◌, ◌++◌, Bool, Vec}
+use Rattle.std.specs.Prelude.{◌≡◌, ℕ, List, [], ◌∷◌, ◌++◌, All, Bool, Vec, length}
 use Rattle.std.specs.declared.alloc.Global.{Global}
-use Rattle.desk_journal.specs.Frames.{first_checksum, frames}
+use Rattle.desk_journal.specs.Batches.{batch_of}
+use Rattle.desk_journal.specs.Frames.{Frame, IsFrame, StandsFor, StandsStamped, entries_of, first_checksum, frames, last_checksum, stamps_of}
+use Rattle.desk_journal.specs.Stamps.{StampView}
 use Rattle.desk_journal.specs.Disks.{IsDurable}
-use Rattle.desk_journal.specs.Reading.{IsFound, IsWhole, SaysOther}
+use Rattle.desk_journal.specs.Reading.{IsForeign, IsWhole}
 
--- the latch that begins `rest` was once open
-abbrev pub WasOpen : ℕ → List ℕ → List ℕ → Type 0
-WasOpen durable previous rest = (latch : ℕ) × (behind : List ℕ) × (rest ≡ latch ∷ behind) × SaysOther durable previous behind
+-- after the shut latch with which `rest` begins comes what no crash leaves there
+abbrev pub EndsForeign : ℕ → List ℕ → List ℕ → Type 0
+EndsForeign durable previous rest = (behind : List ℕ) × (rest ≡ 45 ∷ 45 ∷ behind) × IsForeign durable previous behind
 
--- the file is read, none of its entries is damaged, and its frames and a shut latch are all that is on the disk
-pub record IsRepaired {D : Type 0} (seen : D → List ℕ) (may_leave : D → List ℕ → Type 0) (is_usable : D → Bool) (file : List ℕ) (entries : List (Vec ℕ Global)) (last : List ℕ) (end : ℕ) (disk : D) : Type 0 where
-  pub found : IsFound file entries last end
-  pub whole : IsWhole file
-  pub durable : IsDurable seen may_leave is_usable (frames first_checksum found.read.fs ++ 45 ∷ []) disk
+-- the file stands for these entries, none of which is damaged, these are their stamps, and their frames and a shut latch are all that is
+-- on the disk
+pub record IsRepaired {D : Type 0} (seen : D → List ℕ) (may_leave : D → List ℕ → Type 0) (is_usable : D → Bool) (file : List ℕ) (entries : List (Vec ℕ Global)) (stamps : List StampView) (last : List ℕ) (end : ℕ) (disk : D) : Type 0 where
+  pub stands : StandsFor file (batch_of entries)
+  pub stands_stamped : StandsStamped file (batch_of entries) stamps
+  pub undamaged : IsWhole file
+  pub fs : List Frame
+  pub whole : All IsFrame fs
+  pub same : batch_of entries ≡ entries_of fs
+  pub stamped : stamps ≡ stamps_of fs
+  pub last_is : last ≡ last_checksum first_checksum fs
+  pub end_is : length (frames first_checksum fs) ≡ end
+  pub durable : IsDurable seen may_leave is_usable (frames first_checksum fs ++ 45 ∷ 45 ∷ []) disk

@@ -2,6 +2,7 @@
 pub use Rattle.desk_journal.specs.Batches.{batch_of}
 pub use Rattle.desk_journal.specs.Disks.{IsDurable}
 pub use Rattle.desk_journal.specs.Faults.{IsTooMuch, HasAppendFault, HasFileFault, HasOpenFault}
-pub use Rattle.desk_journal.specs.Frames.{StandsFor}
-pub use Rattle.desk_journal.specs.Kept.{IsKept, disk_of}
-pub use Rattle.desk_journal.specs.Reading.{IsDamaged, IsWhole, HasTooMany}
+pub use Rattle.desk_journal.specs.Frames.{HasStamps, StandsFor, StandsStamped}
+pub use Rattle.desk_journal.specs.Kept.{IsKept, disk_of, stamp_of}
+pub use Rattle.desk_journal.specs.Reading.{IsDamaged, IsOlder, IsTail, IsWhole, HasTooMany}
+pub use Rattle.desk_journal.specs.Stamps.{StampView}

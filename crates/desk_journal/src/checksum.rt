@@ -1,18 +1,25 @@
 //! The checksum of an entry, which takes in that of the entry before it.
-ghost use Rattle.std.specs.Prelude.{◌≡◌, length};
-ghost use Rattle.desk_journal.specs.Frames.{checksum, first_checksum, number_of};
+ghost use Rattle.std.specs.Prelude.{◌≡◌, ◌++◌, length};
+ghost use Rattle.desk_journal.specs.Frames.{checksum, first_checksum, number_of, older_checksum};
 
 use sha2::{Digest, Sha256};
 
-/// The checksum of the frame of these two numbers, each as four bytes, and this entry.
+/// The checksum of the frame of these two numbers, each as four bytes, and of a content in two parts.
 #[tactic(auto, unfolding(crate::specs::Frames::checksum))]
-pub fn checksum_of(previous: &[u8; 32], durable: &[u8], size: &[u8], entry: &[u8]) -> [u8; 32]
-    ensures { result ≡ checksum previous.now (record { durable = durable.now; size = size.now; entry = entry.now }) }
+pub fn checksum_of(
+    previous: &[u8; 32],
+    durable: &[u8],
+    size: &[u8],
+    stamp: &[u8],
+    entry: &[u8],
+) -> [u8; 32]
+    ensures { result ≡ checksum previous.now (record { latch = 43; second = 43; durable = durable.now; size = size.now; content = stamp.now ++ entry.now }) }
 {
     let mut hasher = Sha256::new();
     hasher.update(previous.as_slice());
     hasher.update(durable);
     hasher.update(size);
+    hasher.update(stamp);
     hasher.update(entry);
     hasher.finalize()
 }
@@ -22,6 +29,14 @@ pub fn checksum_of(previous: &[u8; 32], durable: &[u8], size: &[u8], entry: &[u8
 #[tactic(auto, unfolding(crate::specs::Frames::first_checksum))]
 pub fn first() -> [u8; 32]
     ensures { result ≡ first_checksum }
+{
+    Sha256::digest(b"durable journal, version 2")
+}
+
+/// The same of the format before this one.
+#[tactic(auto, unfolding(crate::specs::Frames::older_checksum))]
+pub fn older() -> [u8; 32]
+    ensures { result ≡ older_checksum }
 {
     Sha256::digest(b"durable journal, version 1")
 }

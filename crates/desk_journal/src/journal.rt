@@ -1,15 +1,17 @@
 //! A journal that was opened: entries in one file, and what is appended to them.
-ghost use Rattle.std.specs.Prelude.{◌≡◌, ◌⊎◌, ◌<◌, ◌≤◌, ◌+◌, ◌++◌, [], ◌∷◌, List, ℕ, length, All, IsTrue, IfOk, IfErr, OnOk, IsErrOf, ◌↔◌};
-ghost use Rattle.desk_journal.specs.Frames.{Frame, StandsFor, frames, last_checksum, entries_of};
+ghost use Rattle.std.specs.Prelude.{◌≡◌, ◌⊎◌, ◌<◌, ◌≤◌, ◌+◌, ◌++◌, [], ◌∷◌, List, ℕ, length, max, All, IsTrue, IfOk, IfErr, OnOk, IsErrOf, ◌↔◌};
+ghost use Rattle.desk_journal.specs.Frames.{Frame, HasStamps, StandsFor, frames, last_checksum, entries_of};
 ghost use Rattle.desk_journal.specs.Batches.{batch_of, frames_of};
 ghost use Rattle.desk_journal.specs.Disks.{IsDurable};
 ghost use Rattle.desk_journal.specs.Faults.{HasAppendFault, HasOpenFault, HasPackFault};
 ghost use Rattle.desk_journal.specs.Reading.{IsWhole};
+ghost use Rattle.desk_journal.specs.Stamps.{IsStamp, StampView, time_after};
 
 use crate::JournalFault;
 use crate::pack::pack;
 use crate::publish::publish;
 use crate::recovery::recover;
+use crate::stamp::{Stamp, last_time};
 use sqlite_disk::Disk;
 use std::alloc::Global;
 
@@ -25,6 +27,10 @@ pub struct Journal<D: Disk> {
     pub(crate) count: u32,
     // The checksum of the last entry.
     pub(crate) last: [u8; 32],
+    // Of what is appended.
+    pub(crate) stamp: Stamp,
+    // The bytes of that stamp.
+    pub(crate) front: Vec<u8>,
     // The bytes of the batch that is being written.
     pub(crate) buffer: Vec<u8>,
 }
@@ -32,18 +38,22 @@ pub struct Journal<D: Disk> {
 // Packs a batch, with the open latch before it and the shut latch after it, and gives the checksum of its last entry.
 fn pack_whole(
     buffer: &mut Vec<u8>,
+    front: &mut Vec<u8>,
     previous: &[u8; 32],
     durable: u32,
+    stamp: &Stamp,
     batch: &[Vec<u8>],
 ) -> Result<[u8; 32], JournalFault>
-    ensures bytes { IfOk result (λ _. buffer.new.items ≡ frames previous.now (frames_of durable batch.now) ++ 45 ∷ []) }
-    ensures sum { IfOk result (λ sum. sum ≡ last_checksum previous.now (frames_of durable batch.now)) }
+    ensures bytes { IfOk result (λ _. buffer.new.items ≡ frames previous.now (frames_of durable stamp.now batch.now) ++ 45 ∷ 45 ∷ []) }
+    ensures sum { IfOk result (λ sum. sum ≡ last_checksum previous.now (frames_of durable stamp.now batch.now)) }
+    ensures stamp { IsStamp stamp.now }
     ensures short { IfOk result (λ _. All (λ v. length v.items ≤ 16777216) batch.now) }
     ensures cause { IfErr result (HasPackFault batch.now) }
 {
+    stamp.write(front)?;
     buffer.clear();
-    let last = pack(buffer, previous, durable, batch)?;
-    buffer.push(45)?;
+    let last = pack(buffer, previous, durable, front.as_slice(), batch)?;
+    buffer.extend_from_slice(b"--")?;
     Ok(last)
 }
 
@@ -55,7 +65,7 @@ fn has_room(count: u32, more: usize) -> bool
 }
 
 impl<D: Disk> Journal<D> {
-    ghost use Rattle.desk_journal.specs.Kept.{KeepsFrames, IsKept, disk_of};
+    ghost use Rattle.desk_journal.specs.Kept.{KeepsFrames, IsKept, disk_of, stamp_of};
 
     // Appends a batch that isn't empty, and for which there is room.
     fn add(&mut self, batch: &[Vec<u8>]) -> Result<(), JournalFault>
@@ -63,17 +73,25 @@ impl<D: Disk> Journal<D> {
         requires some { 0 < length batch.now }
         requires room { self.old.count + length batch.now ≤ 1000000 }
         ensures kept { (fs : List Frame) → KeepsFrames D.Disk.seen D.Disk.may_leave D.Disk.is_usable fs self.old
-            → OnOk result (KeepsFrames D.Disk.seen D.Disk.may_leave D.Disk.is_usable (fs ++ frames_of (length fs) batch.now) self.new) }
+            → OnOk result (KeepsFrames D.Disk.seen D.Disk.may_leave D.Disk.is_usable (fs ++ frames_of (length fs) self.old.stamp batch.now) self.new) }
         ensures crash { (fs : List Frame) → KeepsFrames D.Disk.seen D.Disk.may_leave D.Disk.is_usable fs self.old → (c : List ℕ) → D.Disk.may_leave self.new.disk c
-            → StandsFor c (entries_of fs) ⊎ StandsFor c (entries_of (fs ++ frames_of (length fs) batch.now)) }
+            → StandsFor c (entries_of fs) ⊎ StandsFor c (entries_of (fs ++ frames_of (length fs) self.old.stamp batch.now)) }
         ensures refused { (fs : List Frame) → KeepsFrames D.Disk.seen D.Disk.may_leave D.Disk.is_usable fs self.old
             → IsErrOf result JournalFault.Full → KeepsFrames D.Disk.seen D.Disk.may_leave D.Disk.is_usable fs self.new }
+        ensures stamp { self.new.stamp ≡ self.old.stamp }
         ensures clean { D.Disk.is_clean self.new.disk ≡ D.Disk.is_clean self.old.disk }
         ensures cause { (fs : List Frame) → KeepsFrames D.Disk.seen D.Disk.may_leave D.Disk.is_usable fs self.old
             → IfErr result (HasAppendFault (D.Disk.faults self.old.disk) (D.Disk.faults self.new.disk) (entries_of fs) batch.now) }
     {
-        let last = pack_whole(&mut self.buffer, &self.last, self.count, batch)?;
-        let (_, behind) = self.buffer.split_at(1);
+        let last = pack_whole(
+            &mut self.buffer,
+            &mut self.front,
+            &self.last,
+            self.count,
+            &self.stamp,
+            batch,
+        )?;
+        let (_, behind) = self.buffer.split_at(2);
         match self.end.checked_add(behind.len()) {
             None => Err(JournalFault::Full),
             Some(end) => {
@@ -86,8 +104,8 @@ impl<D: Disk> Journal<D> {
         }
     }
 
-    /// Appends a batch. At `Ok` its entries are kept after those before them. Whatever a crash leaves at any moment within
-    /// the call stands for the entries before it, with all of the batch or none of it.
+    /// Appends a batch, with the journal's stamp at each entry. At `Ok` its entries are kept after those before them. Whatever a crash
+    /// leaves at any moment within the call stands for the entries before it, with all of the batch or none of it.
     /// At `Full` the journal is as it was: there would be more than 1,000,000 entries, or an entry has more than
     /// 16,777,216 bytes. At another `Err` open it anew.
     pub fn append(&mut self, batch: &[Vec<u8>]) -> Result<(), JournalFault>
@@ -97,12 +115,13 @@ impl<D: Disk> Journal<D> {
             → StandsFor c entries ⊎ StandsFor c (entries ++ batch_of batch.now) }
         ensures refused { (entries : List (List ℕ)) → IsKept D.Disk.seen D.Disk.may_leave D.Disk.is_usable entries self.old
             → IsErrOf result JournalFault.Full → IsKept D.Disk.seen D.Disk.may_leave D.Disk.is_usable entries self.new }
+        ensures stamp { stamp_of self.new ≡ stamp_of self.old }
         ensures clean { D.Disk.is_clean (disk_of self.new) ≡ D.Disk.is_clean (disk_of self.old) }
         ensures cause { (entries : List (List ℕ)) → IsKept D.Disk.seen D.Disk.may_leave D.Disk.is_usable entries self.old
             → IfErr result (HasAppendFault (D.Disk.faults (disk_of self.old)) (D.Disk.faults (disk_of self.new)) entries batch.now) }
-        // Each frame says how many entries were durable before its batch.
+        // Each frame says how many entries were durable before its batch, and has the journal's stamp.
         ensures numbered { (fs : List Frame) → KeepsFrames D.Disk.seen D.Disk.may_leave D.Disk.is_usable fs self.old
-            → OnOk result (KeepsFrames D.Disk.seen D.Disk.may_leave D.Disk.is_usable (fs ++ frames_of (length fs) batch.now) self.new) }
+            → OnOk result (KeepsFrames D.Disk.seen D.Disk.may_leave D.Disk.is_usable (fs ++ frames_of (length fs) (stamp_of self.old) batch.now) self.new) }
     {
         if batch.is_empty() {
             return Ok(());
@@ -116,28 +135,55 @@ impl<D: Disk> Journal<D> {
         self.add(batch)
     }
 
-    /// Opens the journal of a file that a crash may have left, and gives its entries. A crash within it leaves a file that
-    /// stands for the same entries. An `Err` gives the disk back.
-    pub fn open(alloc: Global, mut disk: D) -> Result<(Journal<D>, Vec<Vec<u8>>), (JournalFault, D)>
+    /// What is appended from here on is of this second of UTC, or of the journal's time where that is later. So times never go back.
+    pub fn at(&mut self, time: u64)
+        ensures kept { (entries : List (List ℕ)) → IsKept D.Disk.seen D.Disk.may_leave D.Disk.is_usable entries self.old
+            → IsKept D.Disk.seen D.Disk.may_leave D.Disk.is_usable entries self.new }
+        ensures frames { (fs : List Frame) → KeepsFrames D.Disk.seen D.Disk.may_leave D.Disk.is_usable fs self.old
+            → KeepsFrames D.Disk.seen D.Disk.may_leave D.Disk.is_usable fs self.new }
+        ensures disk { disk_of self.new ≡ disk_of self.old }
+        ensures stamp { stamp_of self.new ≡ record { time = max (stamp_of self.old).time time; account = (stamp_of self.old).account } }
+    {
+        self.stamp.not_before(time);
+    }
+
+    /// Opens the journal of a file that a crash may have left, and gives its entries. What is appended gets this stamp, with the time
+    /// of the last entry where that is later. A crash within the call leaves a file that stands for the same entries. An `Err` gives the
+    /// disk back.
+    pub fn open(
+        alloc: Global,
+        mut disk: D,
+        mut stamp: Stamp,
+    ) -> Result<(Journal<D>, Vec<Vec<u8>>), (JournalFault, D)>
         ensures kept { (file : List ℕ) → IsDurable D.Disk.seen D.Disk.may_leave D.Disk.is_usable file disk → IfOk result (λ opened. IsTrue (D.Disk.is_clean (disk_of opened.0))
             → StandsFor file (batch_of opened.1.items) × IsWhole file × IsKept D.Disk.seen D.Disk.may_leave D.Disk.is_usable (batch_of opened.1.items) opened.0) }
         ensures crash { (file : List ℕ) (entries : List (List ℕ)) → IsDurable D.Disk.seen D.Disk.may_leave D.Disk.is_usable file disk → StandsFor file entries
             → IfErr result (λ e. IsTrue (D.Disk.is_clean e.1) → (c : List ℕ) → D.Disk.may_leave e.1 c → StandsFor c entries) }
         ensures cause { (file : List ℕ) → IsDurable D.Disk.seen D.Disk.may_leave D.Disk.is_usable file disk
             → IfErr result (λ e. IsTrue (D.Disk.is_clean e.1) → HasOpenFault (D.Disk.faults disk) (D.Disk.faults e.1) file e.0) }
+        ensures stamp { IfOk result (λ opened. ((stamp_of opened.0).account ≡ stamp.account) × (stamp.time ≤ (stamp_of opened.0).time)) }
+        // The journal's time is the later of that of the stamp and that of the last entry.
+        ensures time { (file : List ℕ) (stamps : List StampView) → IsDurable D.Disk.seen D.Disk.may_leave D.Disk.is_usable file disk → HasStamps file stamps
+            → IfOk result (λ opened. IsTrue (D.Disk.is_clean (disk_of opened.0))
+            → (stamp_of opened.0).time ≡ max stamp.time (time_after 0 stamps)) }
         ensures few { IfOk result (λ opened. length opened.1.items ≤ 1000000) }
-        // Where an entry is damaged, nothing is written.
+        // Where an entry is damaged, or the file is of the format before this one, nothing is written.
         ensures untouched { (file : List ℕ) (number : ℕ) → IsDurable D.Disk.seen D.Disk.may_leave D.Disk.is_usable file disk
             → IfErr result (λ e. e.0 ≡ JournalFault.Damaged number → IsDurable D.Disk.seen D.Disk.may_leave D.Disk.is_usable file e.1) }
+        ensures older { (file : List ℕ) → IsDurable D.Disk.seen D.Disk.may_leave D.Disk.is_usable file disk
+            → IfErr result (λ e. e.0 ≡ JournalFault.Older → IsDurable D.Disk.seen D.Disk.may_leave D.Disk.is_usable file e.1) }
     {
         match recover(alloc, &mut disk) {
             Err(fault) => Err((fault, disk)),
             Ok(found) => {
+                stamp.not_before(last_time(&found.stamps));
                 let journal = Journal {
                     disk,
                     end: found.end,
                     count: found.entries.len() as u32,
                     last: found.last,
+                    stamp,
+                    front: Vec::new(alloc),
                     buffer: Vec::new(alloc),
                 };
                 Ok((journal, found.entries))

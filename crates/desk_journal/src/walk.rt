@@ -1,51 +1,59 @@
-//! The entries of a file's bytes, up to its shut latch, and whether that latch was once open.
-ghost use Rattle.std.specs.Prelude.{◌≡◌, ◌≢◌, ◌≤◌, ◌↔◌, ℕ, [], ◌∷◌, length, IsTrue, IfOk, IfErr, MatchOption};
+//! The entries of a file's bytes, up to its shut latch, and what comes after that.
+ghost use Rattle.std.specs.Prelude.{◌≡◌, ◌<◌, ◌≤◌, ◌↔◌, [], ◌∷◌, length, IsTrue, IfOk, IfErr, IsErrOf};
 ghost use Rattle.desk_journal.specs.Frames.{IsShut};
 ghost use Rattle.desk_journal.specs.Faults.{HasFileFault};
-ghost use Rattle.desk_journal.specs.Reading.{IsReadTo, SaysOther};
+ghost use Rattle.desk_journal.specs.Reading.{HasFirst, IsDamaged, IsForeign, IsOlder, IsStampedTo, SaysOther};
 
 use crate::JournalFault;
 use crate::checksum::first;
 use crate::journal::MOST;
-use crate::next::next_frame;
+use crate::next::{behind_latch, is_older, is_shut, next_body, next_frame};
+use crate::stamp::{Stamp, entry_in, stamp_in};
 use std::alloc::Global;
 
-/// Entries that were read, the checksum of the last, and what comes after them.
+/// Entries that were read, their stamps, the checksum of the last, and what comes after them.
 #[derive(Drop)]
 pub struct Walked<'a> {
     pub entries: Vec<Vec<u8>>,
+    pub stamps: Vec<Stamp>,
     pub last: [u8; 32],
     pub rest: &'a [u8],
 }
 
-// What comes after an open latch, where there is one and anything after it.
-fn behind_latch(rest: &[u8]) -> Option<&[u8]>
-    ensures { MatchOption result (IsShut rest.now) (λ behind. (rest.now ≡ 43 ∷ behind.now) × (behind.now ≢ [])) }
+// What is said where the entry of this number is damaged.
+fn fault_at(bytes: &[u8], number: u32) -> JournalFault
+    ensures cause { IsDamaged bytes.now number → HasFileFault bytes.now result }
+    ensures older { result ≡ JournalFault.Damaged 1 → IsOlder bytes.now → ⊥ }
 {
-    if rest.len() < 2 || rest[0] != 43 {
-        return None;
+    if number == 1 && is_older(bytes) {
+        return JournalFault::Older;
     }
-    Some(rest.split_at(1).1)
+    JournalFault::Damaged(number)
 }
 
-/// The entries up to the first latch that isn't open: `Damaged` where no whole frame follows an open one.
+/// The entries and their stamps up to the shut latch: `Damaged` where a latch isn't shut and no whole frame follows it, or the bytes
+/// end, and `Older` where they are of the format before this one.
 pub fn walk_entries<'a>(alloc: Global, bytes: &'a [u8]) -> Result<Walked<'a>, JournalFault>
-    ensures read { IfOk result (λ w. IsReadTo bytes.now w.entries.items w.last w.rest.now) }
+    requires { 2 < length bytes.now }
+    ensures read { IfOk result (λ w. IsStampedTo bytes.now w.entries.items w.stamps.items w.last w.rest.now) }
     ensures few { IfOk result (λ w. length w.entries.items ≤ 1000000) }
     ensures shut { IfOk result (λ w. IsShut w.rest.now) }
     ensures cause { IfErr result (HasFileFault bytes.now) }
+    ensures older { IsErrOf result (JournalFault.Damaged 1) → IsOlder bytes.now → ⊥ }
 {
     let mut entries = Vec::new(alloc);
+    let mut stamps = Vec::new(alloc);
     let mut last = first();
     let mut rest = bytes;
-    while let Some(behind) = behind_latch(rest) {
+    while !is_shut(rest) {
         if entries.len() >= MOST {
             return Err(JournalFault::Full);
         }
-        match next_frame(behind, &last) {
-            None => return Err(JournalFault::Damaged(entries.len() as u32 + 1)),
+        match next_frame(rest, &last) {
+            None => return Err(fault_at(bytes, entries.len() as u32 + 1)),
             Some(found) => {
-                entries.push(Vec::from_slice(alloc, found.entry)?)?;
+                entries.push(Vec::from_slice(alloc, entry_in(found.content))?)?;
+                stamps.push(stamp_in(alloc, found.content)?)?;
                 last = found.checksum;
                 rest = found.rest;
             }
@@ -53,18 +61,20 @@ pub fn walk_entries<'a>(alloc: Global, bytes: &'a [u8]) -> Result<Walked<'a>, Jo
     }
     Ok(Walked {
         entries,
+        stamps,
         last,
         rest,
     })
 }
 
-/// Whether whole frames follow a shut latch of which one says another number of durable entries than this.
-pub fn says_other(start: &[u8], previous: &[u8; 32], durable: u32) -> bool
+// Whether what comes after a shut latch would be whole frames if it were open, of which one says another number of durable entries
+// than this.
+fn says_other(start: &[u8], previous: &[u8; 32], durable: u32) -> bool
     ensures { IsTrue result ↔ SaysOther durable previous.now start.now }
 {
     let mut last = *previous;
     let mut behind = start;
-    while let Some(found) = next_frame(behind, &last) {
+    while let Some(found) = next_body(behind, &last) {
         if found.durable != durable {
             return true;
         }
@@ -77,4 +87,19 @@ pub fn says_other(start: &[u8], previous: &[u8; 32], durable: u32) -> bool
         }
     }
     false
+}
+
+// Whether a journal begins here.
+fn has_first(behind: &[u8]) -> bool
+    ensures { IsTrue result ↔ HasFirst behind.now }
+{
+    next_frame(behind, &first()).is_some()
+}
+
+/// Whether what comes after the shut latch of a journal isn't what a crash leaves there: frames that show that the latch was once
+/// open, or another journal.
+pub fn is_foreign(behind: &[u8], previous: &[u8; 32], durable: u32) -> bool
+    ensures { IsTrue result ↔ IsForeign durable previous.now behind.now }
+{
+    says_other(behind, previous, durable) || has_first(behind)
 }

@@ -10,6 +10,7 @@ use Rattle.desk_program.specs.Faults.{journal_fault}
 -- what a fault of the journal becomes isn't that answers differ
 pub never_differs : (fault : JournalFault) (made : DeskFault) (count : ℕ) → made ≡ journal_fault fault → ◌≡◌ {A = Result (Unit {0}) DeskFault} (Err made) (Err (Differs count)) → ⊥
 never_differs (journal.Damaged number) made count is differs = absurd cc (is, differs)
+never_differs journal.Older made count is differs = absurd cc (is, differs)
 never_differs journal.Full made count is differs = absurd cc (is, differs)
 never_differs journal.Read made count is differs = absurd cc (is, differs)
 never_differs journal.Write made count is differs = absurd cc (is, differs)
@@ -19,6 +20,7 @@ never_differs journal.OutOfMemory made count is differs = absurd cc (is, differs
 -- nor is it that a row can't be struck
 pub never_unstruck : (fault : JournalFault) (made : DeskFault) (strike : StrikeFault) → made ≡ journal_fault fault → ◌≡◌ {A = Result (Unit {0}) DeskFault} (Err made) (Err (Unstruck strike)) → ⊥
 never_unstruck (journal.Damaged number) made strike is other = absurd cc (is, other)
+never_unstruck journal.Older made strike is other = absurd cc (is, other)
 never_unstruck journal.Full made strike is other = absurd cc (is, other)
 never_unstruck journal.Read made strike is other = absurd cc (is, other)
 never_unstruck journal.Write made strike is other = absurd cc (is, other)

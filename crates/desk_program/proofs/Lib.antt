@@ -1,8 +1,11 @@
+pub mod AsOfLemmas
 pub mod DeskLemmas
 pub mod FaultLemmas
 pub mod FaultWordLemmas
 pub mod FileLemmas
+pub mod LogLemmas
 pub mod NoteLemmas
+pub mod OpenLemmas
 pub mod RowsLemmas
 pub mod TogetherLemmas
 pub mod TrialLemmas

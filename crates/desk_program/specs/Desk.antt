@@ -1,12 +1,14 @@
 -- A docket over a disk: what it keeps, and what a session on it promises.
 use Rattle.std.specs.Prelude.{◌≡◌, ◌≢◌, ℕ, List, Bool, Option, Err}
 use Rattle.court_days.specs.Words.{court_in}
-use Rattle.desk_journal.specs.Words.{IsKept, StandsFor, disk_of}
+use Rattle.desk_journal.specs.Words.{HasOpenFault, IsKept, StampView, StandsFor, disk_of, stamp_of}
 use Rattle.desk_session.specs.Words.{IsPromised}
 use Rattle.desk_entries.specs.declared.docketed.Docketed.{Docketed}
 use Rattle.desk_entries.specs.declared.standing.Standing.{Standing}
 use Rattle.desk_session.specs.declared.outcome.Outcome.{Outcome}
-use Rattle.desk_entries.specs.Words.{IsDocketed, IsHistory, StandsAfter}
+use Rattle.desk_entries.specs.declared.fault.HistoryFault.{HistoryFault}
+use Rattle.desk_entries.specs.declared.fault.HistoryFault.TheVariants as history
+use Rattle.desk_entries.specs.Words.{HasHistoryFault, IsDocketed, IsHistory, StandsAfter}
 use Rattle.desk_warnings.specs.declared.register.HeldBack.{HeldBack}
 use Rattle.desk_warnings.specs.Words.{careful_answers, careful_leaves, careful_outcome}
 use Rattle.program_runs.specs.Words.{court_part}
@@ -17,6 +19,10 @@ use Rattle.desk_program.specs.declared.fault.DeskFault.TheVariants.{BadStrike, B
 -- the disk under a desk
 abbrev pub disk_under : {D : Type 0} → Desk D → D
 disk_under desk = disk_of desk.journal
+
+-- the stamp that entries get which are kept there
+abbrev pub stamp_under : {D : Type 0} → Desk D → StampView
+stamp_under desk = stamp_of desk.journal
 
 -- what stands there: the court by which it goes, and what strikes come to
 abbrev pub standing_at : {D : Type 0} → Desk D → Standing
@@ -44,6 +50,21 @@ docketed_at desk = record { standing = desk.setup.standing; register = desk.care
 pub record KeepsDocket {D : Type 0} (seen : D → List ℕ) (may_leave : D → List ℕ → Type 0) (is_usable : D → Bool) (entries : List (List ℕ)) (desk : Desk D) : Type 0 where
   pub kept : IsKept seen may_leave is_usable entries desk.journal
   pub docketed : IsDocketed (docketed_at desk) entries
+
+-- the entries for which a file stands make no docket
+abbrev pub HasNoDocket : (file : List ℕ) → HistoryFault → Type 0
+HasNoDocket file fault = (entries : List (List ℕ)) × StandsFor file entries × HasHistoryFault entries fault
+
+-- Why the docket of a file isn't opened: its journal isn't, where the disk may have failed between these two counts of its faults; or
+-- its entries make no docket; or memory ran out.
+abbrev pub IsUnopened : (before after : ℕ) → (file : List ℕ) → DeskFault → Type 0
+IsUnopened before after file (Journal fault) = HasOpenFault before after file fault
+IsUnopened before after file NoJournal = HasNoDocket file history.NoCourt
+IsUnopened before after file (KeptCourt number cause) = HasNoDocket file (history.Court number cause)
+IsUnopened before after file (Other number) = HasNoDocket file (history.Other number)
+IsUnopened before after file (BadStrike number) = HasNoDocket file (history.Strike number)
+IsUnopened before after file OutOfMemory = Unit {0}
+IsUnopened before after file _ = ⊥
 
 -- What a session promises of a docket, however it ends: what `IsPromised` says of its lines, each of which leaves its row
 -- with its answer, or is held back; and whatever a crash leaves is a history after which the same stands, so that the next

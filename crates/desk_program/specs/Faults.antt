@@ -14,6 +14,7 @@ use Rattle.desk_program.specs.declared.fault.DeskFault.TheVariants.{BadStrike, B
 
 abbrev pub journal_fault : JournalFault → DeskFault
 journal_fault (journal.Damaged number) = Journal (journal.Damaged number)
+journal_fault journal.Older = Journal journal.Older
 journal_fault journal.Full = Journal journal.Full
 journal_fault journal.Read = Journal journal.Read
 journal_fault journal.Write = Journal journal.Write

@@ -1,9 +1,11 @@
+pub mod AsOf
 pub mod Cases
 pub mod Change
 pub mod Desk
 pub mod FaultWords
 pub mod Faults
 pub mod File
+pub mod Log
 pub mod Rows
 pub mod Strike
 pub mod Struck

@@ -1,9 +1,10 @@
 //! A docket on a copy of a journal's file.
-ghost use Rattle.std.specs.Prelude.{◌≡◌, [], ℕ, List, IsTrue, IfOk, OnOk};
-ghost use Rattle.desk_journal.specs.Words.{IsDurable, StandsFor};
+ghost use Rattle.std.specs.Prelude.{◌≡◌, [], ℕ, List, IsTrue, IfErr, IfOk, OnOk};
+ghost use Rattle.desk_journal.specs.Words.{IsDurable, IsWhole, StandsFor};
 
 use crate::desk::Desk;
 use crate::fault::DeskFault;
+use desk_journal::Stamp;
 use sqlite_disk::Disk;
 use std::alloc::Global;
 use std::io;
@@ -21,21 +22,24 @@ fn write_copy<D: Disk>(disk: &mut D, file: &[u8]) -> io::Result<()>
 }
 
 impl<D: Disk> Desk<D> {
-    ghost use Rattle.desk_program.specs.Desk.{KeepsDocket, disk_under};
+    ghost use Rattle.desk_program.specs.Desk.{IsUnopened, KeepsDocket, disk_under};
 
     /// Opens the docket of a journal's file on a copy of it, which goes to an empty disk. The file itself is only read. A disk
     /// in memory fails only for want of memory, so where the copy can't be written that is the fault.
     pub fn copied(alloc: Global, mut disk: D, file: &[u8]) -> Result<Desk<D>, (DeskFault, D)>
         requires usable { IsTrue (D.Disk.is_usable disk) }
         requires empty { D.Disk.seen disk ≡ [] }
-        ensures { IfOk result (λ desk. IsTrue (D.Disk.is_clean (disk_under desk))
+        ensures opened { IfOk result (λ desk. IsTrue (D.Disk.is_clean (disk_under desk))
             → (entries : List (List ℕ)) × StandsFor file.now entries × KeepsDocket D.Disk.seen D.Disk.may_leave D.Disk.is_usable entries desk) }
+        ensures whole { IfOk result (λ desk. IsTrue (D.Disk.is_clean (disk_under desk)) → IsWhole file.now) }
+        ensures cause { IfErr result (λ e. IsTrue (D.Disk.is_clean e.1) → (before : ℕ) × IsUnopened before (D.Disk.faults e.1) file.now e.0) }
     {
         match write_copy(&mut disk, file) {
             Ok(()) => {}
             Err(_) => return Err((DeskFault::OutOfMemory, disk)),
         }
-        match Desk::open(alloc, disk) {
+        let nobody = Stamp::new(0, Vec::new(alloc));
+        match Desk::open(alloc, disk, nobody) {
             Ok((desk, _)) => Ok(desk),
             Err(refused) => Err(refused),
         }

@@ -1,6 +1,6 @@
 //! A docket over a disk.
 ghost use Rattle.std.specs.Prelude.{◌≡◌, ◌⊎◌, ◌<◌, ◌≤◌, ◌∷◌, [], ℕ, List, length, false, IsTrue, IfErr, IfOk, IfSome, OnOk};
-ghost use Rattle.desk_journal.specs.Words.{IsDurable, IsKept, StandsFor, batch_of, disk_of};
+ghost use Rattle.desk_journal.specs.Words.{IsDurable, IsKept, IsWhole, StandsFor, batch_of, disk_of};
 ghost use Rattle.desk_session.specs.Words.{AfterBytes, EndsSession, IsServed, lines_of, tally_of, unfinished_of};
 ghost use Rattle.desk_entries.specs.Words.{IsHistory, cases_of, row_entries, run_by};
 ghost use Rattle.desk_warnings.specs.declared.register.HeldBack.TheVariants.{Nothing};
@@ -11,7 +11,7 @@ use crate::fault::DeskFault;
 use case_numbers::Cases;
 use court_days::Court;
 use desk_entries::{Docketed, Standing};
-use desk_journal::Journal;
+use desk_journal::{Journal, JournalFault, Stamp};
 use desk_numbers::MovedNumbers;
 use desk_session::{SessionFault, Tally, serve};
 use desk_warnings::{CarefulRegister, CarefulStanding, HeldBack};
@@ -19,6 +19,7 @@ use program_streams::Watched;
 use sqlite_disk::Disk;
 use std::alloc::{AllocError, Global};
 use std::io::{Read, Write};
+use std::rt::Clock;
 
 /// A court's docket, with the journal whose entries come to it.
 #[derive(Drop)]
@@ -38,21 +39,35 @@ pub(crate) fn batch_with(alloc: Global, entry: Vec<u8>) -> Result<Vec<Vec<u8>>, 
 }
 
 impl<D: Disk> Desk<D> {
-    ghost use Rattle.desk_program.specs.Desk.{IsPromisedDocket, KeepsDocket, answers_at, disk_under, docketed_at, held_at, leaves_at, outcome_at, standing_at};
+    ghost use Rattle.desk_program.specs.Desk.{IsPromisedDocket, IsUnopened, KeepsDocket, answers_at, disk_under, docketed_at, held_at, leaves_at, outcome_at, stamp_under, standing_at};
 
     /// Opens the docket of a disk that a crash may have left, and gives the entries of its journal. Each row must have the
-    /// answer that it gets under the court's file of its time. Nothing is held back at first. At an `Err` the disk is given back, and a crash leaves what
-    /// stands for the same entries.
-    pub fn open(alloc: Global, disk: D) -> Result<(Desk<D>, Vec<Vec<u8>>), (DeskFault, D)>
+    /// answer that it gets under the court's file of its time. Nothing is held back at first. What is kept there gets this stamp,
+    /// with the time of the last entry where that is later. At an `Err` the disk is given back, and a crash leaves what stands for
+    /// the same entries.
+    pub fn open(
+        alloc: Global,
+        disk: D,
+        stamp: Stamp,
+    ) -> Result<(Desk<D>, Vec<Vec<u8>>), (DeskFault, D)>
         ensures opened { (file : List ℕ) → IsDurable D.Disk.seen D.Disk.may_leave D.Disk.is_usable file disk → IfOk result (λ opened. IsTrue (D.Disk.is_clean (disk_under opened.0))
             → StandsFor file (batch_of opened.1.items) × KeepsDocket D.Disk.seen D.Disk.may_leave D.Disk.is_usable (batch_of opened.1.items) opened.0) }
+        ensures whole { (file : List ℕ) → IsDurable D.Disk.seen D.Disk.may_leave D.Disk.is_usable file disk → IfOk result (λ opened. IsTrue (D.Disk.is_clean (disk_under opened.0)) → IsWhole file) }
+        ensures stamp { IfOk result (λ opened. ((stamp_under opened.0).account ≡ stamp.account) × (stamp.time ≤ (stamp_under opened.0).time)) }
         ensures held { IfOk result (λ opened. held_at opened.0 ≡ Nothing) }
         ensures some { IfOk result (λ opened. 0 < length opened.1.items) }
         ensures few { IfOk result (λ opened. length opened.1.items ≤ 1000000) }
         ensures crash { (file : List ℕ) (entries : List (List ℕ)) → IsDurable D.Disk.seen D.Disk.may_leave D.Disk.is_usable file disk → StandsFor file entries
             → IfErr result (λ e. IsTrue (D.Disk.is_clean e.1) → (c : List ℕ) → D.Disk.may_leave e.1 c → StandsFor c entries) }
+        ensures cause { (file : List ℕ) → IsDurable D.Disk.seen D.Disk.may_leave D.Disk.is_usable file disk
+            → IfErr result (λ e. IsTrue (D.Disk.is_clean e.1) → IsUnopened (D.Disk.faults disk) (D.Disk.faults e.1) file e.0) }
+        // Where an entry is damaged, or the journal is of the first format, nothing is written.
+        ensures untouched { (file : List ℕ) (number : ℕ) → IsDurable D.Disk.seen D.Disk.may_leave D.Disk.is_usable file disk
+            → IfErr result (λ e. e.0 ≡ DeskFault.Journal (JournalFault.Damaged number) → IsDurable D.Disk.seen D.Disk.may_leave D.Disk.is_usable file e.1) }
+        ensures older { (file : List ℕ) → IsDurable D.Disk.seen D.Disk.may_leave D.Disk.is_usable file disk
+            → IfErr result (λ e. e.0 ≡ DeskFault.Journal JournalFault.Older → IsDurable D.Disk.seen D.Disk.may_leave D.Disk.is_usable file e.1) }
     {
-        let (journal, entries) = match Journal::open(alloc, disk) {
+        let (journal, entries) = match Journal::open(alloc, disk, stamp) {
             Ok(opened) => opened,
             Err((fault, disk)) => return Err((DeskFault::from(fault), disk)),
         };
@@ -73,7 +88,7 @@ impl<D: Disk> Desk<D> {
     }
 
     // The journal of a disk that has no entries.
-    fn empty_journal(alloc: Global, disk: D) -> Result<Journal<D>, (DeskFault, D)>
+    fn empty_journal(alloc: Global, disk: D, stamp: Stamp) -> Result<Journal<D>, (DeskFault, D)>
         ensures kept { (was : List ℕ) → IsDurable D.Disk.seen D.Disk.may_leave D.Disk.is_usable was disk
             → IfOk result (λ journal. IsTrue (D.Disk.is_clean (disk_of journal)) → IsKept D.Disk.seen D.Disk.may_leave D.Disk.is_usable [] journal) }
         ensures empty { (was : List ℕ) (entries : List (List ℕ)) → IsDurable D.Disk.seen D.Disk.may_leave D.Disk.is_usable was disk → StandsFor was entries
@@ -81,7 +96,7 @@ impl<D: Disk> Desk<D> {
         ensures crash { (was : List ℕ) (entries : List (List ℕ)) → IsDurable D.Disk.seen D.Disk.may_leave D.Disk.is_usable was disk → StandsFor was entries
             → IfErr result (λ e. IsTrue (D.Disk.is_clean e.1) → (c : List ℕ) → D.Disk.may_leave e.1 c → StandsFor c entries) }
     {
-        let (journal, entries) = match Journal::open(alloc, disk) {
+        let (journal, entries) = match Journal::open(alloc, disk, stamp) {
             Ok(opened) => opened,
             Err((fault, disk)) => return Err((DeskFault::from(fault), disk)),
         };
@@ -92,9 +107,11 @@ impl<D: Disk> Desk<D> {
         }
     }
 
-    /// Makes the docket of a court on a disk that has no entries: its file is the first. At an `Err` a crash leaves what
+    /// Makes the docket of a court on a disk that has no entries: its file is the first, with this stamp. At an `Err` a crash leaves what
     /// stands for the entries that the disk had or, where it had none, also for the file alone.
-    pub fn begin(alloc: Global, disk: D, file: Vec<u8>) -> Result<D, (DeskFault, D)>
+    pub fn begin(alloc: Global, disk: D, file: Vec<u8>, stamp: Stamp) -> Result<D, (DeskFault, D)>
+        ensures empty { (was : List ℕ) (entries : List (List ℕ)) → IsDurable D.Disk.seen D.Disk.may_leave D.Disk.is_usable was disk → StandsFor was entries
+            → IfOk result (λ d. IsTrue (D.Disk.is_clean d) → entries ≡ []) }
         ensures begun { (was : List ℕ) → IsDurable D.Disk.seen D.Disk.may_leave D.Disk.is_usable was disk
             → IfOk result (λ d. IsTrue (D.Disk.is_clean d) → (c : List ℕ) → D.Disk.may_leave d c → StandsFor c (file.items ∷ [])) }
         ensures history { OnOk result (IsHistory (file.items ∷ [])) }
@@ -109,7 +126,7 @@ impl<D: Disk> Desk<D> {
             Ok(batch) => batch,
             Err(_) => return Err((DeskFault::OutOfMemory, disk)),
         };
-        match Desk::empty_journal(alloc, disk) {
+        match Desk::empty_journal(alloc, disk, stamp) {
             Ok(mut journal) => match journal.append(&batch) {
                 Ok(()) => Ok(journal.into_disk()),
                 Err(fault) => Err((DeskFault::from(fault), journal.into_disk())),
@@ -170,13 +187,14 @@ impl<D: Disk> Desk<D> {
     }
 
     /// Serves rows, one in a line, until the input ends: each is kept, and then it is answered. One that is held back is
-    /// answered with its warnings, and not kept. However it ends, and
+    /// answered with its warnings, and not kept. What is kept has the second that the clock showed when it was read. However it ends, and
     /// wherever a crash comes, no answered row is lost. So it is where the program is killed, by a signal or otherwise:
     /// then a crash leaves what the disk holds at that moment. At the end it says how many rows there were, and how many of
     /// them had faults.
-    pub fn enter<R: Read, W: Write>(
+    pub fn enter<C: Clock, R: Read, W: Write>(
         &mut self,
         alloc: Global,
+        clock: &C,
         reader: &mut Watched<R>,
         writer: &mut Watched<W>,
     ) -> Result<Tally, SessionFault>
@@ -195,6 +213,7 @@ impl<D: Disk> Desk<D> {
         serve(
             &self.setup,
             alloc,
+            clock,
             &mut self.journal,
             &mut self.careful,
             reader,

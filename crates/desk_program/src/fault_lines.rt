@@ -146,6 +146,9 @@ impl<'a> fmt::Display for DeskFaultLine<'a> {
                 "{count} answers would differ: nothing is changed, unless --accept says so"
             ),
             DeskFault::Unstruck(fault) => write!(f, "nothing is struck: {fault}"),
+            DeskFault::Journal(JournalFault::Older) => f.write_str(
+                "the journal is of the first format, which this program doesn't read: open the folder with the version that wrote it",
+            ),
             DeskFault::Journal(fault) => write!(f, "{fault}"),
             DeskFault::Session(fault) => write!(f, "{fault}"),
             DeskFault::Unkept(fault) => write_unkept(fault, f),

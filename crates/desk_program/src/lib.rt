@@ -2,6 +2,7 @@
 //! file. The program over these calls only opens files and streams.
 #![tactic(auto)]
 
+mod as_of;
 mod asking;
 mod cases;
 mod change;
@@ -12,6 +13,7 @@ mod fault;
 mod fault_lines;
 mod fault_words;
 mod file;
+mod log;
 mod note;
 mod rows;
 mod strike;
@@ -20,6 +22,7 @@ mod tally;
 mod together;
 mod trial;
 
+pub use as_of::{Moment, kept_at, what_comes_later_changes_nothing};
 pub use asking::ask;
 pub use cases::write_cases;
 pub use court::{check_court, court_of};
@@ -27,6 +30,7 @@ pub use desk::Desk;
 pub use fault::DeskFault;
 pub use fault_lines::{DeskFaultLine, ended_by, status_of};
 pub use file::{file_fault, open_file};
+pub use log::{LogChoice, write_log};
 pub use rows::{write_count, write_rows};
 pub use struck::write_struck;
 pub use tally::all_taken;

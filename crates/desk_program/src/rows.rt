@@ -18,7 +18,7 @@ use std::io::Write;
 const ROOM: usize = 65_536;
 
 // Writes what was gathered, and begins anew.
-fn put<W: Write>(writer: &mut Watched<W>, text: &mut Vec<u8>) -> Result<(), DeskFault>
+pub(crate) fn put<W: Write>(writer: &mut Watched<W>, text: &mut Vec<u8>) -> Result<(), DeskFault>
     requires { has_failed writer.old ≡ false }
     ensures written { OnOk result (Appends (W.contents (watched writer.old)) (W.contents (watched writer.new)) text.old.items) }
     ensures empty { OnOk result (text.new.items ≡ []) }
@@ -32,7 +32,10 @@ fn put<W: Write>(writer: &mut Watched<W>, text: &mut Vec<u8>) -> Result<(), Desk
 }
 
 // The same where enough was gathered.
-fn put_if_long<W: Write>(writer: &mut Watched<W>, text: &mut Vec<u8>) -> Result<(), DeskFault>
+pub(crate) fn put_if_long<W: Write>(
+    writer: &mut Watched<W>,
+    text: &mut Vec<u8>,
+) -> Result<(), DeskFault>
     requires { has_failed writer.old ≡ false }
     ensures written { OnOk result ((front : List ℕ) × Appends (W.contents (watched writer.old)) (W.contents (watched writer.new)) front × (text.old.items ≡ front ++ text.new.items)) }
     ensures working { OnOk result (has_failed writer.new ≡ false) }

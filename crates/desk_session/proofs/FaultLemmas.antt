@@ -1,7 +1,6 @@
 -- Why sessions end early, led from one batch of bytes to the next.
 use Rattle.std.proofs.Common.{◌≡◌, ◌∙◌, ◌+◌, ◌<◌, inl, inr, ℕ, Bool, List, [], ◌∷◌, ◌++◌, length, refl, sym, ap, subst, arith, append_assoc, append-nil}
 use Rattle.std.proofs.lemmas.List.{length-append}
-use Rattle.desk_journal.specs.declared.fault.JournalFault.TheVariants as journal
 use Rattle.program_streams.specs.declared.watched.Watched.{Watched}
 use Rattle.program_streams.specs.Words.{has_failed}
 use Rattle.desk_session.specs.declared.fault.SessionFault.{SessionFault}

@@ -1,3 +1,4 @@
+pub mod AccountLemmas
 pub mod CallerLemmas
 pub mod EndLemmas
 pub mod FaultLemmas

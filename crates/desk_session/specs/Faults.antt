@@ -10,12 +10,8 @@ use Rattle.desk_session.specs.Lines.{unfinished_from, unfinished_of}
 
 -- a journal's fault, as a session's: want of memory has one name
 abbrev pub fault_from : JournalFault → SessionFault
-fault_from (journal.Damaged number) = Journal (journal.Damaged number)
-fault_from journal.Full = Journal journal.Full
-fault_from journal.Read = Journal journal.Read
-fault_from journal.Write = Journal journal.Write
-fault_from journal.Sync = Journal journal.Sync
 fault_from journal.OutOfMemory = OutOfMemory
+fault_from fault = Journal fault
 
 -- Somewhere in these bytes a line has more than 65,536 bytes, where one has begun with `begun`: the bytes up to there have so
 -- many after the last end of a line.

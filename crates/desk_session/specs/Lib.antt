@@ -1,3 +1,4 @@
+pub mod Account
 pub mod Faults
 pub mod Lines
 pub mod Outcomes

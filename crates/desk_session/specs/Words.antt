@@ -1,4 +1,6 @@
 -- The words for the crates above, from one place.
+pub use Rattle.desk_session.specs.Account.{is_printable}
+unfoldable pub use Rattle.desk_session.specs.Account.{account_text}
 pub use Rattle.desk_session.specs.Faults.{EndsSession, HasLongLine, StopsBytes, fault_from}
 pub use Rattle.desk_session.specs.Lines.{IsFirstLine, HasNoEnd, after_mark, lines_of, mark_before, mark_of, number_after, numbered_lines, or_whole, unfinished_of, unmarked, unmarked_lines}
 unfoldable pub use Rattle.desk_session.specs.Lines.{numbered_from}

@@ -15,7 +15,22 @@ use crate::register::Register;
 use crate::session::serve_lines;
 use program_streams::Watched;
 use std::alloc::Global;
-use std::io::{Read, Write};
+use std::io::{self, Read, Write};
+use std::rt::Clock;
+use std::time::Duration;
+
+// A clock that stands still: nothing is kept whose time could be asked for.
+struct StoppedClock;
+
+impl Clock for StoppedClock {
+    fn monotonic(&self) -> io::Result<Duration> {
+        Ok(Duration::ZERO)
+    }
+
+    fn since_1970(&self) -> io::Result<Duration> {
+        Ok(Duration::ZERO)
+    }
+}
 
 /// Answers the lines of an input until it ends, and keeps none of them. However it ends, what is written is a beginning of
 /// the answers to the lines that were read. At the end it says how many lines there were.
@@ -37,5 +52,13 @@ pub fn answer<O: Register, R: Read, W: Write>(
         IfSome (R.remaining (watched reader.old)) (λ input. tally ≡ tally_of (O.leaves setup.now) (O.outcome setup.now) kept (lines_of input))) }
     ensures fault { IfErr result (λ fault. AfterBytes (R.remaining (watched reader.old)) (R.remaining (watched reader.new)) (λ bytes. EndsSession reader.new writer.new bytes fault)) }
 {
-    serve_lines(setup, alloc, &mut NoJournal, register, reader, writer)
+    serve_lines(
+        setup,
+        alloc,
+        &StoppedClock,
+        &mut NoJournal,
+        register,
+        reader,
+        writer,
+    )
 }

@@ -19,6 +19,11 @@ pub(crate) trait Keeper {
         ensures crash { (entries : List (List ℕ)) → keeps self.old entries → (file : List ℕ) → may_leave self.new file
             → StandsFor file entries ⊎ StandsFor file (entries ++ batch_of batch.now) };
 
+    /// What is kept from here on is of this second of UTC, or of that of the last entry where it is later.
+    fn at(&mut self, time: u64)
+        ensures kept { (entries : List (List ℕ)) → keeps self.old entries → keeps self.new entries }
+        ensures crash { (file : List ℕ) → may_leave self.new file → may_leave self.old file };
+
     // Whatever a crash leaves stands for the entries that are kept.
     ghost rest: { (keeper : Self) (entries : List (List ℕ)) → keeps keeper entries → (file : List ℕ) → may_leave keeper file → StandsFor file entries };
 }
@@ -36,6 +41,10 @@ impl<D: Disk> Keeper for Journal<D> {
     fn keep(&mut self, batch: &[Vec<u8>]) -> Result<(), JournalFault> {
         self.append(batch)
     }
+
+    fn at(&mut self, time: u64) {
+        Journal::at(self, time)
+    }
 }
 
 /// Keeps nothing: there is no file that a crash may leave.
@@ -52,4 +61,6 @@ impl Keeper for NoJournal {
     fn keep(&mut self, _batch: &[Vec<u8>]) -> Result<(), JournalFault> {
         Ok(())
     }
+
+    fn at(&mut self, _time: u64) {}
 }

@@ -1,8 +1,10 @@
 //! A session of lines, each of which is kept in a journal before it is answered. It knows nothing of courts.
 #![tactic(auto)]
 
+mod account;
 mod asking;
 mod batch;
+mod clock;
 mod fault;
 mod gather;
 mod keeper;
@@ -13,7 +15,9 @@ mod register;
 mod session;
 mod together;
 
+pub use account::account_of;
 pub use asking::answer;
+pub use clock::second_of;
 pub use fault::SessionFault;
 pub use gather::MAX_LINE;
 pub use lines::{

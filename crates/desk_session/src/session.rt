@@ -8,6 +8,7 @@ ghost use Rattle.desk_session.specs.Outcomes.{tally_of};
 ghost use Rattle.desk_session.specs.Served.{AfterBytes, IsPromised, IsServed};
 
 use crate::batch::serve_bytes;
+use crate::clock::second_of;
 use crate::fault::SessionFault;
 use crate::keeper::Keeper;
 use crate::outcome::Tally;
@@ -17,6 +18,7 @@ use program_streams::Watched;
 use sqlite_disk::Disk;
 use std::alloc::Global;
 use std::io::{Read, Write};
+use std::rt::Clock;
 
 // How many bytes are asked for at once.
 const CHUNK: usize = 65_536;
@@ -34,10 +36,12 @@ fn ended(begun: &Vec<u8>, tally: Tally) -> Result<Tally, SessionFault>
     }
 }
 
-// Takes the lines of an input until it ends. The entries of those that one read gives are kept together, and then they are answered.
-pub(crate) fn serve_lines<K: Keeper, O: Register, R: Read, W: Write>(
+// Takes the lines of an input until it ends. The entries of those that one read gives are kept together, with the second at which
+// they were read, and then they are answered.
+pub(crate) fn serve_lines<K: Keeper, O: Register, C: Clock, R: Read, W: Write>(
     setup: &O::Setup,
     alloc: Global,
+    clock: &C,
     keeper: &mut K,
     register: &mut O,
     reader: &mut Watched<R>,
@@ -67,6 +71,7 @@ pub(crate) fn serve_lines<K: Keeper, O: Register, R: Read, W: Write>(
                 if count == 0 {
                     return ended(&begun, tally);
                 }
+                keeper.at(second_of(clock));
                 serve_bytes(
                     setup,
                     alloc,
@@ -84,10 +89,12 @@ pub(crate) fn serve_lines<K: Keeper, O: Register, R: Read, W: Write>(
 }
 
 /// Serves the lines of an input until it ends. The lines that one read gives are made durable together, and then they are
-/// answered. However the session ends, what was answered is kept. At the end it says how many lines there were.
-pub fn serve<D: Disk, O: Register, R: Read, W: Write>(
+/// answered. Each entry has the second that the clock showed when its line was read, or that of the entry before it where that is
+/// later. However the session ends, what was answered is kept. At the end it says how many lines there were.
+pub fn serve<D: Disk, O: Register, C: Clock, R: Read, W: Write>(
     setup: &O::Setup,
     alloc: Global,
+    clock: &C,
     journal: &mut Journal<D>,
     register: &mut O,
     reader: &mut Watched<R>,
@@ -106,5 +113,5 @@ pub fn serve<D: Disk, O: Register, R: Read, W: Write>(
     ensures fault { IfErr result (λ fault. AfterBytes (R.remaining (watched reader.old)) (R.remaining (watched reader.new)) (λ bytes. EndsSession reader.new writer.new bytes fault)) }
     ensures working { OnOk result (has_failed writer.new ≡ false) }
 {
-    serve_lines(setup, alloc, journal, register, reader, writer)
+    serve_lines(setup, alloc, clock, journal, register, reader, writer)
 }

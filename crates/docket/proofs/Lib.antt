@@ -1,1 +1,2 @@
 mod SessionLemmas
+pub mod TimeLemmas

@@ -8,6 +8,10 @@ use Rattle.desk_program.specs.declared.fault.DeskFault.TheVariants.{Journal, Out
 abbrev pub journal_name : (folder : List ℕ) → List ℕ
 journal_name folder = folder ++ codes "/journal"
 
+-- the name of the folder in which it is
+abbrev pub above_name : (folder : List ℕ) → List ℕ
+above_name folder = folder ++ codes "/.."
+
 -- the same fault, but that a disk in memory fails for want of memory alone
 abbrev pub fault_in_memory : DeskFault → DeskFault
 fault_in_memory (Journal journal.Read) = OutOfMemory

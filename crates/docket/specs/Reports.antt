@@ -3,6 +3,8 @@ use Rattle.std.specs.Prelude.{◌≡◌, ℕ, List, ⊤, Option, Some, None, Res
 use Rattle.std.specs.declared.alloc.Global.{Global}
 use Rattle.desk_entries.specs.declared.standing.Standing.{Standing}
 use Rattle.desk_entries.specs.Words.{IsHistory, StandsAfter, cases_of, changes_by, corrections_in, rows_refused, rows_standing, rows_struck, run_by, standing_file}
+use Rattle.std.specs.Io.KnownBytes.{Appends}
+use Rattle.desk_program.specs.Words.{cases_text, written_rows}
 use Rattle.program_runs.specs.declared.fault.OfficeFault.{OfficeFault}
 use Rattle.report_program.specs.declared.asked.Asked.{Asked as ReportAsked}
 use Rattle.report_program.specs.Words.{IsCalendar, IsMissing, PastView}
@@ -49,6 +51,14 @@ IsMemo asked entries text = AfterEntries entries (λ under.
 abbrev pub IsNoMemo : MemoAsked → (entries : List (List ℕ)) → (line : List ℕ) → Type 0
 IsNoMemo asked entries line = AfterEntries entries (λ under.
     IsMemoMissing asked under.court (folder_labels under entries) (rows_standing under entries) line)
+
+-- the cases that have names are written, with their numbers
+abbrev pub WritesCases : (entries : List (List ℕ)) → (before after : Option (List ℕ)) → Type 0
+WritesCases entries before after = AfterEntries entries (λ under. Appends before after (cases_text (cases_of under entries).named))
+
+-- the court's file and the rows that stand are written, as clerk_office reads them
+abbrev pub WritesRows : (entries : List (List ℕ)) → (before after : Option (List ℕ)) → Type 0
+WritesRows entries before after = AfterEntries entries (λ under. Appends before after (written_rows under (run_by under entries).numbers.moved entries))
 
 -- what came of a run over an input, as the program ends by it
 abbrev pub EndsRun : (IsRun : Result (Option (String Global)) OfficeFault → Type 0) → Result ⊤ Fault → Type 0

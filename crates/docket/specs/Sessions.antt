@@ -1,9 +1,8 @@
 -- Sessions of lines, and what is said of a row that is struck.
 use Rattle.std.specs.Prelude.{◌≡◌, ℕ, ℤ, List, ◌++◌, ⊤, Result, Ok, Err, codes, string_bytes}
 use Rattle.court_clock.specs.Words.{day_text}
-use Rattle.court_days.specs.Words.{CourtView}
 use Rattle.desk_entries.specs.declared.standing.Standing.{Standing}
-use Rattle.program_main.specs.Texts.Words.{day_on, today_by}
+use Rattle.program_main.specs.Texts.Words.{today_by}
 use Rattle.program_words.specs.declared.task.Striking.{Striking}
 use Rattle.desk_session.specs.declared.outcome.Tally.{Tally}
 use Rattle.desk_program.specs.declared.fault.DeskFault.TheVariants.{Faulty}
@@ -16,13 +15,10 @@ WithTally IsSo (Ok done) = (tally : Tally) × (tally.faults ≡ 0) × IsSo tally
 WithTally IsSo (Err (Desk (Faulty tally))) = IsSo tally
 WithTally IsSo (Err other) = Unit {0}
 
--- when, by whom and why a row was struck
-unfoldable pub remark_text : (day : ℤ) → (by reason : List ℕ) → List ℕ
-remark_text day by reason = codes "struck " ++ day_text day ++ codes " by " ++ by ++ codes ": " ++ reason ++ codes "\n"
+-- when, by which account and why a row was struck
+unfoldable pub remark_text : (day : ℤ) → (account reason : List ℕ) → List ℕ
+remark_text day account reason = codes "struck " ++ day_text day ++ codes " by " ++ account ++ codes ": " ++ reason ++ codes "\n"
 
--- the day on which a row is struck: the one that was said, by the day that the court's clock shows
-abbrev pub day_struck : CourtView → Striking → ℤ
-day_struck court striking = day_on (today_by court.clock striking.clock_time) striking.today
-
-abbrev pub remark_by : Standing → Striking → List ℕ
-remark_by under striking = remark_text (day_struck under.court striking) (string_bytes striking.by) (string_bytes striking.reason)
+-- a row is struck on the day that the court's clock shows
+abbrev pub remark_by : Standing → (account : List ℕ) → Striking → List ℕ
+remark_by under account striking = remark_text (today_by under.court.clock striking.clock_time) account (string_bytes striking.reason)

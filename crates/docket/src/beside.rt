@@ -1,21 +1,26 @@
 //! What the program does beside another one that may enter rows.
-ghost use Rattle.std.specs.Prelude.{◌≡◌, ℕ, List, false, IfSome, OnOk};
+ghost use Rattle.std.specs.Prelude.{◌≡◌, ◌≤◌, ℕ, List, false, length, IfOk, IfSome, OnOk};
 ghost use Rattle.desk_session.specs.declared.outcome.Tally.{Tally};
-ghost use Rattle.desk_entries.specs.Words.{IsDocketed};
+ghost use Rattle.desk_entries.specs.Words.{IsDocketed, most_entries};
+ghost use Rattle.desk_journal.specs.Words.{batch_of};
 ghost use Rattle.desk_program.specs.Words.{AnswersQuestions, IsTried, KeepsDocket, held_at, leaves_at, outcome_at, standing_at};
 ghost use Rattle.desk_session.specs.Words.{lines_of, tally_of};
+ghost use Rattle.docket.specs.Reports.{WritesCases, WritesRows};
 ghost use Rattle.docket.specs.Sessions.{WithTally};
 ghost use Rattle.program_streams.specs.Words.{has_failed, watched};
 
 use crate::fault::{Fault, taken};
-use crate::folder::{copied_beside, entries_beside, put};
+use crate::folder::{copied_beside, entries_beside, put, stamped_beside};
 use crate::input::{reading_of, rows_of};
 use crate::progress::told_while;
+use crate::times::choice_of;
 use desk_entries::Docketed;
-use desk_program::{Desk, DeskFault, ask as answer, write_cases, write_struck};
+use desk_program::{
+    Desk, DeskFault, ask as answer, write_cases, write_count, write_log, write_rows, write_struck,
+};
 use desk_warnings::HeldBack;
 use program_streams::Watched;
-use program_words::{Lines, Style};
+use program_words::{AsOf, Lines, LogAsked, Style};
 use sqlite_disk::Disk;
 use std::alloc::Global;
 use std::io::{Read, Write};
@@ -65,17 +70,20 @@ pub fn try_rows<H: Threads + Wait + Sync, W: Write, E: Write>(
     }
 }
 
-// A court and its docket, as the folder's journal has them at that moment.
+// A court and its docket, as the folder's journal had them then, and the entries that they are made of.
 fn docketed_beside<H: Threads + Wait + Sync>(
     rt: &HostRuntime,
     threads: &H,
     folder: &str,
-) -> Result<Docketed, Fault> {
-    let entries = entries_beside(rt, folder)?;
+    as_of: Option<AsOf>,
+) -> Result<(Docketed, Vec<Vec<u8>>), Fault>
+    ensures { IfOk result (λ docketed. length docketed.1.items ≤ 1000000) }
+{
+    let entries = entries_beside(rt, folder, as_of)?;
     let docketed = told_while(threads, rt.stderr(), "reading", folder, || {
         Docketed::of(rt.alloc(), &entries)
-    });
-    Ok(docketed?)
+    })?;
+    Ok((docketed, entries))
 }
 
 // Answers questions.
@@ -96,7 +104,7 @@ fn answered<R: Read + Drop, W: Write>(
     }
 }
 
-/// Answers questions.
+/// Answers questions, as of then.
 pub fn ask<H: Threads + Wait + Sync, W: Write, E: Write>(
     rt: &HostRuntime,
     threads: &H,
@@ -104,10 +112,12 @@ pub fn ask<H: Threads + Wait + Sync, W: Write, E: Write>(
     errors: &mut Watched<E>,
     folder: &str,
     lines: Lines,
+    as_of: Option<AsOf>,
 ) -> Result<(), Fault>
     requires { has_failed writer.old ≡ false }
 {
-    let docketed = docketed_beside(rt, threads, folder)?;
+    let (docketed, entries) = docketed_beside(rt, threads, folder, as_of)?;
+    drop(entries);
     match rows_of(rt, errors, &docketed.standing.court, lines, false) {
         Ok(None) => answered(rt.alloc(), rt.stdin(), writer, docketed),
         Ok(Some(rows)) => answered(rt.alloc(), rows.as_slice(), writer, docketed),
@@ -126,13 +136,54 @@ pub fn plain<H: Threads + Wait + Sync, W: Write, E: Write>(
 ) -> Result<(), Fault>
     requires { has_failed writer.old ≡ false }
 {
-    let Docketed { standing, .. } = docketed_beside(rt, threads, folder)?;
-    let reading = reading_of(rt, errors, &standing.court, style, false)?;
+    let (docketed, entries) = docketed_beside(rt, threads, folder, None)?;
+    drop(entries);
+    let reading = reading_of(rt, errors, &docketed.standing.court, style, false)?;
     Ok(put(writer, &reading.rows)?)
 }
 
-/// Writes the cases that have names.
+// Writes the cases of a docket that have names.
+fn put_cases<W: Write>(
+    alloc: Global,
+    writer: &mut Watched<W>,
+    docketed: &Docketed,
+) -> Result<(), DeskFault>
+    requires { has_failed writer.old ≡ false }
+    ensures { (entries : List (List ℕ)) → IsDocketed docketed.now entries → OnOk result (WritesCases entries (W.contents (watched writer.old)) (W.contents (watched writer.new))) }
+{
+    write_cases(alloc, docketed.register.cases(), writer)
+}
+
+/// Writes the cases that have names, as of then.
 pub fn cases<H: Threads + Wait + Sync, W: Write>(
+    rt: &HostRuntime,
+    threads: &H,
+    writer: &mut Watched<W>,
+    folder: &str,
+    as_of: Option<AsOf>,
+) -> Result<(), Fault>
+    requires { has_failed writer.old ≡ false }
+{
+    let (docketed, entries) = docketed_beside(rt, threads, folder, as_of)?;
+    drop(entries);
+    Ok(put_cases(rt.alloc(), writer, &docketed)?)
+}
+
+/// Writes the rows that are struck, as of then.
+pub fn struck<W: Write>(
+    rt: &HostRuntime,
+    writer: &mut Watched<W>,
+    folder: &str,
+    as_of: Option<AsOf>,
+) -> Result<(), Fault>
+    requires { has_failed writer.old ≡ false }
+{
+    let entries = entries_beside(rt, folder, as_of)?;
+    Ok(write_struck(rt.alloc(), &entries, writer)?)
+}
+
+/// Writes how many rows the folder has, all of which are decided again.
+pub fn check<H: Threads + Wait + Sync, W: Write>(
     rt: &HostRuntime,
     threads: &H,
     writer: &mut Watched<W>,
@@ -141,17 +192,48 @@ pub fn cases<H: Threads + Wait + Sync, W: Write>(
     requires { has_failed writer.old ≡ false }
 {
     let desk = copied_beside(rt, threads, folder)?;
-    Ok(write_cases(rt.alloc(), desk.cases(), writer)?)
+    Ok(write_count(rt.alloc(), desk.rows(), writer)?)
 }
 
-/// Writes the rows that are struck.
-pub fn struck<W: Write>(
+// Writes the court's file and the rows that stand of a docket, which is made of these entries.
+fn put_rows<W: Write>(
+    alloc: Global,
+    writer: &mut Watched<W>,
+    docketed: &Docketed,
+    entries: &[Vec<u8>],
+) -> Result<(), DeskFault>
+    requires works { has_failed writer.old ≡ false }
+    requires few { length entries.now ≤ most_entries }
+    ensures { IsDocketed docketed.now (batch_of entries.now) → OnOk result (WritesRows (batch_of entries.now) (W.contents (watched writer.old)) (W.contents (watched writer.new))) }
+{
+    let moved = docketed.register.numbers().moved();
+    write_rows(alloc, &docketed.standing, moved, entries, writer)
+}
+
+/// Writes the court's file and the rows that stand, as clerk_office reads them, as of then.
+pub fn rows<H: Threads + Wait + Sync, W: Write>(
     rt: &HostRuntime,
+    threads: &H,
     writer: &mut Watched<W>,
     folder: &str,
+    as_of: Option<AsOf>,
 ) -> Result<(), Fault>
     requires { has_failed writer.old ≡ false }
 {
-    let entries = entries_beside(rt, folder)?;
-    Ok(write_struck(rt.alloc(), &entries, writer)?)
+    let (docketed, entries) = docketed_beside(rt, threads, folder, as_of)?;
+    Ok(put_rows(rt.alloc(), writer, &docketed, &entries)?)
+}
+
+/// Lists what was entered, by whom and when.
+pub fn log<W: Write>(
+    rt: &HostRuntime,
+    writer: &mut Watched<W>,
+    folder: &str,
+    asked: &LogAsked,
+) -> Result<(), Fault>
+    requires { has_failed writer.old ≡ false }
+{
+    let (entries, stamps) = stamped_beside(rt, folder)?;
+    let choice = choice_of(rt.alloc(), &entries, asked)?;
+    Ok(write_log(rt.alloc(), &entries, &stamps, &choice, writer)?)
 }

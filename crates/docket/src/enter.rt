@@ -18,12 +18,14 @@ use row_input::json_of_said;
 use sqlite_disk::Disk;
 use std::alloc::Global;
 use std::io::{Read, Write};
+use std::rt::Clock;
 use std::sync::Wait;
 use std::thread::Threads;
 
 // Keeps rows, and answers each.
-fn kept_each<D: Disk, R: Read + Drop, W: Write>(
+fn kept_each<D: Disk, C: Clock, R: Read + Drop, W: Write>(
     alloc: Global,
+    clock: &C,
     reader: R,
     writer: &mut Watched<W>,
     desk: &mut Desk<D>,
@@ -35,7 +37,7 @@ fn kept_each<D: Disk, R: Read + Drop, W: Write>(
         IsServed (leaves_at desk.old) (answers_at desk.old) (λ entries. KeepsDocket D.Disk.seen D.Disk.may_leave D.Disk.is_usable entries desk.new) (λ entries. standing_at desk.new ≡ standing_at desk.old) kept (lines_of input) (W.contents (watched writer.old)) (W.contents (watched writer.new)))) }
 {
     let mut reader = Watched::new(reader);
-    match desk.enter(alloc, &mut reader, writer) {
+    match desk.enter(alloc, clock, &mut reader, writer) {
         Ok(tally) => taken(tally),
         Err(fault) => Err(Fault::Desk(DeskFault::Session(fault))),
     }
@@ -118,8 +120,8 @@ fn kept<W: Write, E: Write>(
 {
     let rows = rows_of(rt, errors, desk.court(), lines, marked)?;
     match (keeping, rows) {
-        (Keeping::Each, None) => kept_each(rt.alloc(), rt.stdin(), writer, desk),
-        (Keeping::Each, Some(rows)) => kept_each(rt.alloc(), rows.as_slice(), writer, desk),
+        (Keeping::Each, None) => kept_each(rt.alloc(), rt, rt.stdin(), writer, desk),
+        (Keeping::Each, Some(rows)) => kept_each(rt.alloc(), rt, rows.as_slice(), writer, desk),
         (Keeping::Together(keep_refused), None) => {
             let rows = whole(rt.alloc(), rt.stdin())?;
             kept_together(rt.alloc(), writer, errors, desk, lines, &rows, keep_refused)

@@ -1,13 +1,17 @@
 //! A folder with a journal.
 ghost use Rattle.std.specs.Prelude.{◌≡◌, ◌<◌, ◌≤◌, Err, length, false, string_bytes, IfOk, OnErr, OnOk};
 ghost use Rattle.std.specs.Io.KnownBytes.{Appends};
-ghost use Rattle.docket.specs.Folder.{fault_in_memory, journal_name};
+ghost use Rattle.docket.specs.Folder.{above_name, fault_in_memory, journal_name};
 ghost use Rattle.program_streams.specs.Words.{has_failed, watched};
 
 use crate::progress::told_while;
-use desk_journal::{JournalFault, entries_in};
+use crate::saved::save_tail;
+use crate::times::until;
+use desk_journal::{JournalFault, Stamp, stamped_in};
 use desk_program::{Desk, DeskFault, file_fault, open_file};
+use desk_session::{account_of, second_of};
 use program_streams::{Watched, write_all};
+use program_words::AsOf;
 use sqlite_disk::Memory;
 use sqlite_std_file::{FileFrom, Wary};
 use std::alloc::{AllocError, Global};
@@ -55,6 +59,32 @@ pub fn make_folder(rt: &HostRuntime, folder: &str) -> Result<(), DeskFault> {
     }
 }
 
+// The name of the folder in which a folder is.
+fn above_name(alloc: Global, folder: &str) -> Result<String, AllocError>
+    ensures { IfOk result (λ name. string_bytes name ≡ above_name folder.now) }
+{
+    format!(in alloc; "{folder}/..")
+}
+
+/// Has the disk keep which files a folder has.
+pub fn sync_folder(rt: &HostRuntime, folder: &str) -> Result<(), DeskFault> {
+    let synced = match fs::File::open(rt, folder) {
+        Ok(opened) => opened.sync_all(),
+        Err(error) => Err(error),
+    };
+    match synced {
+        Ok(()) => Ok(()),
+        Err(error) => Err(file_fault(rt.alloc(), folder, error)),
+    }
+}
+
+/// The same of a folder that was made, and of that in which it is.
+pub fn sync_made(rt: &HostRuntime, folder: &str) -> Result<(), DeskFault> {
+    sync_folder(rt, folder)?;
+    let above = above_name(rt.alloc(), folder)?;
+    sync_folder(rt, above.as_str())
+}
+
 // Finds a folder's journal, which an opening would otherwise make.
 fn find_journal(rt: &HostRuntime, name: &str) -> Result<(), DeskFault> {
     match fs::symlink_metadata(rt, name) {
@@ -64,7 +94,13 @@ fn find_journal(rt: &HostRuntime, name: &str) -> Result<(), DeskFault> {
     }
 }
 
-/// Opens the docket of a folder, and gives the entries of its journal. What takes long is told at a terminal.
+/// Who enters what is kept from here on, and when.
+pub fn stamp_now(rt: &HostRuntime) -> Result<Stamp, AllocError> {
+    let account = account_of(rt)?;
+    Ok(Stamp::new(second_of(rt), account))
+}
+
+/// Opens the docket of a folder, and gives the entries of its journal. What a crash left after them is saved first. What takes long is told at a terminal.
 pub fn opened<H: Threads + Wait + Sync>(
     rt: &HostRuntime,
     threads: &H,
@@ -76,8 +112,10 @@ pub fn opened<H: Threads + Wait + Sync>(
     let name = journal_name(rt.alloc(), folder)?;
     find_journal(rt, name.as_str())?;
     let file = open_file(rt, name.as_str(), Wary)?;
+    save_tail(rt, folder, name.as_str())?;
+    let stamp = stamp_now(rt)?;
     let opened = told_while(threads, rt.stderr(), "opening", folder, || {
-        Desk::open(rt.alloc(), file)
+        Desk::open(rt.alloc(), file, stamp)
     });
     match opened {
         Ok(opened) => Ok(opened),
@@ -104,21 +142,37 @@ fn read_again(
     Ok(())
 }
 
-/// The entries of a folder's journal, read beside a program that may append to it. Where it seems to be damaged and has
-/// changed meanwhile, it is read again.
-pub fn entries_beside(rt: &HostRuntime, folder: &str) -> Result<Vec<Vec<u8>>, DeskFault>
-    ensures { IfOk result (λ entries. length entries.items ≤ 1000000) }
+/// The entries of a folder's journal, and the stamp of each, read beside a program that may append to it. Where it seems to be
+/// damaged and has changed meanwhile, it is read again.
+pub fn stamped_beside(
+    rt: &HostRuntime,
+    folder: &str,
+) -> Result<(Vec<Vec<u8>>, Vec<Stamp>), DeskFault>
+    ensures few { IfOk result (λ stamped. length stamped.0.items ≤ 1000000) }
+    ensures as_many { IfOk result (λ stamped. length stamped.1.items ≡ length stamped.0.items) }
 {
     let name = journal_name(rt.alloc(), folder)?;
     find_journal(rt, name.as_str())?;
     let mut bytes = read_file(rt, name.as_str())?;
     for _ in 0..TRIES {
-        match entries_in(rt.alloc(), &bytes) {
-            Ok(entries) => return Ok(entries),
+        match stamped_in(rt.alloc(), &bytes) {
+            Ok(stamped) => return Ok(stamped),
             Err(fault) => read_again(rt, name.as_str(), &mut bytes, DeskFault::from(fault))?,
         }
     }
-    Ok(entries_in(rt.alloc(), &bytes)?)
+    Ok(stamped_in(rt.alloc(), &bytes)?)
+}
+
+/// The entries of a folder's journal as of then, read beside a program that may append to it, as above.
+pub fn entries_beside(
+    rt: &HostRuntime,
+    folder: &str,
+    as_of: Option<AsOf>,
+) -> Result<Vec<Vec<u8>>, DeskFault>
+    ensures { IfOk result (λ entries. length entries.items ≤ 1000000) }
+{
+    let (entries, stamps) = stamped_beside(rt, folder)?;
+    until(rt.alloc(), entries, &stamps, as_of)
 }
 
 // The fault of a desk on a disk in memory, which fails only for want of memory.

@@ -11,7 +11,9 @@ mod folder;
 mod input;
 mod progress;
 mod reports;
+mod saved;
 mod tasks;
+mod times;
 
 use desk_program::{DeskFault, ended_by};
 use fault::told;

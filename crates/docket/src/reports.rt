@@ -215,8 +215,8 @@ pub fn report<H: Threads + Wait + Sync, W: Write>(
     requires { has_failed writer.old ≡ false }
 {
     match source {
-        Source::Folder(folder) => {
-            let entries = entries_beside(rt, folder.as_str())?;
+        Source::Folder(folder, as_of) => {
+            let entries = entries_beside(rt, folder.as_str(), *as_of)?;
             put_report(
                 threads,
                 rt.alloc(),
@@ -246,8 +246,8 @@ pub fn memo<H: Threads + Wait + Sync, W: Write>(
     requires { has_failed writer.old ≡ false }
 {
     match source {
-        Source::Folder(folder) => {
-            let entries = entries_beside(rt, folder.as_str())?;
+        Source::Folder(folder, as_of) => {
+            let entries = entries_beside(rt, folder.as_str(), *as_of)?;
             put_memo(
                 threads,
                 rt.alloc(),

@@ -2,8 +2,8 @@
 ghost use Rattle.std.specs.Prelude.{◌≡◌, false};
 ghost use Rattle.program_streams.specs.Words.{has_failed};
 
-use crate::alone::{change, check, init, rows, strike};
-use crate::beside::{ask, cases, plain, struck, try_rows};
+use crate::alone::{change, init, strike};
+use crate::beside::{ask, cases, check, log, plain, rows, struck, try_rows};
 use crate::court::{check_file, write_file};
 use crate::enter::enter;
 use crate::fault::Fault;
@@ -47,13 +47,22 @@ pub fn done<H: Threads + Wait + Sync, W: Write, E: Write>(
                 *held_back,
             )?
         }
-        Task::Ask(folder, lines) => ask(rt, threads, writer, errors, folder.as_str(), *lines)?,
+        Task::Ask(folder, lines, as_of) => ask(
+            rt,
+            threads,
+            writer,
+            errors,
+            folder.as_str(),
+            *lines,
+            *as_of,
+        )?,
         Task::Plain(folder, style) => plain(rt, threads, writer, errors, folder.as_str(), *style)?,
         Task::Strike(folder, striking) => strike(rt, threads, writer, folder.as_str(), striking)?,
-        Task::Struck(folder) => struck(rt, writer, folder.as_str())?,
-        Task::Cases(folder) => cases(rt, threads, writer, folder.as_str())?,
+        Task::Struck(folder, as_of) => struck(rt, writer, folder.as_str(), *as_of)?,
+        Task::Cases(folder, as_of) => cases(rt, threads, writer, folder.as_str(), *as_of)?,
         Task::Check(folder) => check(rt, threads, writer, folder.as_str())?,
-        Task::Rows(folder) => rows(rt, threads, writer, folder.as_str())?,
+        Task::Rows(folder, as_of) => rows(rt, threads, writer, folder.as_str(), *as_of)?,
+        Task::Log(folder, asked) => log(rt, writer, folder.as_str(), asked)?,
         Task::Report(source, asked) => report(rt, threads, writer, source, asked)?,
         Task::Memo(source, asked) => memo(rt, threads, writer, source, asked)?,
         Task::CourtCheck(file, asked) => return check_file(rt, writer, file.as_str(), asked),

@@ -25,6 +25,10 @@ place_rule name = record (option_place_rule name) { required = true }
 abbrev pub folder_line : (name : Text) → App
 folder_line name = with_rule (new_app name) (place_rule (codes "folder"))
 
+-- one that takes a folder, and as of when it is read
+abbrev pub kept_line : (name : Text) → App
+kept_line name = with_rule (folder_line name) (text_rule (codes "as-of"))
+
 -- how lines are written that people write
 abbrev pub with_style : App → App
 with_style line = with_rule (with_rule line (text_rule (codes "dates"))) (flag_rule (codes "json"))
@@ -43,17 +47,21 @@ init_line = with_rule (folder_line (codes "init")) (needed_rule (codes "court"))
 abbrev pub enter_line : App
 enter_line = with_rule (with_rule (rows_line (codes "enter")) (flag_rule (codes "all-or-nothing"))) (flag_rule (codes "keep-refused"))
 
+abbrev pub ask_line : App
+ask_line = with_rule (lines_line (codes "ask")) (text_rule (codes "as-of"))
+
 abbrev pub plain_line : App
 plain_line = with_style (folder_line (codes "plain"))
 
 abbrev pub strike_line : App
-strike_line =
-    with_rule (with_rule (with_rule (with_rule (with_rule (folder_line (codes "strike")) (place_rule (codes "row"))) (needed_rule (codes "reason"))) (needed_rule (codes "by"))) (needed_rule (codes "today")))
-    (flag_rule (codes "accept"))
+strike_line = with_rule (with_rule (with_rule (folder_line (codes "strike")) (place_rule (codes "row"))) (needed_rule (codes "reason"))) (flag_rule (codes "accept"))
 
--- where a docket is, and a case
+abbrev pub log_line : App
+log_line = with_rule (with_rule (with_rule (with_rule (folder_line (codes "log")) (text_rule (codes "row"))) (text_rule (codes "by"))) (text_rule (codes "from"))) (text_rule (codes "to"))
+
+-- where a docket is, as of when it is read, and a case
 abbrev pub sheet_line : App
-sheet_line = with_rule (with_source (new_app (codes "sheet"))) (option_place_rule (codes "case"))
+sheet_line = with_rule (with_rule (with_source (new_app (codes "sheet"))) (text_rule (codes "as-of"))) (option_place_rule (codes "case"))
 
 -- ---- the subcommands of a court's file, which come after the word `court`
 
@@ -75,13 +83,13 @@ bare_line name = record { top = record (new_shape name) { no_binary_name = true;
 -- the subcommands by which a folder is made, and by which rows are read
 abbrev pub with_rows : App → App
 with_rows line =
-    with_subcommand (with_subcommand (with_subcommand (with_subcommand (with_subcommand line init_line.top) enter_line.top) (rows_line (codes "try")).top) (lines_line (codes "ask")).top) plain_line.top
+    with_subcommand (with_subcommand (with_subcommand (with_subcommand (with_subcommand line init_line.top) enter_line.top) (rows_line (codes "try")).top) ask_line.top) plain_line.top
 
 -- those of what a folder keeps
 abbrev pub with_kept : App → App
 with_kept line =
-    with_subcommand (with_subcommand (with_subcommand (with_subcommand (with_subcommand line strike_line.top) (folder_line (codes "struck")).top) (folder_line (codes "cases")).top)
-    (folder_line (codes "check")).top) (folder_line (codes "rows")).top
+    with_subcommand (with_subcommand (with_subcommand (with_subcommand (with_subcommand (with_subcommand line strike_line.top) (kept_line (codes "struck")).top) (kept_line (codes "cases")).top)
+    (folder_line (codes "check")).top) (kept_line (codes "rows")).top) log_line.top
 
 -- the command line of `docket`: its subcommands, of which `court` has a command line of its own
 abbrev pub command_line : App

@@ -4,7 +4,7 @@ use Rattle.std.specs.Option.{option_and_then}
 use Rattle.std.specs.List.{list_all}
 use Rattle.std.specs.Str.{bytes_eq}
 use Rattle.clap.specs.Words.{Kinds, Text}
-use Rattle.clap.specs.declared.error.kind.ErrorKind.TheVariants.{MissingRequiredArgument}
+use Rattle.clap.specs.declared.error.kind.ErrorKind.TheVariants.{ArgumentConflict, MissingRequiredArgument}
 use Rattle.row_fields.specs.declared.dates.DateOrder.{DateOrder}
 use Rattle.row_fields.specs.declared.dates.DateOrder.TheVariants.{DayFirst, MonthFirst}
 use Rattle.program_main.specs.Texts.Words.{faults_unless, number_of}
@@ -22,6 +22,10 @@ faults_without (Some text) = []
 -- the fault of what counts beside another option alone
 abbrev pub faults_beside : (given other : Bool) → Kinds
 faults_beside given other = if given && not other then MissingRequiredArgument ∷ [] else []
+
+-- the fault of what doesn't go together with another option
+abbrev pub faults_together : (given other : Bool) → Kinds
+faults_together given other = if given && other then ArgumentConflict ∷ [] else []
 
 -- the fault of a text that has to say something where it is given
 abbrev pub faults_if_given : {T : Type 0} → (read : Text → Option T) → Option Text → Kinds

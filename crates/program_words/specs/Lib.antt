@@ -1,3 +1,4 @@
+pub mod AsOf
 pub mod Asked
 pub mod CommandLine
 pub mod Given

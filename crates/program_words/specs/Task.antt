@@ -1,5 +1,5 @@
 -- What a subcommand asks for with what it was given, and the faults of what it was given.
-use Rattle.std.specs.Prelude.{◌≡◌, ℤ, ◌&&◌, Bool, true, false, not, List, [], ◌∷◌, Option, None, Some, String, codes, is_some, string_bytes, if◌then◌else◌}
+use Rattle.std.specs.Prelude.{◌≡◌, ℤ, ◌&&◌, Bool, true, false, not, List, [], ◌∷◌, Option, None, Some, String, codes, is_some, option_map, string_bytes, if◌then◌else◌}
 use Rattle.std.specs.Option.{option_and_then}
 use Rattle.std.specs.Str.{bytes_eq}
 use Rattle.std.specs.declared.alloc.Global.{Global}
@@ -10,19 +10,22 @@ use Rattle.court_clock.specs.Words.{day_of_text}
 use Rattle.court_writing.specs.Words.{district_named, of_district, zone_text}
 use Rattle.desk_warnings.specs.declared.register.HeldBack.{HeldBack}
 use Rattle.desk_warnings.specs.declared.register.HeldBack.TheVariants.{Nothing, Warned}
-use Rattle.program_main.specs.Texts.Words.{day_said, faults_unless, is_day_taken, number_of}
+use Rattle.program_main.specs.Texts.Words.{day_said, faults_unless, is_day_taken, is_said_taken, number_of}
 use Rattle.office_texts.specs.Names.Words.{case_called}
 use Rattle.office_texts.specs.declared.names.called.CaseCalled.{CaseCalled}
 use Rattle.report_program.specs.declared.asked.Asked.{Asked}
 use Rattle.report_program.specs.declared.asked.Task.TheVariants.{Sheet}
 use Rattle.report_program.specs.Words.{IsAskedBy as IsReportAsked, faults_given as report_faults}
 use Rattle.report_memo.specs.Words.{IsAskedBy as IsMemoAsked, faults_given as memo_faults}
+use Rattle.program_words.specs.AsOf.{as_of_faults, as_of_in, report_as_of_faults}
 use Rattle.program_words.specs.declared.subcommand.Subcommand.{Subcommand}
 use Rattle.program_words.specs.declared.subcommand.Subcommand.TheVariants as sub
+use Rattle.program_words.specs.declared.task.AsOf.{AsOf}
 use Rattle.program_words.specs.declared.task.Keeping.{Keeping}
 use Rattle.program_words.specs.declared.task.Keeping.TheVariants.{Each, Together}
 use Rattle.program_words.specs.declared.task.Lines.{Lines}
 use Rattle.program_words.specs.declared.task.Lines.TheVariants as lines
+use Rattle.program_words.specs.declared.task.LogAsked.{LogAsked}
 use Rattle.program_words.specs.declared.task.Source.{Source}
 use Rattle.program_words.specs.declared.task.Source.TheVariants as source
 use Rattle.program_words.specs.declared.task.Style.{Style}
@@ -44,6 +47,7 @@ meant name =
     else if bytes_eq name (codes "cases") then sub.Cases
     else if bytes_eq name (codes "check") then sub.Check
     else if bytes_eq name (codes "rows") then sub.Rows
+    else if bytes_eq name (codes "log") then sub.Log
     else if bytes_eq name (codes "memo") then sub.Memo
     else if bytes_eq name (codes "sheet") then sub.Sheet
     else if bytes_eq name (codes "court") then sub.Court
@@ -101,14 +105,27 @@ keeping_of given = if has (codes "all-or-nothing") given then Together (has (cod
 abbrev pub keeping_faults : List Row → Kinds
 keeping_faults given = faults_beside (has (codes "keep-refused") given) (has (codes "all-or-nothing") given)
 
--- of what a report is, by the texts of FOLDER and `--input`: a folder, or an input, which `-` says is standard input
-abbrev pub IsSourceOf : (folder input : Option Text) → Source → Type 0
-IsSourceOf folder input (source.Folder name) = (folder ≡ Some (string_bytes name)) × (input ≡ None)
-IsSourceOf folder input (source.File name) = (input ≡ Some (string_bytes name)) × (bytes_eq (string_bytes name) (codes "-") ≡ false) × (folder ≡ None)
-IsSourceOf folder input source.StandardInput = (input ≡ Some (codes "-")) × (folder ≡ None)
+-- which entries of a folder are listed
+pub record IsLog (clock_time : ℤ) (given : List Row) (asked : LogAsked) : Type 0 where
+  pub row : asked.row ≡ option_and_then number_of (first_of (codes "row") given)
+  pub by : option_map string_bytes asked.by ≡ option_and_then line_of (first_of (codes "by") given)
+  pub from : asked.from ≡ option_and_then day_said (first_of (codes "from") given)
+  pub to : asked.to ≡ option_and_then day_said (first_of (codes "to") given)
+  pub clock : asked.clock_time ≡ clock_time
 
-abbrev pub IsSource : List Row → Source → Type 0
-IsSource given = IsSourceOf (first_of (codes "folder") given) (first_of (codes "input") given)
+abbrev pub log_faults : List Row → Kinds
+log_faults given =
+    or_else (or_else (faults_if_given number_of (first_of (codes "row") given)) (faults_if_given line_of (first_of (codes "by") given)))
+    (or_else (faults_unless (is_said_taken (first_of (codes "from") given))) (faults_unless (is_said_taken (first_of (codes "to") given))))
+
+-- of what a report is, by the texts of FOLDER and `--input`: a folder, as of then, or an input, which `-` says is standard input
+abbrev pub IsSourceOf : (folder input : Option Text) → Option AsOf → Source → Type 0
+IsSourceOf folder input as_of (source.Folder name said) = (folder ≡ Some (string_bytes name)) × (input ≡ None) × (said ≡ as_of)
+IsSourceOf folder input as_of (source.File name) = (input ≡ Some (string_bytes name)) × (bytes_eq (string_bytes name) (codes "-") ≡ false) × (folder ≡ None)
+IsSourceOf folder input as_of source.StandardInput = (input ≡ Some (codes "-")) × (folder ≡ None)
+
+abbrev pub IsSource : (clock_time : ℤ) → List Row → Source → Type 0
+IsSource clock_time given = IsSourceOf (first_of (codes "folder") given) (first_of (codes "input") given) (as_of_in clock_time given)
 
 -- it is one of the two, and not both
 abbrev pub source_faults : (folder input : Option Text) → Kinds
@@ -116,6 +133,10 @@ source_faults (Some folder) (Some input) = ArgumentConflict ∷ []
 source_faults (Some folder) None = []
 source_faults None (Some input) = []
 source_faults None None = MissingRequiredArgument ∷ []
+
+-- the faults of as of when it is read, and then those of the two
+abbrev pub report_source_faults : List Row → Kinds
+report_source_faults given = or_else (report_as_of_faults given) (source_faults (first_of (codes "folder") given) (first_of (codes "input") given))
 
 -- The places of a sheet are those of a folder and a case; where an input is given, the first is that of the case.
 abbrev pub sheet_folder : (first second input : Option Text) → Option Text
@@ -131,6 +152,13 @@ folder_given given = sheet_folder (first_of (codes "folder") given) (first_of (c
 
 abbrev pub case_given : List Row → Option Text
 case_given given = sheet_case (first_of (codes "folder") given) (first_of (codes "case") given) (first_of (codes "input") given)
+
+-- of what a sheet is, and the faults of that
+abbrev pub IsSheetSource : (clock_time : ℤ) → List Row → Source → Type 0
+IsSheetSource clock_time given = IsSourceOf (folder_given given) (first_of (codes "input") given) (as_of_in clock_time given)
+
+abbrev pub sheet_source_faults : List Row → Kinds
+sheet_source_faults given = or_else (report_as_of_faults given) (source_faults (folder_given given) (first_of (codes "input") given))
 
 -- the sheet of that case, and no more
 abbrev pub sheet_asked : (clock_time : ℤ) → (case : Option CaseCalled) → Asked
@@ -155,20 +183,20 @@ IsTask clock_time sub.Init name given (task.Init folder court) = IsText (codes "
 IsTask clock_time sub.Enter name given (task.Enter folder lines held_back keeping) =
     IsText (codes "folder") given folder × (lines ≡ lines_of given) × (held_back ≡ held_back_of given) × (keeping ≡ keeping_of given)
 IsTask clock_time sub.Try name given (task.Try folder lines held_back) = IsText (codes "folder") given folder × (lines ≡ lines_of given) × (held_back ≡ held_back_of given)
-IsTask clock_time sub.Ask name given (task.Ask folder lines) = IsText (codes "folder") given folder × (lines ≡ lines_of given)
+IsTask clock_time sub.Ask name given (task.Ask folder lines as_of) = IsText (codes "folder") given folder × (lines ≡ lines_of given) × (as_of ≡ as_of_in clock_time given)
 IsTask clock_time sub.Plain name given (task.Plain folder style) = IsText (codes "folder") given folder × (style ≡ style_of given)
 IsTask clock_time sub.Strike name given (task.Strike folder striking) =
     IsText (codes "folder") given folder × (option_and_then number_of (first_of (codes "row") given) ≡ Some striking.row)
-    × (option_and_then line_of (first_of (codes "reason") given) ≡ Some (string_bytes striking.reason)) × (option_and_then line_of (first_of (codes "by") given) ≡ Some (string_bytes striking.by))
-    × (option_and_then day_said (first_of (codes "today") given) ≡ Some striking.today) × (striking.clock_time ≡ clock_time) × (striking.accept ≡ has (codes "accept") given)
-IsTask clock_time sub.Struck name given (task.Struck folder) = IsText (codes "folder") given folder
-IsTask clock_time sub.Cases name given (task.Cases folder) = IsText (codes "folder") given folder
+    × (option_and_then line_of (first_of (codes "reason") given) ≡ Some (string_bytes striking.reason)) × (striking.clock_time ≡ clock_time) × (striking.accept ≡ has (codes "accept") given)
+IsTask clock_time sub.Struck name given (task.Struck folder as_of) = IsText (codes "folder") given folder × (as_of ≡ as_of_in clock_time given)
+IsTask clock_time sub.Cases name given (task.Cases folder as_of) = IsText (codes "folder") given folder × (as_of ≡ as_of_in clock_time given)
 IsTask clock_time sub.Check name given (task.Check folder) = IsText (codes "folder") given folder
-IsTask clock_time sub.Rows name given (task.Rows folder) = IsText (codes "folder") given folder
-IsTask clock_time sub.Report name given (task.Report of asked) = IsSource given of × IsReportAsked name given asked × (asked.clock_time ≡ clock_time)
-IsTask clock_time sub.Memo name given (task.Memo of asked) = IsSource given of × IsMemoAsked given asked
+IsTask clock_time sub.Rows name given (task.Rows folder as_of) = IsText (codes "folder") given folder × (as_of ≡ as_of_in clock_time given)
+IsTask clock_time sub.Log name given (task.Log folder asked) = IsText (codes "folder") given folder × IsLog clock_time given asked
+IsTask clock_time sub.Report name given (task.Report of asked) = IsSource clock_time given of × IsReportAsked name given asked × (asked.clock_time ≡ clock_time)
+IsTask clock_time sub.Memo name given (task.Memo of asked) = IsSource clock_time given of × IsMemoAsked given asked
 IsTask clock_time sub.Sheet name given (task.Report of asked) =
-    IsSourceOf (folder_given given) (first_of (codes "input") given) of × (asked ≡ sheet_asked clock_time (option_and_then case_called (case_given given)))
+    IsSheetSource clock_time given of × (asked ≡ sheet_asked clock_time (option_and_then case_called (case_given given)))
 IsTask clock_time sub.CourtCheck name given (task.CourtCheck file asked) =
     IsText (codes "file") given file × (asked.today ≡ option_and_then day_of_text (first_of (codes "today") given)) × (asked.capital ≡ has (codes "capital") given)
 IsTask clock_time sub.CourtWrite name given (task.CourtWrite court from to) =
@@ -178,24 +206,28 @@ IsTask clock_time sub.CourtChange name given (task.CourtChange folder file accep
     IsText (codes "folder") given folder × IsText (codes "file") given file × (accept ≡ has (codes "accept") given)
 IsTask clock_time subcommand name given other = ⊥
 
+-- the faults of a folder, and of as of when it is read
+abbrev pub kept_faults : List Row → Kinds
+kept_faults given = or_else (faults_without (first_of (codes "folder") given)) (as_of_faults given)
+
 -- the faults of what it was given, of which the first counts
 abbrev pub faults_given : Subcommand → List Row → Kinds
 faults_given sub.Init given = or_else (faults_without (first_of (codes "folder") given)) (faults_without (first_of (codes "court") given))
 faults_given sub.Enter given =
     or_else (faults_without (first_of (codes "folder") given)) (or_else (lines_faults given) (or_else (held_back_faults given) (keeping_faults given)))
 faults_given sub.Try given = or_else (faults_without (first_of (codes "folder") given)) (or_else (lines_faults given) (held_back_faults given))
-faults_given sub.Ask given = or_else (faults_without (first_of (codes "folder") given)) (lines_faults given)
+faults_given sub.Ask given = or_else (faults_without (first_of (codes "folder") given)) (or_else (lines_faults given) (as_of_faults given))
 faults_given sub.Plain given = or_else (faults_without (first_of (codes "folder") given)) (style_faults given)
 faults_given sub.Strike given =
-    or_else (or_else (faults_without (first_of (codes "folder") given)) (faults_reading number_of (first_of (codes "row") given)))
-    (or_else (or_else (faults_reading line_of (first_of (codes "reason") given)) (faults_reading line_of (first_of (codes "by") given))) (faults_reading day_said (first_of (codes "today") given)))
-faults_given sub.Struck given = faults_without (first_of (codes "folder") given)
-faults_given sub.Cases given = faults_without (first_of (codes "folder") given)
+    or_else (or_else (faults_without (first_of (codes "folder") given)) (faults_reading number_of (first_of (codes "row") given))) (faults_reading line_of (first_of (codes "reason") given))
+faults_given sub.Struck given = kept_faults given
+faults_given sub.Cases given = kept_faults given
 faults_given sub.Check given = faults_without (first_of (codes "folder") given)
-faults_given sub.Rows given = faults_without (first_of (codes "folder") given)
-faults_given sub.Report given = or_else (source_faults (first_of (codes "folder") given) (first_of (codes "input") given)) (report_faults given)
-faults_given sub.Memo given = or_else (source_faults (first_of (codes "folder") given) (first_of (codes "input") given)) (memo_faults given)
-faults_given sub.Sheet given = or_else (source_faults (folder_given given) (first_of (codes "input") given)) (faults_reading case_called (case_given given))
+faults_given sub.Rows given = kept_faults given
+faults_given sub.Log given = or_else (faults_without (first_of (codes "folder") given)) (log_faults given)
+faults_given sub.Report given = or_else (report_source_faults given) (report_faults given)
+faults_given sub.Memo given = or_else (report_source_faults given) (memo_faults given)
+faults_given sub.Sheet given = or_else (sheet_source_faults given) (faults_reading case_called (case_given given))
 faults_given sub.Court given = MissingRequiredArgument ∷ []
 faults_given sub.CourtCheck given = or_else (faults_without (first_of (codes "file") given)) (faults_unless (is_day_taken (first_of (codes "today") given)))
 faults_given sub.CourtWrite given =

@@ -6,7 +6,7 @@ ghost use Rattle.program_words.specs.CommandLine.{bare_line, command_line, with_
 
 use crate::court_commands::court;
 use crate::folder_commands::{
-    ask, cases, check, enter, init, plain, rows, sheet, strike, struck, trial,
+    ask, cases, check, enter, init, log, plain, rows, sheet, strike, struck, trial,
 };
 use clap::Command;
 use program_main::with_subcommand;
@@ -75,7 +75,8 @@ fn with_kept<'a>(alloc: Global, command: Command<'a>) -> Result<Command<'a>, All
     let struck = with_subcommand(strike, struck(alloc))?;
     let cases = with_subcommand(struck, cases(alloc))?;
     let check = with_subcommand(cases, check(alloc))?;
-    with_subcommand(check, rows(alloc))
+    let rows = with_subcommand(check, rows(alloc))?;
+    with_subcommand(rows, log(alloc))
 }
 
 /// The command line, for one reading of words.

@@ -1,8 +1,9 @@
 //! The subcommands of a folder, each with its help.
 
 ghost use Rattle.std.specs.Prelude.{◌≡◌, codes, IfOk};
-ghost use Rattle.clap.specs.Words.{app_of};
-ghost use Rattle.program_words.specs.CommandLine.{enter_line, folder_line, init_line, lines_line, plain_line, rows_line, sheet_line, strike_line, with_style};
+ghost use Rattle.clap.specs.Words.{app_of, with_rule};
+ghost use Rattle.program_main.specs.Texts.Words.{text_rule};
+ghost use Rattle.program_words.specs.CommandLine.{ask_line, enter_line, folder_line, init_line, kept_line, lines_line, log_line, plain_line, rows_line, sheet_line, strike_line, with_style};
 
 use crate::options::{with_flag, with_option_place, with_place};
 use clap::Command;
@@ -23,6 +24,8 @@ const WARN: &str = "Keep no row that draws a warning";
 const WARN_DAY: &str = "With --warn: the day that counts as today, as 2025-09-15";
 
 const COURT: &str = "The court's file";
+
+const AS_OF: &str = "The folder as it was after this row, or at the end of this day";
 
 const TOGETHER: &str = "Keep all rows, or none if one is wrong or refused";
 
@@ -64,9 +67,13 @@ const ASK: &str = "Answer questions";
 
 const ASK_MORE: &str =
     "Questions are lines of standard input. Another program may enter rows meanwhile.
+With --as-of the answers are those that the docket gave then: after that row, or
+at the end of that day by the court's clock. DAY is a date, as 2025-09-15, or
+today, yesterday, or so many days from today, as (with =) -3d.
 
-Example:
-  echo '1,sheet,7' | docket ask cases";
+Examples:
+  echo '1,sheet,7' | docket ask cases
+  echo '1,sheet,7' | docket ask cases --as-of 2025-09-15";
 
 const PLAIN: &str = "Write the plain rows that lines are as people write them";
 
@@ -86,22 +93,15 @@ const STRIKE: &str = "Strike a row, if no other answer changes by it";
 const STRIKE_MORE: &str =
     "It writes the answers that would change without the row. The row is struck if
 there are none, or with --accept. It stays in the journal, with why, by whom and
-when it was struck.
+when it was struck: by the account that runs this, on the day that the clock
+shows in the court's zone.
 
 Example:
-  docket strike cases 17 --reason 'entered twice' --by Ortiz --today today
-
-DAY may also be yesterday, or monday to sunday, the next such day from today on,
-or so many days from today, as (with =) -3d. Today is the clock's, in the court's
-zone.";
+  docket strike cases 17 --reason 'entered twice'";
 
 const ROW: &str = "The row's number, with which its answer begins";
 
 const REASON: &str = "Why it is struck, in one line";
-
-const BY: &str = "Who strikes it, in one line";
-
-const STRIKE_DAY: &str = "The day on which it is struck: a date, as 2025-09-15, or today";
 
 const STRIKE_ACCEPT: &str = "Strike it though answers change";
 
@@ -109,32 +109,62 @@ const STRUCK: &str = "List the rows that are struck";
 
 const STRUCK_MORE: &str = "Another program may enter rows meanwhile.
 
-Example:
-  docket struck cases";
+Examples:
+  docket struck cases
+  docket struck cases --as-of 2025-09-15";
 
 const CASES: &str = "List the cases that were opened by a case number";
 
 const CASES_MORE: &str = "A line has the number that the folder gives the case, and the court's, as
 1:25-cv-01234. Another program may enter rows meanwhile.
 
-Example:
-  docket cases cases";
+Examples:
+  docket cases cases
+  docket cases cases --as-of 17";
 
 const CHECK: &str = "Decide all rows again, and say how many there are";
 
 const CHECK_MORE: &str =
     "It says which entry of the journal is damaged, and which row would be answered
-otherwise than it was.
+otherwise than it was. It changes nothing, and another program may enter rows
+meanwhile.
 
 Example:
   docket check cases";
 
 const ROWS: &str = "Write the court's file and all rows, as clerk_office reads them";
 
-const ROWS_MORE: &str = "Rows that are struck are left out.
+const ROWS_MORE: &str =
+    "Rows that are struck are left out. Another program may enter rows meanwhile.
 
-Example:
-  docket rows cases > day.txt";
+Examples:
+  docket rows cases > day.txt
+  docket rows cases --as-of 17 > day.txt";
+
+const LOG: &str = "List what was entered, by whom and when";
+
+const LOG_MORE: &str =
+    "An entry is a row, a court's file or a strike. Each is listed with its time in
+UTC, the account that entered it, and its text; a row with its answer too. All
+entries are listed, or those alone for which all options hold. Another program
+may enter rows meanwhile.
+
+Examples:
+  docket log cases
+  docket log cases --row 17
+  docket log cases --by Ortiz --from 2025-09-15 --to 2025-09-19
+
+DAY is a date, as 2025-09-15, or today, yesterday, or monday to sunday, the next
+such day from today on; or so many days from today, as (with =) -3d. Days are
+those of the clock in the court's zone, and both of them count.";
+
+const LOG_ROW: &str = "The row of this number alone, and its strike";
+
+const LOG_BY: &str = "What this account entered, by its name, which stands before its @";
+
+const LOG_FROM: &str = "The first day";
+
+const LOG_TO: &str = "The last day";
 
 const SHEET: &str = "The sheet of one case: its deadlines and motions, after all rows";
 
@@ -158,6 +188,25 @@ pub(crate) fn of_folder<'a>(
 {
     let command = Command::new(alloc, name).about(about).after_help(more);
     with_place(alloc, command, "folder", "FOLDER", FOLDER)
+}
+
+/// The command, which also takes as of when the folder is read.
+fn with_as_of<'a>(alloc: Global, command: Command<'a>) -> Result<Command<'a>, AllocError>
+    ensures { IfOk result (λ whole. app_of whole ≡ with_rule (app_of command.entry) (text_rule (codes "as-of"))) }
+{
+    with_text(alloc, command, "as-of", "ROW|DAY", AS_OF)
+}
+
+/// A subcommand of that name, which takes a folder, and as of when it is read.
+fn of_kept<'a>(
+    alloc: Global,
+    name: &'a str,
+    about: &'a str,
+    more: &'a str,
+) -> Result<Command<'a>, AllocError>
+    ensures { IfOk result (λ command. app_of command ≡ kept_line name.now) }
+{
+    with_as_of(alloc, of_folder(alloc, name, about, more)?)
 }
 
 /// The command, which also takes how lines are written that people write.
@@ -227,9 +276,9 @@ pub(crate) fn trial<'a>(alloc: Global) -> Result<Command<'a>, AllocError>
 
 /// The subcommand by which questions are answered.
 pub(crate) fn ask<'a>(alloc: Global) -> Result<Command<'a>, AllocError>
-    ensures { IfOk result (λ command. app_of command ≡ lines_line (codes "ask")) }
+    ensures { IfOk result (λ command. app_of command ≡ ask_line) }
 {
-    of_lines(alloc, "ask", ASK, ASK_MORE)
+    with_as_of(alloc, of_lines(alloc, "ask", ASK, ASK_MORE)?)
 }
 
 /// The subcommand by which lines are written as plain rows.
@@ -247,23 +296,21 @@ pub(crate) fn strike<'a>(alloc: Global) -> Result<Command<'a>, AllocError>
     let command = of_folder(alloc, "strike", STRIKE, STRIKE_MORE)?;
     let command = with_place(alloc, command, "row", "ROW", ROW)?;
     let command = with_needed(alloc, command, "reason", "TEXT", REASON)?;
-    let command = with_needed(alloc, command, "by", "NAME", BY)?;
-    let command = with_needed(alloc, command, "today", "DAY", STRIKE_DAY)?;
     with_flag(alloc, command, "accept", STRIKE_ACCEPT)
 }
 
 /// The subcommand by which struck rows are listed.
 pub(crate) fn struck<'a>(alloc: Global) -> Result<Command<'a>, AllocError>
-    ensures { IfOk result (λ command. app_of command ≡ folder_line (codes "struck")) }
+    ensures { IfOk result (λ command. app_of command ≡ kept_line (codes "struck")) }
 {
-    of_folder(alloc, "struck", STRUCK, STRUCK_MORE)
+    of_kept(alloc, "struck", STRUCK, STRUCK_MORE)
 }
 
 /// The subcommand by which cases are listed.
 pub(crate) fn cases<'a>(alloc: Global) -> Result<Command<'a>, AllocError>
-    ensures { IfOk result (λ command. app_of command ≡ folder_line (codes "cases")) }
+    ensures { IfOk result (λ command. app_of command ≡ kept_line (codes "cases")) }
 {
-    of_folder(alloc, "cases", CASES, CASES_MORE)
+    of_kept(alloc, "cases", CASES, CASES_MORE)
 }
 
 /// The subcommand by which all rows are decided again.
@@ -275,9 +322,20 @@ pub(crate) fn check<'a>(alloc: Global) -> Result<Command<'a>, AllocError>
 
 /// The subcommand by which rows are written.
 pub(crate) fn rows<'a>(alloc: Global) -> Result<Command<'a>, AllocError>
-    ensures { IfOk result (λ command. app_of command ≡ folder_line (codes "rows")) }
+    ensures { IfOk result (λ command. app_of command ≡ kept_line (codes "rows")) }
 {
-    of_folder(alloc, "rows", ROWS, ROWS_MORE)
+    of_kept(alloc, "rows", ROWS, ROWS_MORE)
+}
+
+/// The subcommand by which what was entered is listed.
+pub(crate) fn log<'a>(alloc: Global) -> Result<Command<'a>, AllocError>
+    ensures { IfOk result (λ command. app_of command ≡ log_line) }
+{
+    let command = of_folder(alloc, "log", LOG, LOG_MORE)?;
+    let command = with_text(alloc, command, "row", "ROW", LOG_ROW)?;
+    let command = with_text(alloc, command, "by", "NAME", LOG_BY)?;
+    let command = with_text(alloc, command, "from", "DAY", LOG_FROM)?;
+    with_text(alloc, command, "to", "DAY", LOG_TO)
 }
 
 /// The subcommand by which the sheet of a case is written.
@@ -288,5 +346,6 @@ pub(crate) fn sheet<'a>(alloc: Global) -> Result<Command<'a>, AllocError>
         .about(SHEET)
         .after_help(SHEET_MORE);
     let command = with_source(alloc, command)?;
+    let command = with_as_of(alloc, command)?;
     with_option_place(alloc, command, "case", "CASE", SHEET_CASE)
 }

@@ -5,7 +5,7 @@ ghost use Rattle.clap.specs.Kinds.{or_else};
 ghost use Rattle.clap.specs.Words.{Kinds, first_of, found_of, rows_of};
 ghost use Rattle.clap.specs.declared.error.kind.ErrorKind.{ErrorKind};
 ghost use Rattle.program_main.specs.Options.Words.{IsAnswerFor, IsFaultAmong, IsMistake};
-ghost use Rattle.program_words.specs.Given.{faults_beside, faults_without, is_flag};
+ghost use Rattle.program_words.specs.Given.{faults_beside, faults_together, faults_without, is_flag};
 
 use clap::ArgMatches;
 use program_main::OptionsFault;
@@ -100,6 +100,26 @@ pub(crate) fn beside(
         return Ok(());
     }
     match format!(in alloc; "'{shown}' counts beside '{other}' alone") {
+        Ok(text) => Err(mistake(alloc, text.as_str())),
+        Err(_) => Err(OptionsFault::OutOfMemory),
+    }
+}
+
+/// Whether what is given isn't together with the other option, with which it doesn't go. The words call them by these texts.
+/// BadWords where both are given.
+pub(crate) fn apart(
+    alloc: Global,
+    is_given: bool,
+    shown: &str,
+    has_other: bool,
+    other: &str,
+) -> Result<(), OptionsFault>
+    ensures { IsAnswerFor (faults_together is_given has_other) result }
+{
+    if !is_given || !has_other {
+        return Ok(());
+    }
+    match format!(in alloc; "'{shown}' counts for a folder, and doesn't go with '{other}'") {
         Ok(text) => Err(mistake(alloc, text.as_str())),
         Err(_) => Err(OptionsFault::OutOfMemory),
     }

@@ -6,10 +6,12 @@ ghost use Rattle.program_main.specs.Options.Words.{IsAnswerFor};
 ghost use Rattle.program_words.specs.declared.subcommand.Subcommand.{Subcommand};
 ghost use Rattle.program_words.specs.Task.{IsTask, beside_faults, faults_given, held_back_faults, held_back_of, keeping_faults, keeping_of, lines_faults, lines_of, style_faults, style_of};
 
+use crate::as_of::as_of_in;
 use crate::given::{beside, both, has_flag, is_given, needed};
 use crate::task::{Keeping, Lines, Style, Task};
 use crate::values::{day_if_given, order_in};
 use clap::ArgMatches;
+use court_clock::Instant;
 use desk_warnings::HeldBack;
 use program_main::OptionsFault;
 use std::alloc::Global;
@@ -116,16 +118,20 @@ pub(crate) fn trial(alloc: Global, given: &ArgMatches<'_>) -> Result<Task, Optio
     Ok(Task::Try(folder, lines, held_back))
 }
 
-/// Questions that are answered.
-pub(crate) fn ask(alloc: Global, given: &ArgMatches<'_>) -> Result<Task, OptionsFault>
-    ensures task { (clock_time : ℤ) (name : Text) → IfOk result (IsTask clock_time Subcommand.Ask name (rows_of (found_of given.now))) }
+/// Questions that are answered, at the clock's time.
+pub(crate) fn ask(
+    alloc: Global,
+    clock_time: Instant,
+    given: &ArgMatches<'_>,
+) -> Result<Task, OptionsFault>
+    ensures task { (name : Text) → IfOk result (IsTask clock_time Subcommand.Ask name (rows_of (found_of given.now))) }
     ensures faults { IsAnswerFor (faults_given Subcommand.Ask (rows_of (found_of given.now))) result }
 {
-    let (folder, lines) = both(
+    let (folder, (lines, as_of)) = both(
         needed(alloc, given, "folder", "<FOLDER>"),
-        lines_in(alloc, given),
+        both(lines_in(alloc, given), as_of_in(alloc, clock_time, given)),
     )?;
-    Ok(Task::Ask(folder, lines))
+    Ok(Task::Ask(folder, lines, as_of))
 }
 
 /// Lines that are written as plain rows.

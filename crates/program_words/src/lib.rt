@@ -1,6 +1,7 @@
 //! The command line of `docket`, and what words ask for.
 #![tactic(auto)]
 
+mod as_of;
 mod command;
 mod court_commands;
 mod court_tasks;
@@ -8,6 +9,7 @@ mod courts;
 mod folder_commands;
 mod given;
 mod input_tasks;
+mod kept_tasks;
 mod options;
 mod subcommand;
 mod task;
@@ -15,5 +17,5 @@ mod tasks;
 mod values;
 mod words;
 
-pub use task::{Keeping, Lines, Source, Striking, Style, Task};
+pub use task::{AsOf, Keeping, Lines, LogAsked, Source, Striking, Style, Task};
 pub use words::asked_of;

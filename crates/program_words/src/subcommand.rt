@@ -26,6 +26,8 @@ pub(crate) enum Subcommand {
     Check,
     /// `rows`.
     Rows,
+    /// `log`.
+    Log,
     /// `due`, `week`, `page`, `ics`, `json` or `sql`.
     Report,
     /// `memo`.
@@ -57,6 +59,7 @@ pub(crate) fn meant(name: &str) -> Subcommand
         "cases" => Subcommand::Cases,
         "check" => Subcommand::Check,
         "rows" => Subcommand::Rows,
+        "log" => Subcommand::Log,
         "memo" => Subcommand::Memo,
         "sheet" => Subcommand::Sheet,
         "court" => Subcommand::Court,

@@ -19,20 +19,22 @@ pub enum Task {
     Enter(String, Lines, HeldBack, Keeping),
     /// `try`: rows, which are answered as `enter` would, and not kept.
     Try(String, Lines, HeldBack),
-    /// `ask`: questions, which are answered.
-    Ask(String, Lines),
+    /// `ask`: questions, which are answered, and as of when.
+    Ask(String, Lines, Option<AsOf>),
     /// `plain`: rows as people write them, which are written as plain rows.
     Plain(String, Style),
     /// `strike`: a row of the folder, which is struck.
     Strike(String, Striking),
-    /// `struck`: the rows that are struck.
-    Struck(String),
-    /// `cases`: the cases that have names.
-    Cases(String),
+    /// `struck`: the rows that are struck, and as of when.
+    Struck(String, Option<AsOf>),
+    /// `cases`: the cases that have names, and as of when.
+    Cases(String, Option<AsOf>),
     /// `check`: all rows, decided again.
     Check(String),
-    /// `rows`: the court's file and the rows, as clerk_office reads them.
-    Rows(String),
+    /// `rows`: the court's file and the rows, as clerk_office reads them, and as of when.
+    Rows(String, Option<AsOf>),
+    /// `log`: who entered what, and when.
+    Log(String, LogAsked),
     /// `due`, `week`, `page`, `ics`, `json`, `sql` or `sheet`.
     Report(Source, ReportAsked),
     /// `memo`.
@@ -48,12 +50,36 @@ pub enum Task {
 /// Of what a report is.
 #[derive(Debug, Drop)]
 pub enum Source {
-    /// A folder.
-    Folder(String),
+    /// A folder, and as of when.
+    Folder(String, Option<AsOf>),
     /// A file with a court's file, a line `%%` and rows.
     File(String),
     /// The same in standard input.
     StandardInput,
+}
+
+/// As of when a folder is read. Where nothing is said, it is as it is now.
+#[derive(Clone, Copy, Debug)]
+pub enum AsOf {
+    /// After the row of this number, counted from 1, and before the next one.
+    Row(u32),
+    /// At the end of this day by the court's clock. The other is the instant that the clock shows, by which it is today.
+    Day(DaySaid, Instant),
+}
+
+/// Which entries of a folder are listed: those of which all holds that is said.
+#[derive(Debug, Drop)]
+pub struct LogAsked {
+    /// The row of this number, counted from 1.
+    pub row: Option<u32>,
+    /// By whom, in one line.
+    pub by: Option<String>,
+    /// The first day.
+    pub from: Option<DaySaid>,
+    /// The last day.
+    pub to: Option<DaySaid>,
+    /// The instant that the clock shows, by which it is today.
+    pub clock_time: Instant,
 }
 
 /// How the lines of standard input are read.
@@ -90,11 +116,7 @@ pub struct Striking {
     pub row: u32,
     /// Why it is struck, in one line.
     pub reason: String,
-    /// By whom, in one line.
-    pub by: String,
-    /// On which day.
-    pub today: DaySaid,
-    /// The instant that the clock shows, by which it is today.
+    /// The instant that the clock shows, by which it is struck on that day.
     pub clock_time: Instant,
     /// Whether it is struck though answers differ.
     pub accept: bool,

@@ -5,11 +5,12 @@ ghost use Rattle.clap.specs.Words.{Text, first_of, found_of, rows_of};
 ghost use Rattle.program_main.specs.Options.Words.{IsAnswerFor};
 ghost use Rattle.program_words.specs.declared.subcommand.Subcommand.{Subcommand};
 ghost use Rattle.program_words.specs.Given.{faults_without};
-ghost use Rattle.program_words.specs.Task.{IsSource, IsSourceOf, IsTask, faults_given, sheet_asked, sheet_case, sheet_folder, source_faults};
+ghost use Rattle.program_words.specs.Task.{IsSheetSource, IsSource, IsSourceOf, IsTask, faults_given, report_source_faults, sheet_asked, sheet_case, sheet_folder, sheet_source_faults, source_faults};
 
+use crate::as_of::report_as_of;
 use crate::given::{both, has_flag, mistake, needed, text_in};
-use crate::task::{Source, Striking, Task};
-use crate::values::{case_in, day_in, line_in, row_in};
+use crate::task::{AsOf, Source, Striking, Task};
+use crate::values::{case_in, line_in, row_in};
 use clap::ArgMatches;
 use court_clock::Instant;
 use office_texts::CaseCalled;
@@ -47,35 +48,30 @@ pub(crate) fn strike(
     ensures faults { IsAnswerFor (faults_given Subcommand.Strike (rows_of (found_of given.now))) result }
 {
     let of = both(folder_in(alloc, given), row_in(alloc, given));
-    let texts = both(
-        line_in(alloc, given, "reason", "--reason <TEXT>"),
-        line_in(alloc, given, "by", "--by <NAME>"),
-    );
-    let remark = both(texts, day_in(alloc, given));
-    let ((folder, row), ((reason, by), today)) = both(of, remark)?;
+    let reason = line_in(alloc, given, "reason", "--reason <TEXT>");
+    let ((folder, row), reason) = both(of, reason)?;
     let accept = has_flag(given, "accept");
     let striking = Striking {
         row,
         reason,
-        by,
-        today,
         clock_time,
         accept,
     };
     Ok(Task::Strike(folder, striking))
 }
 
-/// Of what a report is.
+/// Of what a report is, of a folder as of then.
 fn source_of(
     alloc: Global,
     folder: Option<&str>,
     input: Option<&str>,
+    as_of: Option<AsOf>,
 ) -> Result<Source, OptionsFault>
-    ensures source { IfOk result (IsSourceOf (option_map (λ text. text.now) folder.entry) (option_map (λ text. text.now) input.entry)) }
+    ensures source { IfOk result (IsSourceOf (option_map (λ text. text.now) folder.entry) (option_map (λ text. text.now) input.entry) as_of) }
     ensures faults { IsAnswerFor (source_faults (option_map (λ text. text.now) folder.entry) (option_map (λ text. text.now) input.entry)) result }
 {
     match (folder, input) {
-        (Some(folder), None) => Ok(Source::Folder(String::from_str(alloc, folder)?)),
+        (Some(folder), None) => Ok(Source::Folder(String::from_str(alloc, folder)?, as_of)),
         (None, Some("-")) => Ok(Source::StandardInput),
         (None, Some(input)) => Ok(Source::File(String::from_str(alloc, input)?)),
         (Some(_), Some(_)) => Err(mistake(
@@ -89,12 +85,22 @@ fn source_of(
     }
 }
 
-/// Of what the report is.
-fn source_in(alloc: Global, given: &ArgMatches<'_>) -> Result<Source, OptionsFault>
-    ensures source { IfOk result (IsSource (rows_of (found_of given.now))) }
-    ensures faults { IsAnswerFor (source_faults (first_of (codes "folder") (rows_of (found_of given.now))) (first_of (codes "input") (rows_of (found_of given.now)))) result }
+/// Of what the report is, at the clock's time.
+fn source_in(
+    alloc: Global,
+    clock_time: Instant,
+    given: &ArgMatches<'_>,
+) -> Result<Source, OptionsFault>
+    ensures source { IfOk result (IsSource clock_time (rows_of (found_of given.now))) }
+    ensures faults { IsAnswerFor (report_source_faults (rows_of (found_of given.now))) result }
 {
-    source_of(alloc, text_in(given, "folder"), text_in(given, "input"))
+    let as_of = report_as_of(alloc, clock_time, given)?;
+    source_of(
+        alloc,
+        text_in(given, "folder"),
+        text_in(given, "input"),
+        as_of,
+    )
 }
 
 /// A report of that name, at the clock's time.
@@ -108,18 +114,25 @@ pub(crate) fn report(
     ensures faults { IsAnswerFor (faults_given Subcommand.Report (rows_of (found_of given.now))) result }
 {
     let (source, asked) = both(
-        source_in(alloc, given),
+        source_in(alloc, clock_time, given),
         report_program::asked_by(alloc, clock_time, name, given),
     )?;
     Ok(Task::Report(source, asked))
 }
 
-/// A memo.
-pub(crate) fn memo(alloc: Global, given: &ArgMatches<'_>) -> Result<Task, OptionsFault>
-    ensures task { (clock_time : ℤ) (name : Text) → IfOk result (IsTask clock_time Subcommand.Memo name (rows_of (found_of given.now))) }
+/// A memo, at the clock's time.
+pub(crate) fn memo(
+    alloc: Global,
+    clock_time: Instant,
+    given: &ArgMatches<'_>,
+) -> Result<Task, OptionsFault>
+    ensures task { (name : Text) → IfOk result (IsTask clock_time Subcommand.Memo name (rows_of (found_of given.now))) }
     ensures faults { IsAnswerFor (faults_given Subcommand.Memo (rows_of (found_of given.now))) result }
 {
-    let (source, asked) = both(source_in(alloc, given), report_memo::asked_by(alloc, given))?;
+    let (source, asked) = both(
+        source_in(alloc, clock_time, given),
+        report_memo::asked_by(alloc, given),
+    )?;
     Ok(Task::Memo(source, asked))
 }
 
@@ -169,6 +182,21 @@ fn sheet_case<'a>(
     }
 }
 
+/// Of what the sheet is, at the clock's time.
+fn sheet_source(
+    alloc: Global,
+    clock_time: Instant,
+    given: &ArgMatches<'_>,
+) -> Result<Source, OptionsFault>
+    ensures source { IfOk result (IsSheetSource clock_time (rows_of (found_of given.now))) }
+    ensures faults { IsAnswerFor (sheet_source_faults (rows_of (found_of given.now))) result }
+{
+    let as_of = report_as_of(alloc, clock_time, given)?;
+    let (first, second) = (text_in(given, "folder"), text_in(given, "case"));
+    let input = text_in(given, "input");
+    source_of(alloc, sheet_folder(first, second, input), input, as_of)
+}
+
 /// The sheet of a case, at the clock's time.
 pub(crate) fn sheet(
     alloc: Global,
@@ -181,7 +209,7 @@ pub(crate) fn sheet(
     let (first, second) = (text_in(given, "folder"), text_in(given, "case"));
     let input = text_in(given, "input");
     let (source, case) = both(
-        source_of(alloc, sheet_folder(first, second, input), input),
+        sheet_source(alloc, clock_time, given),
         case_in(alloc, sheet_case(first, second, input)),
     )?;
     Ok(Task::Report(source, sheet_asked(clock_time, case)))

@@ -9,7 +9,7 @@ ghost use Rattle.court_clock.specs.Words.{day_of_text};
 ghost use Rattle.court_writing.specs.Words.{district_named, of_district, zone_text};
 ghost use Rattle.program_main.specs.Options.Words.{IsAnswerFor, IsFaultAmong};
 ghost use Rattle.office_texts.specs.Names.Words.{case_called};
-ghost use Rattle.program_main.specs.Texts.Words.{day_said, faults_unless, is_day_taken, number_of};
+ghost use Rattle.program_main.specs.Texts.Words.{day_said, faults_unless, is_day_taken, is_said_taken, number_of};
 ghost use Rattle.program_words.specs.Given.{faults_if_given, faults_reading, is_line, line_of, order_of, year_of};
 
 use crate::courts::nearest_names;
@@ -18,12 +18,9 @@ use clap::ArgMatches;
 use court_clock::Day;
 use court_writing::CourtName;
 use office_texts::CaseCalled;
-use program_main::{DaySaid, OptionsFault, case_said, day_option, day_said, number_of};
+use program_main::{DaySaid, OptionsFault, case_said, day_option, number_of, said_option};
 use row_fields::DateOrder;
 use std::alloc::Global;
-
-/// How a day is written that may be said by a word.
-const HOW_SAID: &str = "write a day as 2025-09-15, today, yesterday, monday to sunday or -3d";
 
 /// The order that a text names.
 fn order_of(text: &str) -> Option<DateOrder>
@@ -59,7 +56,7 @@ pub(crate) fn order_in(
 }
 
 /// The text of what the words call `shown` says nothing. `advice` says how it is written.
-fn unread(alloc: Global, text: &str, shown: &str, advice: &str) -> OptionsFault
+pub(crate) fn unread(alloc: Global, text: &str, shown: &str, advice: &str) -> OptionsFault
     ensures { IsFaultAmong (ErrorKind.ValueValidation ∷ []) result }
 {
     match format!(in alloc; "invalid value '{text}' for '{shown}': {advice}") {
@@ -81,6 +78,28 @@ pub(crate) fn row_in(alloc: Global, given: &ArgMatches<'_>) -> Result<u32, Optio
                 alloc,
                 text,
                 "<ROW>",
+                "write the number with which its answer begins",
+            )),
+        },
+    }
+}
+
+/// The number of a row, if one was given. BadWords where its text is no number.
+pub(crate) fn row_if_given(
+    alloc: Global,
+    given: &ArgMatches<'_>,
+) -> Result<Option<u32>, OptionsFault>
+    ensures row { IfOk result (λ row. row ≡ option_and_then number_of (first_of (codes "row") (rows_of (found_of given.now)))) }
+    ensures faults { IsAnswerFor (faults_if_given number_of (first_of (codes "row") (rows_of (found_of given.now)))) result }
+{
+    match text_in(given, "row") {
+        None => Ok(None),
+        Some(text) => match number_of(text) {
+            Some(row) => Ok(Some(row)),
+            None => Err(unread(
+                alloc,
+                text,
+                "--row <ROW>",
                 "write the number with which its answer begins",
             )),
         },
@@ -148,6 +167,33 @@ pub(crate) fn line_in(
     }
 }
 
+/// The name of an account, if one was given. BadWords where its text is empty or has another line.
+pub(crate) fn name_if_given(
+    alloc: Global,
+    given: &ArgMatches<'_>,
+) -> Result<Option<String>, OptionsFault>
+    ensures name { IfOk result (λ name. option_map string_bytes name ≡ option_and_then line_of (first_of (codes "by") (rows_of (found_of given.now)))) }
+    ensures faults { IsAnswerFor (faults_if_given line_of (first_of (codes "by") (rows_of (found_of given.now)))) result }
+{
+    match text_in(given, "by") {
+        None => Ok(None),
+        Some(text) if is_line(text) => Ok(Some(String::from_str(alloc, text)?)),
+        Some(text) => Err(unread(alloc, text, "--by <NAME>", "write a text of one line")),
+    }
+}
+
+/// The day of the option of that name, by its date or by a word, if one was given. BadWords where its text says none.
+pub(crate) fn said_if_given(
+    alloc: Global,
+    given: &ArgMatches<'_>,
+    name: &str,
+) -> Result<Option<DaySaid>, OptionsFault>
+    ensures day { IfOk result (λ day. day ≡ option_and_then day_said (first_of name.now (rows_of (found_of given.now)))) }
+    ensures faults { IsAnswerFor (faults_unless (is_said_taken (first_of name.now (rows_of (found_of given.now))))) result }
+{
+    said_option(alloc, name, text_in(given, name))
+}
+
 /// The day of `--today`, if one was given. BadWords where its text writes none.
 pub(crate) fn day_if_given(
     alloc: Global,
@@ -157,20 +203,6 @@ pub(crate) fn day_if_given(
     ensures faults { IsAnswerFor (faults_unless (is_day_taken (first_of (codes "today") (rows_of (found_of given.now))))) result }
 {
     day_option(alloc, "today", text_in(given, "today"))
-}
-
-/// The day of `--today`, by its date or by a word, which has to be given. BadWords where it isn't, or where its text says none.
-pub(crate) fn day_in(alloc: Global, given: &ArgMatches<'_>) -> Result<DaySaid, OptionsFault>
-    ensures day { IfOk result (λ day. option_and_then day_said (first_of (codes "today") (rows_of (found_of given.now))) ≡ Some day) }
-    ensures faults { IsAnswerFor (faults_reading day_said (first_of (codes "today") (rows_of (found_of given.now)))) result }
-{
-    match text_in(given, "today") {
-        None => Err(missing(alloc, "--today <DAY>")),
-        Some(text) => match day_said(text) {
-            Some(day) => Ok(day),
-            None => Err(unread(alloc, text, "--today <DAY>", HOW_SAID)),
-        },
-    }
 }
 
 /// The case that a text calls, which has to be given. BadWords where it isn't, or where it calls none.

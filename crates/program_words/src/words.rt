@@ -16,7 +16,7 @@ use crate::given::missing;
 use crate::subcommand::{Subcommand, court_meant, meant};
 use crate::task::Task;
 use crate::tasks::folder_in;
-use crate::{court_tasks, input_tasks, tasks};
+use crate::{court_tasks, input_tasks, kept_tasks, tasks};
 use clap::{ArgMatches, Command};
 use court_clock::Instant;
 use program_main::{OptionsFault, fault_from};
@@ -37,15 +37,16 @@ fn task_of(
         Subcommand::Init => tasks::init(alloc, given),
         Subcommand::Enter => input_tasks::enter(alloc, given),
         Subcommand::Try => input_tasks::trial(alloc, given),
-        Subcommand::Ask => input_tasks::ask(alloc, given),
+        Subcommand::Ask => input_tasks::ask(alloc, clock_time, given),
         Subcommand::Plain => input_tasks::plain(alloc, given),
         Subcommand::Strike => tasks::strike(alloc, clock_time, given),
-        Subcommand::Struck => Ok(Task::Struck(folder_in(alloc, given)?)),
-        Subcommand::Cases => Ok(Task::Cases(folder_in(alloc, given)?)),
+        Subcommand::Struck => kept_tasks::struck(alloc, clock_time, given),
+        Subcommand::Cases => kept_tasks::cases(alloc, clock_time, given),
         Subcommand::Check => Ok(Task::Check(folder_in(alloc, given)?)),
-        Subcommand::Rows => Ok(Task::Rows(folder_in(alloc, given)?)),
+        Subcommand::Rows => kept_tasks::rows(alloc, clock_time, given),
+        Subcommand::Log => kept_tasks::log(alloc, clock_time, given),
         Subcommand::Report => tasks::report(alloc, clock_time, name, given),
-        Subcommand::Memo => tasks::memo(alloc, given),
+        Subcommand::Memo => tasks::memo(alloc, clock_time, given),
         Subcommand::Sheet => tasks::sheet(alloc, clock_time, given),
         Subcommand::Court => Err(missing(alloc, "the command after 'court'")),
         Subcommand::CourtCheck => court_tasks::check(alloc, given),

@@ -34,18 +34,21 @@ const CASE: &str = "The sheet of this case alone, after all rows, by its number 
 
 const TODAY: &str = "With --case: how far pending deadlines lie from this day, as 2025-08-21";
 
+const AS_OF: &str = "The folder as it was after this row, or at the end of this day";
+
 /// The subcommand.
 fn memo<'a>(alloc: Global) -> Result<Command<'a>, AllocError>
     ensures { IfOk result (λ command. app_of command ≡ record { top = memo_shape; subs = [] }) }
 {
     let command = Command::new(alloc, "memo").about(ABOUT).after_help(TEXTS);
     let command = with_source(alloc, command)?;
+    let command = with_text(alloc, command, "as-of", "ROW|DAY", AS_OF)?;
     let command = with_text(alloc, command, "case", "N", CASE)?;
     with_text(alloc, command, "today", "DAY", TODAY)
 }
 
-/// A command with the subcommand memo. It takes `folder`, the first place, or `input`, the option, and `case` and `today`; none of
-/// them has to be given. `Err` says that memory ran out.
+/// A command with the subcommand memo. It takes `folder`, the first place, or `input`, the option, and `as-of`, `case` and `today`; none
+/// of them has to be given. `Err` says that memory ran out.
 pub fn with_memo<'a>(alloc: Global, command: Command<'a>) -> Result<Command<'a>, AllocError>
     ensures { IfOk result (λ whole. app_of whole ≡ with_memo (app_of command.entry)) }
 {

@@ -1,6 +1,6 @@
 -- What the subcommands for reports may have, as `clap` reads it.
 use Rattle.std.specs.Prelude.{Some, [], ◌∷◌, ◌++◌, codes}
-use Rattle.clap.specs.Words.{App, Rule, Shape, Text, new_app, new_rule, with_subcommand}
+use Rattle.clap.specs.Words.{App, Rule, Shape, Text, new_app, new_rule, with_rule, with_subcommand}
 use Rattle.clap.specs.declared.builder.action.ArgAction.TheVariants.{SetTrue}
 use Rattle.program_main.specs.Texts.Words.{needed_rule, text_rule, with_source}
 
@@ -8,9 +8,9 @@ use Rattle.program_main.specs.Texts.Words.{needed_rule, text_rule, with_source}
 abbrev pub lines_rule : Rule
 lines_rule = record (new_rule (codes "lines")) { long = Some (codes "lines"); action = Some SetTrue }
 
--- a subcommand that takes where the rows are: a docket's folder, or `--input FILE`
+-- a subcommand that takes where the rows are: a docket's folder, and `--as-of ROW|DAY`, or `--input FILE`
 abbrev pub sourced_shape : (name : Text) → Shape
-sourced_shape name = (with_source (new_app name)).top
+sourced_shape name = (with_rule (with_source (new_app name)) (text_rule (codes "as-of"))).top
 
 -- one that also takes the days, that of today, the judge and the case that are chosen
 abbrev pub choosing_shape : (name : Text) → Shape

@@ -42,11 +42,14 @@ const ONE_JUDGE: &str = "The judge, as the court's file names one";
 
 const CASE: &str = "This case alone: its number, or the number that the court gives it";
 
-/// The subcommand of that name, which takes a docket's folder, or else the file of an input.
+const AS_OF: &str = "The folder as it was after this row, or at the end of this day";
+
+/// The subcommand of that name, which takes a docket's folder, and as of when, or else the file of an input.
 fn sourced<'a>(alloc: Global, name: &'a str, about: &'a str) -> Result<Command<'a>, AllocError>
     ensures { IfOk result (λ command. app_of command ≡ record { top = sourced_shape name.now; subs = [] }) }
 {
-    with_source(alloc, Command::new(alloc, name).about(about))
+    let command = with_source(alloc, Command::new(alloc, name).about(about))?;
+    with_text(alloc, command, "as-of", "ROW|DAY", AS_OF)
 }
 
 /// The subcommand of that name, which also takes the days, the judge and the case that are chosen.
@@ -91,8 +94,8 @@ fn json<'a>(alloc: Global) -> Result<Command<'a>, AllocError>
     command.arg(lines)
 }
 
-/// A command with the subcommands due, week, page, ics, json and sql. Each takes `folder`, the first place, or `input`, the option;
-/// neither has to be given. `Err` says that memory ran out.
+/// A command with the subcommands due, week, page, ics, json and sql. Each takes `folder`, the first place, and `as-of`, or `input`, the option;
+/// none has to be given. `Err` says that memory ran out.
 pub fn with_reports<'a>(alloc: Global, command: Command<'a>) -> Result<Command<'a>, AllocError>
     ensures { IfOk result (λ whole. app_of whole ≡ with_reports (app_of command.entry)) }
 {

@@ -3,15 +3,14 @@ use crate::expected::Expected;
 use crate::files::are_first;
 use crate::tally::Tally;
 use anyhow::Result;
-use desk_journal::{JournalFault, entries_in};
+use desk_journal::{JournalFault, stamped_in};
 use std::alloc::Global;
 
-// A shut latch.
+// A byte of a shut latch.
 const SHUT: u8 = 45;
 
-/// Changes each byte of a whole journal's file in turn, to a shut latch, and looks at what is read then. It must be a damaged
-/// entry but in one place: the latch before the last batch, without which the file is what a crash leaves before that batch
-/// is published. Only the first entries may be read then.
+/// Changes each byte of a whole journal's file in turn, to that of a shut latch, and looks at what is read then. It must be a damaged
+/// entry, or all entries: a latch of which one byte is changed still isn't shut.
 pub fn check_damage(
     alloc: Global,
     expected: &Expected,
@@ -27,7 +26,7 @@ pub fn check_damage(
     Ok(())
 }
 
-// The file with a shut latch at this place.
+// The file with that byte at this place.
 fn changed(alloc: Global, file: &[u8], at: usize) -> Result<Vec<u8>> {
     let mut bytes = Vec::new(alloc);
     for (place, byte) in file.iter().enumerate() {
@@ -44,12 +43,12 @@ fn check_read(
     place: usize,
     tally: &mut Tally,
 ) -> Result<()> {
-    match entries_in(alloc, bytes) {
+    match stamped_in(alloc, bytes) {
         Err(JournalFault::Damaged(_)) => tally.count_found(),
         Err(fault) => return Err(fault.into()),
-        Ok(entries) => {
-            tally.count_hidden();
-            if !are_first(&expected.entries, &entries) {
+        Ok((entries, _stamps)) => {
+            tally.count_harmless();
+            if entries.len() != expected.entries.len() || !are_first(&expected.entries, &entries) {
                 let text = format!(in alloc;
                     "other entries are read where byte {place} is changed"
                 )?;

@@ -1,8 +1,9 @@
 //! A file that a crash may have left, opened again.
+use crate::clerk::stamp;
 use crate::crash::{Crashed, FILLS, crash_of};
 use crate::session::Device;
 use anyhow::Result;
-use desk_journal::{Journal, JournalFault};
+use desk_journal::{Journal, JournalFault, tail_in};
 use sqlite_disk::{Disk, Fuse, Memory};
 use std::alloc::Global;
 
@@ -19,20 +20,35 @@ fn disk_with(alloc: Global, file: &[u8], calls: u64) -> Result<Device> {
 
 // The entries of a disk's journal, and the disk after its opening: none where the journal is damaged.
 fn reopened(alloc: Global, disk: Device) -> Result<Option<(Device, Vec<Vec<u8>>)>> {
-    match Journal::open(alloc, disk) {
+    match Journal::open(alloc, disk, stamp(alloc)?) {
         Ok((journal, entries)) => Ok(Some((journal.into_disk(), entries))),
         Err((JournalFault::Damaged(_), _)) | Err((JournalFault::Full, _)) => Ok(None),
         Err((fault, _)) => Err(fault.into()),
     }
 }
 
+// Whether the opening has cut just what `tail_in` gives off the file. At most two bytes are a journal that was being made.
+fn is_cut(alloc: Global, file: &[u8], disk: &mut Device) -> Result<bool> {
+    if file.len() <= 2 {
+        return Ok(true);
+    }
+    if !disk.may_be_used() {
+        return Ok(false);
+    }
+    let tail = tail_in(alloc, file)?;
+    Ok(file.len().checked_sub(tail.len()) == Some(disk.len()?))
+}
+
 /// How many entries the file's journal has, where they are the first of those expected, and no others when it is opened once
 /// more: none where it isn't so.
 pub fn count_kept(alloc: Global, expected: &[Vec<u8>], file: &[u8]) -> Result<Option<usize>> {
     let disk = disk_with(alloc, file, u64::MAX)?;
-    let Some((disk, entries)) = reopened(alloc, disk)? else {
+    let Some((mut disk, entries)) = reopened(alloc, disk)? else {
         return Ok(None);
     };
+    if !is_cut(alloc, file, &mut disk)? {
+        return Ok(None);
+    }
     let Some((_, again)) = reopened(alloc, disk)? else {
         return Ok(None);
     };
@@ -56,7 +72,7 @@ pub fn are_first(expected: &[Vec<u8>], entries: &[Vec<u8>]) -> bool {
 /// many entries too.
 pub fn lasts(alloc: Global, expected: &[Vec<u8>], file: &[u8], count: usize) -> Result<bool> {
     for calls in 0..CALLS {
-        match Journal::open(alloc, disk_with(alloc, file, calls)?) {
+        match Journal::open(alloc, disk_with(alloc, file, calls)?, stamp(alloc)?) {
             Ok(_) => return Ok(true),
             Err((_, mut disk)) => {
                 let crash = crash_of(alloc, &mut disk)?;

@@ -1,6 +1,7 @@
 //! Sessions of the desk over a disk that fails and crashes, many in one input, for a check that runs each program once.
 #![tactic(auto)]
 
+mod clerk;
 mod crash;
 mod damage;
 mod expected;

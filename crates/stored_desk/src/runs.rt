@@ -52,13 +52,13 @@ fn push_tally(alloc: Global, text: &mut String, expected: &Expected, tally: &Tal
         newer,
         openings,
         found,
-        hidden,
+        harmless,
         wrong,
     } = tally;
     let entries = expected.entries.len();
     let steps = expected.states.len().saturating_sub(1);
     let lines = format!(in alloc;
-        "entries {entries}, kept in {steps} steps\nsessions {sessions}, the last of them whole\nfiles {files}, of which {newer} have the batch that was being kept\nopened on disks that fail: {openings}\nbytes changed: {found} found, {hidden} not\n"
+        "entries {entries}, kept in {steps} steps\nsessions {sessions}, the last of them whole\nfiles {files}, of which {newer} have the batch that was being kept\nopened on disks that fail: {openings}\nbytes changed: {found} found, {harmless} change nothing\n"
     )?;
     text.push_str(&lines)?;
     match wrong {

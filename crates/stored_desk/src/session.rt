@@ -1,4 +1,5 @@
 //! A session of the desk on a disk that fails.
+use crate::clerk::{OneSecond, stamp};
 use crate::expected::docket_of;
 use anyhow::Result;
 use desk_entries::Docketed;
@@ -24,7 +25,7 @@ pub struct Stopped {
 pub fn session(alloc: Global, file: &[u8], rows: &str, calls: u64) -> Result<Stopped> {
     let mut answers = Vec::new(alloc);
     let disk = Fuse::new(Memory::new(alloc), calls);
-    match Journal::open(alloc, disk) {
+    match Journal::open(alloc, disk, stamp(alloc)?) {
         Err((_, disk)) => Ok(Stopped {
             disk,
             answers,
@@ -100,6 +101,7 @@ fn keep_batch(
     let ended = serve(
         &docketed.standing,
         alloc,
+        &OneSecond,
         journal,
         &mut docketed.register,
         &mut reader,

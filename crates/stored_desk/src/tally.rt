@@ -3,7 +3,7 @@ use anyhow::Result;
 use std::alloc::Global;
 
 /// How many sessions there were, how many files were opened that a crash may leave, how many of these had the batch that was
-/// being kept, how many were opened on disks that fail, of how many changed bytes the damage was found and of how many not,
+/// being kept, how many were opened on disks that fail, of how many changed bytes the damage was found and how many change nothing,
 /// and what wasn't as it must be.
 #[derive(Drop)]
 pub struct Tally {
@@ -12,7 +12,7 @@ pub struct Tally {
     pub newer: u64,
     pub openings: u64,
     pub found: u64,
-    pub hidden: u64,
+    pub harmless: u64,
     pub wrong: Option<String>,
 }
 
@@ -25,7 +25,7 @@ impl Tally {
             newer: 0,
             openings: 0,
             found: 0,
-            hidden: 0,
+            harmless: 0,
             wrong: None,
         }
     }
@@ -48,9 +48,9 @@ impl Tally {
         self.found = self.found.saturating_add(1);
     }
 
-    /// Counts a changed byte with which entries are read.
-    pub fn count_hidden(&mut self) {
-        self.hidden = self.hidden.saturating_add(1);
+    /// Counts a changed byte with which all entries are read.
+    pub fn count_harmless(&mut self) {
+        self.harmless = self.harmless.saturating_add(1);
     }
 
     /// Counts a session.

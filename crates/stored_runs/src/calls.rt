@@ -4,8 +4,10 @@ ghost use Rattle.std.specs.Prelude.{◌≡◌, ◌<◌, ◌≤◌, false, length
 ghost use Rattle.program_streams.specs.Words.{has_failed};
 
 use crate::calendar::{first_instant, push_ending};
+use crate::clerk::{ACCOUNT, FirstClock, stamp};
 use crate::stored::push_name;
 use desk_entries::Docketed;
+use desk_journal::Stamp;
 use desk_program::{
     Desk, DeskFault, all_taken, ask, ended_by, write_cases, write_count, write_rows, write_struck,
 };
@@ -79,9 +81,12 @@ fn done(
 ) -> Ended
     requires { has_failed writer.old ≡ false }
 {
+    let Ok(stamp) = stamp(alloc) else {
+        return (Err(DeskFault::OutOfMemory), disk);
+    };
     match task {
-        Task::Init(_, _) => begun(alloc, disk, input),
-        _ => match Desk::open(alloc, disk) {
+        Task::Init(_, _) => begun(alloc, disk, input, stamp),
+        _ => match Desk::open(alloc, disk, stamp) {
             Ok((desk, entries)) => opened(alloc, desk, &entries, task, input, writer, errors),
             Err((fault, disk)) => (Err(fault), disk),
         },
@@ -89,11 +94,11 @@ fn done(
 }
 
 // Begins the docket of a court's file.
-fn begun(alloc: Global, disk: Memory, file: &[u8]) -> Ended {
+fn begun(alloc: Global, disk: Memory, file: &[u8], stamp: Stamp) -> Ended {
     let Ok(file) = Vec::from_slice(alloc, file) else {
         return (Err(DeskFault::OutOfMemory), disk);
     };
-    match Desk::begin(alloc, disk, file) {
+    match Desk::begin(alloc, disk, file, stamp) {
         Ok(disk) => (Ok(()), disk),
         Err((fault, disk)) => (Err(fault), disk),
     }
@@ -124,13 +129,13 @@ fn opened(
         }
         Task::Strike(_, striking) => struck(alloc, &mut desk, entries, striking, writer),
         Task::CourtChange(_, _, accept) => desk.change(alloc, entries, input, *accept, writer),
-        Task::Cases(_) => {
+        Task::Cases(_, _) => {
             let disk = desk.into_disk();
             let ended = copied_cases(alloc, disk.bytes(), writer);
             return (ended, disk);
         }
-        Task::Ask(_, _) => asked(alloc, entries, input, writer),
-        Task::Struck(_) => write_struck(alloc, entries, writer),
+        Task::Ask(_, _, _) => asked(alloc, entries, input, writer),
+        Task::Struck(_, _) => write_struck(alloc, entries, writer),
         Task::Check(_) => write_count(alloc, desk.rows(), writer),
         _ => write_rows(alloc, desk.standing(), desk.moved(), entries, writer),
     };
@@ -151,7 +156,7 @@ fn entered(
     match keeping {
         Keeping::Each => {
             let mut reader = Watched::new(input);
-            match desk.enter(alloc, &mut reader, writer) {
+            match desk.enter(alloc, &FirstClock, &mut reader, writer) {
                 Ok(tally) => all_taken(tally),
                 Err(fault) => Err(DeskFault::Session(fault)),
             }
@@ -212,9 +217,9 @@ fn struck(
     requires some { 0 < length entries.now }
     requires few { length entries.now ≤ 1000000 }
 {
-    let today = today_by(desk.court().clock(), striking.clock_time);
-    let (day, by, reason) = (striking.today.on(today), &striking.by, &striking.reason);
-    let remark = format!(in alloc; "struck {day} by {by}: {reason}\n")?;
+    let day = today_by(desk.court().clock(), striking.clock_time);
+    let reason = &striking.reason;
+    let remark = format!(in alloc; "struck {day} by {ACCOUNT}: {reason}\n")?;
     let remark = remark.as_bytes();
     desk.strike(
         alloc,

@@ -3,6 +3,7 @@
 ghost use Rattle.std.specs.Prelude.{◌≡◌, false};
 ghost use Rattle.program_streams.specs.Words.{has_failed};
 
+use crate::clerk::{FirstClock, stamp};
 use crate::lines::input_of;
 use crate::stored::push_name;
 use crate::sums::push_sum;
@@ -47,7 +48,7 @@ fn desk_run(
 {
     let (court, lines) = divide(input);
     let file = Vec::from_slice(alloc, court)?;
-    let disk = match Desk::begin(alloc, Memory::new(alloc), file) {
+    let disk = match Desk::begin(alloc, Memory::new(alloc), file, stamp(alloc)?) {
         Ok(disk) => disk,
         Err((fault, _)) => return Err(fault),
     };
@@ -64,12 +65,12 @@ fn entered(
 ) -> Result<Memory, DeskFault>
     requires { has_failed answers.old ≡ false }
 {
-    let mut desk = match Desk::open(alloc, disk) {
+    let mut desk = match Desk::open(alloc, disk, stamp(alloc)?) {
         Ok((desk, _)) => desk,
         Err((fault, _)) => return Err(fault),
     };
     let mut reader = Watched::new(lines);
-    let ended = desk.enter(alloc, &mut reader, answers);
+    let ended = desk.enter(alloc, &FirstClock, &mut reader, answers);
     let disk = desk.into_disk();
     match ended {
         Ok(_) => Ok(disk),
@@ -81,7 +82,7 @@ fn entered(
 fn write_kept(alloc: Global, disk: Memory, rows: &mut Watched<Vec<u8>>) -> Result<(), DeskFault>
     requires { has_failed rows.old ≡ false }
 {
-    match Desk::open(alloc, disk) {
+    match Desk::open(alloc, disk, stamp(alloc)?) {
         Ok((desk, entries)) => write_rows(alloc, desk.standing(), desk.moved(), &entries, rows),
         Err((fault, _)) => Err(fault),
     }

@@ -3,6 +3,7 @@
 
 mod calendar;
 mod calls;
+mod clerk;
 mod desk;
 mod lines;
 mod made;

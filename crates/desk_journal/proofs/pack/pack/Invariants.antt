@@ -5,6 +5,6 @@ use Rattle.desk_journal.proofs.pack.pack.Given as goal
 
 abbrev pub invariant-loop-entry : goal.invariant-loop-entry
 invariant-loop-entry l = record {
-  packed : IsPacked l.previous l.durable l.batch l.entry-index l.buffer.items l.sum;
+  packed : IsPacked l.previous l.durable l.stamp l.batch l.entry-index l.buffer.items l.sum;
   short : All (λ v. length v.items ≤ 16777216) (take l.entry-index l.batch);
 }

@@ -84,7 +84,7 @@ returns-in_err-serve_bytes-in-Ok-clause-promised g c = λ kept keeps stands.
     let answers = g.O.Register.answers c.args.setup.now in
     let more = take c.in-Ok.count c.read.new.buf in
     let (counted_so, first) = served kept keeps stands in
-    let second = c.serve_bytes.ensures.promised (kept ++ left_by leaves kept (lines_of bytes)) first.keeps first.stands in
+    let second = c.serve_bytes.ensures.promised (kept ++ left_by leaves kept (lines_of bytes)) (c.at.ensures.kept _ first.keeps) first.stands in
     let lines = ap (λ (b : List ℕ). lines_of bytes ++ lines_from b more) begun ∙ sym (lines_from-append [] bytes more) in (
       bytes ++ more,
       Consumes-trans _ _ _ bytes more consumed c.in-Ok.ensures.bytes.0,
@@ -108,7 +108,7 @@ reads-preserved g c =
       counted_more (read_calls c.args.reader.now) c.reads.counter (read_calls c.reads.reader) (read_calls c.read.new.self) calls c.read.ensures.calls,
       λ kept keeps stands.
           let (counted_so, first) = served kept keeps stands in
-          let second = c.in_ok-serve_bytes-in-Ok.ensures.served (kept ++ left_by leaves kept (lines_of bytes)) first.keeps first.stands in
+          let second = c.in_ok-serve_bytes-in-Ok.ensures.served (kept ++ left_by leaves kept (lines_of bytes)) (c.at.ensures.kept _ first.keeps) first.stands in
           let outcome = g.O.Register.outcome c.args.setup.now in
           let tally = c.in_ok-serve_bytes-in-Ok.ensures.tally (kept ++ left_by leaves kept (lines_of bytes)) first.stands in (
             tally

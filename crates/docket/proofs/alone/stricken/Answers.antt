@@ -6,5 +6,5 @@ use Rattle.docket.proofs.alone.stricken.Goals as goal
 pub returns : goal.returns
 returns g c = λ keeps.
     let under = standing_at c.args.desk.now in
-    let remark : c.as_bytes.result.now ≡ remark_by under c.args.striking.now = c.as_bytes.ensures.value ∙ c.in_ok-remark.ensures under (sym c.court.ensures) in
+    let remark : c.as_slice.result.now ≡ remark_by under c.args.account.now c.args.striking.now = c.as_slice.ensures.value ∙ c.in_ok-remark.ensures under (sym c.court.ensures) in
     rw remark at (c.strike.ensures.struck keeps)

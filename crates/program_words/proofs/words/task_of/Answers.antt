@@ -11,7 +11,7 @@ pub returns-in-Try-clause-task : goal.returns-in-Try-clause-task
 returns-in-Try-clause-task c = rw c.in-Try.is (c.trial.ensures.task c.args.clock_time c.args.name.now)
 
 pub returns-in-Ask-clause-task : goal.returns-in-Ask-clause-task
-returns-in-Ask-clause-task c = rw c.in-Ask.is (c.ask.ensures.task c.args.clock_time c.args.name.now)
+returns-in-Ask-clause-task c = rw c.in-Ask.is (c.ask.ensures.task c.args.name.now)
 
 pub returns-in-Plain-clause-task : goal.returns-in-Plain-clause-task
 returns-in-Plain-clause-task c = rw c.in-Plain.is (c.plain.ensures.task c.args.clock_time c.args.name.now)
@@ -19,8 +19,20 @@ returns-in-Plain-clause-task c = rw c.in-Plain.is (c.plain.ensures.task c.args.c
 pub returns-in-Strike-clause-task : goal.returns-in-Strike-clause-task
 returns-in-Strike-clause-task c = rw c.in-Strike.is (c.strike.ensures.task c.args.name.now)
 
+pub returns-in-Struck-clause-task : goal.returns-in-Struck-clause-task
+returns-in-Struck-clause-task c = rw c.in-Struck.is (c.struck.ensures.task c.args.name.now)
+
+pub returns-in-Cases-clause-task : goal.returns-in-Cases-clause-task
+returns-in-Cases-clause-task c = rw c.in-Cases.is (c.cases.ensures.task c.args.name.now)
+
+pub returns-in-Rows-clause-task : goal.returns-in-Rows-clause-task
+returns-in-Rows-clause-task c = rw c.in-Rows.is (c.rows.ensures.task c.args.name.now)
+
+pub returns-in-Log-clause-task : goal.returns-in-Log-clause-task
+returns-in-Log-clause-task c = rw c.in-Log.is (c.log.ensures.task c.args.name.now)
+
 pub returns-in-Memo-clause-task : goal.returns-in-Memo-clause-task
-returns-in-Memo-clause-task c = rw c.in-Memo.is (c.memo.ensures.task c.args.clock_time c.args.name.now)
+returns-in-Memo-clause-task c = rw c.in-Memo.is (c.memo.ensures.task c.args.name.now)
 
 pub returns-in-Sheet-clause-task : goal.returns-in-Sheet-clause-task
 returns-in-Sheet-clause-task c = rw c.in-Sheet.is (c.sheet.ensures.task c.args.name.now)

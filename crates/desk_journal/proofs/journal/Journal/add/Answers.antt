@@ -7,34 +7,36 @@ use Rattle.desk_journal.proofs.journal.Journal.add.Goals as goal
 use Rattle.desk_journal.proofs.BatchLemmas.{are_frames}
 use Rattle.desk_journal.proofs.CrashLemmas.{opened}
 use Rattle.desk_journal.proofs.FaultLemmas.{no_number}
+use Rattle.desk_journal.proofs.StampLemmas.{last_time-append}
 use Rattle.desk_journal.proofs.KeptLemmas.{packed_is, end_more, count_more, last_more, left_of_append}
 
 pub returns-in_err-publish-in-Some-clause-crash : goal.returns-in_err-publish-in-Some-clause-crash
 returns-in_err-publish-in-Some-clause-crash g c = λ fs kept x left.
-    left_of_append fs c.args.batch.now c.requires.some c.args.self.now.count c.args.self.now.last c.pack_whole.new.buffer.items c.split_at.result.1.now kept.count kept.last c.in_ok-last.ensures.bytes (c.split_at.ensures.back ∙ ap (drop 1) c.deref.ensures.value) kept.whole c.in_ok-last.ensures.short x
+    left_of_append fs c.args.batch.now c.requires.some c.args.self.now.stamp c.args.self.now.count c.args.self.now.last c.pack_whole.new.buffer.items c.split_at.result.1.now kept.count kept.last c.in_ok-last.ensures.bytes (c.split_at.ensures.back ∙ ap (drop 2) c.deref.ensures.value) c.in_ok-last.ensures.stamp kept.whole c.in_ok-last.ensures.short x
     (c.publish.ensures.crash (frames first_checksum fs) kept.end kept.file x left)
 
 pub returns-in_ok-publish-in-Some-clause-crash : goal.returns-in_ok-publish-in-Some-clause-crash
 returns-in_ok-publish-in-Some-clause-crash g c = λ fs kept x left.
-    left_of_append fs c.args.batch.now c.requires.some c.args.self.now.count c.args.self.now.last c.pack_whole.new.buffer.items c.split_at.result.1.now kept.count kept.last c.in_ok-last.ensures.bytes (c.split_at.ensures.back ∙ ap (drop 1) c.deref.ensures.value) kept.whole c.in_ok-last.ensures.short x
+    left_of_append fs c.args.batch.now c.requires.some c.args.self.now.stamp c.args.self.now.count c.args.self.now.last c.pack_whole.new.buffer.items c.split_at.result.1.now kept.count kept.last c.in_ok-last.ensures.bytes (c.split_at.ensures.back ∙ ap (drop 2) c.deref.ensures.value) c.in_ok-last.ensures.stamp kept.whole c.in_ok-last.ensures.short x
     (c.publish.ensures.crash (frames first_checksum fs) kept.end kept.file x left)
 
 pub returns-in_ok-publish-in-Some-clause-kept : goal.returns-in_ok-publish-in-Some-clause-kept
 returns-in_ok-publish-in-Some-clause-kept g c = λ fs kept.
     record {
-      whole = All-append IsFrame fs (frames_of (length fs) c.args.batch.now) kept.whole (are_frames (length fs) c.args.batch.now c.in_ok-last.ensures.short);
+      whole = All-append IsFrame fs (frames_of (length fs) c.args.self.now.stamp c.args.batch.now) kept.whole (are_frames (length fs) c.args.self.now.stamp c.args.batch.now c.in_ok-last.ensures.stamp c.in_ok-last.ensures.short);
       file = subst (λ (file : List ℕ). IsDurable g.D.Disk.seen g.D.Disk.may_leave g.D.Disk.is_usable file c.publish.new.disk)
-          (opened fs kept.whole (frames_of (length fs) c.args.batch.now) (are_frames (length fs) c.args.batch.now c.in_ok-last.ensures.short) c.split_at.result.1.now
-          (packed_is fs c.args.batch.now c.requires.some c.args.self.now.count c.args.self.now.last c.pack_whole.new.buffer.items c.split_at.result.1.now kept.count kept.last c.in_ok-last.ensures.bytes (c.split_at.ensures.back ∙ ap (drop 1) c.deref.ensures.value)))
+          (opened fs kept.whole (frames_of (length fs) c.args.self.now.stamp c.args.batch.now) (are_frames (length fs) c.args.self.now.stamp c.args.batch.now c.in_ok-last.ensures.stamp c.in_ok-last.ensures.short) c.split_at.result.1.now
+          (packed_is fs c.args.batch.now c.requires.some c.args.self.now.stamp c.args.self.now.count c.args.self.now.last c.pack_whole.new.buffer.items c.split_at.result.1.now kept.count kept.last c.in_ok-last.ensures.bytes (c.split_at.ensures.back ∙ ap (drop 2) c.deref.ensures.value)))
           (c.in_ok-publish-in-Some.ensures.durable (frames first_checksum fs) kept.end kept.file);
-      end = end_more fs c.args.batch.now c.requires.some c.args.self.now.count c.args.self.now.last c.pack_whole.new.buffer.items c.split_at.result.1.now kept.count kept.last c.in_ok-last.ensures.bytes (c.split_at.ensures.back ∙ ap (drop 1) c.deref.ensures.value) c.args.self.now.end c.in-Some.end kept.end (omega (arith, c.in-Some.ensures));
-      count = count_more fs c.args.batch.now c.requires.some c.args.self.now.count c.args.self.now.last c.pack_whole.new.buffer.items c.split_at.result.1.now kept.count kept.last c.in_ok-last.ensures.bytes (c.split_at.ensures.back ∙ ap (drop 1) c.deref.ensures.value) (c.args.self.now.count + length c.args.batch.now) refl;
-      last = last_more fs c.args.batch.now c.requires.some c.args.self.now.count c.args.self.now.last c.pack_whole.new.buffer.items c.split_at.result.1.now kept.count kept.last c.in_ok-last.ensures.bytes (c.split_at.ensures.back ∙ ap (drop 1) c.deref.ensures.value) c.in_ok-last.last c.in_ok-last.ensures.sum;
+      end = end_more fs c.args.batch.now c.requires.some c.args.self.now.stamp c.args.self.now.count c.args.self.now.last c.pack_whole.new.buffer.items c.split_at.result.1.now kept.count kept.last c.in_ok-last.ensures.bytes (c.split_at.ensures.back ∙ ap (drop 2) c.deref.ensures.value) c.args.self.now.end c.in-Some.end kept.end (omega (arith, c.in-Some.ensures));
+      count = count_more fs c.args.batch.now c.requires.some c.args.self.now.stamp c.args.self.now.count c.args.self.now.last c.pack_whole.new.buffer.items c.split_at.result.1.now kept.count kept.last c.in_ok-last.ensures.bytes (c.split_at.ensures.back ∙ ap (drop 2) c.deref.ensures.value) (c.args.self.now.count + length c.args.batch.now) refl;
+      time = last_time-append fs (length fs) c.args.self.now.stamp c.args.batch.now c.in_ok-last.ensures.stamp kept.time;
+      last = last_more fs c.args.batch.now c.requires.some c.args.self.now.stamp c.args.self.now.count c.args.self.now.last c.pack_whole.new.buffer.items c.split_at.result.1.now kept.count kept.last c.in_ok-last.ensures.bytes (c.split_at.ensures.back ∙ ap (drop 2) c.deref.ensures.value) c.in_ok-last.last c.in_ok-last.ensures.sum;
     }
 
 pub returns-in-None-clause-cause : goal.returns-in-None-clause-cause
 returns-in-None-clause-cause g c = λ fs kept.
-    no_number fs (length fs) c.args.batch.now (c.args.self.now.end + length c.split_at.result.1.now)
-    (All-append IsFrame fs (frames_of (length fs) c.args.batch.now) kept.whole (are_frames (length fs) c.args.batch.now c.in_ok-last.ensures.short))
-    (end_more fs c.args.batch.now c.requires.some c.args.self.now.count c.args.self.now.last c.pack_whole.new.buffer.items c.split_at.result.1.now kept.count kept.last c.in_ok-last.ensures.bytes (c.split_at.ensures.back ∙ ap (drop 1) c.deref.ensures.value) c.args.self.now.end (c.args.self.now.end + length c.split_at.result.1.now) kept.end refl)
+    no_number fs (length fs) c.args.self.now.stamp c.args.batch.now (c.args.self.now.end + length c.split_at.result.1.now)
+    (All-append IsFrame fs (frames_of (length fs) c.args.self.now.stamp c.args.batch.now) kept.whole (are_frames (length fs) c.args.self.now.stamp c.args.batch.now c.in_ok-last.ensures.stamp c.in_ok-last.ensures.short))
+    (end_more fs c.args.batch.now c.requires.some c.args.self.now.stamp c.args.self.now.count c.args.self.now.last c.pack_whole.new.buffer.items c.split_at.result.1.now kept.count kept.last c.in_ok-last.ensures.bytes (c.split_at.ensures.back ∙ ap (drop 2) c.deref.ensures.value) c.args.self.now.end (c.args.self.now.end + length c.split_at.result.1.now) kept.end refl)
     (omega (arith, c.in-None.ensures))

@@ -7,6 +7,11 @@ use Rattle.desk_entries.proofs.CallerLemmas.{first_history}
 use Rattle.desk_program.proofs.DeskLemmas.{first_file}
 use Rattle.desk_program.proofs.desk.Desk.begin.Goals as goal
 
+pub returns-in-Ok-append-clause-empty : goal.returns-in-Ok-append-clause-empty
+returns-in-Ok-append-clause-empty g c = λ was entries is stands clean.
+    let before = subst (λ (b : Bool). IsTrue b) c.append.ensures.clean (subst (λ (d : g.row.D.Denot). IsTrue (g.D.Disk.is_clean d)) c.into_disk.ensures clean) in
+    c.in-Ok-empty_journal.ensures.empty was entries is stands before
+
 pub returns-in-Ok-append-clause-begun : goal.returns-in-Ok-append-clause-begun
 returns-in-Ok-append-clause-begun g c = λ was is clean x left.
     let before = subst (λ (b : Bool). IsTrue b) c.append.ensures.clean (subst (λ (d : g.row.D.Denot). IsTrue (g.D.Disk.is_clean d)) c.into_disk.ensures clean) in

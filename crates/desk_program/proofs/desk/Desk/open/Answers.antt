@@ -3,8 +3,9 @@ use Rattle.std.specs.Prelude.{IsTrue, Vec}
 use Rattle.std.specs.declared.alloc.Global.{Global}
 use Rattle.desk_journal.specs.Words.{batch_of}
 use Rattle.desk_journal.proofs.CallerLemmas.{rest_kept}
-use Rattle.desk_entries.specs.Words.{IsDocketed}
+use Rattle.desk_entries.specs.Words.{HasHistoryFault, IsDocketed}
 use Rattle.desk_program.proofs.DeskLemmas.{same_entries}
+use Rattle.desk_program.proofs.OpenLemmas.{unopened_by_history}
 use Rattle.desk_program.proofs.desk.Desk.open.Goals as goal
 
 pub returns-in-Ok-of-clause-opened : goal.returns-in-Ok-of-clause-opened
@@ -23,3 +24,12 @@ returns-in-Err-of-clause-crash g c = λ file entries was stands clean x left.
     same_entries file x (batch_of c.in-Ok.opened.1.items) entries all.0 stands
     (rest_kept g.D.Disk.seen g.D.Disk.may_leave g.D.Disk.is_usable c.in-Ok.opened.0 (batch_of c.in-Ok.opened.1.items) all.2 x
     (subst (λ (d : g.row.D.Denot). g.D.Disk.may_leave d x) c.into_disk.ensures left))
+
+pub returns-in-Ok-of-clause-whole : goal.returns-in-Ok-of-clause-whole
+returns-in-Ok-of-clause-whole g c = λ file was clean. (c.in-Ok.ensures.kept file was clean).1
+
+pub returns-in-Err-of-clause-cause : goal.returns-in-Err-of-clause-cause
+returns-in-Err-of-clause-cause g c = λ file was clean.
+    let all = c.in-Ok.ensures.kept file was (subst (λ (d : g.row.D.Denot). IsTrue (g.D.Disk.is_clean d)) c.into_disk.ensures clean) in
+    unopened_by_history (g.D.Disk.faults c.args.disk) (g.D.Disk.faults c.into_disk.result) file (batch_of c.in-Ok.opened.1.items) c.in-Err-of.fault c.from-in-Err-of.result c.from-in-Err-of.ensures all.0
+    (subst (λ (e : List (Vec ℕ Global)). HasHistoryFault (batch_of e) c.in-Err-of.fault) c.deref.ensures.value c.in-Err-of.ensures.cause)

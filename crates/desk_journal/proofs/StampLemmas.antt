@@ -1,0 +1,76 @@
+-- What a content is made of, and the times of stamps.
+use Rattle.std.proofs.Common.{◌≡◌, ℕ, ◌+◌, ◌<◌, ◌≤◌, ◌^◌, List, [], ◌∷◌, ◌++◌, length, take, drop, Vec, refl, sym, ◌∙◌, ap, subst, arith, append_assoc, length-append}
+use Rattle.std.specs.declared.alloc.Global.{Global}
+use Rattle.std.proofs.lemmas.List.{take_at, drop_at, map-append}
+use Rattle.std.proofs.lemmas.Nat.{from_be_bytes-to_be_bytes_8}
+use Rattle.std.specs.Int.{w64, to_be_bytes}
+use Rattle.desk_journal.specs.Stamps.{StampView, IsStamp, HasStamp, IsInOrder, stamp_bytes, content_of, entry_in, stamp_in, time_of, time_after}
+use Rattle.desk_journal.specs.Frames.{Frame, frame_of, stamps_of, last_time}
+use Rattle.desk_journal.specs.Batches.{frames_of, TimesNeverGoBack}
+
+pub length-stamp_bytes : (stamp : StampView) → length (stamp_bytes stamp) ≡ 9 + length stamp.account
+length-stamp_bytes stamp = omega (arith, length-append (to_be_bytes w64 stamp.time) stamp.account)
+
+pub entry_in-content_of : (stamp : StampView) (entry : List ℕ) → entry_in (content_of stamp entry) ≡ entry
+entry_in-content_of stamp entry = drop_at (stamp_bytes stamp) entry (8 + length stamp.account + 1) (omega (arith, length-stamp_bytes stamp))
+
+pub HasStamp-content_of : (stamp : StampView) (entry : List ℕ) → IsStamp stamp → HasStamp (content_of stamp entry)
+HasStamp-content_of stamp entry is = (omega arith, omega (arith, is.1), omega (arith, length-append (stamp_bytes stamp) entry, length-stamp_bytes stamp))
+
+time_there : (n : ℕ) → n < 2 ^ 64 → time_of (to_be_bytes w64 n) ≡ n
+unfolding time_of
+time_there n small = from_be_bytes-to_be_bytes_8 n small
+
+pub stamp_in-content_of : (stamp : StampView) (entry : List ℕ) → IsStamp stamp → stamp_in (content_of stamp entry) ≡ stamp
+stamp_in-content_of stamp entry is = λ i. record { time = times i; account = accounts i }
+  where
+    times : time_of (take 8 (drop 1 (content_of stamp entry))) ≡ stamp.time
+    times =
+        ap (λ (l : List ℕ). time_of (take 8 l)) (drop_at ((8 + length stamp.account) ∷ []) ((to_be_bytes w64 stamp.time ++ stamp.account) ++ entry) 1 refl)
+        ∙ ap (λ (l : List ℕ). time_of (take 8 l)) (append_assoc (to_be_bytes w64 stamp.time) stamp.account entry)
+        ∙ ap time_of (take_at (to_be_bytes w64 stamp.time) (stamp.account ++ entry) 8 refl) ∙ time_there stamp.time is.0
+
+    accounts : drop 9 (take (8 + length stamp.account + 1) (content_of stamp entry)) ≡ stamp.account
+    accounts =
+        ap (λ (l : List ℕ). drop 9 l) (take_at (stamp_bytes stamp) entry (8 + length stamp.account + 1) (omega (arith, length-stamp_bytes stamp)))
+        ∙ drop_at ((8 + length stamp.account) ∷ to_be_bytes w64 stamp.time) stamp.account 9 refl
+
+-- the times of a list that is joined
+pub time_after-append : (earlier : ℕ) (xs ys : List StampView) → time_after earlier (xs ++ ys) ≡ time_after (time_after earlier xs) ys
+time_after-append earlier [] ys = refl
+time_after-append earlier (x ∷ xs) ys = time_after-append x.time xs ys
+
+in_order-append : (earlier : ℕ) (xs ys : List StampView) → IsInOrder earlier xs → IsInOrder (time_after earlier xs) ys → IsInOrder earlier (xs ++ ys)
+in_order-append earlier [] ys first second = second
+in_order-append earlier (x ∷ xs) ys first second = (first.0, in_order-append x.time xs ys first.1 second)
+
+-- a batch has one stamp
+pub after_batch : (earlier durable : ℕ) (stamp : StampView) (batch : List (Vec ℕ Global)) → IsStamp stamp → earlier ≤ stamp.time → time_after earlier (stamps_of (frames_of durable stamp batch)) ≤ stamp.time
+unfolding frame_of
+after_batch earlier durable stamp [] is before = before
+after_batch earlier durable stamp (v ∷ batch) is before =
+    let same : (stamp_in (content_of stamp v.items)).time ≡ stamp.time = ap (λ (s : StampView). s.time) (stamp_in-content_of stamp v.items is) in
+    after_batch (stamp_in (content_of stamp v.items)).time durable stamp batch is (omega (arith, same))
+
+batch_in_order : (earlier durable : ℕ) (stamp : StampView) (batch : List (Vec ℕ Global)) → IsStamp stamp → earlier ≤ stamp.time → IsInOrder earlier (stamps_of (frames_of durable stamp batch))
+unfolding frame_of
+batch_in_order earlier durable stamp [] is before = tt
+batch_in_order earlier durable stamp (v ∷ batch) is before =
+    let same : (stamp_in (content_of stamp v.items)).time ≡ stamp.time = ap (λ (s : StampView). s.time) (stamp_in-content_of stamp v.items is) in
+    (omega (arith, same), batch_in_order (stamp_in (content_of stamp v.items)).time durable stamp batch is (omega (arith, same)))
+
+stamps-append : (fs gs : List Frame) → stamps_of (fs ++ gs) ≡ stamps_of fs ++ stamps_of gs
+stamps-append fs gs = map-append (λ (f : Frame). stamp_in f.content) fs gs
+
+-- the time of the last of them all
+pub last_time-append : (fs : List Frame) (durable : ℕ) (stamp : StampView) (batch : List (Vec ℕ Global)) → IsStamp stamp → last_time fs ≤ stamp.time
+    → last_time (fs ++ frames_of durable stamp batch) ≤ stamp.time
+last_time-append fs durable stamp batch is before =
+    subst (λ (n : ℕ). n ≤ stamp.time)
+    (sym (ap (time_after 0) (stamps-append fs (frames_of durable stamp batch)) ∙ time_after-append 0 (stamps_of fs) (stamps_of (frames_of durable stamp batch))))
+    (after_batch (last_time fs) durable stamp batch is before)
+
+pub times_never_go_back : TimesNeverGoBack
+times_never_go_back fs durable stamp batch is before ordered =
+    subst (IsInOrder 0) (sym (stamps-append fs (frames_of durable stamp batch)))
+    (in_order-append 0 (stamps_of fs) (stamps_of (frames_of durable stamp batch)) ordered (batch_in_order (last_time fs) durable stamp batch is before))

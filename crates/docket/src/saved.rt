@@ -1,0 +1,134 @@
+//! What a crash left of a journal after its last entry: it is saved in a file of its own before the opening cuts it off.
+ghost use Rattle.std.specs.Prelude.{◌≡◌, string_bytes, IfOk, OnOk};
+ghost use Rattle.std.specs.Io.KnownBytes.{Appends};
+ghost use Rattle.docket.specs.Saved.{cut_name, day_at, many_line, one_line, saved_line};
+
+use crate::folder::{read_file, sync_folder};
+use court_clock::Day;
+use desk_journal::tail_in;
+use desk_program::{DeskFault, file_fault};
+use desk_session::second_of;
+use program_runs::refused;
+use program_streams::Watched;
+use std::alloc::{AllocError, Global};
+use std::fs::File;
+use std::io::{self, ErrorKind, Write};
+
+// How many files there may be of what was cut off on one day.
+const MOST_CUT: u32 = 1_000;
+
+// The seconds of a day.
+const DAY: u64 = 86_400;
+
+// The last number that a day may have.
+const LAST_DAY: u64 = 110_000;
+
+// The day of UTC in which a second is.
+fn day_at(second: u64) -> Day
+    ensures { result ≡ day_at second }
+{
+    match Day::new((second / DAY).min(LAST_DAY) as i32) {
+        Some(day) => day,
+        None => unreachable!(),
+    }
+}
+
+// The name of a file of a folder for what is cut off on that day.
+fn cut_name(alloc: Global, folder: &str, day: Day, number: u32) -> Result<String, AllocError>
+    ensures { IfOk result (λ name. string_bytes name ≡ cut_name folder.now day number) }
+{
+    format!(in alloc; "{folder}/cut-{day}-{number}")
+}
+
+// What is said of bytes, which are saved in the file of that name.
+fn many_line(alloc: Global, count: usize, name: &str) -> Result<String, AllocError>
+    ensures { IfOk result (λ line. string_bytes line ≡ many_line count name.now) }
+{
+    format!(in alloc;
+        "docket: a crash left {count} bytes after the last entry: they are saved in {name} and cut off\n"
+    )
+}
+
+// The same of a single byte.
+fn one_line(alloc: Global, name: &str) -> Result<String, AllocError>
+    ensures { IfOk result (λ line. string_bytes line ≡ one_line name.now) }
+{
+    format!(in alloc;
+        "docket: a crash left 1 byte after the last entry: it is saved in {name} and cut off\n"
+    )
+}
+
+// What is said of so many bytes, which are saved in the file of that name.
+fn saved_line(alloc: Global, count: usize, name: &str) -> Result<String, AllocError>
+    ensures { IfOk result (λ line. string_bytes line ≡ saved_line count name.now) }
+{
+    if count == 1 {
+        one_line(alloc, name)
+    } else {
+        many_line(alloc, count, name)
+    }
+}
+
+// A new file of that name, if there is none yet.
+fn new_file(rt: &HostRuntime, name: &str) -> Result<Option<File>, DeskFault> {
+    match File::create_new(rt, name) {
+        Ok(file) => Ok(Some(file)),
+        Err(error) if error.kind() == ErrorKind::AlreadyExists => Ok(None),
+        Err(error) => Err(file_fault(rt.alloc(), name, error)),
+    }
+}
+
+// A new file for what is cut off on that day, and its name: that of the first number of which there is none.
+fn cut_file(rt: &HostRuntime, folder: &str, day: Day) -> Result<(String, File), DeskFault> {
+    for number in 1..MOST_CUT {
+        let name = cut_name(rt.alloc(), folder, day, number)?;
+        if let Some(file) = new_file(rt, name.as_str())? {
+            return Ok((name, file));
+        }
+    }
+    let name = cut_name(rt.alloc(), folder, day, MOST_CUT)?;
+    match File::create_new(rt, name.as_str()) {
+        Ok(file) => Ok((name, file)),
+        Err(error) => Err(file_fault(rt.alloc(), name.as_str(), error)),
+    }
+}
+
+// Writes what is cut off, in full.
+fn put_tail<W: Write>(writer: &mut W, tail: &[u8]) -> io::Result<()>
+    ensures { OnOk result (Appends (W.contents writer.old) (W.contents writer.new) tail.now) }
+{
+    writer.write_all(tail)
+}
+
+// Saves what is cut off in a new file of the folder, through a crash, and gives the file's name.
+fn saved(rt: &HostRuntime, folder: &str, tail: &[u8]) -> Result<String, DeskFault> {
+    let (name, mut file) = cut_file(rt, folder, day_at(second_of(rt)))?;
+    let ended = match put_tail(&mut file, tail) {
+        Ok(()) => file.sync_all(),
+        Err(error) => Err(error),
+    };
+    match ended {
+        Ok(()) => {
+            sync_folder(rt, folder)?;
+            Ok(name)
+        }
+        Err(error) => Err(file_fault(rt.alloc(), name.as_str(), error)),
+    }
+}
+
+/// Saves what a crash left after the last entry of a folder's journal, of which this is the name, and says so on standard error.
+/// The journal's file has to be open, so that no other program writes to it. Of a journal that is damaged nothing is saved, since
+/// nothing of it is cut off.
+pub fn save_tail(rt: &HostRuntime, folder: &str, journal: &str) -> Result<(), DeskFault> {
+    let bytes = read_file(rt, journal)?;
+    let Ok(tail) = tail_in(rt.alloc(), &bytes) else {
+        return Ok(());
+    };
+    if tail.is_empty() {
+        return Ok(());
+    }
+    let name = saved(rt, folder, tail)?;
+    let line = saved_line(rt.alloc(), tail.len(), name.as_str())?;
+    let _ = refused(&mut Watched::new(rt.stderr()), line.as_str());
+    Ok(())
+}
