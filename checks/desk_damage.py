@@ -63,7 +63,7 @@ def larger_damage(data, other, before, draw):
             "exchanged": put(put(data, at, data[far:far + SECTOR]), far, sector),
             "doubled": put(data, at + SECTOR, sector[:len(data) - at - SECTOR]),
             "foreign": put(data, at, other[at:at + SECTOR]),
-            "random": put(data, at, draw.randbytes(SECTOR)) if hasattr(draw, "randbytes") else put(data, at, bytes(draw.choices(range(256), k=SECTOR))),
+            "random": put(data, at, bytes(draw.choices(range(256), k=SECTOR))),
             "cut": data[:at],
             "not written": put(data, at, before[at:at + SECTOR]),
         }

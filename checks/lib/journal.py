@@ -158,8 +158,8 @@ def courts_of(journal):
 
 
 def frame_bytes(count, previous, stamp, entry):
-    """The bytes of an entry's frame after its latch, where so many entries are durable before its batch and the one before it has that
-    checksum; and its own checksum."""
+    """The bytes of an entry's frame after its latch, and its checksum. `count` entries were on the disk before its batch, and `previous`
+    is the checksum of the entry before it."""
     content = stamp.bytes + entry
     head = count.to_bytes(4, "big") + len(content).to_bytes(4, "big")
     checksum = hashlib.sha256(previous + head + content).digest()
