@@ -5,7 +5,7 @@ ghost use Rattle.docket.specs.Saved.{cut_name, day_at, many_line, one_line, save
 
 use crate::folder::{read_file, sync_folder};
 use court_clock::Day;
-use desk_journal::tail_in;
+use desk_journal::{JournalFault, tail_in};
 use desk_program::{DeskFault, file_fault};
 use desk_session::second_of;
 use program_runs::refused;
@@ -121,8 +121,10 @@ fn saved(rt: &HostRuntime, folder: &str, tail: &[u8]) -> Result<String, DeskFaul
 /// nothing of it is cut off.
 pub fn save_tail(rt: &HostRuntime, folder: &str, journal: &str) -> Result<(), DeskFault> {
     let bytes = read_file(rt, journal)?;
-    let Ok(tail) = tail_in(rt.alloc(), &bytes) else {
-        return Ok(());
+    let tail = match tail_in(rt.alloc(), &bytes) {
+        Ok(tail) => tail,
+        Err(JournalFault::OutOfMemory) => return Err(DeskFault::OutOfMemory),
+        Err(_) => return Ok(()),
     };
     if tail.is_empty() {
         return Ok(());
