@@ -18,7 +18,7 @@ use Rattle.docket_rows.specs.declared.view.View.TheVariants as view
 use Rattle.office_texts.specs.Answers.{answer_text}
 use Rattle.office_texts.specs.Calendars.{booking_line, booking_lines, calendar_lines}
 use Rattle.office_texts.specs.Periods.{period_text}
-use Rattle.office_texts.specs.Sheets.{deadline_line, hearing_line, hearing_line_if_set, motion_lines, need_text, sheet_lines, state_text}
+use Rattle.office_texts.specs.Sheets.{deadline_line, hearing_line_if_set, hearing_text, motion_lines, need_text, sheet_lines, state_text}
 use Rattle.office_texts.specs.Shown.{end_text, shown_text}
 use Rattle.office_texts.specs.Views.{view_lines}
 
@@ -60,13 +60,13 @@ module _ (a b : CourtView) (same : IsSameCourt a b) where
   unfolding calendar_lines
   calendar_lines_alike judge bookings = rw (booking_lines_alike bookings, same.judges) refl
 
-  hearing_line_alike : (h : SheetHearing) → hearing_line a h ≡ hearing_line b h
-  unfolding hearing_line
-  hearing_line_alike h = rw (same.judges, same.rooms) refl
+  hearing_text_alike : (h : SheetHearing) → hearing_text a h ≡ hearing_text b h
+  unfolding hearing_text
+  hearing_text_alike h = rw (same.judges, same.rooms) refl
 
   hearing_if_set_alike : (h : Option SheetHearing) → hearing_line_if_set a h ≡ hearing_line_if_set b h
   hearing_if_set_alike None = refl
-  hearing_if_set_alike (Some h) = hearing_line_alike h
+  hearing_if_set_alike (Some h) = rw (hearing_text_alike h) refl
 
   motion_alike : (m : SheetMotion) → motion_lines a m ≡ motion_lines b m
   unfolding motion_lines

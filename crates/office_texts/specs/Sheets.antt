@@ -63,13 +63,13 @@ abbrev pub service_text : (notice : ℤ) → (affidavits : Option ℤ) → List 
 service_text notice affidavits = codes " notice " ++ day_text notice ++ affidavits_text affidavits
 
 -- `hearing 2025-09-15 10:30 2 Ames R1 notice 2025-08-29 affidavits 2025-09-08`
-unfoldable pub hearing_line : CourtView → SheetHearing → List ℕ
-hearing_line court h =
-    codes "hearing " ++ span_text h.hearing.day h.hearing.first h.hearing.count ++ codes " " ++ panel_text court.judges h.hearing.judges ++ codes " " ++ name_of court.rooms h.hearing.room ++ service_text h.hearing.notice h.affidavits ++ 10 ∷ []
+unfoldable pub hearing_text : CourtView → SheetHearing → List ℕ
+hearing_text court h =
+    codes "hearing " ++ span_text h.hearing.day h.hearing.first h.hearing.count ++ codes " " ++ panel_text court.judges h.hearing.judges ++ codes " " ++ name_of court.rooms h.hearing.room ++ service_text h.hearing.notice h.affidavits
 
 abbrev pub hearing_line_if_set : CourtView → Option SheetHearing → List ℕ
 hearing_line_if_set court None = []
-hearing_line_if_set court (Some h) = hearing_line court h
+hearing_line_if_set court (Some h) = hearing_text court h ++ 10 ∷ []
 
 -- `motion 1 served 2025-08-29 need 14`, and where it has a hearing the line of it
 unfoldable pub motion_lines : CourtView → SheetMotion → List ℕ

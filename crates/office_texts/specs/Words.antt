@@ -9,5 +9,5 @@ unfoldable pub use Rattle.office_texts.specs.Periods.{period_text}
 pub use Rattle.office_texts.specs.Calendars.{name_of, slot_text, slots_text, span_text, booking_lines}
 unfoldable pub use Rattle.office_texts.specs.Calendars.{booking_line, calendar_lines}
 pub use Rattle.office_texts.specs.Sheets.{state_word, means_text, act_done_text, state_text, need_text, panel_text, affidavits_text, service_text, hearing_line_if_set, case_line}
-unfoldable pub use Rattle.office_texts.specs.Sheets.{deadline_line, hearing_line, motion_lines, sheet_lines}
+unfoldable pub use Rattle.office_texts.specs.Sheets.{deadline_line, hearing_text, motion_lines, sheet_lines}
 unfoldable pub use Rattle.office_texts.specs.Views.{view_lines}

@@ -11,6 +11,7 @@ use court_clock::Clock;
 use court_days::Court;
 pub use deadlines::push_deadline;
 use docket_rows::{Sheet, SheetDeadline, SheetMotion};
+pub use motions::push_hearing;
 use motions::push_motion;
 use std::alloc::AllocError;
 use std::fmt::Write;

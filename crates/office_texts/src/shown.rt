@@ -12,8 +12,8 @@ use rule6::Shown;
 use std::alloc::AllocError;
 use std::fmt::Write;
 
-/// Adds what is shown of a deadline.
-pub(crate) fn push_shown(text: &mut String, clock: &Clock, shown: &Shown) -> Result<(), AllocError>
+/// Adds what is shown of a deadline's end. `Err` says that memory ran out.
+pub fn push_shown(text: &mut String, clock: &Clock, shown: &Shown) -> Result<(), AllocError>
     ensures { OnOk result (AddsText text.old text.new (shown_text clock.now shown.now)) }
 {
     match *shown {

@@ -2,7 +2,7 @@
 
 ghost use Rattle.std.specs.Prelude.{OnOk};
 ghost use Rattle.office_texts.specs.Added.{AddsText};
-ghost use Rattle.office_texts.specs.Sheets.{affidavits_text, hearing_line, hearing_line_if_set, motion_lines, need_text, panel_text, service_text};
+ghost use Rattle.office_texts.specs.Sheets.{affidavits_text, hearing_line_if_set, hearing_text, motion_lines, need_text, panel_text, service_text};
 
 use crate::calendars::{judge_name, push_span, room_name};
 use crate::numbers::push_number;
@@ -49,14 +49,18 @@ fn push_hearing_if_set(
 {
     match hearing {
         None => Ok(()),
-        Some(hearing) => push_hearing(text, court, &hearing),
+        Some(hearing) => {
+            push_hearing(text, court, &hearing)?;
+            text.push_str("\n")
+        }
     }
 }
 
-/// Adds the line of a hearing.
-#[tactic(auto, unfolding(crate::specs::Sheets::hearing_line))]
-fn push_hearing(text: &mut String, court: &Court, sheet: &SheetHearing) -> Result<(), AllocError>
-    ensures { OnOk result (AddsText text.old text.new (hearing_line court.now sheet.now)) }
+/// Adds a hearing: its span, panel and room, when its notice was served, and by when affidavits can be. `Err` says that
+/// memory ran out.
+#[tactic(auto, unfolding(crate::specs::Sheets::hearing_text))]
+pub fn push_hearing(text: &mut String, court: &Court, sheet: &SheetHearing) -> Result<(), AllocError>
+    ensures { OnOk result (AddsText text.old text.new (hearing_text court.now sheet.now)) }
 {
     let hearing = sheet.hearing;
     let judges = hearing.judges;
@@ -66,8 +70,7 @@ fn push_hearing(text: &mut String, court: &Court, sheet: &SheetHearing) -> Resul
     push_panel(text, court, judges.judges())?;
     text.push_str(" ")?;
     text.push_str(room_name(court, hearing.room))?;
-    push_service(text, hearing.notice, sheet.affidavits)?;
-    text.push_str("\n")
+    push_service(text, hearing.notice, sheet.affidavits)
 }
 
 /// Adds the names of a panel's judges, in its order, joined by `+`.
