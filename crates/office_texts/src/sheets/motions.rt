@@ -59,7 +59,11 @@ fn push_hearing_if_set(
 /// Adds a hearing: its span, panel and room, when its notice was served, and by when affidavits can be. `Err` says that
 /// memory ran out.
 #[tactic(auto, unfolding(crate::specs::Sheets::hearing_text))]
-pub fn push_hearing(text: &mut String, court: &Court, sheet: &SheetHearing) -> Result<(), AllocError>
+pub fn push_hearing(
+    text: &mut String,
+    court: &Court,
+    sheet: &SheetHearing,
+) -> Result<(), AllocError>
     ensures { OnOk result (AddsText text.old text.new (hearing_text court.now sheet.now)) }
 {
     let hearing = sheet.hearing;
@@ -70,7 +74,8 @@ pub fn push_hearing(text: &mut String, court: &Court, sheet: &SheetHearing) -> R
     push_panel(text, court, judges.judges())?;
     text.push_str(" ")?;
     text.push_str(room_name(court, hearing.room))?;
-    push_service(text, hearing.notice, sheet.affidavits)
+    push_service(text, hearing.notice, sheet.affidavits)?;
+    Ok(())
 }
 
 /// Adds the names of a panel's judges, in its order, joined by `+`.
