@@ -10,7 +10,7 @@ use Rattle.row_forms.specs.Words.{CourtNames, column, names_of}
 use Rattle.row_forms.specs.declared.line.line.Line.{Line}
 use Rattle.row_forms.specs.declared.line.line.Line.TheVariants as line
 use Rattle.row_forms.specs.Line.Words.{fields_read, line_read}
-use Rattle.desk_entries.specs.CaseLines.{Reading, as_it_is, case_in, finds_no_number, fresh_for, lacks_field, lacks_number, named, named_if, newly, opens_too_many, reading_of}
+use Rattle.desk_entries.specs.CaseLines.{Reading, as_it_is, case_in, finds_no_number, lacks_field, lacks_number, named, named_if, newly, opens_too_many, reading_of}
 use Rattle.desk_entries.specs.Cases.{cases_after, cases_of, cases_with, opened_in, with_opened}
 use Rattle.desk_entries.specs.Entries.{most_clerks, next_number, note_in, row_entries}
 use Rattle.desk_entries.specs.Laws.{ACaseNumberIsOneCase, OtherLinesAreReadAsTheyAre}

@@ -7,7 +7,7 @@ use Rattle.desk_numbers.specs.Strikes.Words.{is_struck}
 use Rattle.desk_entries.specs.declared.standing.Standing.{Standing}
 use Rattle.desk_entries.specs.Differences.{Change, IsOtherwise, change_as, changes_after, changes_by, is_left}
 use Rattle.desk_entries.specs.Entries.{Note, next_number, note_in}
-use Rattle.desk_entries.specs.Rows.{follows, left_again, plain_answers}
+use Rattle.desk_entries.specs.Rows.{follows, kept_answers, left_again}
 use Rattle.desk_entries.proofs.HistoryLemmas.{one_again}
 
 changes_after-append : (under : Standing) (kept some more : List (List ℕ)) → changes_after under kept (some ++ more) ≡ changes_after under kept some ++ changes_after under (kept ++ some) more
@@ -48,10 +48,10 @@ not_left under kept entry other = by (left_again under kept entry) refl
 
 -- a row that isn't struck is changed as it is left
 as_left : (under : Standing) (kept : List (List ℕ)) (entry : List ℕ) → note_in entry ≡ None → is_struck under.corrections (next_number kept) ≡ false
-    → change_as (note_in entry) under kept entry ≡ cond (is_left (left_again under kept entry) entry) [] (record { number = next_number kept; entry = entry; answer = plain_answers under kept (after_name entry) } ∷ [])
+    → change_as (note_in entry) under kept entry ≡ cond (is_left (left_again under kept entry) entry) [] (record { number = next_number kept; entry = entry; answer = kept_answers under kept (after_name entry) } ∷ [])
 as_left under kept entry none live =
     ap (λ (f : Option Note). change_as f under kept entry) none
-    ∙ ap (λ (b : Bool). cond b [] (cond (is_left (left_again under kept entry) entry) [] (record { number = next_number kept; entry = entry; answer = plain_answers under kept (after_name entry) } ∷ []))) live
+    ∙ ap (λ (b : Bool). cond b [] (cond (is_left (left_again under kept entry) entry) [] (record { number = next_number kept; entry = entry; answer = kept_answers under kept (after_name entry) } ∷ []))) live
 
 -- a row with another answer is a change
 pub change_otherwise : (under : Standing) (kept : List (List ℕ)) (entry answer : List ℕ) → note_in entry ≡ None → is_struck under.corrections (next_number kept) ≡ false → IsOtherwise under kept entry answer
@@ -59,13 +59,13 @@ pub change_otherwise : (under : Standing) (kept : List (List ℕ)) (entry answer
 change_otherwise under kept entry answer none live is =
     let whole : List ℕ → List Change = λ (a : List ℕ). record { number = next_number kept; entry = entry; answer = a } ∷ [] in
     as_left under kept entry none live
-    ∙ ap (λ (b : Bool). cond b [] (whole (plain_answers under kept (after_name entry)))) (not_left under kept entry is.other)
+    ∙ ap (λ (b : Bool). cond b [] (whole (kept_answers under kept (after_name entry)))) (not_left under kept entry is.other)
     ∙ ap whole (sym is.answer_is)
 
 -- one with its own is none
 pub change_same : (under : Standing) (kept : List (List ℕ)) (entry : List ℕ) → note_in entry ≡ None → is_struck under.corrections (next_number kept) ≡ false → follows under kept entry → change_as (note_in entry) under kept entry ≡ []
 change_same under kept entry none live may =
-    let whole : List Change = record { number = next_number kept; entry = entry; answer = plain_answers under kept (after_name entry) } ∷ [] in
+    let whole : List Change = record { number = next_number kept; entry = entry; answer = kept_answers under kept (after_name entry) } ∷ [] in
     as_left under kept entry none live
     ∙ ap (λ (b : Bool). cond b [] whole) (ap (λ (l : List (List ℕ)). is_left l entry) may ∙ (bytes_eq-Decides entry entry).1 refl)
 
@@ -73,4 +73,4 @@ change_same under kept entry none live may =
 pub change_struck : (under : Standing) (kept : List (List ℕ)) (entry : List ℕ) → note_in entry ≡ None → is_struck under.corrections (next_number kept) ≡ true → change_as (note_in entry) under kept entry ≡ []
 change_struck under kept entry none struck =
     ap (λ (f : Option Note). change_as f under kept entry) none
-    ∙ ap (λ (b : Bool). cond b [] (cond (is_left (left_again under kept entry) entry) [] (record { number = next_number kept; entry = entry; answer = plain_answers under kept (after_name entry) } ∷ []))) struck
+    ∙ ap (λ (b : Bool). cond b [] (cond (is_left (left_again under kept entry) entry) [] (record { number = next_number kept; entry = entry; answer = kept_answers under kept (after_name entry) } ∷ []))) struck

@@ -1,7 +1,7 @@
 -- An entry is read again as the row that it was made of.
 use Rattle.std.proofs.Common.{◌≡◌, ◌∙◌, ◌+◌, ◌≤◌, ◌==◌, ◌&&◌, ℕ, suc, Bool, cond, List, [], ◌∷◌, ◌++◌, Option, Some, None, Result, Ok, Err, true, false, not, leb, ltb, length, refl, sym, ap, subst, append_assoc, arith}
 use Rattle.std.proofs.lemmas.Grind.{common_steps}
-use Rattle.std.specs.Prelude.{codes, nat_eq}
+use Rattle.std.specs.Prelude.{◌||◌, codes, nat_eq, nat_lt}
 use Rattle.std.specs.Char.{is_ascii_digit}
 use Rattle.std.specs.List.{list_all, list_any}
 use Rattle.std.specs.Option.{ok_or, option_and_then}
@@ -13,7 +13,7 @@ use Rattle.csv.specs.Records.{field_at}
 use Rattle.csv.specs.Writing.{default_writer, escaped, field_text, fields_text, is_blank, needs_byte, read_back, row_text}
 use Rattle.csv.specs.declared.parser.State.TheVariants as st
 use Rattle.csv.proofs.RoundTrip.{read-write}
-use Rattle.desk_numbers.specs.Strikes.Words.{strike_in}
+use Rattle.desk_numbers.specs.Strikes.Words.{restore_in, row_after, strike_in}
 use Rattle.desk_entries.specs.declared.standing.Standing.{Standing}
 use Rattle.row_forms.specs.declared.fault.RowCause.{RowCause}
 use Rattle.row_forms.specs.declared.fault.RowCause.TheVariants.{BadClerk, NotText, TooManyRows, WrongCount}
@@ -28,9 +28,9 @@ use Rattle.row_forms.proofs.LineLemmas.CallerLemmas.{has_fields, says_first, say
 use Rattle.case_numbers.specs.Words.{CasesView, NameView, after_name, case_read, name_before, name_line, number_of as number_by}
 use Rattle.case_numbers.proofs.CallerLemmas.{name_of_line, no_name_line, no_name_past, rest_of_line}
 use Rattle.desk_entries.specs.Cases.{cases_of}
-use Rattle.desk_entries.specs.CaseLines.{case_in, fresh_for, lacks_field, named, named_if, newly, reading_of}
-use Rattle.desk_entries.specs.Entries.{most_clerks, most_entries, note_in}
-use Rattle.desk_entries.specs.Rows.{answer_to, entry_of, follows, leaves, left_of, plain_leaves, reading_at, with_name, within}
+use Rattle.desk_entries.specs.CaseLines.{case_in, fresh_for, lacks_field, most_name, named, named_if, newly, reading_of}
+use Rattle.desk_entries.specs.Entries.{most_clerks, most_rows, note_in}
+use Rattle.desk_entries.specs.Rows.{answer_to, entry_of, follows, kept_leaves, leaves, left_of, plain_leaves, reading_at, with_name, within}
 use Rattle.desk_entries.specs.Laws.{WhatIsLeftFollows}
 use Rattle.desk_entries.proofs.ListLemmas.{no_note}
 
@@ -49,7 +49,7 @@ digit_is_other b digit = by (b == 239) refl
     by true e = grind (arith, common_steps)
     by false e = refl
 
--- nor the first of the line of a court's file, or of a strike
+-- nor the first of the line of a court's file, of a strike or of a restore
 digit_is_no_mark : (b : ℕ) → is_ascii_digit b ≡ true → nat_eq 37 b ≡ false
 digit_is_no_mark b digit = by (nat_eq 37 b) refl
   where
@@ -136,7 +136,7 @@ row_has_no_mark (x ∷ rest) tail many number =
     let parts : row_text default_writer (x ∷ rest) ++ tail ≡ field_text default_writer x ++ (fields_text default_writer rest ++ (ending ++ tail)) = simp append_assoc in
     ap strip_bom parts ∙ number_first x (fields_text default_writer rest ++ (ending ++ tail)) number ∙ sym parts
 
--- nor is it a court's file or a strike
+-- nor is it a court's file, a strike or a restore
 row_is_no_note : (fields : List (List ℕ)) (tail : List ℕ) → 2 ≤ length fields → is_number (column fields 1) ≡ true → note_in (row_text default_writer fields ++ tail) ≡ None
 unfolding field_at
 row_is_no_note [] tail many number = absurd (omega (arith, many))
@@ -216,7 +216,7 @@ module _ (names : CourtNames) (fields : List (List ℕ)) (row : Row) (tail : Lis
   past_its_name (Some name) was = ap after_name (in_parts name) ∙ rest_of_line was.0 name was.1 (row_text default_writer fields ++ tail)
 
   pub is_no_note_named : (name : Option NameView) → note_in (name_line name ++ (row_text default_writer fields ++ tail)) ≡ None
-  unfolding strike_in
+  unfolding strike_in restore_in row_after
   is_no_note_named None = is_no_note names fields row tail spelled
   is_no_note_named (Some name) = refl
 
@@ -239,7 +239,7 @@ read_somewhere text None is = tt
 read_somewhere text (Some name) is = (text, is)
 
 case_in_read : (fields : List (List ℕ)) → WasRead (case_in fields)
-case_in_read fields = by (bytes_eq (column fields 2) (codes "calendar"))
+case_in_read fields = by (bytes_eq (column fields 2) (codes "calendar") || nat_lt most_name (length (column fields 3)))
   where
     by : (calendar : Bool) → WasRead (cond calendar None (case_read (column fields 3)))
     by true = tt
@@ -254,32 +254,31 @@ reading_read names cases line = by (lacks_field 3 (line_read most_clerks names l
     by false = tt
 
 -- a line that says a row within the limit says that row, and there is room for it
-pub within_row : (kept : List (List ℕ)) (said : Line) (row : Row) → within kept said ≡ line.Row row → (said ≡ line.Row row) × (ltb (length kept) most_entries ≡ true)
+pub within_row : (kept : List (List ℕ)) (said : Line) (row : Row) → within kept said ≡ line.Row row → (said ≡ line.Row row) × (ltb (length kept) most_rows ≡ true)
 within_row kept line.Blank row h = cc h
 within_row kept (line.Fault cause) row h = cc h
-within_row kept (line.Row r) row h = by (ltb (length kept) most_entries) refl h
+within_row kept (line.Row r) row h = by (ltb (length kept) most_rows) refl h
   where
-    by : (room : Bool) → ltb (length kept) most_entries ≡ room → cond room (line.Row r) (line.Fault TooManyRows) ≡ line.Row row → (line.Row r ≡ line.Row row) × (ltb (length kept) most_entries ≡ true)
+    by : (room : Bool) → ltb (length kept) most_rows ≡ room → cond room (line.Row r) (line.Fault TooManyRows) ≡ line.Row row → (line.Row r ≡ line.Row row) × (ltb (length kept) most_rows ≡ true)
     by true e h = (h, e)
     by false e h = cc h
 
 -- what is made of a row leaves itself
-pub leaves_itself : (under : Standing) (kept : List (List ℕ)) (fields : List (List ℕ)) (row : Row) → row_of most_clerks (names_of under.court) fields ≡ Ok row → ltb (length kept) most_entries ≡ true
-    → plain_leaves under kept (entry_of under kept fields row) ≡ entry_of under kept fields row ∷ []
-unfolding plain_leaves
-leaves_itself under kept fields row spelled room =
-    ap (λ (l : Line). left_of under kept (fields_read (entry_of under kept fields row)) (within kept l)) (says_its_row (names_of under.court) fields row (answer_to under kept row) spelled)
-    ∙ ap (λ (f : List (List ℕ)). left_of under kept f (within kept (line.Row row))) (has_its_fields (names_of under.court) fields row (answer_to under kept row) spelled)
-    ∙ ap (λ (b : Bool). left_of under kept fields (cond b (line.Row row) (line.Fault TooManyRows))) room
+pub leaves_itself : (under : Standing) (kept : List (List ℕ)) (fields : List (List ℕ)) (row : Row) → row_of most_clerks (names_of under.court) fields ≡ Ok row
+    → kept_leaves under kept (entry_of under kept fields row) ≡ entry_of under kept fields row ∷ []
+unfolding kept_leaves
+leaves_itself under kept fields row spelled =
+    ap (λ (l : Line). left_of under kept (fields_read (entry_of under kept fields row)) l) (says_its_row (names_of under.court) fields row (answer_to under kept row) spelled)
+    ∙ ap (λ (f : List (List ℕ)). left_of under kept f (line.Row row)) (has_its_fields (names_of under.court) fields row (answer_to under kept row) spelled)
 
 -- and with a name it follows
-follows_named : (under : Standing) (kept : List (List ℕ)) (fields : List (List ℕ)) (row : Row) (name : Option NameView) → WasRead name → row_of most_clerks (names_of under.court) fields ≡ Ok row → ltb (length kept) most_entries ≡ true
+follows_named : (under : Standing) (kept : List (List ℕ)) (fields : List (List ℕ)) (row : Row) (name : Option NameView) → WasRead name → row_of most_clerks (names_of under.court) fields ≡ Ok row
     → follows under kept (name_line name ++ entry_of under kept fields row)
-follows_named under kept fields row name was spelled room =
+follows_named under kept fields row name was spelled =
     let whole = name_line name ++ entry_of under kept fields row in
-    ap (λ (n : Option NameView). with_name n (plain_leaves under kept (after_name whole))) (its_name (names_of under.court) fields row (answer_to under kept row) spelled name was)
-    ∙ ap (λ (e : List ℕ). with_name name (plain_leaves under kept e)) (past_its_name (names_of under.court) fields row (answer_to under kept row) spelled name was)
-    ∙ ap (with_name name) (leaves_itself under kept fields row spelled room)
+    ap (λ (n : Option NameView). with_name n (kept_leaves under kept (after_name whole))) (its_name (names_of under.court) fields row (answer_to under kept row) spelled name was)
+    ∙ ap (λ (e : List ℕ). with_name name (kept_leaves under kept e)) (past_its_name (names_of under.court) fields row (answer_to under kept row) spelled name was)
+    ∙ ap (with_name name) (leaves_itself under kept fields row spelled)
 
 -- the law
 pub left_follows : WhatIsLeftFollows
@@ -293,9 +292,9 @@ left_follows under kept bytes entry h = by (within kept (line_read most_clerks (
     by (line.Row row) same h =
         let text = (reading_at under kept bytes).text in
         let name = (reading_at under kept bytes).name in
-        let (said, room) = within_row kept (line_read most_clerks (names_of under.court) text) row same in
+        let (said, _) = within_row kept (line_read most_clerks (names_of under.court) text) row same in
         let is_entry : name_line name ++ entry_of under kept (fields_read text) row ≡ entry = cc h in
         let spelled = says_row most_clerks (names_of under.court) text row said in (
           ap note_in (sym is_entry) ∙ is_no_note_named (names_of under.court) (fields_read text) row (answer_to under kept row) spelled name,
-          subst (follows under kept) is_entry (follows_named under kept (fields_read text) row name (reading_read (names_of under.court) (cases_of under kept) bytes) spelled room),
+          subst (follows under kept) is_entry (follows_named under kept (fields_read text) row name (reading_read (names_of under.court) (cases_of under kept) bytes) spelled),
         )

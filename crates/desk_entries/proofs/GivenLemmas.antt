@@ -20,12 +20,12 @@ record AreKept (kept : List (Option Given)) (given : List (Option Given)) (numbe
   count : length given + 1 ≡ number
   keep : (row : ℕ) (own : Given) → 0 < row → row < number → kept_of kept row ≡ Some own → KeepsNumber own (kept_of given row)
 
-at_before : (given : List (Option Given)) (g : Option Given) (n : ℕ) → n < length given → slice_index_or (given ++ g ∷ []) n None ≡ slice_index_or given n None
+pub at_before : (given : List (Option Given)) (g : Option Given) (n : ℕ) → n < length given → slice_index_or (given ++ g ∷ []) n None ≡ slice_index_or given n None
 at_before [] g n within = absurd (omega (arith, within))
 at_before (x ∷ given) g zero within = refl
 at_before (x ∷ given) g (suc n) within = at_before given g n (omega (arith, within))
 
-at_end : (given : List (Option Given)) (g : Option Given) → slice_index_or (given ++ g ∷ []) (length given) None ≡ g
+pub at_end : (given : List (Option Given)) (g : Option Given) → slice_index_or (given ++ g ∷ []) (length given) None ≡ g
 at_end [] g = refl
 at_end (x ∷ given) g = at_end given g
 

@@ -12,18 +12,20 @@ use Rattle.row_forms.specs.Line.Words.{fields_read, line_read}
 use Rattle.desk_session.specs.Taken.{left_by}
 use Rattle.desk_entries.specs.declared.fault.HistoryFault.{HistoryFault}
 use Rattle.desk_entries.specs.declared.fault.HistoryFault.TheVariants.{Court, NoCourt, Other, OutOfMemory, Strike}
-use Rattle.desk_entries.specs.Docketed.{HasHistoryFault, IsBadFile, IsDocketed}
+use Rattle.desk_entries.specs.Docketed.{CannotBe, HasHistoryFault, IsBadFile, IsDocketed}
 use Rattle.desk_entries.specs.declared.docketed.Docketed.{Docketed}
+use Rattle.desk_numbers.specs.declared.strikes.restore.Restore.{Restore as RestoreOf}
 use Rattle.desk_numbers.specs.declared.strikes.strike.Strike.{Strike as StrikeOf}
-use Rattle.desk_numbers.specs.Strikes.Words.{CorrectionsView, all_before, is_among, is_struck, no_corrections, struck_with}
+use Rattle.desk_numbers.specs.Strikes.Words.{CorrectionsView, all_before, is_among, is_struck, no_corrections, struck_with, struck_without}
+use Rattle.desk_numbers.proofs.StrikesLemmas.CallerLemmas.{still_before}
 use Rattle.desk_numbers.specs.declared.given.Given.{Given}
 use Rattle.desk_entries.specs.declared.standing.Standing.{Standing}
-use Rattle.desk_entries.specs.Entries.{Note, can_strike, court_file, file_after, file_with, most_clerks, next_number, note_in, row_struck, standing_file, struck_by, struck_in}
+use Rattle.desk_entries.specs.Entries.{Note, can_restore, can_strike, court_file, file_after, file_with, most_clerks, next_number, note_in, row_restored, row_struck, standing_file, struck_by, struck_in}
 use Rattle.desk_entries.specs.History.{AllFollow, FollowsAs, IsHistory, Keep, KeepAfter, MayFollow, SaysCourt, StandsAfter}
 use Rattle.desk_entries.specs.Laws.{WhatIsLeftIsHistory}
 use Rattle.desk_entries.specs.Register.{IsReadyAt, StandsAt}
 use Rattle.case_numbers.specs.Words.{NameView, after_name, name_before}
-use Rattle.desk_entries.specs.Rows.{follows, leaves, left_again, left_of, plain_leaves, reading_at, with_name, within}
+use Rattle.desk_entries.specs.Rows.{follows, kept_leaves, leaves, left_again, left_of, plain_leaves, reading_at, with_name, within}
 use Rattle.desk_entries.specs.Run.{corrections_then, run_by}
 use Rattle.desk_entries.proofs.EntryLemmas.{left_follows}
 use Rattle.desk_entries.proofs.ListLemmas.{before-note, before-row, before_strike, none_struck, standing_file-file, standing_file-more, struck_in-more}
@@ -59,9 +61,9 @@ row_follows under kept entry none stands may = subst (λ (n : Option Note). Foll
 file_follows : (court : CourtView) (kept : List (List ℕ)) (entry later : List ℕ) → note_in entry ≡ Some (court_file later) → SaysCourt later court → MayFollow kept entry
 file_follows court kept entry later some says = subst (λ (n : Option Note). FollowsAs n kept entry) (sym some) (court, says)
 
--- a strike
-strike_follows : (kept : List (List ℕ)) (entry : List ℕ) (struck : StrikeOf) → note_in entry ≡ Some (row_struck struck) → can_strike kept struck ≡ true → MayFollow kept entry
-strike_follows kept entry struck some can = subst (λ (n : Option Note). FollowsAs n kept entry) (sym some) can
+-- a strike or a restore
+note_follows : (kept : List (List ℕ)) (entry : List ℕ) (note : Note) → note_in entry ≡ Some note → FollowsAs (Some note) kept entry → MayFollow kept entry
+note_follows kept entry note some can = subst (λ (n : Option Note). FollowsAs n kept entry) (sym some) can
 
 -- what stands after a row is what stood
 stands_after_row : (under : Standing) (kept : List (List ℕ)) (entry : List ℕ) → 0 < length kept → note_in entry ≡ None → StandsAfter kept under → StandsAfter (kept ++ entry ∷ []) under
@@ -87,13 +89,13 @@ stands_after_file under then kept entry later begun some stands says same = reco
   numbers = kept_after_note under then kept entry (court_file later) begun some stands (ap (λ (c : CorrectionsView). c.kept) same);
 }
 
--- and after a strike
-stands_after_strike : (under then : Standing) (kept : List (List ℕ)) (entry : List ℕ) (struck : StrikeOf) → 0 < length kept → note_in entry ≡ Some (row_struck struck) → StandsAfter kept under → SaysCourt (standing_file kept) then.court
-    → then.corrections ≡ corrections_then under kept (struck_with under.corrections.struck struck.row) → StandsAfter (kept ++ entry ∷ []) then
-stands_after_strike under then kept entry struck begun some stands says more = record {
-  court = subst (λ (f : List ℕ). SaysCourt f then.court) (sym (standing_file-more kept entry begun ∙ ap (file_with (standing_file kept)) some)) says;
-  struck = ap (λ (c : CorrectionsView). c.struck) more ∙ ap (λ (s : List ℕ). struck_with s struck.row) stands.struck ∙ sym (struck_in-more kept entry begun ∙ ap (struck_by (struck_in kept)) some);
-  numbers = kept_after_note under then kept entry (row_struck struck) begun some stands (ap (λ (c : CorrectionsView). c.kept) more);
+-- and after a note that isn't one, a strike or a restore
+pub stands_corrected : (under then : Standing) (kept : List (List ℕ)) (entry : List ℕ) (note : Note) → 0 < length kept → note_in entry ≡ Some note → file_with (standing_file kept) (Some note) ≡ standing_file kept → StandsAfter kept under → SaysCourt (standing_file kept) then.court
+    → then.corrections ≡ corrections_then under kept (struck_by under.corrections.struck (Some note)) → StandsAfter (kept ++ entry ∷ []) then
+stands_corrected under then kept entry note begun some file stands says more = record {
+  court = subst (λ (f : List ℕ). SaysCourt f then.court) (sym (standing_file-more kept entry begun ∙ ap (file_with (standing_file kept)) some ∙ file)) says;
+  struck = ap (λ (c : CorrectionsView). c.struck) more ∙ ap (λ (s : List ℕ). struck_by s (Some note)) stands.struck ∙ sym (struck_in-more kept entry begun ∙ ap (struck_by (struck_in kept)) some);
+  numbers = kept_after_note under then kept entry note begun some stands (ap (λ (c : CorrectionsView). c.kept) more);
 }
 
 -- a line leaves one entry at most
@@ -109,8 +111,8 @@ one_at_most under kept bytes entry other more h =
 
 -- and so does an entry whose row is entered again
 pub one_again : (under : Standing) (kept : List (List ℕ)) (entry made other : List ℕ) (more : List (List ℕ)) → left_again under kept entry ≡ made ∷ other ∷ more → ⊥
-unfolding plain_leaves
-one_again under kept entry made other more h = one_of under kept (name_before entry) (fields_read (after_name entry)) (within kept (line_read most_clerks (names_of under.court) (after_name entry))) made other more h
+unfolding kept_leaves
+one_again under kept entry made other more h = one_of under kept (name_before entry) (fields_read (after_name entry)) (line_read most_clerks (names_of under.court) (after_name entry)) made other more h
 
 -- a history, and what stands after it
 abbrev GoesOn : Standing → List (List ℕ) → Type 0
@@ -174,21 +176,34 @@ strikes_before kept struck can = by (nat_lt 0 struck.row) (nat_lt struck.row (ne
     by true false c h = cc h
     by false b c h = cc h
 
+-- after a note that is a strike or a restore
+docketed_corrected : (docketed after : Docketed) (before : List (List ℕ)) (entry : List ℕ) (note : Note) → IsDocketed docketed before → note_in entry ≡ Some note → FollowsAs (Some note) before entry → file_with (standing_file before) (Some note) ≡ standing_file before
+    → SaysCourt (standing_file before) after.standing.court → after.standing.corrections ≡ corrections_then docketed.standing before (struck_by docketed.standing.corrections.struck (Some note))
+    → list_all (λ row. nat_lt row (next_number before)) (struck_by docketed.standing.corrections.struck (Some note)) ≡ true → StandsAt after.standing after.register (before ++ entry ∷ []) → IsDocketed after (before ++ entry ∷ [])
+docketed_corrected docketed after before entry note is some can file says more all stands =
+    let begun = history_begins before is.history in
+    let noted : IsSome (note_in entry) = ap is_some some in
+    record {
+      history = history_more before entry is.history (note_follows before entry note some can);
+      standing = stands_corrected docketed.standing after.standing before entry note begun some file is.standing says more;
+      stands = record {
+        at = stands;
+        before = before-note after.standing.corrections before entry begun noted (ap (λ (c : CorrectionsView). list_all (λ row. nat_lt row (next_number before)) c.struck) more ∙ all);
+      };
+    }
+
 -- and after a strike
 pub docketed_strike : (docketed after : Docketed) (before : List (List ℕ)) (entry : List ℕ) (struck : StrikeOf) → IsDocketed docketed before → note_in entry ≡ Some (row_struck struck) → can_strike before struck ≡ true
     → SaysCourt (standing_file before) after.standing.court → after.standing.corrections ≡ corrections_then docketed.standing before (struck_with docketed.standing.corrections.struck struck.row) → StandsAt after.standing after.register (before ++ entry ∷ []) → IsDocketed after (before ++ entry ∷ [])
 docketed_strike docketed after before entry struck is some can says more stands =
-    let begun = history_begins before is.history in
-    let noted : IsSome (note_in entry) = ap is_some some in
-    record {
-      history = history_more before entry is.history (strike_follows before entry struck some can);
-      standing = stands_after_strike docketed.standing after.standing before entry struck begun some is.standing says more;
-      stands = record {
-        at = stands;
-        before = before-note after.standing.corrections before entry begun noted
-            (ap (λ (c : CorrectionsView). list_all (λ row. nat_lt row (next_number before)) c.struck) more ∙ before_strike docketed.standing.corrections.struck struck.row (next_number before) is.stands.before (strikes_before before struck can));
-      };
-    }
+    docketed_corrected docketed after before entry (row_struck struck) is some can refl says more
+    (before_strike docketed.standing.corrections.struck struck.row (next_number before) is.stands.before (strikes_before before struck can)) stands
+
+-- and after a restore
+pub docketed_restore : (docketed after : Docketed) (before : List (List ℕ)) (entry : List ℕ) (restored : RestoreOf) → IsDocketed docketed before → note_in entry ≡ Some (row_restored restored) → can_restore before restored ≡ true
+    → SaysCourt (standing_file before) after.standing.court → after.standing.corrections ≡ corrections_then docketed.standing before (struck_without docketed.standing.corrections.struck restored.row) → StandsAt after.standing after.register (before ++ entry ∷ []) → IsDocketed after (before ++ entry ∷ [])
+docketed_restore docketed after before entry restored is some can says more stands =
+    docketed_corrected docketed after before entry (row_restored restored) is some can refl says more (still_before docketed.standing.corrections.struck restored.row (next_number before) is.stands.before) stands
 
 -- what a docket comes to before its first row
 pub first_docketed : (docketed : Docketed) (first : List ℕ) → SaysCourt first docketed.standing.court → docketed.standing.corrections ≡ no_corrections → StandsAt docketed.standing docketed.register (first ∷ []) → IsDocketed docketed (first ∷ [])
@@ -258,8 +273,6 @@ fault_in_more (first ∷ some) more (Strike n) begun has = record {
   parts = ap (λ (l : List (List ℕ)). l ++ more) has.parts ∙ append_assoc has.before (has.entry ∷ has.after) more;
   number_is = has.number_is;
   history = has.history;
-  struck = has.struck;
-  note = has.note;
   cannot = has.cannot;
 }
 fault_in_more (first ∷ some) more (Other n) begun has = record {
@@ -292,19 +305,16 @@ other_answer docketed before entry number is none counted other = record {
   other = other;
 }
 
--- a strike that can't be made
-pub bad_strike : (docketed : Docketed) (before : List (List ℕ)) (entry : List ℕ) (struck : StrikeOf) (number : ℕ) → IsDocketed docketed before → note_in entry ≡ Some (row_struck struck) → number ≡ length (before ++ entry ∷ []) → can_strike before struck ≡ false
-    → HasHistoryFault (before ++ entry ∷ []) (Strike number)
-bad_strike docketed before entry struck number is some counted cannot = record {
+-- a strike or a restore that can't be
+pub bad_note : (docketed : Docketed) (before : List (List ℕ)) (entry : List ℕ) (note : Note) (number : ℕ) → IsDocketed docketed before → note_in entry ≡ Some note → number ≡ length (before ++ entry ∷ []) → CannotBe (Some note) before → HasHistoryFault (before ++ entry ∷ []) (Strike number)
+bad_note docketed before entry note number is some counted cannot = record {
   before = before;
   entry = entry;
   after = [];
   parts = refl;
   number_is = counted ∙ length-append before (entry ∷ []);
   history = is.history;
-  struck = struck;
-  note = some;
-  cannot = cannot;
+  cannot = subst (λ (n : Option Note). CannotBe n before) (sym some) cannot;
 }
 
 -- the first file of entries
@@ -320,3 +330,7 @@ pub can_is : (docketed : Docketed) (kept : List (List ℕ)) (struck : StrikeOf) 
 can_is docketed kept struck is =
     ap (λ (n : ℕ). nat_lt 0 struck.row && nat_lt struck.row n && not (is_struck docketed.standing.corrections struck.row)) is.stands.at.number
     ∙ ap (λ (s : List ℕ). nat_lt 0 struck.row && nat_lt struck.row (next_number kept) && not (is_among s struck.row)) is.standing.struck
+
+-- and whether it can be restored
+pub can_be_restored : (docketed : Docketed) (kept : List (List ℕ)) (restored : RestoreOf) → IsDocketed docketed kept → is_struck docketed.standing.corrections restored.row ≡ can_restore kept restored
+can_be_restored docketed kept restored is = ap (λ (s : List ℕ). is_among s restored.row) is.standing.struck

@@ -18,6 +18,7 @@ pub mod PastLemmas
 pub mod PlaceLemmas
 pub mod QuestionLemmas
 pub mod RegisterLemmas
+pub mod RestoreLemmas
 pub mod RunLemmas
 pub mod ShiftLemmas
 pub mod StrikingLemmas

@@ -6,13 +6,14 @@ use Rattle.std.proofs.lemmas.List.{map-append, take-append-drop, take_more}
 use Rattle.desk_journal.specs.Words.{batch_of}
 use Rattle.std.specs.List.{list_all, list_any}
 use Rattle.std.proofs.lemmas.Bool.Decides.{nat_tests}
+use Rattle.desk_numbers.specs.declared.strikes.restore.Restore.{Restore}
 use Rattle.desk_numbers.specs.declared.strikes.strike.Strike.{Strike}
-use Rattle.desk_numbers.specs.Strikes.Words.{CorrectionsView, all_before, is_among, is_struck, strike_in, struck_with}
-use Rattle.desk_entries.specs.Entries.{Note, court_file, file_after, file_with, later_file, next_number, note_in, note_of, row_entries, row_only, row_struck, rows_among, standing_file, struck_after, struck_by, struck_in}
+use Rattle.desk_numbers.specs.Strikes.Words.{CorrectionsView, all_before, is_among, is_struck, restore_in, row_after, strike_in, struck_with}
+use Rattle.desk_entries.specs.Entries.{Note, court_file, file_after, file_with, later_file, next_number, note_in, note_of, row_entries, row_only, row_restored, row_struck, rows_among, standing_file, struck_after, struck_by, struck_in}
 
--- what begins with another byte is no court's file and no strike
+-- what begins with another byte is no court's file, no strike and no restore
 pub no_note : (b : ℕ) (bytes : List ℕ) → nat_eq 37 b ≡ false → note_in (b ∷ bytes) ≡ None
-unfolding strike_in
+unfolding strike_in restore_in row_after
 no_note b bytes other = rw other refl
 
 pub rows_among-append : (some more : List (List ℕ)) → rows_among (some ++ more) ≡ rows_among some ++ rows_among more
@@ -72,11 +73,12 @@ standing_file-more (first ∷ later) entry begun = file_after-append first later
 
 -- what is no court's file changes no court
 pub standing_file-other : (kept : List (List ℕ)) (entry : List ℕ) → 0 < length kept → later_file entry ≡ None → standing_file (kept ++ entry ∷ []) ≡ standing_file kept
-standing_file-other kept entry begun none = standing_file-more kept entry begun ∙ ap (λ (f : Option (List ℕ)). file_with (standing_file kept) (note_of f (strike_in entry))) none ∙ by (strike_in entry)
+standing_file-other kept entry begun none = standing_file-more kept entry begun ∙ ap (λ (f : Option (List ℕ)). file_with (standing_file kept) (note_of f (strike_in entry) (restore_in entry))) none ∙ by (strike_in entry) (restore_in entry)
   where
-    by : (s : Option Strike) → file_with (standing_file kept) (note_of None s) ≡ standing_file kept
-    by None = refl
-    by (Some s) = refl
+    by : (s : Option Strike) (r : Option Restore) → file_with (standing_file kept) (note_of None s r) ≡ standing_file kept
+    by None None = refl
+    by None (Some r) = refl
+    by (Some s) r = refl
 
 -- a later court's file stands after it
 pub standing_file-file : (kept : List (List ℕ)) (entry later : List ℕ) → 0 < length kept → note_in entry ≡ Some (court_file later) → standing_file (kept ++ entry ∷ []) ≡ later
@@ -84,13 +86,21 @@ standing_file-file kept entry later begun some = standing_file-more kept entry b
 
 -- what an entry is by what it begins with
 pub file_noted : (entry later : List ℕ) → later_file entry ≡ Some later → note_in entry ≡ Some (court_file later)
-file_noted entry later some = ap (λ (f : Option (List ℕ)). note_of f (strike_in entry)) some
+file_noted entry later some = ap (λ (f : Option (List ℕ)). note_of f (strike_in entry) (restore_in entry)) some
 
 pub strike_noted : (entry : List ℕ) (struck : Strike) → later_file entry ≡ None → strike_in entry ≡ Some struck → note_in entry ≡ Some (row_struck struck)
-strike_noted entry struck none some = ap (λ (f : Option (List ℕ)). note_of f (strike_in entry)) none ∙ ap (note_of None) some
+strike_noted entry struck none some =
+    ap (λ (f : Option (List ℕ)). note_of f (strike_in entry) (restore_in entry)) none ∙ ap (λ (s : Option Strike). note_of None s (restore_in entry)) some
 
-pub none_noted : (entry : List ℕ) → later_file entry ≡ None → strike_in entry ≡ None → note_in entry ≡ None
-none_noted entry none no_strike = ap (λ (f : Option (List ℕ)). note_of f (strike_in entry)) none ∙ ap (note_of None) no_strike
+pub no_strike_noted : (entry : List ℕ) → later_file entry ≡ None → strike_in entry ≡ None → note_in entry ≡ note_of None None (restore_in entry)
+no_strike_noted entry none no_strike =
+    ap (λ (f : Option (List ℕ)). note_of f (strike_in entry) (restore_in entry)) none ∙ ap (λ (s : Option Strike). note_of None s (restore_in entry)) no_strike
+
+pub restore_noted : (entry : List ℕ) (restored : Restore) → later_file entry ≡ None → strike_in entry ≡ None → restore_in entry ≡ Some restored → note_in entry ≡ Some (row_restored restored)
+restore_noted entry restored none no_strike some = no_strike_noted entry none no_strike ∙ ap (note_of None None) some
+
+pub none_noted : (entry : List ℕ) → later_file entry ≡ None → strike_in entry ≡ None → restore_in entry ≡ None → note_in entry ≡ None
+none_noted entry none no_strike no_restore = no_strike_noted entry none no_strike ∙ ap (note_of None None) no_restore
 
 struck_after-append : (struck : List ℕ) (some more : List (List ℕ)) → struck_after struck (some ++ more) ≡ struck_after (struck_after struck some) more
 unfolding struck_after

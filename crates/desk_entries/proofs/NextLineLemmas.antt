@@ -17,7 +17,7 @@ use Rattle.desk_entries.specs.CaseLines.{IsRead, is_field, lacks_field, reading_
 use Rattle.desk_entries.specs.Cases.{cases_of}
 use Rattle.desk_entries.specs.Entries.{most_clerks}
 use Rattle.desk_entries.specs.Rows.{IsReadAt, cased_at, found_at, found_text, reading_at}
-use Rattle.desk_entries.specs.Subjects.{IsReadApart, named_by, named_in, one_text, read_apart, with_found}
+use Rattle.desk_entries.specs.Subjects.{IsReadApart, named_by, named_in, one_text, with_found}
 
 -- a line that lacks a field has that fault
 field_is : (number : ℕ) (cause : RowCause) → is_field number cause ≡ true → cause ≡ BadField number

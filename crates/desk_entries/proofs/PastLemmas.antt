@@ -1,5 +1,5 @@
 -- The rows that are struck, after one more entry, and the corrections so far.
-use Rattle.std.proofs.Common.{◌≡◌, ◌∙◌, ◌+◌, ◌<◌, ◌≤◌, ◌++◌, ◌∷◌, ℕ, List, [], Option, Some, None, length, length-append, refl, sym, ap, arith}
+use Rattle.std.proofs.Common.{◌≡◌, ◌∙◌, ◌+◌, ◌<◌, ◌≤◌, ◌++◌, ◌∷◌, ◌||◌, ℕ, List, [], Option, Some, None, length, length-append, refl, sym, ap, arith}
 use Rattle.std.specs.Prelude.{Bool, Vec, drop, false, get_or, is_none, option_map, true}
 use Rattle.std.specs.declared.alloc.Global.{Global}
 use Rattle.std.proofs.lemmas.List.{at_drop_all, at_drop_more}
@@ -11,7 +11,7 @@ use Rattle.row_forms.specs.Line.Words.{line_read}
 use Rattle.desk_entries.specs.Entries.{Note, most_clerks, next_number, note_in, row_entries, row_only}
 use Rattle.desk_journal.specs.Words.{batch_of}
 use Rattle.desk_entries.specs.declared.past.Corrected.{Corrected}
-use Rattle.desk_entries.specs.Past.{corrected_by, corrected_with, is_struck_first, noted_after, row_struck_as, row_struck_said, rows_struck, rows_with, strikes_first, strikes_it}
+use Rattle.desk_entries.specs.Past.{corrected_by, corrected_with, is_restored, is_struck_first, noted_after, restores_it, row_struck_as, row_struck_said, rows_struck, rows_with, strikes_first, strikes_it}
 use Rattle.desk_entries.proofs.ListLemmas.{row_entries-more}
 
 -- what is struck of an entry that is a row, and of one that is none
@@ -83,6 +83,18 @@ strikes_found number (Some note) others strikes is = cc is
 pub strikes_none : (number : ℕ) (note : Option Note) (others : Bool) → None ≡ option_map (strikes_it number) note → strikes_first number note others ≡ others
 strikes_none number None others is = refl
 strikes_none number (Some note) others is = cc is
+
+-- whether a row is restored, by the first of the entries that are left
+pub restored_next : (number : ℕ) (entries : List (Vec ℕ Global)) (place : ℕ) (entry : Vec ℕ Global) → place < length entries → entry ≡ get_or entries place entry
+    → is_restored number (batch_of (drop place entries)) ≡ (restores_it number (note_in entry.items) || is_restored number (batch_of (drop (place + 1) entries)))
+unfolding is_restored
+restored_next number entries place entry lt is =
+    at_drop_more (λ (l : List (Vec ℕ Global)). is_restored number (batch_of l)) entries place entry lt
+    ∙ ap (λ (e : Vec ℕ Global). restores_it number (note_in e.items) || is_restored number (batch_of (drop (place + 1) entries))) (sym is)
+
+pub none_restored : (number : ℕ) (entries : List (Vec ℕ Global)) (place : ℕ) → length entries ≤ place → is_restored number (batch_of (drop place entries)) ≡ false
+unfolding is_restored
+none_restored number entries place le = at_drop_all (λ (l : List (Vec ℕ Global)). is_restored number (batch_of l)) entries place le
 
 -- what is counted of an entry that is a row, and of one that is a note
 pub row_counted : (entry : List ℕ) (rows : ℕ) → is_none (note_in entry) ≡ true → rows + 1 ≡ rows_with (note_in entry) rows

@@ -11,8 +11,8 @@ use Rattle.desk_entries.specs.Register.{StandsAt}
 use Rattle.desk_entries.specs.declared.cause.LineCause.{LineCause}
 use Rattle.desk_entries.specs.CaseLines.{lacks_field}
 use Rattle.desk_entries.specs.Entries.{most_clerks}
-use Rattle.desk_entries.specs.Rows.{reading_at, special_at, told_or, within}
-use Rattle.desk_entries.proofs.RegisterLemmas.{not_special}
+use Rattle.desk_entries.specs.Rows.{reading_at, special_at, told_or}
+use Rattle.desk_entries.proofs.RegisterLemmas.{read_whole}
 use Rattle.docket_rows.specs.declared.command.Command.{Command as CommandOf}
 use Rattle.desk_numbers.specs.Words.{given_by, numbers_after}
 use Rattle.row_forms.specs.declared.row.Work.{Work}
@@ -23,7 +23,7 @@ use Rattle.desk_entries.specs.Run.{Run, numbers_with}
 abbrev pub shown_with : Standing → (kept : List (List ℕ)) → (special : Option LineCause) → Line → List ℕ
 shown_with under kept special said = told_or under kept special (shown_to under kept said)
 
-pub line_asked : (under : Standing) (questions : Questions) (kept : List (List ℕ)) (bytes : List ℕ) (batch : List (List ℕ)) (text : List ℕ) (said : Line) → within kept (line_read most_clerks (names_of under.court) (reading_at under kept bytes).text) ≡ said
+pub line_asked : (under : Standing) (questions : Questions) (kept : List (List ℕ)) (bytes : List ℕ) (batch : List (List ℕ)) (text : List ℕ) (said : Line) → line_read most_clerks (names_of under.court) (reading_at under kept bytes).text ≡ said
     → StandsAt under questions.register kept → (text_after : List ℕ) → text_after ≡ text ++ shown_with under kept (special_at under kept bytes) said
     → TakesLine (λ k l. []) (shown under) (AsksOf under questions) kept bytes batch batch text text_after
 unfolding shown
@@ -34,9 +34,9 @@ line_asked under questions kept bytes batch text said is stands text_after told 
 }
 
 -- a line that lacks no third field and no fourth
-pub shown_plain : (under : Standing) (kept : List (List ℕ)) (bytes text : List ℕ) (said : Line) → within kept (line_read most_clerks (names_of under.court) (reading_at under kept bytes).text) ≡ said → lacks_field 3 said ≡ false → lacks_field 4 said ≡ false
+pub shown_plain : (under : Standing) (kept : List (List ℕ)) (bytes text : List ℕ) (said : Line) → line_read most_clerks (names_of under.court) (reading_at under kept bytes).text ≡ said → lacks_field 3 said ≡ false → lacks_field 4 said ≡ false
     → text ++ shown_to under kept said ≡ text ++ shown_with under kept (special_at under kept bytes) said
-shown_plain under kept bytes text said is third fourth = ap (λ (special : Option LineCause). text ++ shown_with under kept special said) (sym (not_special under kept bytes said is third fourth))
+shown_plain under kept bytes text said is third fourth = ap (λ (special : Option LineCause). text ++ shown_with under kept special said) (sym (read_whole under kept bytes said is third fourth))
 
 -- a question gives no number
 pub question_moves_nothing : (under : Standing) (run : Run) (number : ℕ) (asked : Work) → ((command : CommandOf) → asked ≢ Command command) → (numbers_with under run number asked).moved ≡ run.numbers.moved

@@ -1,5 +1,5 @@
 -- A register after one entry more.
-use Rattle.std.proofs.Common.{◌≡◌, ◌∙◌, ◌+◌, ◌<◌, ℕ, Bool, cond, false, string_bytes, List, [], ◌∷◌, ◌++◌, Ok, Option, true, ltb, length, length-append, refl, sym, ap, subst, append-nil, arith}
+use Rattle.std.proofs.Common.{◌≡◌, ◌∙◌, ◌+◌, ◌<◌, ℕ, Bool, cond, false, List, [], ◌∷◌, ◌++◌, Ok, Option, true, length, length-append, refl, sym, ap, subst, append-nil, arith}
 use Rattle.std.proofs.lemmas.Bool.Decides.{nat_tests}
 use Rattle.desk_numbers.specs.Strikes.Words.{all_before, is_struck}
 use Rattle.docket_rows.specs.Words.{setup_of}
@@ -32,7 +32,7 @@ use Rattle.desk_entries.specs.CaseLines.{is_field, lacks_field}
 use Rattle.desk_entries.specs.LineCauses.{cause_or, fault_told, unfound_as}
 use Rattle.desk_entries.specs.Cases.{cases_of, opened_as, opened_in, with_opened}
 use Rattle.desk_entries.specs.Entries.{most_clerks, most_entries, next_number, note_in}
-use Rattle.desk_entries.specs.Rows.{answer_to, answers, cased_at, entry_of, follows, found_at, found_text, leaves, left_again, left_of, plain_answers, plain_leaves, reading_at, row_in, special_at, told_of, told_or, too_many_at, unfound_at, unfound_of, with_name, within}
+use Rattle.desk_entries.specs.Rows.{answer_to, answers, cased_at, entry_of, follows, found_at, found_text, kept_answers, kept_leaves, leaves, left_again, left_of, plain_answers, plain_leaves, reading_at, row_in, special_at, told_of, told_or, too_many_at, unfound_at, unfound_of, with_name, within}
 use Rattle.desk_entries.specs.Run.{Run, docketed_by, docketed_with, numbers_with, reply_by_places, run_by, run_past}
 use Rattle.desk_entries.specs.Register.{IsDone, IsReadyAt, StandsAt}
 use Rattle.desk_entries.specs.Shifts.{shifts_by, shifts_said, told}
@@ -55,13 +55,12 @@ numbers_taken under kept asked own before made number given is own_is before_is 
     ∙ ap (numbers_after under.corrections.kept (run_by under kept).numbers (next_number kept)) given_is
 
 -- the register after the row of an entry
-pub stands_row : (under : Standing) (register : DocketRegister) (kept : List (List ℕ)) (entry : List ℕ) (row : Row) → 0 < length kept → ltb (length kept) most_entries ≡ true → note_in entry ≡ None → is_struck under.corrections (next_number kept) ≡ false
+pub stands_row : (under : Standing) (register : DocketRegister) (kept : List (List ℕ)) (entry : List ℕ) (row : Row) → 0 < length kept → length kept < most_entries → note_in entry ≡ None → is_struck under.corrections (next_number kept) ≡ false
     → line_read most_clerks (names_of under.court) (after_name entry) ≡ line.Row row → Holds (setup_of under.court) register.docket (docketed_with under (run_by under kept) row.work)
     → register.numbers ≡ numbers_with under (run_by under kept) (next_number kept) row.work → register.cases ≡ with_opened (cases_of under kept) (opened_as row.work) (name_before entry) → register.number ≡ next_number kept + 1 → register.count ≡ length kept + 1
     → StandsAt under register (kept ++ entry ∷ [])
 stands_row under register kept entry row begun room none live said holds numbers cases number count =
     let long : length (kept ++ entry ∷ []) ≡ length kept + 1 = length-append kept (entry ∷ []) in
-    let below : length kept < most_entries = grind (arith, nat_tests) in
     let more = run_by-more under kept entry row begun none live said in
     record {
       docket = subst (Holds (setup_of under.court) register.docket) (sym (ap (λ (r : Run). r.docketed) more)) holds;
@@ -70,11 +69,11 @@ stands_row under register kept entry row begun room none live said holds numbers
       number = number ∙ sym (next_number-row kept entry begun none);
       count = count ∙ sym long;
       begun = omega (arith, long);
-      few = omega (arith, long, below);
+      few = omega (arith, long, room);
     }
 
 -- the register after a row that is done, and its own entry, perhaps with a name
-pub stands_after : (under : Standing) (register : DocketRegister) (kept : List (List ℕ)) (fields : List (List ℕ)) (row : Row) (name : Option NameView) → WasRead name → 0 < length kept → ltb (length kept) most_entries ≡ true → is_struck under.corrections (next_number kept) ≡ false
+pub stands_after : (under : Standing) (register : DocketRegister) (kept : List (List ℕ)) (fields : List (List ℕ)) (row : Row) (name : Option NameView) → WasRead name → 0 < length kept → length kept < most_entries → is_struck under.corrections (next_number kept) ≡ false
     → row_of most_clerks (names_of under.court) fields ≡ Ok row → Holds (setup_of under.court) register.docket (docketed_with under (run_by under kept) row.work)
     → register.numbers ≡ numbers_with under (run_by under kept) (next_number kept) row.work → register.cases ≡ with_opened (cases_of under kept) (opened_as row.work) name → register.number ≡ next_number kept + 1 → register.count ≡ length kept + 1
     → StandsAt under register (kept ++ (name_line name ++ entry_of under kept fields row) ∷ [])
@@ -85,15 +84,6 @@ stands_after under register kept fields row name was begun room live spelled hol
     stands_row under register kept (name_line name ++ entry_of under kept fields row) row begun room (is_no_note_named (names_of under.court) fields row answer spelled name) live
     (ap (line_read most_clerks (names_of under.court)) past ∙ says_its_row (names_of under.court) fields row answer spelled) holds numbers
     (cases ∙ ap (with_opened (cases_of under kept) (opened_as row.work)) (sym named)) number count
-
--- what says no row, where there is room for one
-pub none_within : (kept : List (List ℕ)) (l said : Line) → within kept l ≡ said → length kept < most_entries → row_in said ≡ [] → row_in l ≡ []
-none_within kept line.Blank said is room none = refl
-none_within kept (line.Fault cause) said is room none = refl
-none_within kept (line.Row row) said is room none =
-    let open_yet : ltb (length kept) most_entries ≡ true = grind (arith, nat_tests) in
-    let same : line.Row row ≡ said = sym (rw open_yet refl) ∙ is in
-    ap row_in same ∙ none
 
 -- the register after an entry that is passed over, which changes nothing but numbers
 stands_past : (under : Standing) (before register : DocketRegister) (kept : List (List ℕ)) (entry : List ℕ) → StandsAt under before kept → before.count < most_entries → docketed_by under (kept ++ entry ∷ []) ≡ docketed_by under kept
@@ -206,8 +196,8 @@ all_found under kept text (Some named) is none = by (found_at under kept named) 
     by found.None fourth = absurd (nothing fourth)
     by (found.Two number other) fourth = absurd (nothing fourth)
 
-pub not_special : (under : Standing) (kept : List (List ℕ)) (bytes : List ℕ) (said : Line) → within kept (line_read most_clerks (names_of under.court) (reading_at under kept bytes).text) ≡ said → lacks_field 3 said ≡ false → lacks_field 4 said ≡ false → special_at under kept bytes ≡ None
-not_special under kept bytes said is third fourth = by (too_many_at under kept bytes) refl
+pub read_whole : (under : Standing) (kept : List (List ℕ)) (bytes : List ℕ) (said : Line) → line_read most_clerks (names_of under.court) (reading_at under kept bytes).text ≡ said → lacks_field 3 said ≡ false → lacks_field 4 said ≡ false → special_at under kept bytes ≡ None
+read_whole under kept bytes said is third fourth = by (too_many_at under kept bytes) refl
   where
     names : CourtNames
     names = names_of under.court
@@ -219,13 +209,19 @@ not_special under kept bytes said is third fourth = by (too_many_at under kept b
     reads text = line_read most_clerks names text
 
     by : (too_many : Bool) → too_many_at under kept bytes ≡ too_many → cond too_many (Some TooManyCases) (option_map NotFound (unfound_at under kept bytes)) ≡ None
-    by false so = ap (option_map NotFound) (all_found under kept cased (named_in names cased) refl (lacks_it 4 kept (reads (reading_at under kept bytes).text) said is fourth))
+    by false so = ap (option_map NotFound) (all_found under kept cased (named_in names cased) refl (ap (lacks_field 4) is ∙ fourth))
     by true so =
         let lacks : lacks_field 3 (reads cased) ≡ true = too_many_lacks names (cases_of under kept) bytes so in
         let none = names_nothing names cased (one_lack (reads cased) lacks) in
         let same : lacks_field 3 (reads (reading_at under kept bytes).text) ≡ lacks_field 3 (reads cased) = ap (λ (named : Option Named). lacks_field 3 (reads (found_text under kept cased named))) none in
-        let no : true ≡ false = sym lacks ∙ sym same ∙ lacks_it 3 kept (reads (reading_at under kept bytes).text) said is third in
+        let no : true ≡ false = sym lacks ∙ sym same ∙ ap (lacks_field 3) is ∙ third in
         cc no
+
+-- and so it is where there is no room for a row
+pub not_special : (under : Standing) (kept : List (List ℕ)) (bytes : List ℕ) (said : Line) → within kept (line_read most_clerks (names_of under.court) (reading_at under kept bytes).text) ≡ said → lacks_field 3 said ≡ false → lacks_field 4 said ≡ false → special_at under kept bytes ≡ None
+not_special under kept bytes said is third fourth =
+    let read = line_read most_clerks (names_of under.court) (reading_at under kept bytes).text in
+    read_whole under kept bytes read refl (lacks_it 3 kept read said is third) (lacks_it 4 kept read said is fourth)
 
 -- what is told of a fault, by its cause
 pub cause_told : (under : Standing) (kept : List (List ℕ)) (special : Option LineCause) (cause : RowCause) → fault_told (next_number kept) (cause_or special cause) ≡ told_with under kept special (line.Fault cause)
@@ -258,6 +254,7 @@ module _ (under : Standing) (register : DocketRegister) (kept : List (List ℕ))
   row_left row is begun before fields fields_are name name_is made done batch_after text_after batch_is text_is =
       let plain = (reading_at under kept bytes).text in
       let (said, room) = within_row kept (line_read most_clerks (names_of under.court) plain) row is in
+      let below : length kept < most_entries = grind (arith, nat_tests) in
       let spelled = says_row most_clerks (names_of under.court) plain row said in
       let entry = name_line name ++ entry_of under kept (fields_read plain) row in
       let left : leaves under kept bytes ≡ entry ∷ [] =
@@ -266,7 +263,7 @@ module _ (under : Standing) (register : DocketRegister) (kept : List (List ℕ))
       let was : WasRead name = subst WasRead (sym name_is) (reading_read (names_of under.court) (cases_of under kept) bytes) in
       record {
         stands = subst (IsReadyAt under register) (sym (ap (λ (l : List (List ℕ)). kept ++ l) left)) (record {
-          at = stands_after under register kept (fields_read plain) row name was begun room (not_struck under.corrections (next_number kept) before) spelled done.docket done.numbers done.cases done.number done.count;
+          at = stands_after under register kept (fields_read plain) row name was begun below (not_struck under.corrections (next_number kept) before) spelled done.docket done.numbers done.cases done.number done.count;
           before = before-row under.corrections kept entry begun (is_no_note_named (names_of under.court) (fields_read plain) row (answer_to under kept row) spelled name) before;
         });
         left = batch_is ∙ ap (λ (e : List ℕ). batch ++ e ∷ []) made_is ∙ ap (λ (l : List (List ℕ)). batch ++ l) (sym left);
@@ -278,25 +275,25 @@ module _ (under : Standing) (register : DocketRegister) (kept : List (List ℕ))
 -- an entry that says a row is the next one where the row leaves it
 module _ (under : Standing) (register : DocketRegister) (kept : List (List ℕ)) (entry : List ℕ) where
   -- what an entry leaves that says a row
-  pub leaves_made : (row : Row) → within kept (line_read most_clerks (names_of under.court) (after_name entry)) ≡ line.Row row → (fields : List (List ℕ)) → fields ≡ fields_read (after_name entry) → (name : Option NameView) → name ≡ name_before entry
+  pub leaves_made : (row : Row) → line_read most_clerks (names_of under.court) (after_name entry) ≡ line.Row row → (fields : List (List ℕ)) → fields ≡ fields_read (after_name entry) → (name : Option NameView) → name ≡ name_before entry
       → (made : Done) → IsDone under kept fields row name register made → left_again under kept entry ≡ made.entry.items ∷ []
-  unfolding plain_leaves
+  unfolding kept_leaves
   leaves_made row is fields fields_are name name_is made done =
       ap (λ (l : Line). with_name (name_before entry) (left_of under kept (fields_read (after_name entry)) l)) is
       ∙ ap (λ (e : List ℕ). e ∷ []) (sym (done.entry ∙ ap (λ (f : List (List ℕ)). name_line name ++ entry_of under kept f row) fields_are ∙ ap (λ (n : Option NameView). name_line n ++ entry_of under kept (fields_read (after_name entry)) row) name_is))
 
   -- an entry that says no row leaves nothing
-  pub follows_as_row : follows under kept entry → (row : Row) × (within kept (line_read most_clerks (names_of under.court) (after_name entry)) ≡ line.Row row)
-  unfolding plain_leaves
-  follows_as_row h = by (within kept (line_read most_clerks (names_of under.court) (after_name entry))) refl h
+  pub follows_as_row : follows under kept entry → (row : Row) × (line_read most_clerks (names_of under.court) (after_name entry) ≡ line.Row row)
+  unfolding kept_leaves
+  follows_as_row h = by (line_read most_clerks (names_of under.court) (after_name entry)) refl h
     where
-      by : (said : Line) → within kept (line_read most_clerks (names_of under.court) (after_name entry)) ≡ said → with_name (name_before entry) (left_of under kept (fields_read (after_name entry)) said) ≡ entry ∷ [] → (row : Row) × (said ≡ line.Row row)
+      by : (said : Line) → line_read most_clerks (names_of under.court) (after_name entry) ≡ said → with_name (name_before entry) (left_of under kept (fields_read (after_name entry)) said) ≡ entry ∷ [] → (row : Row) × (said ≡ line.Row row)
       by line.Blank is e = cc e
       by (line.Fault cause) is e = cc e
       by (line.Row row) is e = (row, refl)
 
   -- an entry that says no row isn't the next
-  pub not_as : (said : Line) → within kept (line_read most_clerks (names_of under.court) (after_name entry)) ≡ said → row_in said ≡ [] → follows under kept entry → ⊥
+  pub not_as : (said : Line) → line_read most_clerks (names_of under.court) (after_name entry) ≡ said → row_in said ≡ [] → follows under kept entry → ⊥
   not_as said is none may =
       let (row, says) = follows_as_row may in
       let row_is : said ≡ line.Row row = sym is ∙ says in
@@ -304,6 +301,6 @@ module _ (under : Standing) (register : DocketRegister) (kept : List (List ℕ))
       cc none_is
 
   -- what it is answered
-  pub answers_as : (said : Line) → within kept (line_read most_clerks (names_of under.court) (after_name entry)) ≡ said → plain_answers under kept (after_name entry) ≡ told_of under kept said
-  unfolding plain_answers
+  pub answers_as : (said : Line) → line_read most_clerks (names_of under.court) (after_name entry) ≡ said → kept_answers under kept (after_name entry) ≡ told_of under kept said
+  unfolding kept_answers
   answers_as said is = ap (told_of under kept) is

@@ -2,7 +2,7 @@
 use Rattle.std.proofs.Common.{◌≡◌, ◌∙◌, ◌<◌, ℕ, Bool, true, false, cond, List, [], ◌∷◌, ◌++◌, Option, Some, None, length, length-append, refl, sym, ap, append_assoc, append-nil, arith}
 use Rattle.std.specs.Prelude.{IsSome}
 use Rattle.case_numbers.specs.Words.{after_name}
-use Rattle.docket_rows.specs.Words.{CourtSetup, Rows, opening_rows, setup_of}
+use Rattle.docket_rows.specs.Words.{CourtSetup, Rows, setup_of}
 use Rattle.row_forms.specs.declared.numbered.NumberedRow.{NumberedRow}
 use Rattle.row_forms.specs.Words.{names_of, rows_of}
 use Rattle.row_forms.specs.declared.line.line.Line.{Line}

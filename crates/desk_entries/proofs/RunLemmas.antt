@@ -1,5 +1,5 @@
 -- The answers to lines one by one, and those of a run of their rows together.
-use Rattle.std.proofs.Common.{◌≡◌, ◌∙◌, ◌+◌, ◌<◌, ◌≤◌, ℕ, Bool, cond, true, false, ltb, Option, Some, None, List, [], ◌∷◌, ◌++◌, length, length-append, refl, sym, ap, append_assoc, append-nil, arith}
+use Rattle.std.proofs.Common.{◌≡◌, ◌∙◌, ◌+◌, ◌<◌, ◌≤◌, ℕ, true, false, ltb, Option, Some, None, List, [], ◌∷◌, ◌++◌, length, length-append, refl, sym, ap, append_assoc, append-nil, arith}
 use Rattle.std.specs.Prelude.{All}
 use Rattle.std.proofs.lemmas.Bool.Decides.{nat_tests}
 use Rattle.std.proofs.lemmas.List.Elements.{All-head, All-tail}
@@ -24,12 +24,11 @@ use Rattle.case_numbers.specs.Words.{CasesView, NameView, after_name, with_case}
 use Rattle.case_numbers.specs.declared.names.NamedCase.{NamedCase}
 use Rattle.office_texts.specs.Named.Words.{named_line_of}
 use Rattle.office_texts.proofs.NamedLemmas.CallerLemmas.{without_names_as_before_lem}
-use Rattle.desk_entries.specs.declared.cause.LineCause.TheVariants.{TooManyCases}
 use Rattle.desk_entries.specs.declared.standing.Standing.{Standing}
 use Rattle.desk_entries.specs.declared.cause.LineCause.{LineCause}
 use Rattle.desk_entries.specs.CaseLines.{Reading, as_it_is, lacks_field}
 use Rattle.desk_entries.specs.Cases.{cases_after, cases_of, opened_in, with_opened}
-use Rattle.desk_entries.specs.Entries.{most_clerks, most_entries, next_number, row_entries, rows_among}
+use Rattle.desk_entries.specs.Entries.{most_clerks, most_rows, next_number, row_entries, rows_among}
 use Rattle.desk_entries.specs.Laws.{AnswersAreTheRuns, HasNoFault, plain}
 use Rattle.desk_entries.specs.Rows.{answer_to, answers, entry_of, leaves, left_of, plain_answers, plain_leaves, reading_at, row_in, rows_in, told_of, told_or, with_name, within}
 use Rattle.desk_entries.specs.Run.{Run, docketed_by, docketed_with, numbers_with, opening_run, reply_by_places, reply_under, run_after, run_by, run_entry, run_said}
@@ -124,7 +123,7 @@ still_no_names cases None none = none
 still_no_names cases (Some number) none = none
 
 -- a line that says a row
-row_run : (court : CourtView) (kept lines : List (List ℕ)) (bytes : List ℕ) (row : Row) → 0 < length kept → ltb (length kept) most_entries ≡ true → line_read most_clerks (names_of court) bytes ≡ line.Row row → (cases_of (plain court) kept).named ≡ []
+row_run : (court : CourtView) (kept lines : List (List ℕ)) (bytes : List ℕ) (row : Row) → 0 < length kept → ltb (length kept) most_rows ≡ true → line_read most_clerks (names_of court) bytes ≡ line.Row row → (cases_of (plain court) kept).named ≡ []
     → IsRun court (kept ++ entry_of (plain court) kept (fields_read bytes) row ∷ []) lines → IsRun court kept (bytes ∷ lines)
 unfolding told_to left_by rows_in leaves answers plain_leaves plain_answers lines_from docketed_after
 row_run court kept lines bytes row begun room said names run =
@@ -168,11 +167,11 @@ names_after court kept bytes row begun said names =
     ∙ still_no_names (cases_of (plain court) kept) opened names
 
 -- one line more
-line_run : (court : CourtView) (kept lines : List (List ℕ)) (bytes : List ℕ) → 0 < length kept → length kept + length (bytes ∷ lines) ≤ most_entries → (cases_of (plain court) kept).named ≡ [] → HasNoFault (names_of court) bytes
-    → ((then : List (List ℕ)) → 0 < length then → length then + length lines ≤ most_entries → (cases_of (plain court) then).named ≡ [] → IsRun court then lines) → IsRun court kept (bytes ∷ lines)
+line_run : (court : CourtView) (kept lines : List (List ℕ)) (bytes : List ℕ) → 0 < length kept → length kept + length (bytes ∷ lines) ≤ most_rows → (cases_of (plain court) kept).named ≡ [] → HasNoFault (names_of court) bytes
+    → ((then : List (List ℕ)) → 0 < length then → length then + length lines ≤ most_rows → (cases_of (plain court) then).named ≡ [] → IsRun court then lines) → IsRun court kept (bytes ∷ lines)
 line_run court kept lines bytes begun few names sound rest = by (line_read most_clerks (names_of court) bytes) refl
   where
-    room : ltb (length kept) most_entries ≡ true
+    room : ltb (length kept) most_rows ≡ true
     room = grind (arith, nat_tests)
 
     by : (said : Line) → line_read most_clerks (names_of court) bytes ≡ said → IsRun court kept (bytes ∷ lines)
@@ -183,7 +182,7 @@ line_run court kept lines bytes begun few names sound rest = by (line_read most_
         let long = length-append kept (entry ∷ []) in
         row_run court kept lines bytes row begun room is names (rest (kept ++ entry ∷ []) (omega (arith, long)) (omega (arith, long, few)) (names_after court kept bytes row begun is names))
 
-lines_run : (court : CourtView) (kept lines : List (List ℕ)) → 0 < length kept → length kept + length lines ≤ most_entries → (cases_of (plain court) kept).named ≡ [] → All (HasNoFault (names_of court)) lines → IsRun court kept lines
+lines_run : (court : CourtView) (kept lines : List (List ℕ)) → 0 < length kept → length kept + length lines ≤ most_rows → (cases_of (plain court) kept).named ≡ [] → All (HasNoFault (names_of court)) lines → IsRun court kept lines
 lines_run court kept [] begun few names sound = none_run court kept
 lines_run court kept (bytes ∷ lines) begun few names sound =
     line_run court kept lines bytes begun few names (All-head (HasNoFault (names_of court)) bytes lines sound)

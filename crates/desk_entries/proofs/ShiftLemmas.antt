@@ -32,7 +32,9 @@ use Rattle.desk_entries.specs.Cases.{cases_of, opened_as, with_opened}
 use Rattle.desk_entries.specs.Entries.{next_number}
 use Rattle.desk_entries.specs.Rows.{answers, came_of, outcome, outcome_by, outcome_of, row_in}
 use Rattle.desk_entries.specs.Run.{Run, docketed_by, docketed_with, reply_by_places, run_by, run_with}
-use Rattle.desk_entries.specs.Shifts.{OthersAreToldTheirAnswers, RefusedAreToldTheirAnswers, changes_days, days_before, deadline_shift, sheet_shifts, shift_line, shifts, shifts_from, shifts_said, shifts_since, told}
+use Rattle.desk_entries.specs.Shifts.{OthersAreToldTheirAnswers, RefusedAreToldTheirAnswers, changes_days, days_before, deadline_shift, sheet_shifts, shifts, shifts_from, shifts_said, shifts_since, told}
+use Rattle.docket_rows.specs.declared.command.Counted.TheVariants.{Deadline}
+use Rattle.docket_shifts.specs.Words.{shift_line}
 
 -- the lines of some cases are those of the first and of the others
 pub shifts_more : (setup : CourtSetup) (docketed : Rows) (moved : List Moved) (named : List NamedCase) (before : DaysView) (first last : ℕ) → first < last
@@ -58,7 +60,7 @@ names_before setup docketed before moved cases name (Command (Holiday day list))
 names_before setup docketed before moved cases name (Command (Inaccessible day from to)) = refl
 
 -- an end that is shown as it was has no line
-alike : (named : List NamedCase) (case number : ℕ) (text : List ℕ) → shift_line named case number text text ≡ []
+alike : (named : List NamedCase) (case number : ℕ) (text : List ℕ) → shift_line named case Deadline number text text ≡ []
 alike named case number text = rw ((bytes_eq-Decides text text).1 refl) refl
 
 -- where the days are those before, the deadlines of a case have no line

@@ -1,4 +1,4 @@
--- The strike of a row, found among entries.
+-- The strike of a row, found among entries, and the restore of one that is struck.
 use Rattle.std.proofs.Common.{◌≡◌, ◌∙◌, ◌+◌, ◌-◌, ◌<◌, ◌≤◌, ◌&&◌, ℕ, zero, suc, Bool, true, false, cond, List, [], ◌∷◌, ◌++◌, Option, Some, None, Ok, Err, drop, get_or, length, refl, sym, ap, arith}
 use Rattle.std.specs.Prelude.{Vec, nat_eq, nat_lt, slice_index_or}
 use Rattle.std.specs.declared.alloc.Global.{Global}
@@ -12,15 +12,16 @@ use Rattle.row_forms.specs.Words.{names_of}
 use Rattle.row_forms.specs.declared.line.line.Line.{Line}
 use Rattle.row_forms.specs.declared.line.line.Line.TheVariants as line
 use Rattle.row_forms.specs.Line.Words.{line_read}
+use Rattle.desk_numbers.specs.declared.strikes.restore.Restore.{Restore}
 use Rattle.desk_numbers.specs.declared.strikes.strike.Strike.{Strike}
-use Rattle.desk_numbers.specs.Strikes.Words.{is_among, is_struck, strike_entry, strike_in}
-use Rattle.desk_numbers.proofs.StrikesLemmas.CallerLemmas.{strikes_back}
-use Rattle.desk_entries.specs.declared.fault.StrikeFault.TheVariants.{AlreadyStruck, NoSuchRow}
+use Rattle.desk_numbers.specs.Strikes.Words.{is_among, is_struck, restore_entry, row_after, strike_entry, strike_in}
+use Rattle.desk_numbers.proofs.StrikesLemmas.CallerLemmas.{restores_back, strikes_back}
+use Rattle.desk_entries.specs.declared.fault.StrikeFault.TheVariants.{AlreadyStruck, NoSuchRow, NotStruck}
 use Rattle.desk_entries.specs.declared.standing.Standing.{Standing}
-use Rattle.desk_entries.specs.Entries.{Note, can_strike, most_clerks, most_entries, next_number, note_in, note_of, later_file, row_only, row_struck, rows_among, struck_in}
+use Rattle.desk_entries.specs.Entries.{Note, can_restore, can_strike, most_clerks, most_entries, next_number, note_in, later_file, row_only, row_restored, row_struck, rows_among, struck_in}
 use Rattle.desk_entries.specs.History.{StandsAfter}
-use Rattle.desk_entries.specs.Striking.{entry_at, rows_left, strike_as, strike_for, strike_said}
-use Rattle.desk_entries.proofs.ListLemmas.{next_number-few}
+use Rattle.desk_entries.specs.Striking.{entry_at, has_row, restore_for, rows_left, strike_as, strike_for, strike_said}
+use Rattle.desk_entries.proofs.ListLemmas.{next_number-few, restore_noted, strike_noted}
 
 -- the row that is looked for, among entries of which this is the first
 pub is_first : (entry : List ℕ) (later : List (List ℕ)) (left : ℕ) → rows_left (note_in entry) left ≡ None → slice_index_or (rows_among (entry ∷ later)) left [] ≡ entry
@@ -66,15 +67,15 @@ from_first [] row = refl
 from_first (entry ∷ entries) row = refl
 
 -- what the strike of a row comes to, by what stands
-pub no_such_row : (under : Standing) (kept : List (List ℕ)) (row : ℕ) → (nat_lt 0 row && nat_lt row (next_number kept)) ≡ false → Err NoSuchRow ≡ strike_for under kept row
+pub no_such_row : (under : Standing) (kept : List (List ℕ)) (row : ℕ) → has_row kept row ≡ false → Err NoSuchRow ≡ strike_for under kept row
 unfolding strike_for
 no_such_row under kept row none = rw none refl
 
-pub row_struck_already : (under : Standing) (kept : List (List ℕ)) (row : ℕ) → (nat_lt 0 row && nat_lt row (next_number kept)) ≡ true → is_struck under.corrections row ≡ true → Err AlreadyStruck ≡ strike_for under kept row
+pub row_struck_already : (under : Standing) (kept : List (List ℕ)) (row : ℕ) → has_row kept row ≡ true → is_struck under.corrections row ≡ true → Err AlreadyStruck ≡ strike_for under kept row
 unfolding strike_for
 row_struck_already under kept row there struck = rw (there, struck) refl
 
-pub row_found : (under : Standing) (kept : List (List ℕ)) (row : ℕ) → (nat_lt 0 row && nat_lt row (next_number kept)) ≡ true → is_struck under.corrections row ≡ false
+pub row_found : (under : Standing) (kept : List (List ℕ)) (row : ℕ) → has_row kept row ≡ true → is_struck under.corrections row ≡ false
     → strike_said row (line_read most_clerks (names_of under.court) (after_name (entry_at kept row))) ≡ strike_for under kept row
 unfolding strike_for
 row_found under kept row there live = rw (there, live) refl
@@ -91,15 +92,15 @@ of_line row (line.Row said) strike is = of_work said.work is
 
 -- such a row was entered, and isn't struck
 is_there : (under : Standing) (kept : List (List ℕ)) (row : ℕ) (strike : Strike) → strike_for under kept row ≡ Ok strike
-    → ((nat_lt 0 row && nat_lt row (next_number kept)) ≡ true) × (is_struck under.corrections row ≡ false) × (strike.row ≡ row)
+    → (has_row kept row ≡ true) × (is_struck under.corrections row ≡ false) × (strike.row ≡ row)
 unfolding strike_for
-is_there under kept row strike is = by (nat_lt 0 row && nat_lt row (next_number kept)) (is_struck under.corrections row) refl refl is
+is_there under kept row strike is = by (has_row kept row) (is_struck under.corrections row) refl refl is
   where
     said : Line
     said = line_read most_clerks (names_of under.court) (after_name (entry_at kept row))
 
-    by : (a b : Bool) → (nat_lt 0 row && nat_lt row (next_number kept)) ≡ a → is_struck under.corrections row ≡ b → cond a (cond b (Err AlreadyStruck) (strike_said row said)) (Err NoSuchRow) ≡ Ok strike
-        → ((nat_lt 0 row && nat_lt row (next_number kept)) ≡ true) × (is_struck under.corrections row ≡ false) × (strike.row ≡ row)
+    by : (a b : Bool) → has_row kept row ≡ a → is_struck under.corrections row ≡ b → cond a (cond b (Err AlreadyStruck) (strike_said row said)) (Err NoSuchRow) ≡ Ok strike
+        → (has_row kept row ≡ true) × (is_struck under.corrections row ≡ false) × (strike.row ≡ row)
     by true true there struck h = cc h
     by true false there live h = (there, live, of_line row said strike h)
     by false b there struck h = cc h
@@ -127,6 +128,39 @@ strike_said_again under kept row strike remark begun few stands is =
     let less : row < next_number kept = grind (arith, nat_tests) in
     let small : strike.row < 1_000_000_000 = omega (arith, same, less, next_number-few kept begun, few) in
     let again = strikes_back strike remark small in (
-      ap (λ (f : Option (List ℕ)). note_of f (strike_in (strike_entry strike remark))) (later_file-strike strike remark) ∙ ap (note_of None) again.0,
+      strike_noted (strike_entry strike remark) strike (later_file-strike strike remark) again.0,
       can_be kept strike row under.corrections.struck stands.struck same low.0 low.1 live,
+    )
+
+-- a row that can be restored was entered, and is struck
+can_again : (under : Standing) (kept : List (List ℕ)) (row : ℕ) (restore : Restore) → restore_for under kept row ≡ Ok restore → (has_row kept row ≡ true) × (is_struck under.corrections row ≡ true) × (restore.row ≡ row)
+unfolding restore_for
+can_again under kept row restore is = by (has_row kept row) (is_struck under.corrections row) refl refl is
+  where
+    by : (a b : Bool) → has_row kept row ≡ a → is_struck under.corrections row ≡ b → cond a (cond b (Ok (record { row = row })) (Err NotStruck)) (Err NoSuchRow) ≡ Ok restore
+        → (has_row kept row ≡ true) × (is_struck under.corrections row ≡ true) × (restore.row ≡ row)
+    by true true there struck h = let same : record { row = row } ≡ restore = cc h in (there, struck, ap (λ (r : Restore). r.row) (sym same))
+    by true false there live h = cc h
+    by false b there struck h = cc h
+
+-- an entry that is a restore is no court's file and no strike
+later_file-restore : (restore : Restore) (remark : List ℕ) → later_file (restore_entry restore remark) ≡ None
+unfolding restore_entry
+later_file-restore restore remark = refl
+
+strike_in-restore : (restore : Restore) (remark : List ℕ) → strike_in (restore_entry restore remark) ≡ None
+unfolding restore_entry strike_in row_after
+strike_in-restore restore remark = refl
+
+-- The entry of the restore of a row says it, and may follow.
+pub restore_said_again : (under : Standing) (kept : List (List ℕ)) (row : ℕ) (restore : Restore) (remark : List ℕ) → 0 < length kept → length kept ≤ most_entries → StandsAfter kept under → restore_for under kept row ≡ Ok restore
+    → (note_in (restore_entry restore remark) ≡ Some (row_restored restore)) × (can_restore kept restore ≡ true)
+restore_said_again under kept row restore remark begun few stands is =
+    let (there, struck, same) = can_again under kept row restore is in
+    let low = both_true (nat_lt 0 row) (nat_lt row (next_number kept)) there in
+    let less : row < next_number kept = grind (arith, nat_tests) in
+    let small : restore.row < 1_000_000_000 = omega (arith, same, less, next_number-few kept begun, few) in
+    let again = restores_back restore remark small in (
+      restore_noted (restore_entry restore remark) restore (later_file-restore restore remark) (strike_in-restore restore remark) again.0,
+      rw (sym stands.struck, same, struck) refl,
     )

@@ -1,5 +1,5 @@
 -- Lines in which a case has its number as the court writes it, and the plain lines that stand for them.
-use Rattle.std.specs.Prelude.{◌≡◌, ◌+◌, ◌&&◌, ℕ, Bool, false, is_none, List, ◌∷◌, ◌++◌, Option, Some, None, codes, drop, nat_eq, take, if◌then◌else◌}
+use Rattle.std.specs.Prelude.{◌≡◌, ◌+◌, ◌&&◌, ◌||◌, ℕ, Bool, false, is_none, List, ◌∷◌, ◌++◌, Option, Some, None, codes, drop, length, nat_eq, nat_lt, take, if◌then◌else◌}
 use Rattle.std.specs.Fmt.{decimal}
 use Rattle.std.specs.Str.{bytes_eq}
 use Rattle.csv.specs.Writing.{default_writer, row_text}
@@ -48,9 +48,13 @@ abbrev pub named_if : CasesView → (line : List ℕ) → (fields : List (List �
 named_if cases line fields None = as_it_is line
 named_if cases line fields (Some name) = named cases line fields name (number_of cases.named name.key)
 
+-- how many bytes a field has at most that names a case; a longer one names none
+abbrev pub most_name : ℕ
+most_name = 64
+
 -- the case number in the third field, which is a judge's name in a row that asks for a calendar
 abbrev pub case_in : (fields : List (List ℕ)) → Option NameView
-case_in fields = if bytes_eq (column fields 2) (codes "calendar") then None else case_read (column fields 3)
+case_in fields = if bytes_eq (column fields 2) (codes "calendar") || nat_lt most_name (length (column fields 3)) then None else case_read (column fields 3)
 
 -- whether the field of that number isn't what it should be
 abbrev pub is_field : (number : ℕ) → RowCause → Bool

@@ -6,7 +6,7 @@ use Rattle.desk_numbers.specs.Strikes.Words.{is_struck}
 use Rattle.desk_entries.specs.declared.review.Difference.{Difference}
 use Rattle.desk_entries.specs.declared.standing.Standing.{Standing}
 use Rattle.desk_entries.specs.Entries.{Note, next_number, note_in}
-use Rattle.desk_entries.specs.Rows.{follows, left_again, plain_answers}
+use Rattle.desk_entries.specs.Rows.{follows, kept_answers, left_again}
 
 -- a row that would be answered otherwise: its number, its entry as it is kept, and the answer that it would get
 pub record Change : Type 0 where
@@ -29,7 +29,7 @@ change_as (Some note) under kept entry = []
 change_as None under kept entry =
     if is_struck under.corrections (next_number kept) then []
     else if is_left (left_again under kept entry) entry then []
-    else record { number = next_number kept; entry = entry; answer = plain_answers under kept (after_name entry) } ∷ []
+    else record { number = next_number kept; entry = entry; answer = kept_answers under kept (after_name entry) } ∷ []
 
 -- the changes to entries that come after these
 unfoldable pub changes_after : Standing → (kept : List (List ℕ)) → (later : List (List ℕ)) → List Change
@@ -44,4 +44,4 @@ changes_by under (file ∷ later) = changes_after under (file ∷ []) later
 -- an entry can't follow others under what stands, since its row gets this answer
 pub record IsOtherwise (under : Standing) (kept : List (List ℕ)) (entry answer : List ℕ) : Type 0 where
   pub other : follows under kept entry → ⊥
-  pub answer_is : answer ≡ plain_answers under kept (after_name entry)
+  pub answer_is : answer ≡ kept_answers under kept (after_name entry)

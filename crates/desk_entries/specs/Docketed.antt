@@ -1,13 +1,12 @@
 -- A court and its docket, made of a journal's entries, or why they make none.
-use Rattle.std.specs.Prelude.{◌≡◌, ◌+◌, ℕ, false, List, [], ◌∷◌, ◌++◌, length, None, Some, Err}
+use Rattle.std.specs.Prelude.{◌≡◌, ◌+◌, ℕ, false, List, [], ◌∷◌, ◌++◌, length, Option, None, Some, Err}
 use Rattle.court_days.specs.Words.{court_in}
 use Rattle.court_file_text.specs.declared.fault.CourtFault.{CourtFault}
-use Rattle.desk_numbers.specs.declared.strikes.strike.Strike.{Strike as StrikeOf}
 use Rattle.desk_entries.specs.declared.docketed.Docketed.{Docketed}
 use Rattle.desk_entries.specs.declared.fault.HistoryFault.{HistoryFault}
 use Rattle.desk_entries.specs.declared.fault.HistoryFault.TheVariants.{Court, NoCourt, Other, OutOfMemory, Strike}
 use Rattle.desk_entries.specs.declared.standing.Standing.{Standing}
-use Rattle.desk_entries.specs.Entries.{can_strike, next_number, note_in, row_struck, standing_file}
+use Rattle.desk_entries.specs.Entries.{Note, can_restore, can_strike, court_file, next_number, note_in, row_restored, row_struck, standing_file}
 use Rattle.desk_entries.specs.History.{IsHistory, StandsAfter}
 use Rattle.desk_entries.specs.Register.{IsReadyAt}
 use Rattle.desk_entries.specs.Rows.{follows}
@@ -35,7 +34,14 @@ IsBadFile file number (Strike n) = ⊥
 IsBadFile file number (Other n) = ⊥
 IsBadFile file number OutOfMemory = Unit {0}
 
--- an entry is a strike of a row that can't be struck, after a history
+-- a strike is of a row that can't be struck, or a restore of one that isn't
+abbrev pub CannotBe : Option Note → (before : List (List ℕ)) → Type 0
+CannotBe None before = ⊥
+CannotBe (Some (court_file file)) before = ⊥
+CannotBe (Some (row_struck struck)) before = can_strike before struck ≡ false
+CannotBe (Some (row_restored restored)) before = can_restore before restored ≡ false
+
+-- an entry is a strike or a restore that can't be, after a history
 pub record HasBadStrike (entries : List (List ℕ)) (number : ℕ) : Type 0 where
   pub before : List (List ℕ)
   pub entry : List ℕ
@@ -43,9 +49,7 @@ pub record HasBadStrike (entries : List (List ℕ)) (number : ℕ) : Type 0 wher
   pub parts : entries ≡ before ++ entry ∷ after
   pub number_is : number ≡ length before + 1
   pub history : IsHistory before
-  pub struck : StrikeOf
-  pub note : note_in entry ≡ Some (row_struck struck)
-  pub cannot : can_strike before struck ≡ false
+  pub cannot : CannotBe (note_in entry) before
 
 -- a row after a history has another answer than it gets under what stands there
 pub record HasOtherAnswer (entries : List (List ℕ)) (number : ℕ) : Type 0 where

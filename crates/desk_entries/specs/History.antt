@@ -3,7 +3,7 @@ use Rattle.std.specs.Prelude.{◌≡◌, ⊤, ℕ, true, List, [], ◌∷◌, �
 use Rattle.court_days.specs.Words.{CourtView, court_in, file_of}
 use Rattle.desk_numbers.specs.declared.given.Given.{Given}
 use Rattle.desk_entries.specs.declared.standing.Standing.{Standing}
-use Rattle.desk_entries.specs.Entries.{Note, can_strike, court_file, note_in, row_struck, standing_file, struck_in}
+use Rattle.desk_entries.specs.Entries.{Note, can_restore, can_strike, court_file, note_in, row_restored, row_struck, standing_file, struck_in}
 use Rattle.desk_entries.specs.Rows.{follows}
 use Rattle.desk_entries.specs.Run.{run_by}
 
@@ -33,11 +33,12 @@ pub record StandsAfter (kept : List (List ℕ)) (under : Standing) : Type 0 wher
   pub struck : under.corrections.struck ≡ struck_in kept
   pub numbers : Keep kept under.corrections.kept
 
--- An entry that may follow others: a later court's file, a strike of a row that was entered and isn't struck yet, or a row with
--- the answer that it gets under what stands.
+-- An entry that may follow others: a later court's file, a strike of a row that was entered and isn't struck, a restore of a row
+-- that is, or a row with the answer that it gets under what stands.
 abbrev pub FollowsAs : Option Note → (kept : List (List ℕ)) → (entry : List ℕ) → Type 0
 FollowsAs (Some (court_file later)) kept entry = (court : CourtView) × SaysCourt later court
 FollowsAs (Some (row_struck struck)) kept entry = can_strike kept struck ≡ true
+FollowsAs (Some (row_restored restored)) kept entry = can_restore kept restored ≡ true
 FollowsAs None kept entry = (under : Standing) × StandsAfter kept under × follows under kept entry
 
 abbrev pub MayFollow : (kept : List (List ℕ)) → (entry : List ℕ) → Type 0

@@ -10,21 +10,21 @@ use Rattle.row_forms.specs.Words.{CourtNames, names_of}
 use Rattle.row_forms.specs.Line.Words.{fields_read, line_read}
 use Rattle.office_texts.specs.Run.Words.{closing_text, run_text}
 use Rattle.desk_session.specs.Words.{left_by, told_to}
-use Rattle.desk_numbers.specs.Strikes.Words.{is_struck, no_corrections}
+use Rattle.desk_numbers.specs.Strikes.Words.{is_struck, no_corrections, struck_with, struck_without}
 use Rattle.desk_entries.specs.Cases.{cases_of}
 use Rattle.desk_entries.specs.CaseLines.{as_it_is, lacks_field}
 use Rattle.desk_numbers.specs.declared.given.Given.{Given}
 use Rattle.desk_numbers.specs.Words.{given_by, kept_of, number_for}
 use Rattle.desk_entries.specs.declared.standing.Standing.{Standing}
-use Rattle.desk_entries.specs.Entries.{most_clerks, most_entries, next_number, note_in}
+use Rattle.desk_entries.specs.Entries.{most_clerks, most_rows, next_number, note_in, row_restored, row_struck}
 use Rattle.desk_entries.specs.Rows.{answers, cased_at, follows, leaves, reading_at, rows_in}
-use Rattle.desk_entries.specs.Run.{docketed_by, reply_by_places, reply_under, run_by}
+use Rattle.desk_entries.specs.Run.{corrections_then, docketed_by, reply_by_places, reply_under, run_by}
 use Rattle.desk_entries.specs.Export.{row_written, shown_as}
 use Rattle.desk_entries.specs.History.{IsHistory, StandsAfter}
 use Rattle.desk_entries.specs.LineFaults.{faults_of, left_before}
 use Rattle.desk_entries.specs.Subjects.{named_in}
 
--- What a line leaves may follow when the journal is opened again, and is no court's file and no strike.
+-- What a line leaves may follow when the journal is opened again, and is no court's file, no strike and no restore.
 abbrev pub WhatIsLeftFollows : Type 0
 WhatIsLeftFollows = (under : Standing) (kept : List (List ℕ)) (line entry : List ℕ) → leaves under kept line ≡ entry ∷ [] → (note_in entry ≡ None) × follows under kept entry
 
@@ -44,7 +44,7 @@ plain court = record { court = court; corrections = no_corrections }
 -- The answers to lines one by one, after a court's file and with nothing struck, are those that a run of clerk_office writes of
 -- their rows together: its text is these answers and then the sheets and calendars of the docket after them.
 abbrev pub AnswersAreTheRuns : Type 0
-AnswersAreTheRuns = (court : CourtView) (file : List ℕ) (lines : List (List ℕ)) → All (HasNoFault (names_of court)) lines → length lines < most_entries
+AnswersAreTheRuns = (court : CourtView) (file : List ℕ) (lines : List (List ℕ)) → All (HasNoFault (names_of court)) lines → length lines < most_rows
     → run_text court (rows_in (names_of court) lines)
     ≡ told_to (leaves (plain court)) (answers (plain court)) (file ∷ []) lines ++ closing_text court (parts_of (docketed_by (plain court) (file ∷ left_by (leaves (plain court)) (file ∷ []) lines)))
 
@@ -77,6 +77,30 @@ OtherLinesAreReadAsTheyAre = (under : Standing) (kept : List (List ℕ)) (bytes 
 abbrev pub AStruckRowIsLeftOut : Type 0
 AStruckRowIsLeftOut = (under : Standing) (kept : List (List ℕ)) (entry : List ℕ) → 0 < length kept → note_in entry ≡ None → is_struck under.corrections (next_number kept) ≡ true
     → (docketed_by under (kept ++ entry ∷ []) ≡ docketed_by under kept) × (cases_of under (kept ++ entry ∷ []) ≡ cases_of under kept)
+
+-- what stands after entries and one more that strikes the row of that number, and what stands after one that restores it
+abbrev pub with_strike : Standing → (kept : List (List ℕ)) → (row : ℕ) → Standing
+with_strike under kept row = record { court = under.court; corrections = corrections_then under kept (struck_with under.corrections.struck row) }
+
+abbrev pub with_restore : Standing → (kept : List (List ℕ)) → (row : ℕ) → Standing
+with_restore under kept row = record { court = under.court; corrections = corrections_then under kept (struck_without under.corrections.struck row) }
+
+-- entries, and then a strike and a restore of one row
+pub record AreStruckAndRestored (kept : List (List ℕ)) (strike restore : List ℕ) (row : ℕ) : Type 0 where
+  pub begun : 0 < length kept
+  pub struck : note_in strike ≡ Some (row_struck (record { row = row }))
+  pub restored : note_in restore ≡ Some (row_restored (record { row = row }))
+
+-- A row that is struck and then restored leaves the docket as it was: the same rows are struck, the same is docketed, and what isn't
+-- at the place of its number is the same, so that each deadline and each motion has the number that it had.
+abbrev pub ARestoreLeavesTheDocket : Type 0
+ARestoreLeavesTheDocket = (under : Standing) (kept : List (List ℕ)) (strike restore : List ℕ) (row : ℕ) → AreStruckAndRestored kept strike restore row → StandsAfter kept under → is_struck under.corrections row ≡ false →
+    let after = kept ++ strike ∷ [] in
+    let again = with_restore (with_strike under kept row) after row in
+    StandsAfter (after ++ restore ∷ []) again
+    × (again.corrections.struck ≡ under.corrections.struck)
+    × (docketed_by again (after ++ restore ∷ []) ≡ docketed_by under kept)
+    × ((run_by again (after ++ restore ∷ [])).numbers.moved ≡ (run_by under kept).numbers.moved)
 
 -- With nothing struck, each row is written as it is in its entry.
 abbrev pub RowsAreWrittenAsTheyAre : Type 0

@@ -1,6 +1,7 @@
 -- What a docket's entries say beside what it has now: the rows that are struck, those that were done and are refused now, and when rows
--- were struck or another court's file was taken. A calendar program needs all of it, so that what it shows never goes back.
-use Rattle.std.specs.Prelude.{ℕ, ◌+◌, ◌&&◌, Bool, false, not, List, [], ◌∷◌, ◌++◌, Option, Some, None, codes, drop, nat_eq, if◌then◌else◌}
+-- were struck or restored or another court's file was taken. A calendar program needs all of it, so that what it shows never goes
+-- back.
+use Rattle.std.specs.Prelude.{ℕ, ◌+◌, ◌&&◌, ◌||◌, Bool, false, not, List, [], ◌∷◌, ◌++◌, Option, Some, None, codes, drop, nat_eq, if◌then◌else◌}
 use Rattle.std.specs.List.{flat_map, starts_with}
 use Rattle.case_numbers.specs.Words.{after_name}
 use Rattle.row_forms.specs.declared.numbered.NumberedRow.{NumberedRow}
@@ -14,7 +15,7 @@ use Rattle.desk_numbers.specs.Strikes.Words.{is_struck, remark_in}
 use Rattle.desk_entries.specs.declared.past.Corrected.{Corrected}
 use Rattle.desk_entries.specs.declared.standing.Standing.{Standing}
 use Rattle.desk_entries.specs.Differences.{Change}
-use Rattle.desk_entries.specs.Entries.{Note, court_file, most_clerks, note_in, row_struck}
+use Rattle.desk_entries.specs.Entries.{Note, court_file, most_clerks, note_in, row_restored, row_struck}
 use Rattle.desk_entries.specs.Reported.{said_standing}
 
 -- how many rows there are with an entry more, which is a note or a row
@@ -35,6 +36,7 @@ refuses number answer said = false
 abbrev pub strikes_it : (number : ℕ) → Note → Bool
 strikes_it number (court_file file) = false
 strikes_it number (row_struck struck) = nat_eq struck.row number
+strikes_it number (row_restored restored) = false
 
 -- the first note of these entries does so: no correction came before that strike
 abbrev pub strikes_first : (number : ℕ) → Option Note → (others : Bool) → Bool
@@ -45,9 +47,26 @@ unfoldable pub is_struck_first : (number : ℕ) → (later : List (List ℕ)) �
 is_struck_first number [] = false
 is_struck_first number (entry ∷ later) = strikes_first number (note_in entry) (is_struck_first number later)
 
--- The row of that number has docketed nothing ever: it was refused, and struck before other corrections could let it be done.
+-- a note restores the row of that number
+abbrev pub restores_it : (number : ℕ) → Option Note → Bool
+restores_it number None = false
+restores_it number (Some (court_file file)) = false
+restores_it number (Some (row_struck struck)) = false
+restores_it number (Some (row_restored restored)) = nat_eq restored.row number
+
+-- and one of these entries does so: from there on the row was decided again
+unfoldable pub is_restored : (number : ℕ) → (later : List (List ℕ)) → Bool
+is_restored number [] = false
+is_restored number (entry ∷ later) = restores_it number (note_in entry) || is_restored number later
+
+-- the first correction after the row of that number struck it, and none restored it since
+abbrev pub stays_struck : (number : ℕ) → (later : List (List ℕ)) → Bool
+stays_struck number later = is_struck_first number later && not (is_restored number later)
+
+-- The row of that number has docketed nothing ever: it was refused, struck before other corrections could let it be done, and never
+-- restored since.
 abbrev pub was_never_done : (number : ℕ) → (entry : List ℕ) → Line → (later : List (List ℕ)) → Bool
-was_never_done number entry said later = refuses number (answer_in entry) said && is_struck_first number later
+was_never_done number entry said later = refuses number (answer_in entry) said && stays_struck number later
 
 -- the row of that number, whose entry this is and says this, if it is struck and has docketed something, where this is what isn't
 -- at the place of its number
@@ -93,6 +112,6 @@ unfoldable pub corrected_by : (rows : ℕ) → Corrected → (later : List (List
 corrected_by rows before [] = before
 corrected_by rows before (entry ∷ later) = corrected_by (rows_with (note_in entry) rows) (corrected_with (note_in entry) rows before) later
 
--- how often entries strike a row or have another court's file, and how many rows there are before the last of these
+-- how often entries strike or restore a row or have another court's file, and how many rows there are before the last of these
 abbrev pub corrections_in : (kept : List (List ℕ)) → Corrected
 corrections_in kept = corrected_by 0 (record { rows_before = 0; count = 0 }) (drop 1 kept)

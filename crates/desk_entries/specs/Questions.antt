@@ -1,4 +1,5 @@
--- What lines are answered by a docket of which only questions are asked.
+-- What lines are answered by a docket of which only questions are asked. They keep nothing, so it doesn't count how many entries
+-- there are.
 use Rattle.std.specs.Prelude.{ℕ, List, [], ◌++◌, codes}
 use Rattle.std.specs.Fmt.{decimal}
 use Rattle.row_forms.specs.declared.line.line.Line.{Line}
@@ -14,7 +15,7 @@ use Rattle.desk_entries.specs.declared.questions.Questions.{Questions}
 use Rattle.desk_entries.specs.declared.standing.Standing.{Standing}
 use Rattle.desk_entries.specs.Entries.{most_clerks, next_number}
 use Rattle.desk_entries.specs.Register.{StandsAt}
-use Rattle.desk_entries.specs.Rows.{answer_to, reading_at, special_at, told_of, told_or, within}
+use Rattle.desk_entries.specs.Rows.{answer_to, reading_at, special_at, told_of, told_or}
 
 -- the line that tells that a row asks for a change, where the next row has this number
 abbrev pub command_text : (number : ℕ) → List ℕ
@@ -31,7 +32,7 @@ shown_to under kept (line.Fault cause) = told_of under kept (line.Fault cause)
 shown_to under kept (line.Row row) = shown_for under kept row row.work
 
 unfoldable pub shown : Standing → (kept : List (List ℕ)) → (line : List ℕ) → List ℕ
-shown under kept line = told_or under kept (special_at under kept line) (shown_to under kept (within kept (line_read most_clerks (names_of under.court) (reading_at under kept line).text)))
+shown under kept line = told_or under kept (special_at under kept line) (shown_to under kept (line_read most_clerks (names_of under.court) (reading_at under kept line).text))
 
 -- what comes of a line: whatever is answered is taken
 abbrev pub came_to : Line → Outcome
@@ -40,7 +41,7 @@ came_to (line.Fault cause) = Fault
 came_to (line.Row row) = Taken
 
 unfoldable pub came_shown : Standing → (kept : List (List ℕ)) → (line : List ℕ) → Outcome
-came_shown under kept line = came_to (within kept (line_read most_clerks (names_of under.court) (reading_at under kept line).text))
+came_shown under kept line = came_to (line_read most_clerks (names_of under.court) (reading_at under kept line).text)
 
 -- its docket is that of the entries
 abbrev pub AsksOf : Standing → Questions → (kept : List (List ℕ)) → Type 0

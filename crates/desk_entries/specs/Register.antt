@@ -3,18 +3,14 @@ use Rattle.std.specs.Prelude.{◌≡◌, ◌<◌, ◌≤◌, ◌+◌, ◌++◌, 
 use Rattle.case_numbers.specs.Words.{NameView, name_line}
 use Rattle.docket_rows.specs.Words.{setup_of}
 use Rattle.row_forms.specs.declared.row.Row.{Row}
-use Rattle.row_forms.specs.Words.{names_of}
-use Rattle.row_forms.specs.declared.line.line.Line.{Line}
-use Rattle.row_forms.specs.declared.line.line.Line.TheVariants as says
-use Rattle.row_forms.specs.Line.Words.{fields_read, line_read}
 use Rattle.office_texts.specs.Run.Words.{Holds}
 use Rattle.desk_numbers.specs.Strikes.Words.{all_before}
 use Rattle.desk_entries.specs.declared.register.DocketRegister.{DocketRegister}
 use Rattle.desk_entries.specs.declared.register.Done.{Done}
 use Rattle.desk_entries.specs.declared.standing.Standing.{Standing}
 use Rattle.desk_entries.specs.Cases.{cases_of, opened_as, with_opened}
-use Rattle.desk_entries.specs.Entries.{most_clerks, most_entries, next_number}
-use Rattle.desk_entries.specs.Rows.{answer_to, entry_of, outcome_by, reading_at, within}
+use Rattle.desk_entries.specs.Entries.{most_entries, next_number}
+use Rattle.desk_entries.specs.Rows.{answer_to, entry_of, outcome_by}
 use Rattle.desk_entries.specs.Run.{docketed_by, docketed_with, numbers_with, reply_by_places, run_by}
 
 -- its docket, its numbers and its cases are those of the entries under what stands, and it counts them and their rows
@@ -42,9 +38,3 @@ pub record IsDone (under : Standing) (kept : List (List ℕ)) (fields : List (Li
   pub cases : register.cases ≡ with_opened (cases_of under kept) (opened_as row.work) name
   pub number : register.number ≡ next_number kept + 1
   pub count : register.count ≡ length kept + 1
-
--- a line is heard: this is what its plain line says and its new name, and where it says a row these are its fields
-pub record IsHeard (under : Standing) (kept : List (List ℕ)) (line : List ℕ) (fields : List (List ℕ)) (heard : Line × Option NameView) : Type 0 where
-  pub said : heard.0 ≡ within kept (line_read most_clerks (names_of under.court) (reading_at under kept line).text)
-  pub name : heard.1 ≡ (reading_at under kept line).name
-  pub fields_are : (row : Row) → heard.0 ≡ says.Row row → fields ≡ fields_read (reading_at under kept line).text

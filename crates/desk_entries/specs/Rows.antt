@@ -26,7 +26,7 @@ use Rattle.desk_entries.specs.declared.cause.LineCause.TheVariants.{NotFound, To
 use Rattle.desk_entries.specs.declared.cause.Unfound.{Unfound}
 use Rattle.desk_entries.specs.declared.subject.Named.{Named}
 use Rattle.desk_entries.specs.CaseLines.{Reading, opens_too_many, reading_of}
-use Rattle.desk_entries.specs.Entries.{most_clerks, most_entries, next_number}
+use Rattle.desk_entries.specs.Entries.{most_clerks, most_rows, next_number}
 use Rattle.desk_entries.specs.LineCauses.{fault_told, unfound_as}
 use Rattle.desk_entries.specs.Subjects.{found_for, named_in, with_found}
 use Rattle.desk_entries.specs.Run.{docketed_by, reply_by_places, reply_under, run_by}
@@ -42,11 +42,11 @@ unfoldable pub rows_in : CourtNames → List (List ℕ) → List Row
 rows_in names [] = []
 rows_in names (entry ∷ entries) = row_in (line_read most_clerks names entry) ++ rows_in names entries
 
--- What a line says after entries: where there are as many as a journal has, a row is one too many.
+-- What a line says after entries: where there are as many as leave room for corrections alone, a row is one too many.
 abbrev pub within : (kept : List (List ℕ)) → Line → Line
 within kept line.Blank = line.Blank
 within kept (line.Fault cause) = line.Fault cause
-within kept (line.Row row) = if nat_lt (length kept) most_entries then line.Row row else line.Fault TooManyRows
+within kept (line.Row row) = if nat_lt (length kept) most_rows then line.Row row else line.Fault TooManyRows
 
 -- what a row is answered, with the names that cases have by then
 unfoldable pub answer_to : Standing → (kept : List (List ℕ)) → Row → List ℕ
@@ -161,10 +161,17 @@ outcome_of under kept (line.Row row) = outcome_by (reply_by_places under (docket
 unfoldable pub outcome : Standing → (kept : List (List ℕ)) → (line : List ℕ) → Outcome
 outcome under kept line = outcome_of under kept (within kept (line_read most_clerks (names_of under.court) (reading_at under kept line).text))
 
--- what an entry leaves whose row is entered again, with its name
-abbrev pub left_again : Standing → (kept : List (List ℕ)) → (entry : List ℕ) → List (List ℕ)
-left_again under kept entry = with_name (name_before entry) (plain_leaves under kept (after_name entry))
+-- what a plain line leaves that was kept once, and what it is answered: whether there was room for it was asked then
+unfoldable pub kept_leaves : Standing → (kept : List (List ℕ)) → (line : List ℕ) → List (List ℕ)
+kept_leaves under kept line = left_of under kept (fields_read line) (line_read most_clerks (names_of under.court) line)
 
--- An entry may follow others under what stands: entered again, its row leaves that entry.
+unfoldable pub kept_answers : Standing → (kept : List (List ℕ)) → (line : List ℕ) → List ℕ
+kept_answers under kept line = told_of under kept (line_read most_clerks (names_of under.court) line)
+
+-- what an entry leaves whose row is decided again, with its name
+abbrev pub left_again : Standing → (kept : List (List ℕ)) → (entry : List ℕ) → List (List ℕ)
+left_again under kept entry = with_name (name_before entry) (kept_leaves under kept (after_name entry))
+
+-- An entry may follow others under what stands: decided again, its row leaves that entry.
 abbrev pub follows : Standing → (kept : List (List ℕ)) → (entry : List ℕ) → Type 0
 follows under kept entry = left_again under kept entry ≡ entry ∷ []

@@ -1,14 +1,12 @@
 -- The deadlines that move when days change: each that ends otherwise than it did by the days before, with both ends.
-use Rattle.std.specs.Prelude.{◌≡◌, ℕ, Bool, true, false, List, [], ◌∷◌, ◌++◌, Option, Some, None, codes, if◌then◌else◌}
-use Rattle.std.specs.Fmt.{decimal}
+use Rattle.std.specs.Prelude.{◌≡◌, ℕ, Bool, true, false, List, [], ◌++◌, Option, Some, None, if◌then◌else◌}
 use Rattle.std.specs.List.{flat_map, range_with_len}
-use Rattle.std.specs.Str.{bytes_eq}
-use Rattle.case_numbers.specs.Words.{case_text}
 use Rattle.case_numbers.specs.declared.names.NamedCase.{NamedCase}
 use Rattle.court_clock.specs.Words.{ClockView}
 use Rattle.court_days.specs.Words.{DaysView}
 use Rattle.rule_periods.specs.Words.{shown_of}
 use Rattle.docket_rows.specs.declared.command.Command.TheVariants.{Holiday, Inaccessible}
+use Rattle.docket_rows.specs.declared.command.Counted.TheVariants.{Deadline}
 use Rattle.docket_rows.specs.declared.query.Query.TheVariants as query
 use Rattle.docket_rows.specs.declared.sheet.SheetDeadline.{SheetDeadline}
 use Rattle.docket_rows.specs.declared.view.View.{View}
@@ -25,21 +23,16 @@ use Rattle.office_texts.specs.Words.{shown_text}
 use Rattle.desk_session.specs.declared.outcome.Outcome.TheVariants.{Refused}
 use Rattle.desk_numbers.specs.declared.moved.Moved.{Moved}
 use Rattle.desk_numbers.specs.Words.{numbered_view}
+use Rattle.docket_shifts.specs.Words.{shift_line}
 use Rattle.desk_entries.specs.declared.standing.Standing.{Standing}
 use Rattle.desk_entries.specs.Cases.{cases_of}
 use Rattle.desk_entries.specs.Entries.{most_clerks, next_number}
 use Rattle.desk_entries.specs.Rows.{answers, outcome, reading_at, within}
 use Rattle.desk_entries.specs.Run.{docketed_by, run_by, run_with}
 
--- `  case 1:25-cv-01234-ABC deadline 2: last 2025-09-02, now last 2025-09-03`; nothing where both ends are shown alike
-abbrev pub shift_line : List NamedCase → (case number : ℕ) → (was is : List ℕ) → List ℕ
-shift_line named case number was is =
-    if bytes_eq was is then []
-    else codes "  case " ++ case_text named case ++ codes " deadline " ++ decimal number ++ codes ": " ++ was ++ codes ", now " ++ is ++ 10 ∷ []
-
 -- the line of a deadline of a sheet, which ended so by the days before
 abbrev pub deadline_shift : ClockView → (before : DaysView) → List NamedCase → (case : ℕ) → SheetDeadline → List ℕ
-deadline_shift clock before named case d = shift_line named case d.number (shown_text clock (shown_of before clock d.row)) (shown_text clock d.shown)
+deadline_shift clock before named case d = shift_line named case Deadline d.number (shown_text clock (shown_of before clock d.row)) (shown_text clock d.shown)
 
 -- those of the deadlines of a sheet; a case that isn't open has none
 abbrev pub sheet_shifts : ClockView → (before : DaysView) → List NamedCase → View → List ℕ

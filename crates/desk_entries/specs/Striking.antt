@@ -1,5 +1,5 @@
--- The strike of a row.
-use Rattle.std.specs.Prelude.{ℕ, ◌-◌, ◌&&◌, List, [], Option, Some, None, Result, Ok, Err, nat_eq, nat_lt, slice_index_or, if◌then◌else◌}
+-- The strike of a row, and the restore of one that is struck.
+use Rattle.std.specs.Prelude.{ℕ, ◌-◌, ◌&&◌, Bool, List, [], Option, Some, None, Result, Ok, Err, nat_eq, nat_lt, slice_index_or, if◌then◌else◌}
 use Rattle.case_numbers.specs.Words.{after_name}
 use Rattle.row_forms.specs.declared.row.Work.{Work}
 use Rattle.row_forms.specs.declared.row.Work.TheVariants.{Command, Query}
@@ -7,10 +7,11 @@ use Rattle.row_forms.specs.Words.{names_of}
 use Rattle.row_forms.specs.declared.line.line.Line.{Line}
 use Rattle.row_forms.specs.declared.line.line.Line.TheVariants as line
 use Rattle.row_forms.specs.Line.Words.{line_read}
+use Rattle.desk_numbers.specs.declared.strikes.restore.Restore.{Restore}
 use Rattle.desk_numbers.specs.declared.strikes.strike.Strike.{Strike}
 use Rattle.desk_numbers.specs.Strikes.Words.{is_struck}
 use Rattle.desk_entries.specs.declared.fault.StrikeFault.{StrikeFault}
-use Rattle.desk_entries.specs.declared.fault.StrikeFault.TheVariants.{AlreadyStruck, NoSuchRow, NotACommand}
+use Rattle.desk_entries.specs.declared.fault.StrikeFault.TheVariants.{AlreadyStruck, NoSuchRow, NotACommand, NotStruck}
 use Rattle.desk_entries.specs.declared.standing.Standing.{Standing}
 use Rattle.desk_entries.specs.Entries.{Note, most_clerks, next_number, row_entries}
 
@@ -35,7 +36,16 @@ abbrev pub rows_left : Option Note → (left : ℕ) → Option ℕ
 rows_left (Some note) left = Some left
 rows_left None left = if nat_eq left 0 then None else Some (left - 1)
 
+-- a row of that number was entered
+abbrev pub has_row : (kept : List (List ℕ)) → (row : ℕ) → Bool
+has_row kept row = nat_lt 0 row && nat_lt row (next_number kept)
+
 -- the strike of the row of that number, or why it can't be struck
 unfoldable pub strike_for : Standing → (kept : List (List ℕ)) → (row : ℕ) → Result Strike StrikeFault
 strike_for under kept row =
-    if nat_lt 0 row && nat_lt row (next_number kept) then (if is_struck under.corrections row then Err AlreadyStruck else strike_said row (line_read most_clerks (names_of under.court) (after_name (entry_at kept row)))) else Err NoSuchRow
+    if has_row kept row then (if is_struck under.corrections row then Err AlreadyStruck else strike_said row (line_read most_clerks (names_of under.court) (after_name (entry_at kept row)))) else Err NoSuchRow
+
+-- the restore of the row of that number, or why it can't be restored
+unfoldable pub restore_for : Standing → (kept : List (List ℕ)) → (row : ℕ) → Result Restore StrikeFault
+restore_for under kept row =
+    if has_row kept row then (if is_struck under.corrections row then Ok (record { row = row }) else Err NotStruck) else Err NoSuchRow

@@ -16,6 +16,9 @@ use docket_rows::Command;
 use row_forms::{Line, RowCause, Work, push_row_text, read_line};
 use std::alloc::{AllocError, Global};
 
+// How many bytes a field has at most that names a case. Court case numbers with the initials of their judges have some twenty.
+const MOST_NAME: usize = 64;
+
 // The plain line that stands for a line with a case number.
 #[derive(Debug, Drop)]
 pub struct CaseLine {
@@ -131,14 +134,15 @@ pub(crate) fn field_at(fields: &StringRecord, place: usize) -> &str
     }
 }
 
-// The case number in the third field, which is a judge's name in a row that asks for a calendar.
+// The case number in the third field, which is a judge's name in a row that asks for a calendar. A longer field names no case.
 fn case_in(alloc: Global, fields: &StringRecord) -> Result<Option<CaseName>, AllocError>
     ensures { IfOk result (λ name. name ≡ case_in (fields_of fields.now)) }
 {
-    if field_at(fields, 1) == "calendar" {
+    let field = field_at(fields, 2);
+    if field_at(fields, 1) == "calendar" || field.len() > MOST_NAME {
         Ok(None)
     } else {
-        case_read(alloc, field_at(fields, 2).as_bytes())
+        case_read(alloc, field.as_bytes())
     }
 }
 

@@ -1,8 +1,8 @@
 //! A court and its docket, made of a journal's entries.
 ghost use Rattle.std.specs.Prelude.{◌≡◌, ◌<◌, ◌≤◌, ◌+◌, ◌&&◌, ◌++◌, ◌∷◌, [], ℕ, false, List, length, nat_lt, not, take, None, Some, IfErr, IfOk, OnOk};
 ghost use Rattle.desk_journal.specs.Words.{batch_of};
-ghost use Rattle.desk_entries.specs.Entries.{later_file, most_entries, note_in, row_struck};
-ghost use Rattle.desk_numbers.specs.Strikes.Words.{is_struck, no_corrections, struck_with};
+ghost use Rattle.desk_entries.specs.Entries.{later_file, most_entries, note_in, row_restored, row_struck};
+ghost use Rattle.desk_numbers.specs.Strikes.Words.{is_struck, no_corrections, struck_with, struck_without};
 ghost use Rattle.desk_entries.specs.Register.{StandsAt};
 ghost use Rattle.desk_entries.specs.Docketed.{IsBadFile};
 ghost use Rattle.desk_entries.specs.History.{SaysCourt};
@@ -15,14 +15,14 @@ use crate::review::{Review, decided_again};
 use crate::standing::Standing;
 use court_days::Court;
 use court_file_text::CourtFault;
-use desk_numbers::{Corrections, Strike, strike_in};
+use desk_numbers::{Corrections, Restore, Strike, restore_in, strike_in};
 use std::alloc::{AllocError, Global};
 use std::mem;
 
 /// A court and its docket, as a journal's entries come to them.
 #[derive(Drop)]
 pub struct Docketed {
-    /// What stands after the entries: the court of the last file, and what strikes come to.
+    /// What stands after the entries: the court of the last file, and what strikes and restores come to.
     pub standing: Standing,
     /// The docket after the rows.
     pub register: DocketRegister,
@@ -67,11 +67,20 @@ impl Docketed {
     }
 
     // The corrections with one strike more.
-    fn corrected(&self, alloc: Global, strike: &Strike) -> Result<Corrections, AllocError>
+    fn struck(&self, alloc: Global, strike: &Strike) -> Result<Corrections, AllocError>
         ensures { (kept : List (List ℕ)) → StandsAt self.now.standing self.now.register kept → IfOk result (λ corrections. corrections ≡ corrections_then self.now.standing kept (struck_with self.now.standing.corrections.struck strike.now.row)) }
     {
         let mut corrections = self.register.corrections(alloc, &self.standing)?;
         corrections.strike(strike.row)?;
+        Ok(corrections)
+    }
+
+    // The corrections without the strike of a row that is restored.
+    fn restored(&self, alloc: Global, restore: &Restore) -> Result<Corrections, AllocError>
+        ensures { (kept : List (List ℕ)) → StandsAt self.now.standing self.now.register kept → IfOk result (λ corrections. corrections ≡ corrections_then self.now.standing kept (struck_without self.now.standing.corrections.struck restore.now.row)) }
+    {
+        let mut corrections = self.register.corrections(alloc, &self.standing)?;
+        corrections.restore(restore.row);
         Ok(corrections)
     }
 
@@ -85,6 +94,22 @@ impl Docketed {
         let Review { register, .. } = decided_again(alloc, &self.standing, entries)?;
         drop(mem::replace(&mut self.register, register));
         Ok(())
+    }
+
+    // Goes by other corrections from here on: all rows of these entries are decided again.
+    fn correct(
+        &mut self,
+        alloc: Global,
+        corrections: Corrections,
+        entries: &[Vec<u8>],
+    ) -> Result<(), AllocError>
+        requires some { 0 < length entries.now }
+        requires few { length entries.now ≤ most_entries }
+        ensures standing { self.new.standing ≡ record { court = self.old.standing.court; corrections = corrections } }
+        ensures stands { OnOk result (StandsAt self.new.standing self.new.register (batch_of entries.now)) }
+    {
+        drop(mem::replace(&mut self.standing.corrections, corrections));
+        self.decide(alloc, entries)
     }
 
     // Goes by a later court's file from here on, which is in the last of these entries: their rows are decided again.
@@ -133,9 +158,30 @@ impl Docketed {
         if !self.can_strike(&strike) {
             return Err(HistoryFault::Strike(entries.len() as u32));
         }
-        let corrections = self.corrected(alloc, &strike)?;
-        drop(mem::replace(&mut self.standing.corrections, corrections));
-        self.decide(alloc, entries)?;
+        let corrections = self.struck(alloc, &strike)?;
+        self.correct(alloc, corrections, entries)?;
+        Ok(())
+    }
+
+    // Puts a row back into its place from here on, which the last of these entries restores: all are decided again.
+    fn restore(
+        &mut self,
+        alloc: Global,
+        restore: Restore,
+        entries: &[Vec<u8>],
+    ) -> Result<(), HistoryFault>
+        requires some { 0 < length entries.now }
+        requires few { length entries.now ≤ most_entries }
+        ensures docketed { (before : List (List ℕ)) (entry : List ℕ) → batch_of entries.now ≡ before ++ entry ∷ [] → note_in entry ≡ Some (row_restored restore) → IsDocketed self.old before
+            → OnOk result (IsDocketed self.new (before ++ entry ∷ [])) }
+        ensures cause { (before : List (List ℕ)) (entry : List ℕ) → batch_of entries.now ≡ before ++ entry ∷ [] → note_in entry ≡ Some (row_restored restore) → IsDocketed self.old before
+            → IfErr result (HasHistoryFault (before ++ entry ∷ [])) }
+    {
+        if !self.standing.corrections.is_struck(restore.row) {
+            return Err(HistoryFault::Strike(entries.len() as u32));
+        }
+        let corrections = self.restored(alloc, &restore)?;
+        self.correct(alloc, corrections, entries)?;
         Ok(())
     }
 
@@ -173,7 +219,10 @@ impl Docketed {
             Some(file) => self.change(alloc, file, entries),
             None => match strike_in(entry) {
                 Some(strike) => self.strike(alloc, strike, entries),
-                None => self.retake(alloc, entry),
+                None => match restore_in(entry) {
+                    Some(restore) => self.restore(alloc, restore, entries),
+                    None => self.retake(alloc, entry),
+                },
             },
         }
     }
@@ -195,8 +244,8 @@ impl Docketed {
     }
 
     /// The court and its docket to which a journal's entries come, of which the first is a court's file. Each row must have
-    /// the answer that it gets under what stands before it, and each strike must be of a row before it that isn't struck
-    /// yet; after a later court's file, and after a strike, all rows so far are decided again.
+    /// the answer that it gets under what stands before it, each strike must be of a row before it that isn't struck, and each
+    /// restore of one that is; after a later court's file, a strike or a restore all rows so far are decided again.
     pub fn of(alloc: Global, entries: &[Vec<u8>]) -> Result<Docketed, HistoryFault>
         requires few { length entries.now ≤ most_entries }
         ensures docketed { IfOk result (λ docketed. IsDocketed docketed (batch_of entries.now)) }

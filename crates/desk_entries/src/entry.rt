@@ -1,4 +1,4 @@
-//! An entry: a row and its answer, a later court's file, or a strike.
+//! An entry: a row and its answer, a later court's file, a strike, or a restore.
 ghost use Rattle.std.specs.Prelude.{◌≡◌, ◌++◌, IfOk, Some, is_none, option_map, string_bytes};
 ghost use Rattle.csv.specs.Records.{fields_of};
 ghost use Rattle.csv.specs.Writing.{default_writer, row_text};
@@ -10,7 +10,7 @@ ghost use Rattle.desk_entries.specs.Entries.{later_file, note_in, standing_file}
 use case_numbers::{CaseName, Cases, push_name_line};
 use court_days::Court;
 use csv::StringRecord;
-use desk_numbers::strike_in;
+use desk_numbers::{restore_in, strike_in};
 use office_texts::{Reply, push_named_line};
 use row_forms::push_row_text;
 use std::alloc::{AllocError, Global};
@@ -22,12 +22,12 @@ pub fn later_file(entry: &[u8]) -> Option<&[u8]>
     entry.strip_prefix(b"%%\n")
 }
 
-/// Whether an entry is a row: no court's file and no strike.
-#[tactic(auto, unfolding(desk_numbers::specs::Strikes::Words::strike_in))]
+/// Whether an entry is a row: no court's file, no strike and no restore.
+#[tactic(auto, unfolding(desk_numbers::specs::Strikes::Words::strike_in, desk_numbers::specs::Strikes::Words::restore_in))]
 pub fn is_row(entry: &[u8]) -> bool
     ensures { result ≡ is_none (note_in entry.now) }
 {
-    later_file(entry).is_none() && strike_in(entry).is_none()
+    later_file(entry).is_none() && strike_in(entry).is_none() && restore_in(entry).is_none()
 }
 
 /// The court's file that stands after entries, of which the first is one as it is.

@@ -1,4 +1,4 @@
-//! Why a journal's entries make no docket, and why a row can't be struck.
+//! Why a journal's entries make no docket, and why a row can't be struck or restored.
 ghost use Rattle.std.specs.Prelude.{◌≡◌};
 ghost use Rattle.desk_entries.specs.declared.fault.HistoryFault.TheVariants.{OutOfMemory};
 
@@ -13,7 +13,8 @@ pub enum HistoryFault {
     NoCourt,
     /// The entry of this number, counted from 1, is a court's file with this fault.
     Court(u32, CourtFault),
-    /// The entry of this number, counted from 1, strikes a row that wasn't entered before it, or that is struck already.
+    /// The entry of this number, counted from 1, strikes a row that wasn't entered before it or that is struck already, or restores
+    /// one that isn't struck.
     Strike(u32),
     /// The row of this number, counted from 1, has another answer than it gets.
     Other(u32),
@@ -29,7 +30,7 @@ impl From<AllocError> for HistoryFault {
     }
 }
 
-/// Why a row can't be struck.
+/// Why a row can't be struck or restored.
 #[derive(Clone, Copy, Debug, PartialEq, Eq, Error)]
 pub enum StrikeFault {
     /// No row of that number was entered.
@@ -38,6 +39,9 @@ pub enum StrikeFault {
     /// It is struck already.
     #[error("the row is struck already")]
     AlreadyStruck,
+    /// It isn't struck, and so there is nothing to restore.
+    #[error("the row isn't struck")]
+    NotStruck,
     /// It is a question, or its entry says no row of this court: the docket has nothing of it.
     #[error("the row is no command, so the docket has nothing of it")]
     NotACommand,

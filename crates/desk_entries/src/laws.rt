@@ -1,9 +1,9 @@
 //! Laws of the definitions, the contracts of functions that do nothing.
 ghost use Rattle.desk_entries.specs.Reported.{ReportsAreOfTheDocket};
 ghost use Rattle.desk_entries.specs.Shifts.{OthersAreToldTheirAnswers, RefusedAreToldTheirAnswers};
-ghost use Rattle.desk_entries.specs.Laws.{ACaseNumberIsOneCase, AStruckRowIsLeftOut, AnAnswerShowsItsNumber, AnswersAreTheRuns, FaultlessLinesSayRows, OtherLinesAreReadAsTheyAre, RowsAreWrittenAsTheyAre, RowsKeepTheirNumbers, WhatIsLeftFollows, WhatIsLeftIsHistory};
+ghost use Rattle.desk_entries.specs.Laws.{ACaseNumberIsOneCase, ARestoreLeavesTheDocket, AStruckRowIsLeftOut, AnAnswerShowsItsNumber, AnswersAreTheRuns, FaultlessLinesSayRows, OtherLinesAreReadAsTheyAre, RowsAreWrittenAsTheyAre, RowsKeepTheirNumbers, WhatIsLeftFollows, WhatIsLeftIsHistory};
 
-/// What a line leaves may follow when the journal is opened again, and is no court's file and no strike.
+/// What a line leaves may follow when the journal is opened again, and is no court's file, no strike and no restore.
 #[tactic(auto, using(crate::proofs::EntryLemmas::left_follows))]
 pub fn what_is_left_follows()
     ensures { WhatIsLeftFollows }
@@ -42,6 +42,11 @@ pub fn other_lines_are_read_as_they_are()
 /// A row that is struck changes neither what is docketed nor the cases.
 pub fn a_struck_row_is_left_out()
     ensures { AStruckRowIsLeftOut }
+{}
+
+/// A row that is struck and then restored leaves the docket as it was, with the numbers of its deadlines and motions.
+pub fn a_restore_leaves_the_docket()
+    ensures { ARestoreLeavesTheDocket }
 {}
 
 /// With nothing struck, each row is written for other programs as it is in its entry.

@@ -5,7 +5,7 @@ ghost use Rattle.row_forms.specs.declared.row.Row.{Row as RowOf};
 ghost use Rattle.row_forms.specs.declared.line.line.Line.TheVariants as says;
 ghost use Rattle.desk_entries.specs.Rows.{came_of, outcome_by, within};
 
-use crate::register::MOST_ENTRIES;
+use crate::register::MOST_ROWS;
 use desk_session::Outcome;
 use docket_rows::Answer;
 use office_texts::Reply;
@@ -31,7 +31,7 @@ pub(crate) fn outcome_of(reply: &Reply) -> Outcome
     }
 }
 
-// What a line says after this many entries: where there is no room for another, a row is one too many.
+// What a line says after this many entries: where there is room for corrections alone, a row is one too many.
 pub(crate) fn within(said: Line, count: u32) -> Line
     ensures said { (kept : List (List ℕ)) → count ≡ length kept → result ≡ within kept said }
     ensures row { (row : RowOf) → result ≡ says.Row row → said ≡ says.Row row }
@@ -39,7 +39,7 @@ pub(crate) fn within(said: Line, count: u32) -> Line
 {
     match said {
         Line::Row(_) => {
-            if count < MOST_ENTRIES {
+            if count < MOST_ROWS {
                 said
             } else {
                 Line::Fault(RowCause::TooManyRows)

@@ -6,7 +6,7 @@ ghost use Rattle.row_forms.specs.Words.{names_of};
 ghost use Rattle.row_forms.specs.Line.Words.{line_read};
 ghost use Rattle.desk_entries.specs.Differences.{change_in};
 ghost use Rattle.desk_entries.specs.Entries.{most_clerks, most_entries, note_in};
-ghost use Rattle.desk_entries.specs.Past.{corrected_with, corrections_in, is_struck_first, refuses, row_refused, row_struck_as, row_struck_said, rows_refused, rows_struck, rows_with, strikes_it};
+ghost use Rattle.desk_entries.specs.Past.{corrected_with, corrections_in, is_restored, is_struck_first, refuses, restores_it, row_refused, row_struck_as, row_struck_said, rows_refused, rows_struck, rows_with, stays_struck, strikes_it};
 
 use crate::entry::{is_row, later_file};
 use crate::register::{MOST_CLERKS, RowTypes};
@@ -15,12 +15,12 @@ use crate::review::Difference;
 use crate::standing::Standing;
 use case_numbers::after_name;
 use csv::StringRecord;
-use desk_numbers::{MovedNumbers, remark_in, strike_in};
+use desk_numbers::{MovedNumbers, remark_in, restore_in, strike_in};
 use office_texts::push_numbers;
 use row_forms::{Line, NumberedRow, read_line};
 use std::alloc::{AllocError, Global};
 
-/// How often rows were struck or another court's file was taken.
+/// How often rows were struck or restored or another court's file was taken.
 #[derive(Clone, Copy, Debug, PartialEq, Eq)]
 pub struct Corrected {
     /// How many rows there were before the last such correction; 0 where there was none.
@@ -50,8 +50,13 @@ fn strikes_it(number: u32, entry: &[u8]) -> Option<bool>
     if later_file(entry).is_some() {
         return Some(false);
     }
-    let strike = strike_in(entry)?;
-    Some(strike.row == number)
+    match strike_in(entry) {
+        Some(strike) => Some(strike.row == number),
+        None => match restore_in(entry) {
+            Some(_) => Some(false),
+            None => None,
+        },
+    }
 }
 
 // Whether the first of these entries that is no row strikes the row of that number.
@@ -64,6 +69,38 @@ fn is_struck_first(number: u32, later: &[Vec<u8>]) -> bool
         }
     }
     false
+}
+
+// Whether an entry restores the row of that number.
+fn restores_it(number: u32, entry: &[u8]) -> bool
+    ensures { result ≡ restores_it number (note_in entry.now) }
+{
+    if later_file(entry).is_some() || strike_in(entry).is_some() {
+        return false;
+    }
+    match restore_in(entry) {
+        Some(restore) => restore.row == number,
+        None => false,
+    }
+}
+
+// Whether one of these entries restores the row of that number.
+fn is_restored(number: u32, later: &[Vec<u8>]) -> bool
+    ensures { result ≡ is_restored number (batch_of later.now) }
+{
+    for place in 0..later.len() {
+        if restores_it(number, &later[place]) {
+            return true;
+        }
+    }
+    false
+}
+
+// Whether the first correction after a row of that number struck it, and none restored it since.
+fn stays_struck(number: u32, later: &[Vec<u8>]) -> bool
+    ensures { result ≡ stays_struck number (batch_of later.now) }
+{
+    is_struck_first(number, later) && !is_restored(number, later)
 }
 
 // Adds the row of that number, whose entry this is and comes before these, if it is struck and has docketed something.
@@ -84,9 +121,7 @@ fn push_struck(
         return Ok(());
     }
     let said = read_line(alloc, after_name(entry), MOST_CLERKS, &under.court, fields)?;
-    if refuses(alloc, number, remark_in(after_name(entry)), &said)?
-        && is_struck_first(number, later)
-    {
+    if refuses(alloc, number, remark_in(after_name(entry)), &said)? && stays_struck(number, later) {
         return Ok(());
     }
     push_said(rows, moved, number, &said)
@@ -204,7 +239,7 @@ fn noted(entry: &[u8], rows: u32, before: Corrected) -> (u32, Corrected)
     (rows, corrected)
 }
 
-/// How often entries strike a row or have another court's file, and how many rows there are before the last of these.
+/// How often entries strike or restore a row or have another court's file, and how many rows there are before the last of these.
 pub fn corrections_in(entries: &[Vec<u8>]) -> Corrected
     requires few { length entries.now ≤ most_entries }
     ensures { result ≡ corrections_in (batch_of entries.now) }

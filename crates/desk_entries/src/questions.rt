@@ -9,8 +9,8 @@ use desk_session::{Outcome, Register};
 use row_forms::{Line, Work};
 use std::alloc::{AllocError, Global};
 
-/// A court's docket of which only questions are asked: no line leaves an entry, and a command is answered with a line that
-/// says where to enter it.
+/// A court's docket of which only questions are asked: no line leaves an entry, so a question is answered however full the journal
+/// is. A command is answered with a line that says where to enter it.
 #[derive(Drop)]
 pub struct Questions {
     /// The docket.

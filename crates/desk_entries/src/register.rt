@@ -6,14 +6,14 @@ ghost use Rattle.row_forms.specs.declared.row.Row.{Row as RowOf};
 ghost use Rattle.row_forms.specs.Line.Words.{fields_read, line_read};
 ghost use Rattle.row_forms.specs.declared.line.line.Line.TheVariants as says;
 ghost use Rattle.desk_entries.specs.Differences.{IsOtherwise};
-ghost use Rattle.desk_entries.specs.Entries.{most_clerks, most_entries, next_number, note_in};
+ghost use Rattle.desk_entries.specs.Entries.{most_clerks, most_entries, most_rows, next_number, note_in};
 ghost use Rattle.desk_numbers.specs.Strikes.Words.{is_struck};
 ghost use Rattle.desk_entries.specs.Cases.{cases_of};
 ghost use Rattle.desk_entries.specs.declared.standing.Standing.{Standing as StandingOf};
 ghost use Rattle.docket_rows.specs.Words.{setup_of};
 ghost use Rattle.office_texts.specs.Run.Words.{Holds};
 ghost use Rattle.desk_entries.specs.LineCauses.{cause_or};
-ghost use Rattle.desk_entries.specs.Rows.{IsReadAt, answer_to, follows, outcome_by, special_at, within};
+ghost use Rattle.desk_entries.specs.Rows.{IsReadAt, answer_to, follows, outcome_by, special_at};
 ghost use Rattle.desk_entries.specs.Run.{corrections_then, docketed_by, docketed_with, numbers_with, reply_by_places, run_by};
 ghost use Rattle.docket_rows.specs.declared.command.Command.{Command as CommandOf};
 ghost use Rattle.row_forms.specs.declared.row.Work.TheVariants as work;
@@ -43,6 +43,9 @@ pub const MOST_CLERKS: u8 = 64;
 
 /// How many entries a journal has at most, and the court's file is the first of them.
 pub const MOST_ENTRIES: u32 = 1_000_000;
+
+/// After how many entries no row is taken any more: 1,000 are left for later court's files, strikes and restores.
+pub const MOST_ROWS: u32 = 999_000;
 
 // A row that is done.
 #[derive(Drop)]
@@ -77,7 +80,7 @@ pub struct DocketRegister {
 }
 
 impl DocketRegister {
-    ghost use Rattle.desk_entries.specs.Register.{IsDone, IsHeard, StandsAt};
+    ghost use Rattle.desk_entries.specs.Register.{IsDone, StandsAt};
 
     // The register of a court before its first row.
     pub(crate) fn new(alloc: Global, under: &Standing) -> Result<DocketRegister, AllocError>
@@ -95,23 +98,16 @@ impl DocketRegister {
     }
 
     // What a plain line says, whose fields are kept where it says a row.
-    pub(crate) fn said(
-        &mut self,
-        alloc: Global,
-        under: &Standing,
-        line: &[u8],
-    ) -> Result<Line, AllocError>
-        ensures said { (kept : List (List ℕ)) → self.old.count ≡ length kept → IfOk result (λ said. said ≡ within kept (line_read most_clerks (names_of under.now.court) line.now)) }
+    fn said(&mut self, alloc: Global, under: &Standing, line: &[u8]) -> Result<Line, AllocError>
+        ensures said { IfOk result (λ said. said ≡ line_read most_clerks (names_of under.now.court) line.now) }
         ensures fields { IfOk result (λ said. (row : RowOf) → said ≡ says.Row row → fields_of self.new.fields ≡ fields_read line.now) }
         ensures cases { self.new.cases ≡ self.old.cases }
         ensures docket { self.new.docket ≡ self.old.docket }
         ensures numbers { self.new.numbers ≡ self.old.numbers }
         ensures count { self.new.count ≡ self.old.count }
         ensures number { self.new.number ≡ self.old.number }
-        ensures room { IfOk result (λ said. (row : RowOf) → said ≡ says.Row row → self.old.count < most_entries) }
     {
-        let said = read_line(alloc, line, MOST_CLERKS, &under.court, &mut self.fields)?;
-        Ok(within(said, self.count))
+        read_line(alloc, line, MOST_CLERKS, &under.court, &mut self.fields)
     }
 
     // What a line says, and the name in it that no case has yet. The fields of its plain line are kept where it says a row.
@@ -121,15 +117,14 @@ impl DocketRegister {
         under: &Standing,
         line: &[u8],
     ) -> Result<(Line, Option<CaseName>), AllocError>
-        ensures said { (kept : List (List ℕ)) → StandsAt under.now self.old kept → IfOk result (IsHeard under.now kept line.now (fields_of self.new.fields)) }
+        ensures said { (kept : List (List ℕ)) → StandsAt under.now self.old kept → IfOk result (IsReadAt under.now kept line.now (fields_of self.new.fields)) }
         ensures docket { self.new.docket ≡ self.old.docket }
         ensures numbers { self.new.numbers ≡ self.old.numbers }
         ensures cases { self.new.cases ≡ self.old.cases }
         ensures count { self.new.count ≡ self.old.count }
         ensures number { self.new.number ≡ self.old.number }
-        ensures room { IfOk result (λ heard. (row : RowOf) → heard.0 ≡ says.Row row → self.old.count < most_entries) }
     {
-        let (said, name) = read_next(
+        read_next(
             alloc,
             under,
             &self.docket,
@@ -137,8 +132,7 @@ impl DocketRegister {
             &self.cases,
             line,
             &mut self.fields,
-        )?;
-        Ok((within(said, self.count), name))
+        )
     }
 
     // What is wrong with a line that says no row for this cause.
@@ -322,11 +316,11 @@ impl DocketRegister {
         &self.cases
     }
 
-    /// Whether the journal has room for another entry.
+    /// Whether there is room for another row.
     pub fn has_room(&self) -> bool
-        ensures { (under : StandingOf) (kept : List (List ℕ)) → StandsAt under self.now kept → result ≡ nat_lt (length kept) most_entries }
+        ensures { (under : StandingOf) (kept : List (List ℕ)) → StandsAt under self.now kept → result ≡ nat_lt (length kept) most_rows }
     {
-        self.count < MOST_ENTRIES
+        self.count < MOST_ROWS
     }
 
     /// Passes over an entry that is no row.
@@ -419,7 +413,7 @@ impl Register for DocketRegister {
     ) -> Result<Outcome, AllocError> {
         let _types: RowTypes = None;
         let (said, name) = self.heard(alloc, under, line)?;
-        match said {
+        match within(said, self.count) {
             Line::Blank => Ok(Outcome::Blank),
             Line::Fault(cause) => {
                 let cause = self.cause_of(alloc, under, line, cause)?;

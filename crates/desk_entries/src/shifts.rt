@@ -1,5 +1,5 @@
 //! The deadlines that move when days change.
-ghost use Rattle.std.specs.Prelude.{◌≡◌, ◌+◌, ◌<◌, ◌≤◌, ◌++◌, ◌∷◌, [], ℕ, List, IfOk, OnOk, string_bytes};
+ghost use Rattle.std.specs.Prelude.{◌≡◌, ◌+◌, ◌<◌, ◌≤◌, ◌++◌, ℕ, List, IfOk, OnOk, string_bytes};
 ghost use Rattle.std.specs.List.{flat_map};
 ghost use Rattle.csv.specs.Records.{fields_of};
 ghost use Rattle.docket_rows.specs.Words.{Rows, setup_of};
@@ -8,21 +8,21 @@ ghost use Rattle.office_texts.specs.Run.Words.{Holds};
 ghost use Rattle.office_texts.specs.Words.{AddsText, shown_text};
 ghost use Rattle.desk_entries.specs.Entries.{most_entries};
 ghost use Rattle.desk_entries.specs.Rows.{answer_to};
-ghost use Rattle.desk_entries.specs.Shifts.{changes_days, days_before, deadline_shift, sheet_shifts, shift_line, shifts, shifts_by, shifts_from, shifts_since};
+ghost use Rattle.desk_entries.specs.Shifts.{changes_days, days_before, deadline_shift, sheet_shifts, shifts, shifts_by, shifts_from, shifts_since};
 
 use crate::register::{DocketRegister, Done};
 use crate::standing::Standing;
-use case_numbers::{CaseName, Cases, push_case_text};
+use case_numbers::{CaseName, Cases};
 use court_days::{Court, Days};
 use desk_numbers::MovedNumbers;
 use docket_core::Docket;
-use docket_rows::{Command, LAST_CASE, Query, SheetDeadline, View};
-use office_texts::push_view;
+use docket_rows::{Command, Counted, LAST_CASE, Query, SheetDeadline, View};
+use docket_shifts::push_shift;
+use office_texts::push_shown;
 use row_forms::{Row, Work};
 use rule_periods::shown;
 use rule6::Shown;
 use std::alloc::{AllocError, Global};
-use std::fmt::Write;
 
 // Whether a row enters a holiday or an outage.
 fn changes_days(work: &Work) -> bool
@@ -46,44 +46,13 @@ fn days_before(register: &DocketRegister, work: &Work) -> Result<Option<Days>, A
     }
 }
 
-// The end of a deadline, as answers show it, in a line.
-#[tactic(auto, unfolding(office_texts::specs::Words::view_lines))]
-fn end_line(alloc: Global, court: &Court, end: Shown) -> Result<String, AllocError>
-    ensures { IfOk result (λ line. string_bytes line ≡ shown_text court.now.clock end ++ 10 ∷ []) }
+// The end of a deadline, as answers show it.
+fn end_text(alloc: Global, court: &Court, end: Shown) -> Result<String, AllocError>
+    ensures { IfOk result (λ text. string_bytes text ≡ shown_text court.now.clock end) }
 {
-    let mut line = String::new(alloc);
-    let view = View::Computed(end);
-    push_view(&mut line, court, &view)?;
-    Ok(line)
-}
-
-// A line without its end.
-fn without_end(line: &str) -> &str
-    ensures { (text : List ℕ) → line.now ≡ text ++ 10 ∷ [] → result.now ≡ text }
-{
-    match line.strip_suffix('\n') {
-        Some(text) => text,
-        None => line,
-    }
-}
-
-// Adds the line of a deadline that ended so, unless it still does.
-fn push_shift(
-    text: &mut String,
-    cases: &Cases,
-    case: u32,
-    number: u32,
-    was: &str,
-    is: &str,
-) -> Result<(), AllocError>
-    ensures { OnOk result (AddsText text.old text.new (shift_line cases.now.named case number was.now is.now)) }
-{
-    if was == is {
-        return Ok(());
-    }
-    text.push_str("  case ")?;
-    push_case_text(text, cases, case)?;
-    write!(text, " deadline {number}: {was}, now {is}\n")
+    let mut text = String::new(alloc);
+    push_shown(&mut text, court.clock(), &end)?;
+    Ok(text)
 }
 
 // Adds the line of a deadline of a sheet, unless it ends as by the days before.
@@ -98,10 +67,17 @@ fn push_deadline(
 ) -> Result<(), AllocError>
     ensures { OnOk result (AddsText text.old text.new (deadline_shift court.now.clock before.now cases.now.named case deadline.now)) }
 {
-    let was = end_line(alloc, court, shown(before, court.clock(), &deadline.row))?;
-    let is = end_line(alloc, court, deadline.shown)?;
-    let (was, is) = (without_end(was.as_str()), without_end(is.as_str()));
-    push_shift(text, cases, case, deadline.number, was, is)
+    let was = end_text(alloc, court, shown(before, court.clock(), &deadline.row))?;
+    let is = end_text(alloc, court, deadline.shown)?;
+    push_shift(
+        text,
+        cases,
+        case,
+        Counted::Deadline,
+        deadline.number,
+        was.as_str(),
+        is.as_str(),
+    )
 }
 
 // Adds the lines of the deadlines of a sheet.

@@ -1,11 +1,12 @@
-//! The strike of a row.
-ghost use Rattle.std.specs.Prelude.{◌≡◌, ◌<◌, ◌≤◌, ◌&&◌, ℕ, length, nat_lt, IfOk};
+//! The strike of a row, and the restore of one that is struck.
+ghost use Rattle.std.specs.Prelude.{◌≡◌, ◌<◌, ◌≤◌, ℕ, List, length, IfOk};
 ghost use Rattle.case_numbers.specs.Words.{after_name as row_part};
 ghost use Rattle.desk_journal.specs.Words.{batch_of};
 ghost use Rattle.row_forms.specs.Words.{names_of};
 ghost use Rattle.row_forms.specs.Line.Words.{line_read};
-ghost use Rattle.desk_entries.specs.Entries.{most_clerks, most_entries, next_number, note_in};
-ghost use Rattle.desk_entries.specs.Striking.{entry_at, rows_left, strike_for, strike_said};
+ghost use Rattle.desk_entries.specs.declared.standing.Standing.{Standing as StandingOf};
+ghost use Rattle.desk_entries.specs.Entries.{most_clerks, most_entries, note_in};
+ghost use Rattle.desk_entries.specs.Striking.{entry_at, has_row, restore_for, rows_left, strike_for, strike_said};
 
 use crate::entry::is_row;
 use crate::fault::StrikeFault;
@@ -13,7 +14,7 @@ use crate::register::{DocketRegister, MOST_CLERKS, RowTypes};
 use crate::standing::Standing;
 use case_numbers::after_name;
 use csv::StringRecord;
-use desk_numbers::Strike;
+use desk_numbers::{Restore, Strike};
 use row_forms::{Line, Work, read_line};
 use std::alloc::{AllocError, Global};
 
@@ -58,12 +59,12 @@ fn rows_left(entry: &[u8], left: u32) -> Option<u32>
     left.checked_sub(1)
 }
 
-// The entry of the row of that number, counted from 1, among entries, of which the first is a court's file.
-fn entry_at(entries: &[Vec<u8>], row: u32) -> &[u8]
-    requires counted { 0 < row }
+/// The entry of the row of that number, counted from 1, among entries, of which the first is a court's file. It is empty where there
+/// is none; the number 0 is that of the first.
+pub fn entry_at(entries: &[Vec<u8>], row: u32) -> &[u8]
     ensures { result.now ≡ entry_at (batch_of entries.now) row }
 {
-    let mut left = row - 1;
+    let mut left = row.saturating_sub(1);
     'rows: for place in 1..entries.len() {
         let entry = entries[place].as_slice();
         match rows_left(entry, left) {
@@ -79,7 +80,7 @@ impl DocketRegister {
 
     // Whether a row of that number was entered.
     fn has_row(&self, row: u32) -> bool
-        ensures { result ≡ (nat_lt 0 row && nat_lt row self.now.number) }
+        ensures { (under : StandingOf) (kept : List (List ℕ)) → StandsAt under self.now kept → result ≡ has_row kept row }
     {
         0 < row && row < self.number
     }
@@ -104,5 +105,19 @@ impl DocketRegister {
             return Ok(Err(StrikeFault::AlreadyStruck));
         }
         strike_read(alloc, under, row, entry_at(entries, row))
+    }
+
+    /// The restore of the row of that number, counted from 1, or why it can't be restored.
+    #[tactic(auto, unfolding(crate::specs::Striking::restore_for))]
+    pub fn restored_by(&self, under: &Standing, row: u32) -> Result<Restore, StrikeFault>
+        ensures { (kept : List (List ℕ)) → StandsAt under.now self.now kept → result ≡ restore_for under.now kept row }
+    {
+        if !self.has_row(row) {
+            return Err(StrikeFault::NoSuchRow);
+        }
+        if !under.corrections.is_struck(row) {
+            return Err(StrikeFault::NotStruck);
+        }
+        Ok(Restore { row })
     }
 }

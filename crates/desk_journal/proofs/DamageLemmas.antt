@@ -1,6 +1,6 @@
 -- A changed byte is found, unless two texts have one checksum.
 use Rattle.std.proofs.Common.{◌≡◌, ◌≢◌, ◌≤◌, ◌⊎◌, inl, inr, ℕ, Bool, true, false, List, [], ◌∷◌, ◌++◌, length, refl, sym, ◌∙◌, ap, arith, append_assoc, length-append}
-use Rattle.std.specs.Prelude.{All, ⊤}
+use Rattle.std.specs.Prelude.{All, ⊤, map}
 use Rattle.std.specs.Str.{bytes_eq}
 use Rattle.std.proofs.lemmas.List.{append-nil, append_cancel_left, map-append}
 use Rattle.std.proofs.lemmas.Bool.Decides.{not_from_Decides}
@@ -71,10 +71,21 @@ decided xs ys = by (bytes_eq xs ys) refl
     by true e = inl ((bytes_eq-Decides xs ys).0 e)
     by false e = inr (not_from_Decides (bytes_eq xs ys) (bytes_eq-Decides xs ys) e)
 
--- What is to be shown of the frames of two files: it holds where their entries are the same, after one frame more whose contents are,
+-- what frames hold
+abbrev pub contents_of : List Frame → List (List ℕ)
+contents_of fs = map (λ f. f.content) fs
+
+entries_in : (fs : List Frame) → entries_of fs ≡ map entry_in (contents_of fs)
+entries_in [] = refl
+entries_in (f ∷ fs) = λ i. entry_in f.content ∷ entries_in fs i
+
+pub same_entries : (fs gs : List Frame) → contents_of fs ≡ contents_of gs → entries_of fs ≡ entries_of gs
+same_entries fs gs same = entries_in fs ∙ ap (map entry_in) same ∙ sym (entries_in gs)
+
+-- What is to be shown of the frames of two files: it holds where their contents are the same, after one frame more whose contents are,
 -- and where two texts collide.
 pub record IsShown (Rel : List Frame → List Frame → Type 0) : Type 0 where
-  pub same : (fs gs : List Frame) → entries_of fs ≡ entries_of gs → Rel fs gs
+  pub same : (fs gs : List Frame) → contents_of fs ≡ contents_of gs → Rel fs gs
   pub onward : (f g : Frame) (fs gs : List Frame) → f.content ≡ g.content → Rel fs gs → Rel (f ∷ fs) (g ∷ gs)
   pub broken : (fs gs : List Frame) → Collide → Rel fs gs
 
@@ -92,7 +103,7 @@ module _ (Rel : List Frame → List Frame → Type 0) (shown : IsShown Rel) (end
   equal : (previous : List ℕ) (fs gs : List Frame) → All IsFrame fs → All IsFrame gs → frames previous fs ++ end ≡ frames previous gs ++ more → Rel fs gs
   equal previous fs gs are_f are_g e =
       let walk = same_walk previous fs gs end more are_f are_g (ends_shut (last_checksum previous fs) end shut) (ends_shut (last_checksum previous gs) more shut') e in
-      shown.same fs gs (ap entries_of walk.frames_are)
+      shown.same fs gs (ap contents_of walk.frames_are)
 
   -- Two frames after the same bytes, of which each begins its file's rest.
   module _ (previous : List ℕ) (f g : Frame) (fs gs : List Frame) (is_f : IsFrame f) (is_g : IsFrame g) (are_f : All IsFrame fs) (are_g : All IsFrame gs)
@@ -182,7 +193,7 @@ module _ (Rel : List Frame → List Frame → Type 0) (shown : IsShown Rel) (end
   at_latch : (previous : List ℕ) (f g : Frame) (fs gs : List Frame) → All IsFrame (f ∷ fs) → All IsFrame (g ∷ gs)
       → (packed previous f ++ frames (checksum previous f) fs) ++ end ≡ (packed previous g ++ frames (checksum previous g) gs) ++ more → Rel (f ∷ fs) (g ∷ gs)
   at_latch previous f g fs gs are_f are_g same =
-      shown.same (f ∷ fs) (g ∷ gs) (ap entries_of (same_walk previous (relatched g.latch g.second f ∷ fs) (g ∷ gs) end more
+      shown.same (f ∷ fs) (g ∷ gs) (ap contents_of (same_walk previous (relatched g.latch g.second f ∷ fs) (g ∷ gs) end more
       (All-cons IsFrame (relatched g.latch g.second f) fs (IsFrame-relatched g.latch g.second f (All-head IsFrame g gs are_g).opened (All-head IsFrame f fs are_f)) (All-tail IsFrame f fs are_f)) are_g
       (ends_shut (last_checksum previous (relatched g.latch g.second f ∷ fs)) end shut) (ends_shut (last_checksum previous (g ∷ gs)) more shut')
       (ap (λ (l : List ℕ). l ++ end) (frames-relatched previous g.latch g.second f fs) ∙ ap (λ (l : List ℕ). g.latch ∷ g.second ∷ l) same)).frames_are)
@@ -212,7 +223,7 @@ Found fs gs = (BeginsWith (entries_of fs) (entries_of gs) ⊎ BeginsWith (entrie
 
 found_shown : IsShown Found
 found_shown = record {
-  same = λ fs gs same. inl (inl ([], same ∙ sym (append-nil (entries_of gs))));
+  same = λ fs gs same. inl (inl ([], same_entries fs gs same ∙ sym (append-nil (entries_of gs))));
   onward = onward;
   broken = λ fs gs collide. inr collide;
 }

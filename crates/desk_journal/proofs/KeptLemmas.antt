@@ -1,13 +1,13 @@
 -- What a journal keeps once a batch is appended.
 use Rattle.std.proofs.Common.{◌≡◌, ◌⊎◌, inl, inr, ℕ, ◌+◌, ◌<◌, ◌≤◌, List, [], ◌∷◌, ◌++◌, length, drop, Vec, refl, sym, ◌∙◌, ap, subst, arith, length-append}
-use Rattle.std.specs.Prelude.{All, Bool}
+use Rattle.std.specs.Prelude.{All, Bool, IsTrue}
 use Rattle.std.specs.declared.alloc.Global.{Global}
 use Rattle.std.proofs.lemmas.List.{length-map, map-append, append-nil}
 use Rattle.desk_journal.specs.Frames.{Frame, IsFrame, StandsFor, frame_of, framed, first_checksum, last_checksum, frames, entries_of}
 use Rattle.desk_journal.specs.Batches.{batch_of, frames_of}
 use Rattle.desk_journal.specs.Stamps.{StampView, IsStamp, entry_in}
-use Rattle.desk_journal.specs.Disks.{IsLonger, IsAround}
-use Rattle.desk_journal.specs.Kept.{KeepsFrames, IsKept}
+use Rattle.desk_journal.specs.Disks.{IsLonger, IsAround, IsUntouched}
+use Rattle.desk_journal.specs.Kept.{KeepsFrames, IsKept, IsUnchanged}
 use Rattle.desk_journal.specs.declared.journal.Journal.{Journal}
 use Rattle.desk_journal.proofs.CrashLemmas.{stands, stands_longer, stands_around}
 use Rattle.desk_journal.proofs.FrameLemmas.{frames-append, last_checksum-append}
@@ -79,3 +79,21 @@ module _ {D : Type 0} (seen : D → List ℕ) (may_leave : D → List ℕ → Ty
   -- nothing is appended
   pub none_kept : (entries more : List (List ℕ)) → more ≡ [] → IsKept seen may_leave is_usable entries journal → IsKept seen may_leave is_usable (entries ++ more) journal
   none_kept entries more none kept = record { fs = kept.fs; kept = kept.kept; same = ap (λ (l : List (List ℕ)). entries ++ l) none ∙ append-nil entries ∙ kept.same }
+
+  -- what is kept is unchanged
+  pub kept_unchanged : (fs : List Frame) → KeepsFrames seen may_leave is_usable fs journal → IsUnchanged (seen journal.disk) journal.end
+  kept_unchanged fs kept = (frames first_checksum fs, kept.end, kept.file.read)
+
+  -- the journal once its file was looked at
+  abbrev pub looked : D → Journal D
+  looked disk = record { disk = disk; end = journal.end; count = journal.count; last = journal.last; stamp = journal.stamp; front = journal.front; buffer = journal.buffer }
+
+  pub still_keeps : (disk : D) → IsUntouched seen may_leave journal.disk disk → IsTrue (is_usable disk) → (fs : List Frame) → KeepsFrames seen may_leave is_usable fs journal → KeepsFrames seen may_leave is_usable fs (looked disk)
+  still_keeps disk untouched usable fs kept = record {
+    whole = kept.whole;
+    file = record { read = untouched.same ∙ kept.file.read; only = λ c left. kept.file.only c (untouched.no_more c left); usable = usable };
+    end = kept.end;
+    count = kept.count;
+    last = kept.last;
+    time = kept.time;
+  }

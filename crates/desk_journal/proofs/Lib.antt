@@ -11,4 +11,5 @@ pub mod NextLemmas
 pub mod OneList
 pub mod RecoverLemmas
 pub mod StampLemmas
+pub mod UnchangedLemmas
 pub mod WalkLemmas

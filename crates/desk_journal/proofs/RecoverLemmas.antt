@@ -1,15 +1,18 @@
 -- What recovery reads, and what it leaves.
-use Rattle.std.proofs.Common.{◌≡◌, inl, inr, ℕ, drop, ◌+◌, ◌<◌, ◌≤◌, List, [], ◌∷◌, ◌++◌, length, get_or, refl, sym, ◌∙◌, ap, subst, arith, zero-add, append_assoc, length-append}
-use Rattle.std.specs.Prelude.{Vec, Bool, IsTrue}
+use Rattle.std.proofs.Common.{◌≡◌, inl, inr, ℕ, drop, ◌+◌, ◌<◌, ◌≤◌, List, [], ◌∷◌, ◌++◌, length, get_or, refl, sym, ◌∙◌, ap, subst, arith, zero-add}
+use Rattle.std.specs.Prelude.{Vec, Bool, Result, Ok, Err, OnOk}
 use Rattle.std.specs.declared.alloc.Global.{Global}
-use Rattle.std.proofs.lemmas.List.{drop_at, ext_get_or, length-map}
+use Rattle.std.proofs.lemmas.List.{ext_get_or, length-map}
 use Rattle.std.proofs.lemmas.List.Elements.{All-nil}
 use Rattle.sqlite_disk.specs.Disk.{Holds}
 use Rattle.desk_journal.specs.Frames.{Frame, IsFrame, IsShut, StandsFor, StandsStamped, first_checksum, last_checksum, frames, entries_of}
 use Rattle.desk_journal.specs.Batches.{batch_of}
 use Rattle.desk_journal.specs.Stamps.{StampView, entry_in, stamp_in, time_after}
 use Rattle.desk_journal.specs.Disks.{IsDurable, IsLonger}
-use Rattle.desk_journal.specs.Reading.{IsReadTo, IsFound, IsDamaged, IsForeign, IsTail, IsWhole}
+use Rattle.desk_journal.specs.Faults.{HasBeginFault, HasDiskFault, HasEntries, HasOpenFault}
+use Rattle.desk_journal.specs.declared.fault.JournalFault.{JournalFault}
+use Rattle.desk_journal.specs.declared.fault.JournalFault.TheVariants.{Damaged, Older, Full, NoEntries, Taken, Changed, Read, Write, Sync, OutOfMemory}
+use Rattle.desk_journal.specs.Reading.{IsCountedTo, IsFound, IsDamaged, IsForeign, IsTail, IsWhole}
 use Rattle.desk_journal.specs.Recovered.{EndsForeign, IsRepaired}
 use Rattle.desk_journal.specs.Kept.{IsKept}
 use Rattle.desk_journal.specs.declared.journal.Journal.{Journal}
@@ -28,13 +31,6 @@ shut_rest [] shut = absurd shut
 shut_rest (a ∷ []) shut = absurd shut
 shut_rest (a ∷ b ∷ rest) shut = λ i. shut.0 i ∷ shut.1 i ∷ rest
 
--- whatever is left after the shut latch, the file stands for the same entries
-pub left_stands : (file : List ℕ) (entries : List (Vec ℕ Global)) (last rest c : List ℕ) (stood : List (List ℕ)) (read : IsReadTo file entries last rest) → IsShut rest → StandsFor file stood
-    → IsLonger (frames first_checksum read.fs ++ 45 ∷ 45 ∷ []) c → StandsFor c stood
-left_stands file entries last rest c stood read shut stands_for longer =
-    subst (StandsFor c) (one_list file (entries_of read.fs) stood (stands file read.fs rest read.whole read.parts shut) stands_for)
-    (stands_longer read.fs read.whole c longer)
-
 pub found_stands : (file : List ℕ) (entries : List (Vec ℕ Global)) (stamps : List StampView) (last : List ℕ) (end : ℕ) → IsFound file entries stamps last end → StandsFor file (batch_of entries)
 found_stands file entries stamps last end found =
     subst (StandsFor file) (sym found.read.same) (stands file found.read.fs found.rest found.read.whole found.read.parts found.shut)
@@ -50,27 +46,29 @@ found_as_many file entries stamps last end found =
 
 -- what comes after the shut latch
 module _ (file : List ℕ) (entries : List (Vec ℕ Global)) (stamps : List StampView) (last : List ℕ) (end : ℕ) (found : IsFound file entries stamps last end) where
-  shut_here : file ≡ frames first_checksum found.read.fs ++ 45 ∷ 45 ∷ drop 2 found.rest
+  pub shut_here : file ≡ frames first_checksum found.read.fs ++ 45 ∷ 45 ∷ drop 2 found.rest
   shut_here = found.read.parts ∙ ap (λ (l : List ℕ). frames first_checksum found.read.fs ++ l) (shut_rest found.rest found.shut)
 
-  pub found_tail : (tail : List ℕ) → tail ≡ drop (end + 2) file → IsTail file tail
-  found_tail tail tail_is = inl (found.read.fs, found.read.whole, shut_here ∙ ap (λ (l : List ℕ). frames first_checksum found.read.fs ++ 45 ∷ 45 ∷ l) (sym (tail_is ∙ here)))
+  -- the disk of such a file
+  pub found_durable : {D : Type 0} (seen : D → List ℕ) (may_leave : D → List ℕ → Type 0) (is_usable : D → Bool) (disk : D) → IsDurable seen may_leave is_usable file disk
+      → IsDurable seen may_leave is_usable (frames first_checksum found.read.fs ++ 45 ∷ 45 ∷ drop 2 found.rest) disk
+  found_durable seen may_leave is_usable disk durable = subst (λ (f : List ℕ). IsDurable seen may_leave is_usable f disk) shut_here durable
+
+  -- whatever is left after the shut latch, the file stands for the same entries
+  pub found_left : (c : List ℕ) (stood : List (List ℕ)) → StandsFor file stood → IsLonger (frames first_checksum found.read.fs ++ 45 ∷ 45 ∷ []) c → StandsFor c stood
+  found_left c stood stands_for longer =
+      subst (StandsFor c) (one_list file (entries_of found.read.fs) stood (stands file found.read.fs found.rest found.read.whole found.read.parts found.shut) stands_for)
+      (stands_longer found.read.fs found.read.whole c longer)
+
+  -- where there are no entries, there are no frames
+  pub no_frames : length entries ≡ 0 → frames first_checksum found.read.fs ≡ []
+  no_frames none = by found.read.fs (sym (ap length found.read.same) ∙ length-map entries (λ (v : Vec ℕ Global). v.items) ∙ none)
     where
-      split : file ≡ (frames first_checksum found.read.fs ++ 45 ∷ 45 ∷ []) ++ drop 2 found.rest
-      split = shut_here ∙ sym (append_assoc (frames first_checksum found.read.fs) (45 ∷ 45 ∷ []) (drop 2 found.rest))
+      by : (fs : List Frame) → length (entries_of fs) ≡ 0 → frames first_checksum fs ≡ []
+      by [] few = refl
+      by (f ∷ fs) few = absurd (omega (arith, few))
 
-      here : drop (end + 2) file ≡ drop 2 found.rest
-      here = ap (λ (l : List ℕ). drop (end + 2) l) split
-          ∙ drop_at (frames first_checksum found.read.fs ++ 45 ∷ 45 ∷ []) (drop 2 found.rest) (end + 2) (omega (arith, length-append (frames first_checksum found.read.fs) (45 ∷ 45 ∷ []), found.end_is))
-
--- a file that a crash left as it was
-pub same_stands : (file c : List ℕ) (entries : List (List ℕ)) → c ≡ file → StandsFor file entries → StandsFor c entries
-same_stands file c entries same stood = subst (λ (f : List ℕ). StandsFor f entries) (sym same) stood
-
-module _ (file : List ℕ) (begun : 2 < length file) (entries : List (Vec ℕ Global)) (last rest : List ℕ) (count : ℕ) (read : IsReadTo file entries last rest) (shut : IsShut rest) (count_is : count ≡ length entries) where
-  frames_many : count ≡ length read.fs
-  frames_many = count_is ∙ counted file entries last rest read
-
+module _ (file : List ℕ) (begun : 2 < length file) (count : ℕ) (last rest : List ℕ) (read : IsCountedTo file count last rest) (shut : IsShut rest) where
   -- what comes after the shut latch is no crash's
   pub damaged_behind : EndsForeign count last rest → IsDamaged file (count + 1)
   damaged_behind was = record {
@@ -79,8 +77,8 @@ module _ (file : List ℕ) (begun : 2 < length file) (entries : List (Vec ℕ Gl
     whole = read.whole;
     parts = read.parts;
     begun = begun;
-    counts = ap (λ (n : ℕ). n + 1) frames_many;
-    cause = inr (was.0, was.1, subst (λ (l : List ℕ). IsForeign (length read.fs) l was.0) read.last_is (subst (λ (n : ℕ). IsForeign n last was.0) frames_many was.2));
+    counts = ap (λ (n : ℕ). n + 1) read.count_is;
+    cause = inr (was.0, was.1, subst (λ (l : List ℕ). IsForeign (length read.fs) l was.0) read.last_is (subst (λ (n : ℕ). IsForeign n last was.0) read.count_is was.2));
   }
 
   -- and where it is, nothing is damaged
@@ -93,16 +91,14 @@ module _ (file : List ℕ) (begun : 2 < length file) (entries : List (Vec ℕ Gl
     | inr foreign ↦
         let walk = same_walk first_checksum read.fs damaged.fs rest damaged.rest read.whole damaged.whole (ends_shut (last_checksum first_checksum read.fs) rest shut)
         (ends_shut (last_checksum first_checksum damaged.fs) damaged.rest (subst IsShut (sym foreign.1) (refl, refl))) (sym read.parts ∙ damaged.parts) in
-        let many : length damaged.fs ≡ count = sym (frames_many ∙ ap length walk.frames_are) in
+        let many : length damaged.fs ≡ count = sym (read.count_is ∙ ap length walk.frames_are) in
         let sum : last_checksum first_checksum damaged.fs ≡ last = sym (read.last_is ∙ ap (last_checksum first_checksum) walk.frames_are) in
         never (foreign.0, walk.ends_are ∙ foreign.1, subst (λ (n : ℕ). IsForeign n last foreign.0) many (subst (λ (l : List ℕ). IsForeign (length damaged.fs) l foreign.0) sum foreign.2))
   ]
 
--- the disk after reads alone
-pub read_only : {D : Type 0} (seen : D → List ℕ) (may_leave : D → List ℕ → Type 0) (is_usable : D → Bool) (file front rest : List ℕ) (old mid : D) → IsDurable seen may_leave is_usable file old
-    → seen mid ≡ seen old → ((c : List ℕ) → may_leave mid c → may_leave old c) → IsTrue (is_usable mid) → file ≡ front ++ rest → IsDurable seen may_leave is_usable (front ++ rest) mid
-read_only seen may_leave is_usable file front rest old mid was same fewer usable parts =
-    record { read = same ∙ was.read ∙ parts; only = λ c left. was.only c (fewer c left) ∙ parts; usable = usable }
+  -- what comes after the shut latch is what opening cuts off, where there are entries
+  pub counted_tail : 0 < count → (tail : List ℕ) → tail ≡ drop 2 rest → IsTail file tail
+  counted_tail some tail tail_is = inl (read.fs, read.whole, omega (arith, some, read.count_is), read.parts ∙ ap (λ (l : List ℕ). frames first_checksum read.fs ++ l) (shut_rest rest shut ∙ ap (λ (l : List ℕ). 45 ∷ 45 ∷ l) (sym tail_is)))
 
 module _ {D : Type 0} (seen : D → List ℕ) (may_leave : D → List ℕ → Type 0) (is_usable : D → Bool) (journal : Journal D) where
   -- what recovery leaves is kept
@@ -130,17 +126,55 @@ pub short_stands : (file c : List ℕ) (entries : List (List ℕ)) → length fi
 short_stands file c entries short left (inl a) = inr (left, none_framed file entries a short)
 short_stands file c entries short left (inr a) = inr (left, a.1)
 
-pub unbegun_repaired : {D : Type 0} (seen : D → List ℕ) (may_leave : D → List ℕ → Type 0) (is_usable : D → Bool) (file : List ℕ) (entries : List (Vec ℕ Global)) (stamps : List StampView) (disk : D)
-    → length file ≤ 2 → entries ≡ [] → stamps ≡ [] → IsDurable seen may_leave is_usable (45 ∷ 45 ∷ []) disk → IsRepaired seen may_leave is_usable file entries stamps first_checksum 0 disk
-unbegun_repaired seen may_leave is_usable file entries stamps disk short none unstamped durable = record {
-  stands = inr (short, ap batch_of none);
-  stands_stamped = inr ((short, ap batch_of none), unstamped);
-  undamaged = whole_short file short;
+pub short_stands_for_none : (file : List ℕ) → length file ≤ 2 → StandsFor file []
+short_stands_for_none file short = inr (short, refl)
+
+-- what is kept of a journal without entries
+pub begun_kept : {D : Type 0} (seen : D → List ℕ) (may_leave : D → List ℕ → Type 0) (is_usable : D → Bool) (journal : Journal D) → IsDurable seen may_leave is_usable (45 ∷ 45 ∷ []) journal.disk
+    → journal.end ≡ 0 → journal.count ≡ 0 → journal.last ≡ first_checksum → IsKept seen may_leave is_usable [] journal
+begun_kept seen may_leave is_usable journal durable end_is count_is last_is = record {
   fs = [];
-  whole = All-nil IsFrame;
-  same = ap batch_of none;
-  stamped = unstamped;
-  last_is = refl;
-  end_is = refl;
-  durable = durable;
+  kept = record { whole = All-nil IsFrame; file = durable; end = sym end_is; count = count_is; last = last_is; time = omega arith };
+  same = refl;
 }
+
+-- why a file isn't read on a disk is why its journal isn't opened, or isn't begun
+pub disk_unopened : (before after : ℕ) (file : List ℕ) (fault : JournalFault) → HasDiskFault before after file fault → HasOpenFault before after file fault
+disk_unopened before after file (Damaged number) has = has
+disk_unopened before after file Older has = has
+disk_unopened before after file Full has = has
+disk_unopened before after file NoEntries has = absurd has
+disk_unopened before after file Taken has = has
+disk_unopened before after file Changed has = has
+disk_unopened before after file Read has = has
+disk_unopened before after file Write has = has
+disk_unopened before after file Sync has = has
+disk_unopened before after file OutOfMemory has = has
+
+pub disk_unbegun : (before after : ℕ) (file : List ℕ) (fault : JournalFault) → HasDiskFault before after file fault → HasBeginFault before after file fault
+disk_unbegun before after file (Damaged number) has = has
+disk_unbegun before after file Older has = has
+disk_unbegun before after file Full has = has
+disk_unbegun before after file NoEntries has = has
+disk_unbegun before after file Taken has = absurd has
+disk_unbegun before after file Changed has = has
+disk_unbegun before after file Read has = has
+disk_unbegun before after file Write has = has
+disk_unbegun before after file Sync has = has
+disk_unbegun before after file OutOfMemory has = has
+
+-- a file that stands for no entries, and one that stands for some
+pub none_found : (file : List ℕ) (entries : List (Vec ℕ Global)) (stamps : List StampView) (last : List ℕ) (end : ℕ) → IsFound file entries stamps last end → length entries ≡ 0 → StandsFor file []
+none_found file entries stamps last end found none = subst (StandsFor file) (by entries none) (found_stands file entries stamps last end found)
+  where
+    by : (l : List (Vec ℕ Global)) → length l ≡ 0 → batch_of l ≡ []
+    by [] e = refl
+    by (v ∷ l) e = absurd (omega (arith, e))
+
+pub some_found : (file : List ℕ) (entries : List (Vec ℕ Global)) (stamps : List StampView) (last : List ℕ) (end : ℕ) → IsFound file entries stamps last end → 0 < length entries → HasEntries file
+some_found file entries stamps last end found some = (batch_of entries, found_stands file entries stamps last end found, λ none. omega (arith, some, ap length none, length-map entries (λ (v : Vec ℕ Global). v.items)))
+
+-- a result that comes only on a condition
+pub on_ok_given : {T E : Type 0} (result : Result T E) (A P : Type 0) → (A → OnOk result P) → OnOk result (A → P)
+on_ok_given (Ok value) A P given = given
+on_ok_given (Err error) A P given = tt

@@ -1,10 +1,12 @@
 -- What a content is made of, and the times of stamps.
 use Rattle.std.proofs.Common.{◌≡◌, ℕ, ◌+◌, ◌<◌, ◌≤◌, ◌^◌, List, [], ◌∷◌, ◌++◌, length, take, drop, Vec, refl, sym, ◌∙◌, ap, subst, arith, append_assoc, length-append}
+use Rattle.std.specs.Prelude.{All}
 use Rattle.std.specs.declared.alloc.Global.{Global}
-use Rattle.std.proofs.lemmas.List.{take_at, drop_at, map-append}
+use Rattle.std.proofs.lemmas.List.{take_at, drop_at, map-append, append-nil}
+use Rattle.std.proofs.lemmas.List.Elements.{All-append, All-cons, All-nil}
 use Rattle.std.proofs.lemmas.Nat.{from_be_bytes-to_be_bytes_8}
 use Rattle.std.specs.Int.{w64, to_be_bytes}
-use Rattle.desk_journal.specs.Stamps.{StampView, IsStamp, HasStamp, IsInOrder, stamp_bytes, content_of, entry_in, stamp_in, time_of, time_after}
+use Rattle.desk_journal.specs.Stamps.{AddsStamps, StampView, IsStamp, HasStamp, IsInOrder, stamp_bytes, content_of, entry_in, stamp_in, time_of, time_after}
 use Rattle.desk_journal.specs.Frames.{Frame, frame_of, stamps_of, last_time}
 use Rattle.desk_journal.specs.Batches.{frames_of, TimesNeverGoBack}
 
@@ -59,6 +61,13 @@ batch_in_order earlier durable stamp (v ∷ batch) is before =
     let same : (stamp_in (content_of stamp v.items)).time ≡ stamp.time = ap (λ (s : StampView). s.time) (stamp_in-content_of stamp v.items is) in
     (omega (arith, same), batch_in_order (stamp_in (content_of stamp v.items)).time durable stamp batch is (omega (arith, same)))
 
+batch_accounts : (durable : ℕ) (stamp : StampView) (batch : List (Vec ℕ Global)) → IsStamp stamp → All (λ (s : StampView). s.account ≡ stamp.account) (stamps_of (frames_of durable stamp batch))
+unfolding frame_of
+batch_accounts durable stamp [] is = All-nil (λ (s : StampView). s.account ≡ stamp.account)
+batch_accounts durable stamp (v ∷ batch) is =
+    All-cons (λ (s : StampView). s.account ≡ stamp.account) (stamp_in (content_of stamp v.items)) (stamps_of (frames_of durable stamp batch))
+    (ap (λ (s : StampView). s.account) (stamp_in-content_of stamp v.items is)) (batch_accounts durable stamp batch is)
+
 stamps-append : (fs gs : List Frame) → stamps_of (fs ++ gs) ≡ stamps_of fs ++ stamps_of gs
 stamps-append fs gs = map-append (λ (f : Frame). stamp_in f.content) fs gs
 
@@ -74,3 +83,23 @@ pub times_never_go_back : TimesNeverGoBack
 times_never_go_back fs durable stamp batch is before ordered =
     subst (IsInOrder 0) (sym (stamps-append fs (frames_of durable stamp batch)))
     (in_order-append 0 (stamps_of fs) (stamps_of (frames_of durable stamp batch)) ordered (batch_in_order (last_time fs) durable stamp batch is before))
+
+-- what a batch adds, and what two calls add
+pub batch_adds : (fs : List Frame) (durable : ℕ) (stamp : StampView) (batch : List (Vec ℕ Global)) → IsStamp stamp → last_time fs ≤ stamp.time → AddsStamps stamp.account (stamps_of fs) (stamps_of (fs ++ frames_of durable stamp batch))
+batch_adds fs durable stamp batch is before = record {
+  more = stamps_of (frames_of durable stamp batch);
+  parts = stamps-append fs (frames_of durable stamp batch);
+  accounts = batch_accounts durable stamp batch is;
+  order = batch_in_order (last_time fs) durable stamp batch is before;
+}
+
+pub none_added : (account : List ℕ) (stamps : List StampView) → AddsStamps account stamps stamps
+none_added account stamps = record { more = []; parts = sym (append-nil stamps); accounts = All-nil (λ (s : StampView). s.account ≡ account); order = tt }
+
+pub added_more : (account : List ℕ) (before between after : List StampView) → AddsStamps account before between → AddsStamps account between after → AddsStamps account before after
+added_more account before between after one two = record {
+  more = one.more ++ two.more;
+  parts = two.parts ∙ ap (λ (l : List StampView). l ++ two.more) one.parts ∙ append_assoc before one.more two.more;
+  accounts = All-append (λ (s : StampView). s.account ≡ account) one.more two.more one.accounts two.accounts;
+  order = in_order-append (time_after 0 before) one.more two.more one.order (subst (λ (n : ℕ). IsInOrder n two.more) (ap (time_after 0) one.parts ∙ time_after-append 0 before one.more) two.order);
+}

@@ -1,22 +1,32 @@
 -- How a walk over frames goes on and ends.
-use Rattle.std.proofs.Common.{◌≡◌, inl, ℕ, ◌+◌, ◌<◌, List, [], ◌∷◌, ◌++◌, length, Vec, refl, sym, ◌∙◌, ap, subst, arith, append_assoc}
+use Rattle.std.proofs.Common.{◌≡◌, ℕ, ◌+◌, List, [], ◌∷◌, ◌++◌, length, Vec, refl, sym, ◌∙◌, ap, subst, arith, append_assoc, length-append}
 use Rattle.std.specs.Prelude.{All}
 use Rattle.std.specs.declared.alloc.Global.{Global}
 use Rattle.std.proofs.lemmas.List.{map_push, length-map}
 use Rattle.std.proofs.lemmas.List.Elements.{All-head, All-tail, All-push, All-nil}
-use Rattle.desk_journal.specs.Frames.{AreShut, Frame, IsFrame, IsShut, number_of, checksum, first_checksum, last_checksum, frames}
+use Rattle.desk_journal.specs.Frames.{AreShut, Frame, IsFrame, number_of, checksum, first_checksum, last_checksum, frames}
 use Rattle.desk_journal.specs.Batches.{batch_of}
 use Rattle.desk_journal.specs.Stamps.{StampView, entry_in, stamp_in}
-use Rattle.desk_journal.specs.Reading.{IsBehind, IsNext, IsReadTo, IsStampedTo, SaysOther, IsDamaged, HasNoFrame, HasNoLatch, HasTooMany, latched}
+use Rattle.desk_journal.specs.Reading.{IsBehind, IsCountedTo, IsNext, IsReadTo, IsStampedTo, SaysOther, HasNoFrame, HasNoLatch, latched}
 use Rattle.desk_journal.proofs.FrameLemmas.{frames-push, last_checksum-append}
 use Rattle.desk_journal.proofs.NextLemmas.{none_without}
 use Rattle.desk_journal.proofs.OneList.{Ends, further}
 
--- one frame more
-pub read_more : (file : List ℕ) (entries after : List (Vec ℕ Global)) (v : Vec ℕ Global) (last rest sum content next : List ℕ) (durable : ℕ)
-    → IsReadTo file entries last rest → IsNext last rest durable sum content next → after ≡ entries ++ v ∷ [] → v.items ≡ entry_in content
-    → IsReadTo file after sum next
-read_more file entries after v last rest sum content next durable so_far is after_is copied =
+-- as many frames as entries
+pub counted : (file : List ℕ) (entries : List (Vec ℕ Global)) (last rest : List ℕ) → (so_far : IsReadTo file entries last rest) → length entries ≡ length so_far.fs
+counted file entries last rest so_far =
+    sym (length-map entries (λ (w : Vec ℕ Global). w.items)) ∙ ap length so_far.same ∙ length-map so_far.fs (λ (f : Frame). entry_in f.content)
+
+-- the same, where the entries are only counted
+pub counted_to : (file : List ℕ) (entries : List (Vec ℕ Global)) (count : ℕ) (last rest : List ℕ) → IsReadTo file entries last rest → count ≡ length entries → IsCountedTo file count last rest
+counted_to file entries count last rest so_far count_is =
+    record { fs = so_far.fs; whole = so_far.whole; parts = so_far.parts; last_is = so_far.last_is; count_is = count_is ∙ counted file entries last rest so_far }
+
+pub counted_none : (file last : List ℕ) → last ≡ first_checksum → IsCountedTo file 0 last file
+counted_none file last first = record { fs = []; whole = All-nil IsFrame; parts = refl; last_is = first; count_is = refl }
+
+pub counted_more : (file : List ℕ) (count : ℕ) (last rest sum content next : List ℕ) (durable : ℕ) → IsCountedTo file count last rest → IsNext last rest durable sum content next → IsCountedTo file (count + 1) sum next
+counted_more file count last rest sum content next durable so_far is =
     record {
       fs = so_far.fs ++ is.frame ∷ [];
       whole = All-push IsFrame so_far.fs is.frame so_far.whole is.whole;
@@ -24,6 +34,21 @@ read_more file entries after v last rest sum content next durable so_far is afte
           ∙ sym (append_assoc (frames first_checksum so_far.fs) (latched (last_checksum first_checksum so_far.fs) is.frame) next)
           ∙ ap (λ (l : List ℕ). l ++ next) (sym (frames-push first_checksum so_far.fs is.frame));
       last_is = is.sum_is ∙ ap (λ (l : List ℕ). checksum l is.frame) so_far.last_is ∙ sym (last_checksum-append first_checksum so_far.fs (is.frame ∷ []));
+      count_is = omega (arith, so_far.count_is, length-append so_far.fs (is.frame ∷ []));
+    }
+
+-- one frame more, with its entry
+pub read_more : (file : List ℕ) (entries after : List (Vec ℕ Global)) (v : Vec ℕ Global) (last rest sum content next : List ℕ) (durable : ℕ)
+    → IsReadTo file entries last rest → IsNext last rest durable sum content next → after ≡ entries ++ v ∷ [] → v.items ≡ entry_in content
+    → IsReadTo file after sum next
+unfolding counted_more counted_to
+read_more file entries after v last rest sum content next durable so_far is after_is copied =
+    let on = counted_more file (length entries) last rest sum content next durable (counted_to file entries (length entries) last rest so_far refl) is in
+    record {
+      fs = on.fs;
+      whole = on.whole;
+      parts = on.parts;
+      last_is = on.last_is;
       same = ap batch_of after_is ∙ map_push (λ (w : Vec ℕ Global). w.items) entries v
           ∙ (λ i. so_far.same i ++ (copied ∙ ap entry_in (sym is.content_is)) i ∷ [])
           ∙ sym (map_push (λ (f : Frame). entry_in f.content) so_far.fs is.frame);
@@ -40,35 +65,11 @@ stamped_none file entries stamps last none unstamped first = record {
 pub stamped_more : (file : List ℕ) (entries after : List (Vec ℕ Global)) (stamps stamps_after : List StampView) (v : Vec ℕ Global) (stamp : StampView) (last rest sum content next : List ℕ) (durable : ℕ)
     → IsStampedTo file entries stamps last rest → IsNext last rest durable sum content next → after ≡ entries ++ v ∷ [] → v.items ≡ entry_in content
     → stamps_after ≡ stamps ++ stamp ∷ [] → stamp ≡ stamp_in content → IsStampedTo file after stamps_after sum next
-unfolding read_more
+unfolding read_more counted_more counted_to
 stamped_more file entries after stamps stamps_after v stamp last rest sum content next durable so_far is after_is copied stamps_is stamp_is = record {
   read = read_more file entries after v last rest sum content next durable so_far.read is after_is copied;
   stamped = stamps_is ∙ (λ i. so_far.stamped i ++ (stamp_is ∙ ap stamp_in (sym is.content_is)) i ∷ []) ∙ sym (map_push (λ (f : Frame). stamp_in f.content) so_far.read.fs is.frame);
 }
-
--- as many frames as entries
-pub counted : (file : List ℕ) (entries : List (Vec ℕ Global)) (last rest : List ℕ) → (so_far : IsReadTo file entries last rest) → length entries ≡ length so_far.fs
-counted file entries last rest so_far =
-    sym (length-map entries (λ (w : Vec ℕ Global). w.items)) ∙ ap length so_far.same ∙ length-map so_far.fs (λ (f : Frame). entry_in f.content)
-
--- neither a shut latch nor a frame
-pub damaged_here : (file : List ℕ) (entries : List (Vec ℕ Global)) (last rest : List ℕ) (count : ℕ) → 2 < length file → IsReadTo file entries last rest → (IsShut rest → ⊥)
-    → HasNoFrame last rest → count ≡ length entries → IsDamaged file (count + 1)
-damaged_here file entries last rest count begun so_far unshut none count_is =
-    record {
-      fs = so_far.fs;
-      rest = rest;
-      whole = so_far.whole;
-      parts = so_far.parts;
-      begun = begun;
-      counts = ap (λ (n : ℕ). n + 1) (count_is ∙ counted file entries last rest so_far);
-      cause = inl (unshut, subst (λ (l : List ℕ). HasNoFrame l rest) so_far.last_is none);
-    }
-
--- more entries than a journal has
-pub too_many_here : (file : List ℕ) (entries : List (Vec ℕ Global)) (last rest : List ℕ) → IsReadTo file entries last rest → (IsShut rest → ⊥) → length entries ≡ 1000000 → HasTooMany file
-too_many_here file entries last rest so_far unshut many =
-    record { fs = so_far.fs; rest = rest; whole = so_far.whole; many = sym (counted file entries last rest so_far) ∙ many; parts = so_far.parts; some = unshut }
 
 -- frames after a latch that say one number
 abbrev pub Says : ℕ → Frame → Type 0

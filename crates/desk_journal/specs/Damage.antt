@@ -1,7 +1,8 @@
 -- What damage can make of a journal's file.
 use Rattle.std.specs.Prelude.{◌≡◌, ◌≢◌, ◌⊎◌, ℕ, All, List, [], ◌∷◌, ◌++◌}
 use Rattle.sha2.specs.Sha256.{sha256}
-use Rattle.desk_journal.specs.Frames.{Frame, IsFrame, StandsFor, entries_of, first_checksum, frames}
+use Rattle.desk_journal.specs.Frames.{Frame, IsFrame, StandsFor, StandsStamped, entries_of, first_checksum, frames, stamps_of}
+use Rattle.desk_journal.specs.Stamps.{StampView}
 
 -- a frame's latch is `++`
 abbrev pub IsOpen : Frame → Type 0
@@ -40,6 +41,16 @@ pub record IsSettled (file : List ℕ) (entries : List (List ℕ)) : Type 0 wher
 abbrev pub NoByteHidesAnEntry : Type 0
 NoByteHidesAnEntry = (file other : List ℕ) (entries others : List (List ℕ)) → IsSettled file entries → StandsFor other others → DifferInOne file other
     → (others ≡ entries) ⊎ Collide
+
+-- the same, where the entries have these stamps
+abbrev pub IsSettledWith : List ℕ → List (List ℕ) → List StampView → Type 0
+IsSettledWith file entries stamps = (settled : IsSettled file entries) × (stamps ≡ stamps_of settled.fs)
+
+-- Where one byte of such a file is changed, and the file stands for entries with stamps, they are the same entries with the same stamps,
+-- unless two texts collide. So no byte that changes says that an entry is another's, or of another time.
+abbrev pub NoByteChangesAStamp : Type 0
+NoByteChangesAStamp = (file other : List ℕ) (entries others : List (List ℕ)) (stamps other_stamps : List StampView) → IsSettledWith file entries stamps
+    → StandsStamped other others other_stamps → DifferInOne file other → ((others ≡ entries) × (other_stamps ≡ stamps)) ⊎ Collide
 
 -- Where one byte of a journal's file is changed, and both files stand for entries, one of the lists begins with the other,
 -- unless two texts collide. So no entry is ever read as another.

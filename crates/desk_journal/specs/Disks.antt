@@ -8,6 +8,11 @@ pub record IsDurable {D : Type 0} (seen : D → List ℕ) (may_leave : D → Lis
   pub only : Only file (may_leave disk)
   pub usable : IsTrue (is_usable disk)
 
+-- nothing was written: a read returns what it did, and a crash leaves nothing that it didn't
+pub record IsUntouched {D : Type 0} (seen : D → List ℕ) (may_leave : D → List ℕ → Type 0) (before after : D) : Type 0 where
+  pub same : seen after ≡ seen before
+  pub no_more : (file : List ℕ) → may_leave after file → may_leave before file
+
 -- the file, with any bytes after its end
 abbrev pub IsLonger : List ℕ → List ℕ → Type 0
 IsLonger file left = (tail : List ℕ) × (left ≡ file ++ tail)

@@ -1,6 +1,6 @@
 -- What a journal keeps on its disk.
 use Rattle.std.specs.Prelude.{◌≡◌, ◌≤◌, ℕ, List, [], ◌∷◌, ◌++◌, length, Bool, All}
-use Rattle.desk_journal.specs.Frames.{Frame, IsFrame, first_checksum, last_checksum, frames, entries_of, last_time}
+use Rattle.desk_journal.specs.Frames.{Frame, IsFrame, first_checksum, last_checksum, frames, entries_of, last_time, stamps_of}
 use Rattle.desk_journal.specs.Stamps.{StampView}
 use Rattle.desk_journal.specs.Disks.{IsDurable}
 use Rattle.desk_journal.specs.declared.journal.Journal.{Journal}
@@ -21,6 +21,10 @@ end_of journal = journal.end
 abbrev pub stamp_of : {D : Type 0} → Journal D → StampView
 stamp_of journal = journal.stamp
 
+-- The file ends with a shut latch at this place: so it does where a journal's end is there and no other program has written to it.
+abbrev pub IsUnchanged : (file : List ℕ) → (end : ℕ) → Type 0
+IsUnchanged file end = (front : List ℕ) × (length front ≡ end) × (file ≡ front ++ 45 ∷ 45 ∷ [])
+
 -- These frames and a shut latch are all of the file, and all of it is on the disk. The time that the journal gives to what is appended
 -- isn't before theirs.
 pub record KeepsFrames {D : Type 0} (seen : D → List ℕ) (may_leave : D → List ℕ → Type 0) (is_usable : D → Bool) (fs : List Frame) (journal : Journal D) : Type 0 where
@@ -36,3 +40,7 @@ pub record IsKept {D : Type 0} (seen : D → List ℕ) (may_leave : D → List �
   pub fs : List Frame
   pub kept : KeepsFrames seen may_leave is_usable fs journal
   pub same : entries ≡ entries_of fs
+
+-- the entries that are kept have these stamps
+abbrev pub KeepsStamps : {D : Type 0} → (seen : D → List ℕ) → (may_leave : D → List ℕ → Type 0) → (is_usable : D → Bool) → List StampView → Journal D → Type 0
+KeepsStamps seen may_leave is_usable stamps journal = (fs : List Frame) × KeepsFrames seen may_leave is_usable fs journal × (stamps ≡ stamps_of fs)

@@ -1,7 +1,7 @@
 -- What is read from a file's bytes.
 use Rattle.std.specs.Prelude.{◌≡◌, ◌≢◌, ◌<◌, ◌≤◌, ◌+◌, ◌⊎◌, ℕ, List, [], ◌∷◌, length, ◌++◌, All, Vec}
 use Rattle.std.specs.declared.alloc.Global.{Global}
-use Rattle.desk_journal.specs.Frames.{AreShut, Frame, IsFrame, IsShut, IsSized, number_of, checksum, first_checksum, older_checksum, last_checksum, packed, frames, entries_of, stamps_of}
+use Rattle.desk_journal.specs.Frames.{AreShut, Frame, IsFrame, IsShut, IsSized, StandsFor, number_of, checksum, first_checksum, older_checksum, last_checksum, packed, frames, entries_of, stamps_of}
 use Rattle.desk_journal.specs.Stamps.{StampView}
 use Rattle.desk_journal.specs.Batches.{batch_of}
 
@@ -44,7 +44,15 @@ pub record IsReadTo (file : List ℕ) (entries : List (Vec ℕ Global)) (last re
   pub last_is : last ≡ last_checksum first_checksum fs
   pub same : batch_of entries ≡ entries_of fs
 
--- that, and these are the stamps of the frames
+-- the file is this number of frames, of which the last has this checksum, and then `rest`
+pub record IsCountedTo (file : List ℕ) (count : ℕ) (last rest : List ℕ) : Type 0 where
+  pub fs : List Frame
+  pub whole : All IsFrame fs
+  pub parts : file ≡ frames first_checksum fs ++ rest
+  pub last_is : last ≡ last_checksum first_checksum fs
+  pub count_is : count ≡ length fs
+
+-- the first of these two, and these are the stamps of the frames
 pub record IsStampedTo (file : List ℕ) (entries : List (Vec ℕ Global)) (stamps : List StampView) (last rest : List ℕ) : Type 0 where
   pub read : IsReadTo file entries last rest
   pub stamped : stamps ≡ stamps_of read.fs
@@ -108,9 +116,9 @@ pub record IsFound (file : List ℕ) (entries : List (Vec ℕ Global)) (stamps :
   pub few : length entries ≤ 1000000
   pub stamped : stamps ≡ stamps_of read.fs
 
--- these bytes come after the shut latch of a journal: a file of at most two bytes has none
+-- These bytes come after the shut latch of a journal that has entries. Of a file that has none nothing is cut off.
 abbrev pub IsTail : List ℕ → List ℕ → Type 0
-IsTail file tail = ((fs : List Frame) × All IsFrame fs × (file ≡ frames first_checksum fs ++ 45 ∷ 45 ∷ tail)) ⊎ ((length file ≤ 2) × (tail ≡ []))
+IsTail file tail = ((fs : List Frame) × All IsFrame fs × (0 < length fs) × (file ≡ frames first_checksum fs ++ 45 ∷ 45 ∷ tail)) ⊎ (StandsFor file [] × (tail ≡ []))
 
 -- no shut latch follows 1,000,000 entries
 pub record HasTooMany (file : List ℕ) : Type 0 where

@@ -1,15 +1,20 @@
 -- What recovery finds and leaves.
-use Rattle.std.specs.Prelude.{◌≡◌, ℕ, List, [], ◌∷◌, ◌++◌, All, Bool, Vec, length}
+use Rattle.std.specs.Prelude.{◌≡◌, ◌≤◌, ℕ, List, [], ◌∷◌, ◌++◌, All, Bool, Option, MatchOption, Vec, length}
 use Rattle.std.specs.declared.alloc.Global.{Global}
 use Rattle.desk_journal.specs.Batches.{batch_of}
 use Rattle.desk_journal.specs.Frames.{Frame, IsFrame, StandsFor, StandsStamped, entries_of, first_checksum, frames, last_checksum, stamps_of}
 use Rattle.desk_journal.specs.Stamps.{StampView}
 use Rattle.desk_journal.specs.Disks.{IsDurable}
-use Rattle.desk_journal.specs.Reading.{IsForeign, IsWhole}
+use Rattle.desk_journal.specs.Reading.{IsForeign, IsFound, IsWhole}
+use Rattle.desk_journal.specs.declared.recovery.Recovered.{Recovered}
 
 -- after the shut latch with which `rest` begins comes what no crash leaves there
 abbrev pub EndsForeign : ℕ → List ℕ → List ℕ → Type 0
 EndsForeign durable previous rest = (behind : List ℕ) × (rest ≡ 45 ∷ 45 ∷ behind) × IsForeign durable previous behind
+
+-- what is found of a file: nothing of one of at most two bytes, and of another its entries, none of which is damaged
+abbrev pub Finds : (file : List ℕ) → Option Recovered → Type 0
+Finds file found = MatchOption found (length file ≤ 2) (λ r. IsFound file r.entries.items r.stamps.items r.last r.end × IsWhole file)
 
 -- the file stands for these entries, none of which is damaged, these are their stamps, and their frames and a shut latch are all that is
 -- on the disk

@@ -1,5 +1,5 @@
 -- Who entered an entry, and when: what stands before the entry in its frame.
-use Rattle.std.specs.Prelude.{◌≤◌, ◌<◌, ◌+◌, ◌^◌, ℕ, List, [], ◌∷◌, ◌++◌, length, take, drop}
+use Rattle.std.specs.Prelude.{◌≡◌, ◌≤◌, ◌<◌, ◌+◌, ◌^◌, ℕ, List, [], ◌∷◌, ◌++◌, length, take, drop, All}
 use Rattle.std.specs.Int.{w64, from_be_bytes, to_be_bytes}
 
 -- the time, as the seconds of UTC since 1970-01-01T00:00:00, and the account, as text
@@ -49,3 +49,10 @@ time_after earlier (stamp ∷ stamps) = time_after stamp.time stamps
 abbrev pub IsInOrder : ℕ → List StampView → Type 0
 IsInOrder earlier [] = Unit {0}
 IsInOrder earlier (stamp ∷ stamps) = (earlier ≤ stamp.time) × IsInOrder stamp.time stamps
+
+-- stamps were added after others: each is of this account, and times never go back
+pub record AddsStamps (account : List ℕ) (before after : List StampView) : Type 0 where
+  pub more : List StampView
+  pub parts : after ≡ before ++ more
+  pub accounts : All (λ stamp. stamp.account ≡ account) more
+  pub order : IsInOrder (time_after 0 before) more

@@ -2,16 +2,18 @@
 ghost use Rattle.std.specs.Prelude.{◌≡◌, ◌⊎◌, ◌<◌, ◌≤◌, ◌+◌, ◌++◌, [], ◌∷◌, List, ℕ, length, max, All, IsTrue, IfOk, IfErr, OnOk, IsErrOf, ◌↔◌};
 ghost use Rattle.desk_journal.specs.Frames.{Frame, HasStamps, StandsFor, frames, last_checksum, entries_of};
 ghost use Rattle.desk_journal.specs.Batches.{batch_of, frames_of};
-ghost use Rattle.desk_journal.specs.Disks.{IsDurable};
-ghost use Rattle.desk_journal.specs.Faults.{HasAppendFault, HasOpenFault, HasPackFault};
+ghost use Rattle.desk_journal.specs.Disks.{IsDurable, IsUntouched};
+ghost use Rattle.desk_journal.specs.Faults.{HasAppendFault, HasBeginFault, HasOpenFault, HasPackFault, HasWriteFault};
 ghost use Rattle.desk_journal.specs.Reading.{IsWhole};
-ghost use Rattle.desk_journal.specs.Stamps.{IsStamp, StampView, time_after};
+ghost use Rattle.desk_journal.specs.Stamps.{AddsStamps, IsStamp, StampView, time_after};
 
 use crate::JournalFault;
+use crate::checksum::first;
 use crate::pack::pack;
 use crate::publish::publish;
-use crate::recovery::recover;
+use crate::recovery::{begin, recover};
 use crate::stamp::{Stamp, last_time};
+use crate::unchanged::is_unchanged;
 use sqlite_disk::Disk;
 use std::alloc::Global;
 
@@ -65,7 +67,7 @@ fn has_room(count: u32, more: usize) -> bool
 }
 
 impl<D: Disk> Journal<D> {
-    ghost use Rattle.desk_journal.specs.Kept.{KeepsFrames, IsKept, disk_of, stamp_of};
+    ghost use Rattle.desk_journal.specs.Kept.{KeepsFrames, KeepsStamps, IsKept, IsUnchanged, disk_of, end_of, stamp_of};
 
     // Appends a batch that isn't empty, and for which there is room.
     fn add(&mut self, batch: &[Vec<u8>]) -> Result<(), JournalFault>
@@ -80,6 +82,8 @@ impl<D: Disk> Journal<D> {
             → IsErrOf result JournalFault.Full → KeepsFrames D.Disk.seen D.Disk.may_leave D.Disk.is_usable fs self.new }
         ensures stamp { self.new.stamp ≡ self.old.stamp }
         ensures clean { D.Disk.is_clean self.new.disk ≡ D.Disk.is_clean self.old.disk }
+        ensures never { IsErrOf result JournalFault.Changed → ⊥ }
+        ensures is_stamp { IsStamp self.old.stamp }
         ensures cause { (fs : List Frame) → KeepsFrames D.Disk.seen D.Disk.may_leave D.Disk.is_usable fs self.old
             → IfErr result (HasAppendFault (D.Disk.faults self.old.disk) (D.Disk.faults self.new.disk) (entries_of fs) batch.now) }
     {
@@ -106,6 +110,7 @@ impl<D: Disk> Journal<D> {
 
     /// Appends a batch, with the journal's stamp at each entry. At `Ok` its entries are kept after those before them. Whatever a crash
     /// leaves at any moment within the call stands for the entries before it, with all of the batch or none of it.
+    /// Before a batch is written, the file's end is looked at: at `Changed` it isn't where the journal left it, and nothing is written.
     /// At `Full` the journal is as it was: there would be more than 1,000,000 entries, or an entry has more than
     /// 16,777,216 bytes. At another `Err` open it anew.
     pub fn append(&mut self, batch: &[Vec<u8>]) -> Result<(), JournalFault>
@@ -116,12 +121,21 @@ impl<D: Disk> Journal<D> {
         ensures refused { (entries : List (List ℕ)) → IsKept D.Disk.seen D.Disk.may_leave D.Disk.is_usable entries self.old
             → IsErrOf result JournalFault.Full → IsKept D.Disk.seen D.Disk.may_leave D.Disk.is_usable entries self.new }
         ensures stamp { stamp_of self.new ≡ stamp_of self.old }
-        ensures clean { D.Disk.is_clean (disk_of self.new) ≡ D.Disk.is_clean (disk_of self.old) }
+        ensures clean { IsTrue (D.Disk.is_clean (disk_of self.new)) → IsTrue (D.Disk.is_clean (disk_of self.old)) }
+        // A batch is written only after the end as the journal left it.
+        ensures unchanged { 0 < length batch.now → OnOk result (IsTrue (D.Disk.is_clean (disk_of self.new)) → IsUnchanged (D.Disk.seen (disk_of self.old)) (end_of self.old)) }
+        // Where nothing but the journal has written to its file, it isn't called changed.
+        ensures changed { (entries : List (List ℕ)) → IsKept D.Disk.seen D.Disk.may_leave D.Disk.is_usable entries self.old
+            → IsErrOf result JournalFault.Changed → IsTrue (D.Disk.is_clean (disk_of self.new)) → ⊥ }
+        ensures untouched { IsErrOf result JournalFault.Changed → IsUntouched D.Disk.seen D.Disk.may_leave (disk_of self.old) (disk_of self.new) }
         ensures cause { (entries : List (List ℕ)) → IsKept D.Disk.seen D.Disk.may_leave D.Disk.is_usable entries self.old
             → IfErr result (HasAppendFault (D.Disk.faults (disk_of self.old)) (D.Disk.faults (disk_of self.new)) entries batch.now) }
         // Each frame says how many entries were durable before its batch, and has the journal's stamp.
         ensures numbered { (fs : List Frame) → KeepsFrames D.Disk.seen D.Disk.may_leave D.Disk.is_usable fs self.old
             → OnOk result (KeepsFrames D.Disk.seen D.Disk.may_leave D.Disk.is_usable (fs ++ frames_of (length fs) (stamp_of self.old) batch.now) self.new) }
+        // So the entries have the journal's account, and none has a time before that of the entry before it.
+        ensures stamped { (stamps : List StampView) → KeepsStamps D.Disk.seen D.Disk.may_leave D.Disk.is_usable stamps self.old
+            → OnOk result ((after : List StampView) × AddsStamps (stamp_of self.old).account stamps after × KeepsStamps D.Disk.seen D.Disk.may_leave D.Disk.is_usable after self.new) }
     {
         if batch.is_empty() {
             return Ok(());
@@ -132,6 +146,9 @@ impl<D: Disk> Journal<D> {
         if !has_room(self.count, batch.len()) {
             return Err(JournalFault::Full);
         }
+        if !is_unchanged(&mut self.disk, self.end)? {
+            return Err(JournalFault::Changed);
+        }
         self.add(batch)
     }
 
@@ -141,15 +158,17 @@ impl<D: Disk> Journal<D> {
             → IsKept D.Disk.seen D.Disk.may_leave D.Disk.is_usable entries self.new }
         ensures frames { (fs : List Frame) → KeepsFrames D.Disk.seen D.Disk.may_leave D.Disk.is_usable fs self.old
             → KeepsFrames D.Disk.seen D.Disk.may_leave D.Disk.is_usable fs self.new }
+        ensures stamped { (stamps : List StampView) → KeepsStamps D.Disk.seen D.Disk.may_leave D.Disk.is_usable stamps self.old
+            → KeepsStamps D.Disk.seen D.Disk.may_leave D.Disk.is_usable stamps self.new }
         ensures disk { disk_of self.new ≡ disk_of self.old }
         ensures stamp { stamp_of self.new ≡ record { time = max (stamp_of self.old).time time; account = (stamp_of self.old).account } }
     {
         self.stamp.not_before(time);
     }
 
-    /// Opens the journal of a file that a crash may have left, and gives its entries. What is appended gets this stamp, with the time
-    /// of the last entry where that is later. A crash within the call leaves a file that stands for the same entries. An `Err` gives the
-    /// disk back.
+    /// Opens the journal of a file that a crash may have left, and gives its entries, of which there is at least one. What is appended gets
+    /// this stamp, with the time of the last entry where that is later. A crash within the call leaves a file that stands for the same
+    /// entries. An `Err` gives the disk back.
     pub fn open(
         alloc: Global,
         mut disk: D,
@@ -166,12 +185,11 @@ impl<D: Disk> Journal<D> {
         ensures time { (file : List ℕ) (stamps : List StampView) → IsDurable D.Disk.seen D.Disk.may_leave D.Disk.is_usable file disk → HasStamps file stamps
             → IfOk result (λ opened. IsTrue (D.Disk.is_clean (disk_of opened.0))
             → (stamp_of opened.0).time ≡ max stamp.time (time_after 0 stamps)) }
+        ensures some { IfOk result (λ opened. 0 < length opened.1.items) }
         ensures few { IfOk result (λ opened. length opened.1.items ≤ 1000000) }
-        // Where an entry is damaged, or the file is of the format before this one, nothing is written.
-        ensures untouched { (file : List ℕ) (number : ℕ) → IsDurable D.Disk.seen D.Disk.may_leave D.Disk.is_usable file disk
-            → IfErr result (λ e. e.0 ≡ JournalFault.Damaged number → IsDurable D.Disk.seen D.Disk.may_leave D.Disk.is_usable file e.1) }
-        ensures older { (file : List ℕ) → IsDurable D.Disk.seen D.Disk.may_leave D.Disk.is_usable file disk
-            → IfErr result (λ e. e.0 ≡ JournalFault.Older → IsDurable D.Disk.seen D.Disk.may_leave D.Disk.is_usable file e.1) }
+        // Unless a write or a sync has failed, nothing is written.
+        ensures untouched { (file : List ℕ) → IsDurable D.Disk.seen D.Disk.may_leave D.Disk.is_usable file disk
+            → IfErr result (λ e. IsDurable D.Disk.seen D.Disk.may_leave D.Disk.is_usable file e.1 ⊎ HasWriteFault e.0) }
     {
         match recover(alloc, &mut disk) {
             Err(fault) => Err((fault, disk)),
@@ -188,6 +206,34 @@ impl<D: Disk> Journal<D> {
                 };
                 Ok((journal, found.entries))
             }
+        }
+    }
+
+    /// Begins a journal in a file that has no entries, as a crash may have left it. What is appended gets this stamp. A crash within the
+    /// call leaves a file that has none either. An `Err` gives the disk back.
+    pub fn begin(alloc: Global, mut disk: D, stamp: Stamp) -> Result<Journal<D>, (JournalFault, D)>
+        ensures kept { (file : List ℕ) → IsDurable D.Disk.seen D.Disk.may_leave D.Disk.is_usable file disk → IfOk result (λ journal. IsTrue (D.Disk.is_clean (disk_of journal))
+            → StandsFor file [] × IsWhole file × IsKept D.Disk.seen D.Disk.may_leave D.Disk.is_usable [] journal) }
+        ensures crash { (file : List ℕ) (entries : List (List ℕ)) → IsDurable D.Disk.seen D.Disk.may_leave D.Disk.is_usable file disk → StandsFor file entries
+            → IfErr result (λ e. IsTrue (D.Disk.is_clean e.1) → (c : List ℕ) → D.Disk.may_leave e.1 c → StandsFor c entries) }
+        ensures cause { (file : List ℕ) → IsDurable D.Disk.seen D.Disk.may_leave D.Disk.is_usable file disk
+            → IfErr result (λ e. IsTrue (D.Disk.is_clean e.1) → HasBeginFault (D.Disk.faults disk) (D.Disk.faults e.1) file e.0) }
+        ensures stamp { IfOk result (λ journal. stamp_of journal ≡ stamp) }
+        // Unless a write or a sync has failed, nothing is written.
+        ensures untouched { (file : List ℕ) → IsDurable D.Disk.seen D.Disk.may_leave D.Disk.is_usable file disk
+            → IfErr result (λ e. IsDurable D.Disk.seen D.Disk.may_leave D.Disk.is_usable file e.1 ⊎ HasWriteFault e.0) }
+    {
+        match begin(alloc, &mut disk) {
+            Err(fault) => Err((fault, disk)),
+            Ok(()) => Ok(Journal {
+                disk,
+                end: 0,
+                count: 0,
+                last: first(),
+                stamp,
+                front: Vec::new(alloc),
+                buffer: Vec::new(alloc),
+            }),
         }
     }
 

@@ -1,6 +1,6 @@
 //! Laws of the definitions, each the contract of a function that does nothing.
 ghost use Rattle.desk_journal.specs.Batches.{TimesNeverGoBack};
-ghost use Rattle.desk_journal.specs.Damage.{CutFilesKeepTheFirst, NoByteHidesAnEntry, NoEntryIsAnother};
+ghost use Rattle.desk_journal.specs.Damage.{CutFilesKeepTheFirst, NoByteChangesAStamp, NoByteHidesAnEntry, NoEntryIsAnother};
 ghost use Rattle.desk_journal.specs.Frames.{HaveOneListOfStamps, StandForOneList};
 
 /// A file stands for at most one list of entries.
@@ -27,6 +27,12 @@ pub fn no_entry_is_another()
 #[tactic(auto, using(crate::proofs::HiddenLemmas::no_byte_hides_an_entry))]
 pub fn no_byte_hides_an_entry()
     ensures { NoByteHidesAnEntry }
+{}
+
+/// The same of the stamps: where entries and their stamps are read from such a file, they are those that it had.
+#[tactic(auto, using(crate::proofs::HiddenLemmas::no_byte_changes_a_stamp))]
+pub fn no_byte_changes_a_stamp()
+    ensures { NoByteChangesAStamp }
 {}
 
 /// Where a file was cut and entries are read from it, they are the first of those that it had.

@@ -12,13 +12,14 @@ mod pack;
 mod publish;
 mod recovery;
 mod stamp;
+mod unchanged;
 mod walk;
 
 pub use fault::JournalFault;
 pub use journal::Journal;
 pub use laws::{
-    cut_files_keep_the_first, has_one_list_of_stamps, no_byte_hides_an_entry, no_entry_is_another,
-    stands_for_one_list, times_never_go_back,
+    cut_files_keep_the_first, has_one_list_of_stamps, no_byte_changes_a_stamp,
+    no_byte_hides_an_entry, no_entry_is_another, stands_for_one_list, times_never_go_back,
 };
-pub use recovery::{Recovered, recover, stamped_in, tail_in};
+pub use recovery::{stamped_in, tail_in};
 pub use stamp::Stamp;

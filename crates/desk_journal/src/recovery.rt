@@ -1,18 +1,17 @@
 //! A file that a crash may have left: its entries are read, and what a crash left after them is cut.
-ghost use Rattle.std.specs.Prelude.{◌≡◌, ◌<◌, ◌≤◌, ◌+◌, ◌^◌, ℕ, [], ◌∷◌, ◌++◌, List, length, IsTrue, IfOk, IfErr, OnOk, IsErrOf, MatchResult, ◌↔◌};
-ghost use Rattle.sqlite_disk.specs.Disk.{CountsFault, MoreFaults};
+ghost use Rattle.std.specs.Prelude.{◌≡◌, ◌⊎◌, ◌<◌, ◌≤◌, ◌+◌, ◌^◌, ℕ, [], ◌∷◌, ◌++◌, List, length, IsTrue, IfOk, IfErr, IfSome, OnOk, IsErrOf, MatchResult, ◌↔◌};
+ghost use Rattle.sqlite_disk.specs.Disk.{MoreFaults};
 ghost use Rattle.desk_journal.specs.Frames.{HasStamps, IsShut, StandsFor, StandsStamped};
 ghost use Rattle.desk_journal.specs.Batches.{batch_of};
 ghost use Rattle.desk_journal.specs.Disks.{IsDurable};
-ghost use Rattle.desk_journal.specs.Faults.{HasFileFault, HasOpenFault, HasReadFault, HasWriteFault};
+ghost use Rattle.desk_journal.specs.Faults.{HasBeginFault, HasDiskFault, HasFileFault, HasOpenFault, HasReadFault, HasWriteFault};
 ghost use Rattle.desk_journal.specs.Reading.{IsFound, IsOlder, IsTail, IsWhole};
-ghost use Rattle.desk_journal.specs.Recovered.{EndsForeign, IsRepaired};
+ghost use Rattle.desk_journal.specs.Recovered.{EndsForeign, Finds, IsRepaired};
 
 use crate::JournalFault;
-use crate::checksum::first;
 use crate::latch::{cut_behind, write_shut};
 use crate::stamp::Stamp;
-use crate::walk::{is_foreign, walk_entries};
+use crate::walk::{count_entries, is_foreign, walk_entries};
 use sqlite_disk::Disk;
 use std::alloc::Global;
 
@@ -97,65 +96,96 @@ pub fn stamped_in(alloc: Global, bytes: &[u8]) -> Result<(Vec<Vec<u8>>, Vec<Stam
     Ok((found.entries, found.stamps))
 }
 
-/// What opening a journal of these bytes would cut off: all that comes after its shut latch. At most two bytes have none. An `Err` is
-/// as that of `stamped_in`: opening would cut nothing off.
-pub fn tail_in<'a>(alloc: Global, bytes: &'a [u8]) -> Result<&'a [u8], JournalFault>
+/// What opening a journal of these bytes would cut off: all that comes after its shut latch. A file without entries isn't opened, so there
+/// it is nothing. An `Err` is as that of `stamped_in`: opening would cut nothing off. No memory is taken.
+pub fn tail_in(bytes: &[u8]) -> Result<&[u8], JournalFault>
     ensures tail { IfOk result (λ tail. IsTail bytes.now tail.now) }
     ensures whole { OnOk result (IsWhole bytes.now) }
     ensures cause { IfErr result (HasFileFault bytes.now) }
     ensures older { IsErrOf result (JournalFault.Damaged 1) → IsOlder bytes.now → ⊥ }
+    ensures memory { IsErrOf result JournalFault.OutOfMemory → ⊥ }
 {
     if bytes.len() <= 2 {
-        return Ok(bytes.split_at(bytes.len()).1);
+        return Ok(&[]);
     }
-    let found = read_file(alloc, bytes)?;
-    Ok(bytes.split_at(found.end + 2).1)
+    let counted = count_entries(bytes)?;
+    if ends_foreign(counted.rest, &counted.last, counted.count) {
+        return Err(JournalFault::Damaged(counted.count + 1));
+    }
+    if counted.count == 0 {
+        return Ok(&[]);
+    }
+    Ok(counted.rest.split_at(2).1)
 }
 
-// A journal without entries, in a file of at most two bytes.
-fn unbegun<D: Disk>(alloc: Global, disk: &mut D) -> Result<Recovered, JournalFault>
-    requires { IsTrue (D.Disk.is_usable disk.old) }
-    ensures begun { (file : List ℕ) → length file ≤ 2 → IsDurable D.Disk.seen D.Disk.may_leave D.Disk.is_usable file disk.old
-        → IfOk result (λ r. IsRepaired D.Disk.seen D.Disk.may_leave D.Disk.is_usable file r.entries.items r.stamps.items r.last r.end disk.new) }
-    ensures none { IfOk result (λ r. r.entries.items ≡ []) }
-    ensures crash { (file : List ℕ) → length file ≤ 2 → IsDurable D.Disk.seen D.Disk.may_leave D.Disk.is_usable file disk.old
-        → (c : List ℕ) → D.Disk.may_leave disk.new c → length c ≤ 2 }
-    ensures clean { D.Disk.is_clean disk.new ≡ D.Disk.is_clean disk.old }
-    ensures faults { CountsFault result (D.Disk.faults disk.old) (D.Disk.faults disk.new) }
-    ensures cause { IfErr result HasWriteFault }
-{
-    write_shut(disk)?;
-    Ok(Recovered {
-        entries: Vec::new(alloc),
-        stamps: Vec::new(alloc),
-        end: 0,
-        last: first(),
-    })
-}
-
-/// Reads the entries of a file that a crash may have left, and cuts what comes after its shut latch. A crash within it leaves a file
-/// that stands for the same entries. Where an entry is damaged, nothing is written.
-pub fn recover<D: Disk>(alloc: Global, disk: &mut D) -> Result<Recovered, JournalFault>
-    ensures entries { (file : List ℕ) → IsDurable D.Disk.seen D.Disk.may_leave D.Disk.is_usable file disk.old
-        → IfOk result (λ r. IsTrue (D.Disk.is_clean disk.new) → IsRepaired D.Disk.seen D.Disk.may_leave D.Disk.is_usable file r.entries.items r.stamps.items r.last r.end disk.new) }
-    ensures few { IfOk result (λ r. length r.entries.items ≤ 1000000) }
-    ensures crash { (file : List ℕ) (entries : List (List ℕ)) → IsDurable D.Disk.seen D.Disk.may_leave D.Disk.is_usable file disk.old → StandsFor file entries
-        → IsTrue (D.Disk.is_clean disk.new) → (c : List ℕ) → D.Disk.may_leave disk.new c → StandsFor c entries }
+// The entries of a disk's file, and where they end: none of a file of at most two bytes. Nothing is written.
+fn read_disk<D: Disk>(alloc: Global, disk: &mut D) -> Result<Option<Recovered>, JournalFault>
+    ensures found { (file : List ℕ) → IsDurable D.Disk.seen D.Disk.may_leave D.Disk.is_usable file disk.old → IfOk result (λ found. IsTrue (D.Disk.is_clean disk.new)
+        → Finds file found) }
+    ensures durable { (file : List ℕ) → IsDurable D.Disk.seen D.Disk.may_leave D.Disk.is_usable file disk.old → IsDurable D.Disk.seen D.Disk.may_leave D.Disk.is_usable file disk.new }
+    ensures usable { OnOk result (IsTrue (D.Disk.is_usable disk.new)) }
+    ensures few { IfOk result (λ found. IfSome found (λ r. (length r.entries.items ≤ 1000000) × (r.end + 2 < 2 ^ 64))) }
+    ensures clean { IsTrue (D.Disk.is_clean disk.new) → IsTrue (D.Disk.is_clean disk.old) }
+    ensures faults { OnOk result (D.Disk.faults disk.new ≡ D.Disk.faults disk.old) }
     ensures cause { (file : List ℕ) → IsDurable D.Disk.seen D.Disk.may_leave D.Disk.is_usable file disk.old
-        → IfErr result (λ e. IsTrue (D.Disk.is_clean disk.new) → HasOpenFault (D.Disk.faults disk.old) (D.Disk.faults disk.new) file e) }
-    ensures untouched { (file : List ℕ) (number : ℕ) → IsDurable D.Disk.seen D.Disk.may_leave D.Disk.is_usable file disk.old → IsErrOf result (JournalFault.Damaged number)
-        → IsDurable D.Disk.seen D.Disk.may_leave D.Disk.is_usable file disk.new }
-    ensures older { (file : List ℕ) → IsDurable D.Disk.seen D.Disk.may_leave D.Disk.is_usable file disk.old → IsErrOf result JournalFault.Older
-        → IsDurable D.Disk.seen D.Disk.may_leave D.Disk.is_usable file disk.new }
+        → IfErr result (λ e. IsTrue (D.Disk.is_clean disk.new) → HasDiskFault (D.Disk.faults disk.old) (D.Disk.faults disk.new) file e) }
 {
     if !disk.may_be_used() {
         return Err(JournalFault::Sync);
     }
     let bytes = read_all(alloc, disk)?;
     if bytes.len() <= 2 {
-        return unbegun(alloc, disk);
+        return Ok(None);
     }
     let found = read_file(alloc, &bytes)?;
-    cut_behind(disk, found.end)?;
-    Ok(found)
+    Ok(Some(found))
+}
+
+/// Reads the entries of a file that a crash may have left, and cuts what comes after its shut latch. A crash within it leaves a file
+/// that stands for the same entries. Where an entry is damaged, or there is none, nothing is written.
+pub fn recover<D: Disk>(alloc: Global, disk: &mut D) -> Result<Recovered, JournalFault>
+    ensures entries { (file : List ℕ) → IsDurable D.Disk.seen D.Disk.may_leave D.Disk.is_usable file disk.old
+        → IfOk result (λ r. IsTrue (D.Disk.is_clean disk.new) → IsRepaired D.Disk.seen D.Disk.may_leave D.Disk.is_usable file r.entries.items r.stamps.items r.last r.end disk.new) }
+    ensures some { IfOk result (λ r. 0 < length r.entries.items) }
+    ensures few { IfOk result (λ r. length r.entries.items ≤ 1000000) }
+    ensures crash { (file : List ℕ) (entries : List (List ℕ)) → IsDurable D.Disk.seen D.Disk.may_leave D.Disk.is_usable file disk.old → StandsFor file entries
+        → IsTrue (D.Disk.is_clean disk.new) → (c : List ℕ) → D.Disk.may_leave disk.new c → StandsFor c entries }
+    ensures cause { (file : List ℕ) → IsDurable D.Disk.seen D.Disk.may_leave D.Disk.is_usable file disk.old
+        → IfErr result (λ e. IsTrue (D.Disk.is_clean disk.new) → HasOpenFault (D.Disk.faults disk.old) (D.Disk.faults disk.new) file e) }
+    ensures untouched { (file : List ℕ) → IsDurable D.Disk.seen D.Disk.may_leave D.Disk.is_usable file disk.old
+        → IfErr result (λ e. IsDurable D.Disk.seen D.Disk.may_leave D.Disk.is_usable file disk.new ⊎ HasWriteFault e) }
+{
+    match read_disk(alloc, disk)? {
+        None => Err(JournalFault::NoEntries),
+        Some(found) => {
+            if found.entries.is_empty() {
+                return Err(JournalFault::NoEntries);
+            }
+            cut_behind(disk, found.end)?;
+            Ok(found)
+        }
+    }
+}
+
+/// Makes a journal without entries of a file that has none, as a crash may have left it: a shut latch, and nothing after it. A crash within
+/// it leaves a file that has none either. Where an entry is damaged, or there are entries, nothing is written.
+pub fn begin<D: Disk>(alloc: Global, disk: &mut D) -> Result<(), JournalFault>
+    ensures begun { (file : List ℕ) → IsDurable D.Disk.seen D.Disk.may_leave D.Disk.is_usable file disk.old
+        → OnOk result (IsTrue (D.Disk.is_clean disk.new) → StandsFor file [] × IsWhole file × IsDurable D.Disk.seen D.Disk.may_leave D.Disk.is_usable (45 ∷ 45 ∷ []) disk.new) }
+    ensures crash { (file : List ℕ) (entries : List (List ℕ)) → IsDurable D.Disk.seen D.Disk.may_leave D.Disk.is_usable file disk.old → StandsFor file entries
+        → IsTrue (D.Disk.is_clean disk.new) → (c : List ℕ) → D.Disk.may_leave disk.new c → StandsFor c entries }
+    ensures cause { (file : List ℕ) → IsDurable D.Disk.seen D.Disk.may_leave D.Disk.is_usable file disk.old
+        → IfErr result (λ e. IsTrue (D.Disk.is_clean disk.new) → HasBeginFault (D.Disk.faults disk.old) (D.Disk.faults disk.new) file e) }
+    ensures untouched { (file : List ℕ) → IsDurable D.Disk.seen D.Disk.may_leave D.Disk.is_usable file disk.old
+        → IfErr result (λ e. IsDurable D.Disk.seen D.Disk.may_leave D.Disk.is_usable file disk.new ⊎ HasWriteFault e) }
+{
+    match read_disk(alloc, disk)? {
+        None => write_shut(disk),
+        Some(found) => {
+            if !found.entries.is_empty() {
+                return Err(JournalFault::Taken);
+            }
+            cut_behind(disk, found.end)
+        }
+    }
 }

@@ -2,7 +2,7 @@
 ghost use Rattle.std.specs.Prelude.{◌≡◌, ◌<◌, ◌≤◌, ◌↔◌, [], ◌∷◌, length, IsTrue, IfOk, IfErr, IsErrOf};
 ghost use Rattle.desk_journal.specs.Frames.{IsShut};
 ghost use Rattle.desk_journal.specs.Faults.{HasFileFault};
-ghost use Rattle.desk_journal.specs.Reading.{HasFirst, IsDamaged, IsForeign, IsOlder, IsStampedTo, SaysOther};
+ghost use Rattle.desk_journal.specs.Reading.{HasFirst, IsCountedTo, IsDamaged, IsForeign, IsOlder, IsStampedTo, SaysOther};
 
 use crate::JournalFault;
 use crate::checksum::first;
@@ -20,10 +20,19 @@ pub struct Walked<'a> {
     pub rest: &'a [u8],
 }
 
+/// How many entries there are, the checksum of the last, and what comes after them.
+#[derive(Clone, Copy)]
+pub struct Counted<'a> {
+    pub count: u32,
+    pub last: [u8; 32],
+    pub rest: &'a [u8],
+}
+
 // What is said where the entry of this number is damaged.
 fn fault_at(bytes: &[u8], number: u32) -> JournalFault
     ensures cause { IsDamaged bytes.now number → HasFileFault bytes.now result }
     ensures older { result ≡ JournalFault.Damaged 1 → IsOlder bytes.now → ⊥ }
+    ensures memory { result ≡ JournalFault.OutOfMemory → ⊥ }
 {
     if number == 1 && is_older(bytes) {
         return JournalFault::Older;
@@ -64,6 +73,39 @@ pub fn walk_entries<'a>(alloc: Global, bytes: &'a [u8]) -> Result<Walked<'a>, Jo
         stamps,
         last,
         rest,
+    })
+}
+
+/// The same, where no entry is kept: how many there are up to the shut latch.
+pub fn count_entries<'a>(bytes: &'a [u8]) -> Result<Counted<'a>, JournalFault>
+    requires { 2 < length bytes.now }
+    ensures read { IfOk result (λ c. IsCountedTo bytes.now c.count c.last c.rest.now) }
+    ensures few { IfOk result (λ c. c.count ≤ 1000000) }
+    ensures shut { IfOk result (λ c. IsShut c.rest.now) }
+    ensures cause { IfErr result (HasFileFault bytes.now) }
+    ensures older { IsErrOf result (JournalFault.Damaged 1) → IsOlder bytes.now → ⊥ }
+    ensures memory { IsErrOf result JournalFault.OutOfMemory → ⊥ }
+{
+    let mut count = 0u32;
+    let mut last = first();
+    let mut left = bytes;
+    while !is_shut(left) {
+        if count as usize >= MOST {
+            return Err(JournalFault::Full);
+        }
+        match next_frame(left, &last) {
+            None => return Err(fault_at(bytes, count + 1)),
+            Some(found) => {
+                count += 1;
+                last = found.checksum;
+                left = found.rest;
+            }
+        }
+    }
+    Ok(Counted {
+        count,
+        last,
+        rest: left,
     })
 }
 

@@ -1,3 +1,5 @@
 pub mod NumberLemmas
+pub mod LineLemmas
 pub mod StrikeLemmas
+pub mod StruckLemmas
 pub mod CallerLemmas

@@ -1,4 +1,6 @@
+pub mod Line
 pub mod Strike
+pub mod Restore
 pub mod Corrections
 pub mod Laws
 pub mod Words

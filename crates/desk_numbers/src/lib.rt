@@ -21,5 +21,9 @@ pub use laws::{
 };
 pub use moved::{Moved, MovedNumbers};
 pub use numbers::RowNumbers;
-pub use strikes::{Corrections, Strike, remark_in, strike_entry, strike_in, strikes_are_read_back};
+pub use strikes::{
+    Corrections, Restore, Strike, a_restore_undoes_its_strike, no_entry_is_both, remark_in,
+    restore_entry, restore_in, restores_are_read_back, strike_entry, strike_in,
+    strikes_are_read_back,
+};
 pub use subjects::{Found, SubjectName};

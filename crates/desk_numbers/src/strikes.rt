@@ -1,10 +1,16 @@
-//! Entries by which a row is struck, and what they come to: the rows that are struck and the numbers that are retired.
+//! Entries by which a row is struck or restored, and what they come to: the rows that are struck and the numbers that are retired.
 
 mod corrections;
 mod laws;
+mod line;
+mod restore;
 mod strike;
 mod words;
 
 pub use corrections::Corrections;
-pub use laws::strikes_are_read_back;
-pub use strike::{Strike, remark_in, strike_entry, strike_in};
+pub use laws::{
+    a_restore_undoes_its_strike, no_entry_is_both, restores_are_read_back, strikes_are_read_back,
+};
+pub use line::remark_in;
+pub use restore::{Restore, restore_entry, restore_in};
+pub use strike::{Strike, strike_entry, strike_in};

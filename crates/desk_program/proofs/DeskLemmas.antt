@@ -6,10 +6,11 @@ use Rattle.desk_journal.specs.Words.{IsKept, StandsFor, batch_of}
 use Rattle.desk_journal.proofs.CallerLemmas.{one_list, rest_kept}
 use Rattle.desk_session.proofs.CallerLemmas.{unanswered}
 use Rattle.desk_session.specs.Words.{IsAllOrNone, IsPromised, IsServed, left_by, lines_of, unfinished_of}
+use Rattle.desk_numbers.specs.declared.strikes.restore.Restore.{Restore}
 use Rattle.desk_numbers.specs.declared.strikes.strike.Strike.{Strike}
-use Rattle.desk_numbers.specs.Strikes.Words.{strike_entry}
+use Rattle.desk_numbers.specs.Strikes.Words.{restore_entry, strike_entry}
 use Rattle.desk_entries.specs.declared.standing.Standing.{Standing}
-use Rattle.desk_entries.specs.Words.{IsDocketed, IsHistory, IsReadyAt, StandsAfter, later_file, strike_for}
+use Rattle.desk_entries.specs.Words.{IsDocketed, IsHistory, IsReadyAt, StandsAfter, later_file, restore_for, strike_for}
 use Rattle.desk_entries.proofs.CallerLemmas.{left_docketed}
 use Rattle.desk_warnings.specs.Words.{lines_taken}
 use Rattle.desk_warnings.proofs.CallerLemmas.{careful_history, keep_nothing}
@@ -116,6 +117,12 @@ pub one_strike : (c : List ℕ) (under : Standing) (entries : List (List ℕ)) (
     → StandsFor c entries ⊎ ((s : Strike) × (strike_for under entries row ≡ Ok s) × StandsFor c (entries ++ strike_entry s remark ∷ []))
 one_strike c under entries row strike remark is (inl stands) = inl stands
 one_strike c under entries row strike remark is (inr stands) = inr (strike, is, stands)
+
+-- or a restore
+pub one_restore : (c : List ℕ) (under : Standing) (entries : List (List ℕ)) (row : ℕ) (restore : Restore) (remark : List ℕ) → restore_for under entries row ≡ Ok restore → StandsFor c entries ⊎ StandsFor c (entries ++ restore_entry restore remark ∷ [])
+    → StandsFor c entries ⊎ ((r : Restore) × (restore_for under entries row ≡ Ok r) × StandsFor c (entries ++ restore_entry r remark ∷ []))
+one_restore c under entries row restore remark is (inl stands) = inl stands
+one_restore c under entries row restore remark is (inr stands) = inr (restore, is, stands)
 
 -- what is appended is a docket's first court's file
 pub first_file : (c : List ℕ) (entries batch : List (List ℕ)) (file : List ℕ) → entries ≡ [] → batch ≡ file ∷ [] → StandsFor c [] ⊎ StandsFor c ([] ++ batch)

@@ -1,11 +1,17 @@
 pub mod AsOfLemmas
+pub mod ChangedLemmas
+pub mod CorrectionLemmas
 pub mod DeskLemmas
 pub mod FaultLemmas
 pub mod FaultWordLemmas
 pub mod FileLemmas
+pub mod LogJsonLemmas
 pub mod LogLemmas
 pub mod NoteLemmas
 pub mod OpenLemmas
+pub mod RowCaseLemmas
 pub mod RowsLemmas
+pub mod StruckLemmas
+pub mod TextLemmas
 pub mod TogetherLemmas
 pub mod TrialLemmas

@@ -1,12 +1,14 @@
 -- The log of entries, one after another.
 use Rattle.std.proofs.Common.{◌≡◌, ◌∙◌, ◌+◌, ◌<◌, ◌≤◌, ℕ, List, [], ◌∷◌, ◌++◌, drop, get_or, length, sym, ap, append_assoc, append-nil, arith}
-use Rattle.std.specs.Prelude.{◌&&◌, ◌==◌, Bool, Option, None, Some, Vec, codes, false, if◌then◌else◌, is_some, true}
+use Rattle.std.specs.Prelude.{Option, None, Some, Vec}
 use Rattle.std.specs.declared.alloc.Global.{Global}
 use Rattle.std.proofs.lemmas.List.{drop-drop, drop-map, drop_all, drop_more}
+use Rattle.row_forms.specs.Words.{CourtNames}
 use Rattle.desk_journal.specs.Words.{StampView, batch_of}
-use Rattle.desk_entries.specs.Words.{Note, court_file, note_in, row_only}
+use Rattle.desk_entries.specs.Words.{Note, note_in, row_only}
 use Rattle.desk_program.specs.declared.log.LogChoice.{LogChoice}
-use Rattle.desk_program.specs.Log.{entry_log, first_log, first_stamp, entry_heading, is_row_asked, is_stamp_asked, later_log, log_text}
+use Rattle.desk_program.specs.EntryKind.{kind_of}
+use Rattle.desk_program.specs.Log.{cases_looked_up, entry_log, first_log, first_stamp, later_log, log_by, log_text}
 
 -- a stamp of this time and this account
 pub stamp_of : (stamp : StampView) (time : ℕ) (account : List ℕ) → time ≡ stamp.time → account ≡ stamp.account → ◌≡◌ {A = StampView} (record { time = time; account = account }) stamp
@@ -21,23 +23,25 @@ counted_once entry = by (note_in entry)
     by (Some n) = omega arith
 
 -- before the first of the later entries
-pub log_first : (choice : LogChoice) (entries : List (Vec ℕ Global)) (stamps : List StampView) (stamp : StampView) (empty text : List ℕ) → empty ≡ [] → stamp ≡ first_stamp stamps
-    → text ≡ empty ++ first_log choice (batch_of entries) stamp
-    → text ++ later_log choice 1 (batch_of (drop 1 entries)) (drop 1 stamps) ≡ log_text choice (batch_of entries) stamps
-log_first choice entries stamps stamp empty text none same is =
-    ap (λ (t : List ℕ). t ++ later_log choice 1 (batch_of (drop 1 entries)) (drop 1 stamps))
-    (is ∙ ap (λ (t : List ℕ). t ++ first_log choice (batch_of entries) stamp) none ∙ ap (first_log choice (batch_of entries)) same)
-    ∙ ap (λ (l : List (List ℕ)). first_log choice (batch_of entries) (first_stamp stamps) ++ later_log choice 1 l (drop 1 stamps)) (sym (drop-map (λ (v : Vec ℕ Global). v.items) 1 entries))
+pub log_first : (names : CourtNames) (choice : LogChoice) (named : List (Option ℕ)) (entries : List (Vec ℕ Global)) (stamps : List StampView) (stamp : StampView) (empty text : List ℕ)
+    → named ≡ cases_looked_up names choice (batch_of entries) → empty ≡ [] → stamp ≡ first_stamp stamps
+    → text ≡ empty ++ first_log choice named (batch_of entries) stamp
+    → text ++ later_log choice named 1 (batch_of (drop 1 entries)) (drop 1 stamps) ≡ log_text names choice (batch_of entries) stamps
+log_first names choice named entries stamps stamp empty text cases none same is =
+    ap (λ (t : List ℕ). t ++ later_log choice named 1 (batch_of (drop 1 entries)) (drop 1 stamps))
+    (is ∙ ap (λ (t : List ℕ). t ++ first_log choice named (batch_of entries) stamp) none ∙ ap (first_log choice named (batch_of entries)) same)
+    ∙ ap (λ (l : List (List ℕ)). first_log choice named (batch_of entries) (first_stamp stamps) ++ later_log choice named 1 l (drop 1 stamps)) (sym (drop-map (λ (v : Vec ℕ Global). v.items) 1 entries))
+    ∙ ap (λ (l : List (Option ℕ)). log_by choice l (batch_of entries) stamps) cases
 
 -- the first of the entries that are left
-log_next : (choice : LogChoice) (number : ℕ) (entries : List (Vec ℕ Global)) (stamps : List StampView) (place : ℕ) (entry : Vec ℕ Global) → place < length entries → entry ≡ get_or entries place entry
-    → later_log choice number (batch_of (drop place entries)) (drop place stamps)
-    ≡ entry_log choice (note_in entry.items) number entry.items (first_stamp (drop place stamps)) ++ later_log choice (number + length (row_only (note_in entry.items) entry.items)) (batch_of (drop (place + 1) entries)) (drop (place + 1) stamps)
+log_next : (choice : LogChoice) (named : List (Option ℕ)) (number : ℕ) (entries : List (Vec ℕ Global)) (stamps : List StampView) (place : ℕ) (entry : Vec ℕ Global) → place < length entries → entry ≡ get_or entries place entry
+    → later_log choice named number (batch_of (drop place entries)) (drop place stamps)
+    ≡ entry_log choice named (kind_of (note_in entry.items)) number entry.items (first_stamp (drop place stamps)) ++ later_log choice named (number + length (row_only (note_in entry.items) entry.items)) (batch_of (drop (place + 1) entries)) (drop (place + 1) stamps)
 unfolding later_log
-log_next choice number entries stamps place entry lt is =
-    ap (λ (l : List (Vec ℕ Global)). later_log choice number (batch_of l) (drop place stamps)) (drop_more entries place entry lt)
-    ∙ ap (λ (e : Vec ℕ Global). later_log choice number (batch_of (e ∷ drop (place + 1) entries)) (drop place stamps)) (sym is)
-    ∙ ap (λ (l : List StampView). entry_log choice (note_in entry.items) number entry.items (first_stamp (drop place stamps)) ++ later_log choice (number + length (row_only (note_in entry.items) entry.items)) (batch_of (drop (place + 1) entries)) l)
+log_next choice named number entries stamps place entry lt is =
+    ap (λ (l : List (Vec ℕ Global)). later_log choice named number (batch_of l) (drop place stamps)) (drop_more entries place entry lt)
+    ∙ ap (λ (e : Vec ℕ Global). later_log choice named number (batch_of (e ∷ drop (place + 1) entries)) (drop place stamps)) (sym is)
+    ∙ ap (λ (l : List StampView). entry_log choice named (kind_of (note_in entry.items)) number entry.items (first_stamp (drop place stamps)) ++ later_log choice named (number + length (row_only (note_in entry.items) entry.items)) (batch_of (drop (place + 1) entries)) l)
     (drop-drop 1 place stamps)
 
 parts : (written text said after front left rest : List ℕ) → after ≡ text ++ said → after ≡ front ++ left → (written ++ front) ++ (left ++ rest) ≡ written ++ (text ++ (said ++ rest))
@@ -46,34 +50,23 @@ parts written text said after front left rest is halves =
     ∙ ap (λ (l : List ℕ). written ++ l) (sym (append_assoc front left rest) ∙ ap (λ (l : List ℕ). l ++ rest) (sym halves ∙ is) ∙ append_assoc text said rest)
 
 -- after one entry more
-pub log_more : (choice : LogChoice) (number next : ℕ) (entries : List (Vec ℕ Global)) (stamps : List StampView) (place : ℕ) (entry : Vec ℕ Global) (stamp : StampView) (written text after front left whole : List ℕ)
+pub log_more : (choice : LogChoice) (named : List (Option ℕ)) (number next : ℕ) (entries : List (Vec ℕ Global)) (stamps : List StampView) (place : ℕ) (entry : Vec ℕ Global) (stamp : StampView) (written text after front left whole : List ℕ)
     → place < length entries → entry ≡ get_or entries place entry → stamp ≡ first_stamp (drop place stamps) → next ≡ number + length (row_only (note_in entry.items) entry.items)
-    → written ++ (text ++ later_log choice number (batch_of (drop place entries)) (drop place stamps)) ≡ whole
-    → after ≡ text ++ entry_log choice (note_in entry.items) number entry.items stamp → after ≡ front ++ left
-    → (written ++ front) ++ (left ++ later_log choice next (batch_of (drop (place + 1) entries)) (drop (place + 1) stamps)) ≡ whole
-log_more choice number next entries stamps place entry stamp written text after front left whole lt is same counted so_far more halves =
-    let rest = λ (n : ℕ). later_log choice n (batch_of (drop (place + 1) entries)) (drop (place + 1) stamps) in
+    → written ++ (text ++ later_log choice named number (batch_of (drop place entries)) (drop place stamps)) ≡ whole
+    → after ≡ text ++ entry_log choice named (kind_of (note_in entry.items)) number entry.items stamp → after ≡ front ++ left
+    → (written ++ front) ++ (left ++ later_log choice named next (batch_of (drop (place + 1) entries)) (drop (place + 1) stamps)) ≡ whole
+log_more choice named number next entries stamps place entry stamp written text after front left whole lt is same counted so_far more halves =
+    let rest = λ (n : ℕ). later_log choice named n (batch_of (drop (place + 1) entries)) (drop (place + 1) stamps) in
     ap (λ (n : ℕ). (written ++ front) ++ (left ++ rest n)) counted
-    ∙ parts written text (entry_log choice (note_in entry.items) number entry.items (first_stamp (drop place stamps))) after front left (rest (number + length (row_only (note_in entry.items) entry.items)))
-    (more ∙ ap (λ (s : StampView). text ++ entry_log choice (note_in entry.items) number entry.items s) same) halves
-    ∙ ap (λ (l : List ℕ). written ++ (text ++ l)) (sym (log_next choice number entries stamps place entry lt is))
+    ∙ parts written text (entry_log choice named (kind_of (note_in entry.items)) number entry.items (first_stamp (drop place stamps))) after front left (rest (number + length (row_only (note_in entry.items) entry.items)))
+    (more ∙ ap (λ (s : StampView). text ++ entry_log choice named (kind_of (note_in entry.items)) number entry.items s) same) halves
+    ∙ ap (λ (l : List ℕ). written ++ (text ++ l)) (sym (log_next choice named number entries stamps place entry lt is))
     ∙ so_far
 
 -- after the last
-pub log_all : (choice : LogChoice) (number : ℕ) (entries : List (Vec ℕ Global)) (stamps : List StampView) (place : ℕ) (written text whole : List ℕ) → length entries ≤ place
-    → written ++ (text ++ later_log choice number (batch_of (drop place entries)) (drop place stamps)) ≡ whole → written ++ text ≡ whole
+pub log_all : (choice : LogChoice) (named : List (Option ℕ)) (number : ℕ) (entries : List (Vec ℕ Global)) (stamps : List StampView) (place : ℕ) (written text whole : List ℕ) → length entries ≤ place
+    → written ++ (text ++ later_log choice named number (batch_of (drop place entries)) (drop place stamps)) ≡ whole → written ++ text ≡ whole
 unfolding later_log
-log_all choice number entries stamps place written text whole le so_far =
-    ap (λ (l : List ℕ). written ++ l) (sym (append-nil text) ∙ ap (λ (l : List (Vec ℕ Global)). text ++ later_log choice number (batch_of l) (drop place stamps)) (sym (drop_all place entries le)))
+log_all choice named number entries stamps place written text whole le so_far =
+    ap (λ (l : List ℕ). written ++ l) (sym (append-nil text) ∙ ap (λ (l : List (Vec ℕ Global)). text ++ later_log choice named number (batch_of l) (drop place stamps)) (sym (drop_all place entries le)))
     ∙ so_far
-
--- what is written of the first entry, where it is asked for
-pub first_said : (choice : LogChoice) (entries : List (Vec ℕ Global)) (stamp : StampView) → (length entries == 0) ≡ false → is_some choice.row ≡ false → is_stamp_asked choice stamp ≡ true
-    → first_log choice (batch_of entries) stamp ≡ entry_heading (codes "court's file") stamp
-first_said choice [] stamp some row asked = cc some
-first_said choice (file ∷ later) stamp some row asked = by choice.row (is_stamp_asked choice stamp) row asked
-  where
-    by : (r : Option ℕ) (b : Bool) → is_some r ≡ false → b ≡ true → (if is_row_asked r (Some (court_file file.items)) 0 && b then entry_heading (codes "court's file") stamp ++ [] else []) ≡ entry_heading (codes "court's file") stamp
-    by None true h k = append-nil (entry_heading (codes "court's file") stamp)
-    by None false h k = cc k
-    by (Some r) b h k = cc h

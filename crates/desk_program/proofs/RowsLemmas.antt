@@ -1,16 +1,12 @@
--- The rows of entries and the changes to answers, written one after another.
-use Rattle.std.proofs.Common.{◌≡◌, ◌∙◌, ◌+◌, ◌<◌, ℕ, List, [], ◌∷◌, ◌++◌, length, length-append, map, take, refl, sym, ap, append_assoc, append-nil, arith}
-use Rattle.std.specs.Prelude.{Option, None, Some, Vec, false, get_or, is_none, true}
+-- The rows of entries, written one after another.
+use Rattle.std.proofs.Common.{◌≡◌, ◌∙◌, ◌+◌, ◌<◌, ℕ, List, [], ◌∷◌, ◌++◌, length, take, refl, sym, ap, append_assoc, append-nil, arith}
+use Rattle.std.specs.Prelude.{Option, None, Some, Vec, false, is_none, true}
 use Rattle.std.specs.declared.alloc.Global.{Global}
-use Rattle.std.proofs.lemmas.Grind.{flat_map-append}
-use Rattle.std.proofs.lemmas.List.{map-append, take_more}
 use Rattle.desk_journal.specs.Words.{batch_of}
-use Rattle.desk_entries.specs.declared.review.Difference.{Difference}
 use Rattle.desk_numbers.specs.declared.moved.Moved.{Moved}
 use Rattle.desk_entries.specs.declared.standing.Standing.{Standing}
-use Rattle.desk_entries.specs.Words.{Note, change_in, next_number, note_in, row_entries, row_only, row_written, rows_written}
+use Rattle.desk_entries.specs.Words.{Note, next_number, note_in, row_entries, row_only, row_written, rows_written}
 use Rattle.desk_entries.proofs.CallerLemmas.{no_rows_first, row_entries-more, rows_written-append}
-use Rattle.desk_program.specs.Rows.{change_text, changes_text}
 
 -- what is written before the first row
 pub rows_first : (under : Standing) (moved : List Moved) (head text : List ℕ) (entries : List (Vec ℕ Global)) → text ≡ [] ++ head → [] ++ text ≡ head ++ rows_written under moved 1 (row_entries (batch_of (take 1 entries)))
@@ -35,31 +31,6 @@ rows_more under moved written text then front left head kept entry number begun 
     ∙ append_assoc head (rows_written under moved 1 (row_entries kept)) (rows_written under moved number one)
     ∙ ap (λ (l : List ℕ). head ++ l)
     (ap (λ (n : ℕ). rows_written under moved 1 (row_entries kept) ++ rows_written under moved n one) (sym here) ∙ sym (rows_written-append under moved 1 (row_entries kept) one) ∙ ap (rows_written under moved 1) (sym (row_entries-more kept entry begun)))
-
--- the text of changes, after one more
-pub changes_text-more : (differences : List Difference) (i : ℕ) (difference : Difference) → i < length differences → difference ≡ get_or differences i difference
-    → changes_text (map change_in (take (i + 1) differences)) ≡ changes_text (map change_in (take i differences)) ++ change_text (change_in difference)
-changes_text-more differences i difference lt at =
-    ap (λ (l : List Difference). changes_text (map change_in l)) (take_more differences i difference lt)
-    ∙ ap changes_text (map-append change_in (take i differences) (get_or differences i difference ∷ []))
-    ∙ flat_map-append change_text (map change_in (take i differences)) (change_in (get_or differences i difference) ∷ [])
-    ∙ ap (λ (d : Difference). changes_text (map change_in (take i differences)) ++ (change_text (change_in d) ++ [])) (sym at)
-    ∙ ap (λ (l : List ℕ). changes_text (map change_in (take i differences)) ++ l) (append-nil (change_text (change_in difference)))
-
--- a text after four parts more
-pub parts_more : (text line entry said answer first second third fourth : List ℕ) → first ≡ text ++ line → second ≡ first ++ entry → third ≡ second ++ said → fourth ≡ third ++ answer
-    → fourth ≡ text ++ (((line ++ entry) ++ said) ++ answer)
-parts_more text line entry said answer first second third fourth one two three four =
-    four
-    ∙ ap (λ (l : List ℕ). l ++ answer) (three ∙ ap (λ (l : List ℕ). l ++ said) (two ∙ ap (λ (l : List ℕ). l ++ entry) one))
-    ∙ ap (λ (l : List ℕ). (l ++ said) ++ answer) (append_assoc text line entry)
-    ∙ ap (λ (l : List ℕ). l ++ answer) (append_assoc text (line ++ entry) said)
-    ∙ append_assoc text ((line ++ entry) ++ said) answer
-
--- no changes
-pub no_changes : (differences : List Difference) → map change_in differences ≡ [] → differences ≡ []
-no_changes [] none = refl
-no_changes (difference ∷ differences) none = cc none
 
 -- what is written of an entry that is no row, and of one that is
 pub no_row_written : (under : Standing) (moved : List Moved) (number : ℕ) (entry : List ℕ) → is_none (note_in entry) ≡ false → rows_written under moved number (row_only (note_in entry) entry) ≡ []

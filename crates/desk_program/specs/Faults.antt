@@ -16,6 +16,9 @@ abbrev pub journal_fault : JournalFault → DeskFault
 journal_fault (journal.Damaged number) = Journal (journal.Damaged number)
 journal_fault journal.Older = Journal journal.Older
 journal_fault journal.Full = Journal journal.Full
+journal_fault journal.NoEntries = NoJournal
+journal_fault journal.Taken = Taken
+journal_fault journal.Changed = Journal journal.Changed
 journal_fault journal.Read = Journal journal.Read
 journal_fault journal.Write = Journal journal.Write
 journal_fault journal.Sync = Journal journal.Sync

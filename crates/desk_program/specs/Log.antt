@@ -1,71 +1,40 @@
--- The log of a journal: each entry with what it is, when it was kept and by whom, and what it says.
-use Rattle.std.specs.Prelude.{ℕ, ◌+◌, ◌-◌, ◌/◌, ◌%◌, ◌&&◌, ◌||◌, Bool, true, false, ℤ, pos, List, [], ◌∷◌, ◌++◌, Option, Some, None, String, codes, drop, length, nat_eq, nat_le, nat_lt, string_bytes, take, if◌then◌else◌}
+-- The log of a journal: its entries that are asked for, as text or as JSON.
+use Rattle.std.specs.Prelude.{ℕ, ◌+◌, ◌&&◌, ◌||◌, Bool, true, false, List, [], ◌∷◌, ◌++◌, Option, Some, None, String, drop, get_or, is_some, length, nat_eq, nat_le, nat_lt, string_bytes, if◌then◌else◌}
 use Rattle.std.specs.declared.alloc.Global.{Global}
-use Rattle.std.specs.Fmt.{decimal}
-use Rattle.std.specs.List.{ends_with, flat_map, starts_with}
-use Rattle.court_clock.specs.Words.{day_text, is_day_number}
-use Rattle.reason_texts.specs.Words.{second_time}
+use Rattle.std.specs.List.{starts_with}
+use Rattle.row_forms.specs.Words.{CourtNames}
 use Rattle.desk_journal.specs.Words.{StampView}
-use Rattle.desk_numbers.specs.Strikes.Words.{remark_in}
-use Rattle.desk_entries.specs.Words.{Note, court_file, note_in, row_only, row_struck}
+use Rattle.desk_entries.specs.Words.{note_in, row_only}
+use Rattle.desk_program.specs.declared.entry_kind.EntryKind.{EntryKind}
+use Rattle.desk_program.specs.declared.entry_kind.EntryKind.TheVariants.{CourtFile, Restore, Row, Strike}
 use Rattle.desk_program.specs.declared.log.LogChoice.{LogChoice}
+use Rattle.desk_program.specs.EntryKind.{kind_of}
+use Rattle.desk_program.specs.LogJson.{entry_json}
+use Rattle.desk_program.specs.LogText.{entry_text}
+use Rattle.desk_program.specs.RowCase.{cases_named}
 
--- `row 12`, `court's file`, or `strike of row 7`
-abbrev pub entry_kind : Option Note → (number : ℕ) → List ℕ
-entry_kind None number = codes "row " ++ decimal number
-entry_kind (Some (court_file file)) number = codes "court's file"
-entry_kind (Some (row_struck strike)) number = codes "strike of row " ++ decimal strike.row
+-- the entry is the row of that number, or strikes or restores it
+abbrev pub is_of_row : (row : ℕ) → EntryKind → (number : ℕ) → Bool
+is_of_row row Row number = nat_eq number row
+is_of_row row CourtFile number = false
+is_of_row row (Strike of) number = nat_eq of row
+is_of_row row (Restore of) number = nat_eq of row
 
--- the day of a second of UTC, counted from 1970-01-01T00:00:00, if it is one that has a date
-abbrev pub dated_day : (time : ℕ) → Option ℤ
-dated_day time = if is_day_number (pos (time / 86_400)) then Some (pos (time / 86_400)) else None
-
--- `2026-11-28 00:50:07 UTC`, or the second by its number where the day has no date: `second 99999999999 UTC`
-abbrev pub utc_time_on : Option ℤ → (time : ℕ) → List ℕ
-utc_time_on (Some day) time = day_text day ++ codes " " ++ second_time (time % 86_400) ++ codes " UTC"
-utc_time_on None time = codes "second " ++ decimal time ++ codes " UTC"
-
-abbrev pub utc_time : (time : ℕ) → List ℕ
-utc_time time = utc_time_on (dated_day time) time
-
--- a digit to the base 16
-abbrev pub hex_digit : ℕ → ℕ
-hex_digit n = if nat_lt n 10 then 48 + n else 87 + n
-
--- a byte as it is shown: `\x1b` for a control character, so that none reaches a terminal
-abbrev pub shown_byte : ℕ → List ℕ
-shown_byte byte = if nat_lt byte 32 || nat_eq byte 127 then codes "\\x" ++ hex_digit (byte / 16) ∷ hex_digit (byte % 16) ∷ [] else byte ∷ []
-
--- the line of an entry: what it is, when it was kept, and by which account
-abbrev pub entry_heading : (kind : List ℕ) → StampView → List ℕ
-entry_heading kind stamp = kind ++ codes "  " ++ utc_time stamp.time ++ codes "  " ++ flat_map shown_byte stamp.account ++ codes "\n"
-
--- a text without the end of its last line
-abbrev pub without_end : List ℕ → List ℕ
-without_end text = if ends_with nat_eq text (10 ∷ []) then take (length text - 1) text else text
-
--- a text with two blanks before each of its lines
-abbrev pub indented_byte : ℕ → List ℕ
-indented_byte byte = if nat_eq byte 10 then codes "\n  " else shown_byte byte
-
-abbrev pub indented : List ℕ → List ℕ
-indented text = codes "  " ++ flat_map indented_byte (without_end text) ++ codes "\n"
-
--- what an entry says: a row with its answer, or the remark of a strike; the many lines of a court's file aren't written
-abbrev pub said_text : Option Note → (entry : List ℕ) → List ℕ
-said_text None entry = indented entry
-said_text (Some (court_file file)) entry = []
-said_text (Some (row_struck strike)) entry = indented (remark_in entry)
-
--- the entry is the row of that number, or strikes it
-abbrev pub is_of_row : (row : ℕ) → Option Note → (number : ℕ) → Bool
-is_of_row row None number = nat_eq number row
-is_of_row row (Some (court_file file)) number = false
-is_of_row row (Some (row_struck strike)) number = nat_eq strike.row row
-
-abbrev pub is_row_asked : Option ℕ → Option Note → (number : ℕ) → Bool
+abbrev pub is_row_asked : Option ℕ → EntryKind → (number : ℕ) → Bool
 is_row_asked None kind number = true
 is_row_asked (Some row) kind number = is_of_row row kind number
+
+-- the case of the row that an entry is, strikes or restores, by the cases that rows name
+abbrev pub entry_case : (named : List (Option ℕ)) → EntryKind → (number : ℕ) → Option ℕ
+entry_case named Row number = get_or named number None
+entry_case named CourtFile number = None
+entry_case named (Strike row) number = get_or named row None
+entry_case named (Restore row) number = get_or named row None
+
+abbrev pub is_case_asked : Option ℕ → (case : Option ℕ) → Bool
+is_case_asked None case = true
+is_case_asked (Some asked) None = false
+is_case_asked (Some asked) (Some case) = nat_eq case asked
 
 -- after a name comes nothing, or `@`, which is 64
 abbrev pub ends_name : List ℕ → Bool
@@ -91,11 +60,18 @@ is_up_to (Some to) time = nat_lt time to
 abbrev pub is_stamp_asked : LogChoice → StampView → Bool
 is_stamp_asked choice stamp = is_account_asked choice.by stamp.account && is_from choice.from stamp.time && is_up_to choice.to stamp.time
 
--- what is written of an entry: nothing unless all of it holds
-abbrev pub entry_log : LogChoice → Option Note → (number : ℕ) → (entry : List ℕ) → StampView → List ℕ
-entry_log choice note number entry stamp =
-    if is_row_asked choice.row note number && is_stamp_asked choice stamp then entry_heading (entry_kind note number) stamp ++ said_text note entry
-    else []
+-- all of it holds that is asked for
+abbrev pub is_entry_asked : LogChoice → EntryKind → (number : ℕ) → (case : Option ℕ) → StampView → Bool
+is_entry_asked choice kind number case stamp = is_row_asked choice.row kind number && is_case_asked choice.case case && is_stamp_asked choice stamp
+
+-- what is said of an entry
+abbrev pub said_of : (json : Bool) → EntryKind → (number : ℕ) → (case : Option ℕ) → (entry : List ℕ) → StampView → List ℕ
+said_of json kind number case entry stamp = if json then entry_json kind number case entry stamp else entry_text kind number entry stamp
+
+-- what is written of an entry: nothing unless it is asked for
+abbrev pub entry_log : LogChoice → (named : List (Option ℕ)) → EntryKind → (number : ℕ) → (entry : List ℕ) → StampView → List ℕ
+entry_log choice named kind number entry stamp =
+    if is_entry_asked choice kind number (entry_case named kind number) stamp then said_of choice.json kind number (entry_case named kind number) entry stamp else []
 
 -- the stamp of the first of some entries; one that has none counts as of the first second, and of nobody
 abbrev pub first_stamp : List StampView → StampView
@@ -103,15 +79,23 @@ first_stamp [] = record { time = 0; account = [] }
 first_stamp (stamp ∷ stamps) = stamp
 
 -- what is written of the first entry, a court's file as it is
-abbrev pub first_log : LogChoice → (entries : List (List ℕ)) → StampView → List ℕ
-first_log choice [] stamp = []
-first_log choice (file ∷ later) stamp = entry_log choice (Some (court_file file)) 0 file stamp
+abbrev pub first_log : LogChoice → (named : List (Option ℕ)) → (entries : List (List ℕ)) → StampView → List ℕ
+first_log choice named [] stamp = []
+first_log choice named (file ∷ later) stamp = entry_log choice named CourtFile 0 file stamp
 
 -- what is written of later entries, where the next row has this number
-unfoldable pub later_log : LogChoice → (number : ℕ) → (later : List (List ℕ)) → (stamps : List StampView) → List ℕ
-later_log choice number [] stamps = []
-later_log choice number (entry ∷ later) stamps = entry_log choice (note_in entry) number entry (first_stamp stamps) ++ later_log choice (number + length (row_only (note_in entry) entry)) later (drop 1 stamps)
+unfoldable pub later_log : LogChoice → (named : List (Option ℕ)) → (number : ℕ) → (later : List (List ℕ)) → (stamps : List StampView) → List ℕ
+later_log choice named number [] stamps = []
+later_log choice named number (entry ∷ later) stamps =
+    entry_log choice named (kind_of (note_in entry)) number entry (first_stamp stamps) ++ later_log choice named (number + length (row_only (note_in entry) entry)) later (drop 1 stamps)
+
+-- the cases that rows name, where they have to be known for what is asked
+abbrev pub cases_looked_up : CourtNames → LogChoice → (entries : List (List ℕ)) → List (Option ℕ)
+cases_looked_up names choice entries = if choice.json || is_some choice.case then cases_named names entries else []
+
+abbrev pub log_by : LogChoice → (named : List (Option ℕ)) → (entries : List (List ℕ)) → (stamps : List StampView) → List ℕ
+log_by choice named entries stamps = first_log choice named entries (first_stamp stamps) ++ later_log choice named 1 (drop 1 entries) (drop 1 stamps)
 
 -- what is written of a journal's entries, each with the stamp at its place
-abbrev pub log_text : LogChoice → (entries : List (List ℕ)) → (stamps : List StampView) → List ℕ
-log_text choice entries stamps = first_log choice entries (first_stamp stamps) ++ later_log choice 1 (drop 1 entries) (drop 1 stamps)
+abbrev pub log_text : CourtNames → LogChoice → (entries : List (List ℕ)) → (stamps : List StampView) → List ℕ
+log_text names choice entries stamps = log_by choice (cases_looked_up names choice entries) entries stamps

@@ -1,10 +1,10 @@
--- What is written of a docket's rows and of the answers that would differ.
+-- What is written of a docket's rows.
 use Rattle.std.specs.Prelude.{ℕ, List, [], ◌∷◌, ◌++◌, codes, if◌then◌else◌, nat_eq}
 use Rattle.std.specs.Fmt.{decimal}
-use Rattle.std.specs.List.{ends_with, flat_map}
+use Rattle.std.specs.List.{ends_with}
 use Rattle.desk_numbers.specs.declared.moved.Moved.{Moved}
 use Rattle.desk_entries.specs.declared.standing.Standing.{Standing}
-use Rattle.desk_entries.specs.Words.{Change, row_entries, rows_written, standing_file}
+use Rattle.desk_entries.specs.Words.{row_entries, rows_written, standing_file}
 
 -- a court's file, with an end of its last line
 abbrev pub ended : List ℕ → List ℕ
@@ -17,13 +17,6 @@ head_of file = ended file ++ codes "%%\n"
 -- what clerk_office reads: the court's file that stands, a line `%%` and the rows that stand
 abbrev pub written_rows : Standing → List Moved → (entries : List (List ℕ)) → List ℕ
 written_rows under moved entries = head_of (standing_file entries) ++ rows_written under moved 1 (row_entries entries)
-
--- a row that would be answered otherwise: its entry, which ends with the answer that it was given, and then the other one
-abbrev pub change_text : Change → List ℕ
-change_text change = codes "row " ++ decimal change.number ++ codes " is kept as\n" ++ change.entry ++ codes "and would be answered\n" ++ change.answer
-
-abbrev pub changes_text : List Change → List ℕ
-changes_text changes = flat_map change_text changes
 
 -- how many rows are kept
 abbrev pub count_text : ℕ → List ℕ

@@ -1,13 +1,17 @@
 -- The words for the crates above, from one place.
-pub use Rattle.desk_program.specs.Inside.Ask.{AnswersQuestions}
+pub use Rattle.desk_program.specs.Inside.Ask.{AnswersInPart, AnswersQuestions, EndsUnkept}
 pub use Rattle.desk_program.specs.AsOf.{HadCome, IsKeptAt, WhatComesLaterChangesNothing}
 pub use Rattle.desk_program.specs.Cases.{cases_text}
-pub use Rattle.desk_program.specs.Change.{RefusesFile, TakesFile}
+pub use Rattle.desk_program.specs.Change.{IsChanged, RefusesFile, TakesFile}
+unfoldable pub use Rattle.desk_program.specs.Changed.{changes_between}
+pub use Rattle.desk_program.specs.ChangedText.{changes_text}
+pub use Rattle.desk_program.specs.Correction.{IsListed, IsOnlyListed, correction_text, shown_at}
 pub use Rattle.desk_program.specs.Desk.{HasNoDocket, IsPromisedDocket, IsUnopened, KeepsDocket, answers_at, disk_under, held_at, leaves_at, outcome_at, stamp_under, standing_at}
 pub use Rattle.desk_program.specs.Faults.{desk_status}
-pub use Rattle.desk_program.specs.Log.{first_log, first_stamp, log_text, utc_time}
-unfoldable pub use Rattle.desk_program.specs.Log.{later_log}
-pub use Rattle.desk_program.specs.Rows.{changes_text, written_rows}
+pub use Rattle.desk_program.specs.File.{file_is_clean, file_is_usable, file_may_leave, file_seen}
+pub use Rattle.desk_program.specs.Log.{log_text}
+pub use Rattle.desk_program.specs.Restore.{IsRestored, RefusesRestore, RestoresRow}
+pub use Rattle.desk_program.specs.Rows.{written_rows}
 pub use Rattle.desk_program.specs.Strike.{IsStruck, RefusesStrike, StrikesRow}
 pub use Rattle.desk_program.specs.Struck.{struck_text}
 pub use Rattle.desk_program.specs.Together.{IsAtFault, IsDocketAllOrNone, KeepsTogether, RefusesLines, SaysWhatIsKept, StopsList, faults_in, line_faults_text, stop_of, stopped_text}

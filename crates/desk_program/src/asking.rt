@@ -1,9 +1,9 @@
 //! Questions on a docket that is only read.
-ghost use Rattle.std.specs.Prelude.{ℕ, List, ◌≡◌, false, IfOk, IfSome};
-ghost use Rattle.desk_session.specs.Words.{lines_of};
+ghost use Rattle.std.specs.Prelude.{ℕ, List, ◌≡◌, [], false, IfErr, IfOk, IfSome, OnOk};
+ghost use Rattle.desk_session.specs.Words.{AfterBytes, lines_of, unfinished_of};
 ghost use Rattle.desk_entries.specs.Words.{IsDocketed};
 ghost use Rattle.program_streams.specs.Words.{has_failed, watched};
-ghost use Rattle.desk_program.specs.Inside.Ask.{AnswersQuestions};
+ghost use Rattle.desk_program.specs.Inside.Ask.{AnswersInPart, AnswersQuestions, EndsUnkept};
 
 use crate::fault::DeskFault;
 use desk_entries::{Docketed, Questions};
@@ -13,7 +13,8 @@ use std::alloc::Global;
 use std::io::{Read, Write};
 
 /// Answers questions on a docket, one in a line, until the input ends. Nothing is kept: a command is answered with a line that
-/// says where to enter it. At the end it says how many lines there were, and how many had faults.
+/// says where to enter it. However it ends, what is written is a beginning of the answers to the lines that were read. At the
+/// end it says how many lines there were, and how many had faults.
 pub fn ask<R: Read, W: Write>(
     alloc: Global,
     docketed: Docketed,
@@ -21,8 +22,13 @@ pub fn ask<R: Read, W: Write>(
     writer: &mut Watched<W>,
 ) -> Result<Tally, DeskFault>
     requires writer_works { has_failed writer.old ≡ false }
-    ensures { (entries : List (List ℕ)) → IsDocketed docketed entries → IfOk result (λ tally. IfSome (R.remaining (watched reader.old)) (λ input.
+    ensures answered { (entries : List (List ℕ)) → IsDocketed docketed entries → IfOk result (λ tally. IfSome (R.remaining (watched reader.old)) (λ input.
         AnswersQuestions entries (lines_of input) tally (W.contents (watched writer.old)) (W.contents (watched writer.new)))) }
+    ensures front { (entries : List (List ℕ)) → IsDocketed docketed entries →
+        AfterBytes (R.remaining (watched reader.old)) (R.remaining (watched reader.new)) (λ bytes.
+        AnswersInPart entries (lines_of bytes) (W.contents (watched writer.old)) (W.contents (watched writer.new))) }
+    ensures finished { OnOk result (IfSome (R.remaining (watched reader.old)) (λ input. unfinished_of input ≡ [])) }
+    ensures fault { IfErr result (λ fault. AfterBytes (R.remaining (watched reader.old)) (R.remaining (watched reader.new)) (λ bytes. EndsUnkept reader.new writer.new bytes fault)) }
 {
     let Docketed { standing, register } = docketed;
     let mut questions = Questions { register };

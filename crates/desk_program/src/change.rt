@@ -1,103 +1,21 @@
 //! Another court's file for a docket.
-ghost use Rattle.std.specs.Prelude.{◌≡◌, ◌≢◌, ◌≤◌, ◌<◌, ◌⊎◌, ◌++◌, ◌∷◌, [], ℕ, List, length, map, false, Err, Some, IfOk, OnOk};
+ghost use Rattle.std.specs.Prelude.{◌≡◌, ◌≢◌, ◌≤◌, ◌<◌, ◌⊎◌, ◌++◌, ◌∷◌, [], ℕ, List, length, false, Err, Some, IfOk, OnOk};
 ghost use Rattle.desk_entries.specs.declared.fault.StrikeFault.{StrikeFault as StrikeFaultOf};
 ghost use Rattle.desk_journal.specs.Words.{StandsFor, batch_of};
-ghost use Rattle.desk_entries.specs.Words.{SaysCourt, StandsAt, change_in, changes_by, corrections_then, later_file, most_entries};
+ghost use Rattle.desk_entries.specs.Words.{SaysCourt, StandsAt, corrections_then, later_file, most_entries};
 ghost use Rattle.program_streams.specs.Words.{has_failed, watched};
-ghost use Rattle.std.specs.Io.KnownBytes.{Appends};
-ghost use Rattle.desk_program.specs.Rows.{change_text, changes_text};
 
+use crate::correction::reviewed;
 use crate::court::court_of;
 use crate::desk::Desk;
+use crate::entry_kind::EntryKind;
 use crate::fault::DeskFault;
-use desk_entries::{
-    Difference, DocketRegister, MOST_ENTRIES, Review, Standing, court_entry, decided_again,
-};
+use desk_entries::{DocketRegister, MOST_ENTRIES, Standing, court_entry};
 use desk_journal::JournalFault;
-use program_streams::{Watched, write_all};
+use program_streams::Watched;
 use sqlite_disk::Disk;
-use std::alloc::{AllocError, Global};
+use std::alloc::Global;
 use std::io::Write;
-
-// Adds what is written of a row that would be answered otherwise.
-fn push_change(alloc: Global, text: &mut Vec<u8>, difference: &Difference) -> Result<(), AllocError>
-    ensures { OnOk result (text.new.items ≡ text.old.items ++ change_text (change_in difference.now)) }
-{
-    let number = difference.number;
-    let line = format!(in alloc; "row {number} is kept as\n")?;
-    text.extend_from_slice(line.as_bytes())?;
-    text.extend_from_slice(&difference.entry)?;
-    text.extend_from_slice(b"and would be answered\n")?;
-    text.extend_from_slice(&difference.answer)?;
-    Ok(())
-}
-
-// What is written of the rows that would be answered otherwise.
-fn listed(alloc: Global, differences: &[Difference]) -> Result<Vec<u8>, AllocError>
-    ensures { IfOk result (λ text. text.items ≡ changes_text (map change_in differences.now)) }
-{
-    let mut text = Vec::new(alloc);
-    for difference in differences {
-        push_change(alloc, &mut text, difference)?;
-    }
-    Ok(text)
-}
-
-// Writes the rows that would be answered otherwise. `Differs` says that there are some, and no leave.
-fn list_changes<W: Write>(
-    alloc: Global,
-    differences: &[Difference],
-    accept: bool,
-    writer: &mut Watched<W>,
-) -> Result<(), DeskFault>
-    requires { has_failed writer.old ≡ false }
-    ensures listed { OnOk result (Appends (W.contents (watched writer.old)) (W.contents (watched writer.new)) (changes_text (map change_in differences.now))) }
-    ensures without_leave { accept ≡ false → OnOk result (differences.now ≡ []) }
-    ensures differs { (count : ℕ) → result ≡ Err (DeskFault.Differs count) → (count ≡ length differences.now) × (differences.now ≢ [])
-        × Appends (W.contents (watched writer.old)) (W.contents (watched writer.new)) (changes_text (map change_in differences.now)) }
-    ensures unstruck { (fault : StrikeFaultOf) → result ≢ Err (DeskFault.Unstruck fault) }
-{
-    let text = listed(alloc, differences)?;
-    if write_all(writer, &text).is_err() {
-        return Err(DeskFault::Write);
-    }
-    if !accept && !differences.is_empty() {
-        return Err(DeskFault::Differs(differences.len()));
-    }
-    Ok(())
-}
-
-// The docket that entries come to under what is to stand. The rows that would be answered otherwise are written, each with both
-// answers. `Differs` says that there are some, and no leave.
-pub(crate) fn reviewed<W: Write>(
-    alloc: Global,
-    standing: &Standing,
-    entries: &[Vec<u8>],
-    accept: bool,
-    writer: &mut Watched<W>,
-) -> Result<DocketRegister, DeskFault>
-    requires some { 0 < length entries.now }
-    requires few { length entries.now ≤ most_entries }
-    requires writer_works { has_failed writer.old ≡ false }
-    ensures stands { IfOk result (λ register. StandsAt standing.now register (batch_of entries.now)) }
-    ensures listed { OnOk result (Appends (W.contents (watched writer.old)) (W.contents (watched writer.new)) (changes_text (changes_by standing.now (batch_of entries.now)))) }
-    ensures without_leave { accept ≡ false → OnOk result (changes_by standing.now (batch_of entries.now) ≡ []) }
-    ensures differs { (count : ℕ) → result ≡ Err (DeskFault.Differs count) → (count ≡ length (changes_by standing.now (batch_of entries.now))) × (changes_by standing.now (batch_of entries.now) ≢ [])
-        × Appends (W.contents (watched writer.old)) (W.contents (watched writer.new)) (changes_text (changes_by standing.now (batch_of entries.now))) }
-    ensures unstruck { (fault : StrikeFaultOf) → result ≢ Err (DeskFault.Unstruck fault) }
-{
-    let Review {
-        register,
-        differences,
-    } = match decided_again(alloc, standing, entries) {
-        Ok(review) => review,
-        Err(_) => return Err(DeskFault::OutOfMemory),
-    };
-    match list_changes(alloc, &differences, accept, writer) {
-        Ok(()) => Ok(register),
-        Err(fault) => Err(fault),
-    }
-}
 
 impl<D: Disk> Desk<D> {
     ghost use Rattle.desk_program.specs.Desk.{KeepsDocket, disk_under, standing_at};
@@ -138,8 +56,8 @@ impl<D: Disk> Desk<D> {
     }
 
     /// Goes by another court's file from here on, which is kept as the next entry: the answers before stay those of the files
-    /// before. The rows that it answers otherwise are written, each with both answers. If there are some, the file is taken
-    /// only with leave; without it, at `Differs`, the journal is as it was.
+    /// before. The rows that it answers otherwise than now are written, each with its answers, and then each deadline and hearing that
+    /// moves. If there are such rows, the file is taken only with leave; without it, at `Differs`, the journal is as it was.
     pub fn change<W: Write>(
         &mut self,
         alloc: Global,
@@ -165,7 +83,16 @@ impl<D: Disk> Desk<D> {
             Ok(standing) => standing,
             Err(fault) => return Err(fault),
         };
-        match reviewed(alloc, &standing, entries, accept, writer) {
+        let now = &self.setup.standing;
+        match reviewed(
+            alloc,
+            now,
+            &standing,
+            entries,
+            EntryKind::CourtFile,
+            accept,
+            writer,
+        ) {
             Ok(register) => self.take_file(alloc, standing, register, file),
             Err(fault) => Err(fault),
         }

@@ -1,7 +1,7 @@
 //! A docket over a disk.
 ghost use Rattle.std.specs.Prelude.{◌≡◌, ◌⊎◌, ◌<◌, ◌≤◌, ◌∷◌, [], ℕ, List, length, false, IsTrue, IfErr, IfOk, IfSome, OnOk};
-ghost use Rattle.desk_journal.specs.Words.{IsDurable, IsKept, IsWhole, StandsFor, batch_of, disk_of};
-ghost use Rattle.desk_session.specs.Words.{AfterBytes, EndsSession, IsServed, lines_of, tally_of, unfinished_of};
+ghost use Rattle.desk_journal.specs.Words.{HasEntries, IsDurable, IsWhole, KeepsStamps, StampView, StandsFor, batch_of};
+ghost use Rattle.desk_session.specs.Words.{AfterBytes, EndsSession, IsServed, IsStampedOn, lines_of, tally_of, unfinished_of};
 ghost use Rattle.desk_entries.specs.Words.{IsHistory, cases_of, row_entries, run_by};
 ghost use Rattle.desk_warnings.specs.declared.register.HeldBack.TheVariants.{Nothing};
 ghost use Rattle.program_streams.specs.Words.{has_failed, watched};
@@ -66,6 +66,9 @@ impl<D: Disk> Desk<D> {
             → IfErr result (λ e. e.0 ≡ DeskFault.Journal (JournalFault.Damaged number) → IsDurable D.Disk.seen D.Disk.may_leave D.Disk.is_usable file e.1) }
         ensures older { (file : List ℕ) → IsDurable D.Disk.seen D.Disk.may_leave D.Disk.is_usable file disk
             → IfErr result (λ e. e.0 ≡ DeskFault.Journal JournalFault.Older → IsDurable D.Disk.seen D.Disk.may_leave D.Disk.is_usable file e.1) }
+        // So it is where the file has no entries.
+        ensures none { (file : List ℕ) → IsDurable D.Disk.seen D.Disk.may_leave D.Disk.is_usable file disk
+            → IfErr result (λ e. e.0 ≡ DeskFault.NoJournal → IsDurable D.Disk.seen D.Disk.may_leave D.Disk.is_usable file e.1) }
     {
         let (journal, entries) = match Journal::open(alloc, disk, stamp) {
             Ok(opened) => opened,
@@ -87,26 +90,6 @@ impl<D: Disk> Desk<D> {
         }
     }
 
-    // The journal of a disk that has no entries.
-    fn empty_journal(alloc: Global, disk: D, stamp: Stamp) -> Result<Journal<D>, (DeskFault, D)>
-        ensures kept { (was : List ℕ) → IsDurable D.Disk.seen D.Disk.may_leave D.Disk.is_usable was disk
-            → IfOk result (λ journal. IsTrue (D.Disk.is_clean (disk_of journal)) → IsKept D.Disk.seen D.Disk.may_leave D.Disk.is_usable [] journal) }
-        ensures empty { (was : List ℕ) (entries : List (List ℕ)) → IsDurable D.Disk.seen D.Disk.may_leave D.Disk.is_usable was disk → StandsFor was entries
-            → IfOk result (λ journal. IsTrue (D.Disk.is_clean (disk_of journal)) → entries ≡ []) }
-        ensures crash { (was : List ℕ) (entries : List (List ℕ)) → IsDurable D.Disk.seen D.Disk.may_leave D.Disk.is_usable was disk → StandsFor was entries
-            → IfErr result (λ e. IsTrue (D.Disk.is_clean e.1) → (c : List ℕ) → D.Disk.may_leave e.1 c → StandsFor c entries) }
-    {
-        let (journal, entries) = match Journal::open(alloc, disk, stamp) {
-            Ok(opened) => opened,
-            Err((fault, disk)) => return Err((DeskFault::from(fault), disk)),
-        };
-        if entries.is_empty() {
-            Ok(journal)
-        } else {
-            Err((DeskFault::Taken, journal.into_disk()))
-        }
-    }
-
     /// Makes the docket of a court on a disk that has no entries: its file is the first, with this stamp. At an `Err` a crash leaves what
     /// stands for the entries that the disk had or, where it had none, also for the file alone.
     pub fn begin(alloc: Global, disk: D, file: Vec<u8>, stamp: Stamp) -> Result<D, (DeskFault, D)>
@@ -117,6 +100,9 @@ impl<D: Disk> Desk<D> {
         ensures history { OnOk result (IsHistory (file.items ∷ [])) }
         ensures crash { (was : List ℕ) (entries : List (List ℕ)) → IsDurable D.Disk.seen D.Disk.may_leave D.Disk.is_usable was disk → StandsFor was entries
             → IfErr result (λ e. IsTrue (D.Disk.is_clean e.1) → (c : List ℕ) → D.Disk.may_leave e.1 c → StandsFor c entries ⊎ ((entries ≡ []) × StandsFor c (file.items ∷ []))) }
+        // It is taken only where it has entries, and then nothing is written.
+        ensures taken { (was : List ℕ) → IsDurable D.Disk.seen D.Disk.may_leave D.Disk.is_usable was disk
+            → IfErr result (λ e. IsTrue (D.Disk.is_clean e.1) → e.0 ≡ DeskFault.Taken → HasEntries was × IsDurable D.Disk.seen D.Disk.may_leave D.Disk.is_usable was e.1) }
     {
         match check_court(alloc, &file) {
             Ok(()) => {}
@@ -126,12 +112,12 @@ impl<D: Disk> Desk<D> {
             Ok(batch) => batch,
             Err(_) => return Err((DeskFault::OutOfMemory, disk)),
         };
-        match Desk::empty_journal(alloc, disk, stamp) {
+        match Journal::begin(alloc, disk, stamp) {
             Ok(mut journal) => match journal.append(&batch) {
                 Ok(()) => Ok(journal.into_disk()),
                 Err(fault) => Err((DeskFault::from(fault), journal.into_disk())),
             },
-            Err(refused) => Err(refused),
+            Err((fault, disk)) => Err((DeskFault::from(fault), disk)),
         }
     }
 
@@ -209,6 +195,9 @@ impl<D: Disk> Desk<D> {
         ensures tally { (kept : List (List ℕ)) → KeepsDocket D.Disk.seen D.Disk.may_leave D.Disk.is_usable kept self.old → IfOk result (λ tally.
             IfSome (R.remaining (watched reader.old)) (λ input. tally ≡ tally_of (leaves_at self.old) (outcome_at self.old) kept (lines_of input))) }
         ensures fault { IfErr result (λ fault. AfterBytes (R.remaining (watched reader.old)) (R.remaining (watched reader.new)) (λ bytes. EndsSession reader.new writer.new bytes fault)) }
+        // What is kept is of the account of the desk's stamp, and times never go back.
+        ensures stamped { (stamps : List StampView) → KeepsStamps D.Disk.seen D.Disk.may_leave D.Disk.is_usable stamps self.old.journal
+            → OnOk result (IsStampedOn (stamp_under self.old).account (λ after. KeepsStamps D.Disk.seen D.Disk.may_leave D.Disk.is_usable after self.new.journal) stamps) }
     {
         serve(
             &self.setup,

@@ -24,11 +24,12 @@ pub enum DeskFault {
     KeptCourt(u32, CourtFault),
     /// The row of this number, counted from 1, has another answer than it gets.
     Other(u32),
-    /// The entry of this number, counted from 1, strikes a row that wasn't entered before it, or that is struck already.
+    /// The entry of this number, counted from 1, strikes a row that wasn't entered before it or that is struck already, or restores one
+    /// that isn't struck.
     BadStrike(u32),
     /// This many rows would get other answers by the new court's file or the strike, which isn't taken.
     Differs(usize),
-    /// The row can't be struck.
+    /// The row can't be struck, or can't be restored.
     Unstruck(StrikeFault),
     /// The journal can't be read or written.
     Journal(JournalFault),
@@ -82,6 +83,8 @@ impl From<JournalFault> for DeskFault {
     fn from(fault: JournalFault) -> DeskFault {
         match fault {
             JournalFault::OutOfMemory => DeskFault::OutOfMemory,
+            JournalFault::NoEntries => DeskFault::NoJournal,
+            JournalFault::Taken => DeskFault::Taken,
             _ => DeskFault::Journal(fault),
         }
     }

@@ -71,6 +71,22 @@ fn write_court_fault<W: fmt::Write>(fault: &DeskFault, f: &mut fmt::Formatter<W>
     }
 }
 
+// What is wrong with a journal.
+fn write_journal_fault<W: fmt::Write>(
+    fault: &JournalFault,
+    f: &mut fmt::Formatter<W>,
+) -> fmt::Result {
+    match fault {
+        JournalFault::Older => f.write_str(
+            "the journal is of the first format, which this program doesn't read: open the folder with the version that wrote it",
+        ),
+        JournalFault::Changed => f.write_str(
+            "another program has written to the journal since this one read it, or put another file in its place: nothing more is kept or answered",
+        ),
+        _ => write!(f, "{fault}"),
+    }
+}
+
 // Why a session of which nothing is kept ended early.
 fn write_unkept<W: fmt::Write>(fault: &SessionFault, f: &mut fmt::Formatter<W>) -> fmt::Result {
     match fault {
@@ -136,7 +152,7 @@ impl<'a> fmt::Display for DeskFaultLine<'a> {
             ),
             DeskFault::BadStrike(number) => write!(
                 f,
-                "entry {number} of the journal strikes a row that isn't there, or is struck already"
+                "entry {number} of the journal strikes a row that isn't there or is struck already, or restores one that isn't struck"
             ),
             DeskFault::Differs(1) => f.write_str(
                 "an answer would differ: nothing is changed, unless --accept says so",
@@ -145,11 +161,9 @@ impl<'a> fmt::Display for DeskFaultLine<'a> {
                 f,
                 "{count} answers would differ: nothing is changed, unless --accept says so"
             ),
-            DeskFault::Unstruck(fault) => write!(f, "nothing is struck: {fault}"),
-            DeskFault::Journal(JournalFault::Older) => f.write_str(
-                "the journal is of the first format, which this program doesn't read: open the folder with the version that wrote it",
-            ),
-            DeskFault::Journal(fault) => write!(f, "{fault}"),
+            DeskFault::Unstruck(fault) => write!(f, "nothing is changed: {fault}"),
+            DeskFault::Journal(fault) => write_journal_fault(fault, f),
+            DeskFault::Session(SessionFault::Journal(fault)) => write_journal_fault(fault, f),
             DeskFault::Session(fault) => write!(f, "{fault}"),
             DeskFault::Unkept(fault) => write_unkept(fault, f),
             DeskFault::Faults(_)

@@ -1,8 +1,9 @@
 //! What is said of a line that has a fault: what was found, and what is expected there.
 ghost use Rattle.std.specs.Prelude.{◌≡◌, ◌==◌, ◌++◌, List, OnOk, option_map};
 ghost use Rattle.std.specs.List.{after_first, before_first};
-ghost use Rattle.desk_program.specs.FaultWords.{cause_words, expected, expected_at, fault_words, field_words, form_said, form_words, found_text, line_words, marks, not_text, part};
+ghost use Rattle.desk_program.specs.FaultWords.{cause_words, expected, expected_at, fault_words, field_words, form_said, form_words, found, found_text, line_words, marks, not_text, part};
 
+use crate::shown::push_shown;
 use desk_entries::{LineCause, push_unfound, too_many_words};
 use row_forms::{Column, RowCause, column_at, columns_of, commands_listed, mark_of};
 use std::alloc::{AllocError, Global};
@@ -69,20 +70,29 @@ fn expected(column: Column) -> &'static str
     }
 }
 
+// Adds a field that was found, without control characters.
+fn push_field_found(text: &mut Vec<u8>, field: &[u8]) -> Result<(), AllocError>
+    ensures { OnOk result (text.new.items ≡ text.old.items ++ found field.now) }
+{
+    match field {
+        [] => text.extend_from_slice(b"found nothing, "),
+        [_, ..] => {
+            text.extend_from_slice(b"found \"")?;
+            push_shown(text, field)?;
+            text.extend_from_slice(b"\", ")
+        }
+    }
+}
+
 // Adds what was found in the part of a line after this many commas. Of a line with quotes nothing is said, since a comma in
 // quotes ends no field.
-fn push_found(alloc: Global, text: &mut Vec<u8>, line: &str, commas: u8) -> Result<(), AllocError>
+fn push_found(text: &mut Vec<u8>, line: &str, commas: u8) -> Result<(), AllocError>
     ensures { OnOk result (text.new.items ≡ text.old.items ++ found_text commas line.now) }
 {
     if line.split_once('"').is_some() {
         return Ok(());
     }
-    let found = part(line, commas);
-    if found.is_empty() {
-        return text.extend_from_slice(b"found nothing, ");
-    }
-    let said = format!(in alloc; "found \"{found}\", ")?;
-    text.extend_from_slice(said.as_bytes())
+    push_field_found(text, part(line, commas).as_bytes())
 }
 
 // Adds what stands for each of these columns of a command's rows, with a comma between two.
@@ -134,11 +144,11 @@ fn expected_at(word: &str, number: usize) -> &'static str
 }
 
 // Adds what is expected in a column of a line's command, counted from 1.
-fn push_field(alloc: Global, text: &mut Vec<u8>, line: &str, column: u8) -> Result<(), AllocError>
+fn push_field(text: &mut Vec<u8>, line: &str, column: u8) -> Result<(), AllocError>
     ensures { OnOk result (text.new.items ≡ text.old.items ++ field_words column line.now) }
 {
     let commas = column.saturating_sub(1);
-    push_found(alloc, text, line, commas)?;
+    push_found(text, line, commas)?;
     text.extend_from_slice(b"expected ")?;
     text.extend_from_slice(expected_at(part(line, 1), usize::from(commas)).as_bytes())
 }
@@ -151,26 +161,21 @@ fn push_not_text(text: &mut Vec<u8>) -> Result<(), AllocError>
 }
 
 // Adds what is said of a line that is text.
-fn push_line_words(
-    alloc: Global,
-    text: &mut Vec<u8>,
-    cause: RowCause,
-    line: &str,
-) -> Result<(), AllocError>
+fn push_line_words(text: &mut Vec<u8>, cause: RowCause, line: &str) -> Result<(), AllocError>
     ensures { OnOk result (text.new.items ≡ text.old.items ++ line_words cause line.now) }
 {
     match cause {
         RowCause::BadClerk => {
-            push_found(alloc, text, line, 0)?;
+            push_found(text, line, 0)?;
             text.extend_from_slice(b"expected a clerk's number, 1 to 64")
         }
         RowCause::UnknownCommand => {
-            push_found(alloc, text, line, 1)?;
+            push_found(text, line, 1)?;
             text.extend_from_slice(b"expected ")?;
             text.extend_from_slice(commands_listed().as_bytes())
         }
         RowCause::WrongCount => push_form(text, line),
-        RowCause::BadField(column) => push_field(alloc, text, line, column),
+        RowCause::BadField(column) => push_field(text, line, column),
         RowCause::NotText => push_not_text(text),
         RowCause::TooManyRows => text.extend_from_slice(
             b"the folder holds as many rows as it takes",
@@ -179,16 +184,11 @@ fn push_line_words(
 }
 
 // Adds what is said of a line that says no row for this cause.
-fn push_fault_words(
-    alloc: Global,
-    text: &mut Vec<u8>,
-    cause: RowCause,
-    line: &[u8],
-) -> Result<(), AllocError>
+fn push_fault_words(text: &mut Vec<u8>, cause: RowCause, line: &[u8]) -> Result<(), AllocError>
     ensures { OnOk result (text.new.items ≡ text.old.items ++ fault_words cause line.now) }
 {
     match str::from_utf8(line) {
-        Ok(line) => push_line_words(alloc, text, cause, line),
+        Ok(line) => push_line_words(text, cause, line),
         Err(_) => push_not_text(text),
     }
 }
@@ -203,7 +203,7 @@ pub(crate) fn push_cause_words(
     ensures { OnOk result (text.new.items ≡ text.old.items ++ cause_words cause line.now) }
 {
     match cause {
-        LineCause::Row(cause) => push_fault_words(alloc, text, cause, line),
+        LineCause::Row(cause) => push_fault_words(text, cause, line),
         LineCause::TooManyCases => text.extend_from_slice(too_many_words().as_bytes()),
         LineCause::NotFound(why) => push_unfound(alloc, text, why),
     }

@@ -7,8 +7,9 @@ ghost use Rattle.program_streams.specs.Words.{has_failed, watched};
 ghost use Rattle.desk_numbers.specs.Strikes.Words.{strike_entry, struck_with};
 ghost use Rattle.desk_numbers.specs.declared.strikes.strike.Strike.{Strike as StrikeOf};
 
-use crate::change::reviewed;
+use crate::correction::reviewed;
 use crate::desk::Desk;
+use crate::entry_kind::EntryKind;
 use crate::fault::DeskFault;
 use desk_entries::{DocketRegister, MOST_ENTRIES, Standing, standing_file};
 use desk_journal::JournalFault;
@@ -80,8 +81,9 @@ impl<D: Disk> Desk<D> {
 
     /// Strikes a row, which is counted from 1: from here on the docket is that of the other rows. Each deadline and each motion
     /// keeps the number that its row gave it, and no number is given again. The strike is kept as the next entry,
-    /// with a remark, and the row's entry stays. The rows that are answered otherwise without it are written, each with both
-    /// answers. If there are some, the row is struck only with leave; without it, at `Differs`, the journal is as it was.
+    /// with a remark, and the row's entry stays. The row is written, then the rows that are answered otherwise without it than now,
+    /// each with its answers, and then each deadline and hearing that moves. If there are such rows, the row is struck only with
+    /// leave; without it, at `Differs`, the journal is as it was.
     pub fn strike<W: Write>(
         &mut self,
         alloc: Global,
@@ -113,7 +115,9 @@ impl<D: Disk> Desk<D> {
             Ok(standing) => standing,
             Err(fault) => return Err(fault),
         };
-        match reviewed(alloc, &standing, entries, accept, writer) {
+        let now = &self.setup.standing;
+        let kind = EntryKind::Strike(strike.row);
+        match reviewed(alloc, now, &standing, entries, kind, accept, writer) {
             Ok(register) => self.take_strike(alloc, standing, register, &strike, remark),
             Err(fault) => Err(fault),
         }

@@ -5,5 +5,6 @@ pub mod FaultLemmas
 pub mod LineLemmas
 pub mod OutcomeLemmas
 pub mod PromiseLemmas
+pub mod StampedLemmas
 pub mod TakenLemmas
 pub mod TogetherLemmas

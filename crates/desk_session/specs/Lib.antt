@@ -2,6 +2,7 @@ pub mod Account
 pub mod Faults
 pub mod Lines
 pub mod Outcomes
+pub mod Stamped
 pub mod Stopped
 pub mod Taken
 pub mod Served

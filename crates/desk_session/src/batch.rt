@@ -1,10 +1,12 @@
 //! The lines that bytes end: their entries are kept together, and then they are answered.
 ghost use Rattle.std.specs.Prelude.{◌≡◌, ℕ, List, false, IfErr, OnOk};
+ghost use Rattle.desk_journal.specs.Words.{StampView};
 ghost use Rattle.program_streams.specs.Words.{has_failed, watched};
 ghost use Rattle.desk_session.specs.Faults.{StopsBytes};
 ghost use Rattle.desk_session.specs.Lines.{lines_from, unfinished_from};
 ghost use Rattle.desk_session.specs.Outcomes.{tally_after};
 ghost use Rattle.desk_session.specs.Served.{IsPromised, IsServed};
+ghost use Rattle.desk_session.specs.Stamped.{IsStampedOn};
 
 use crate::fault::SessionFault;
 use crate::gather::gather;
@@ -37,6 +39,8 @@ pub(crate) fn serve_bytes<K: Keeper, O: Register, W: Write>(
         IsPromised (O.leaves setup.now) (O.answers setup.now) kept (lines_from begun.old.items bytes.now) (W.contents (watched writer.old)) (W.contents (watched writer.new)) (has_failed writer.new ≡ false) (K.may_leave keeper.new) }
     ensures tally { (kept : List (List ℕ)) → O.stands setup.now register.old kept → OnOk result
         (tally.new ≡ tally_after (O.leaves setup.now) (O.outcome setup.now) tally.old kept (lines_from begun.old.items bytes.now)) }
+    ensures stamped { (stamps : List StampView) → K.has_stamps keeper.old stamps → OnOk result (IsStampedOn (K.account keeper.old) (K.has_stamps keeper.new) stamps) }
+    ensures account { K.account keeper.new ≡ K.account keeper.old }
 {
     let mut batch = Vec::new(alloc);
     let mut text = Vec::new(alloc);

@@ -1,10 +1,11 @@
 //! Entries that are kept, and the answers after them.
 ghost use Rattle.std.specs.Prelude.{◌≡◌, ◌⊎◌, ◌++◌, ℕ, List, false, Err, IfErr, OnOk};
 ghost use Rattle.std.specs.Io.KnownBytes.{Appends};
-ghost use Rattle.desk_journal.specs.Words.{StandsFor, batch_of};
+ghost use Rattle.desk_journal.specs.Words.{StampView, StandsFor, batch_of};
 ghost use Rattle.program_streams.specs.Words.{has_failed, watched};
 ghost use Rattle.desk_session.specs.Faults.{IsUnpublished};
 ghost use Rattle.desk_session.specs.Served.{IsPromised};
+ghost use Rattle.desk_session.specs.Stamped.{IsStampedOn};
 ghost use Rattle.desk_session.specs.Taken.{left_by, told_to};
 
 use crate::fault::SessionFault;
@@ -31,6 +32,8 @@ pub(crate) fn publish<K: Keeper, W: Write>(
         → IsPromised leaves answers kept lines (W.contents (watched writer.old)) (W.contents (watched writer.new)) (has_failed writer.new ≡ false) (K.may_leave keeper.new) }
     ensures crash { (kept : List (List ℕ)) → K.keeps keeper.old kept → (file : List ℕ) → K.may_leave keeper.new file
         → StandsFor file kept ⊎ StandsFor file (kept ++ batch_of batch.now) }
+    ensures stamped { (stamps : List StampView) → K.has_stamps keeper.old stamps → OnOk result (IsStampedOn (K.account keeper.old) (K.has_stamps keeper.new) stamps) }
+    ensures account { K.account keeper.new ≡ K.account keeper.old }
 {
     keeper.keep(batch)?;
     match write_all(writer, text) {

@@ -1,11 +1,12 @@
 //! A session, from the first line of its input to the last.
 ghost use Rattle.std.specs.Prelude.{◌≡◌, ◌≢◌, [], ℕ, List, false, IfErr, IfOk, IfSome, OnOk};
-ghost use Rattle.desk_journal.specs.Words.{IsKept, disk_of};
+ghost use Rattle.desk_journal.specs.Words.{IsKept, KeepsStamps, StampView, disk_of, stamp_of};
 ghost use Rattle.program_streams.specs.Words.{has_failed, watched};
 ghost use Rattle.desk_session.specs.Faults.{EndsSession};
 ghost use Rattle.desk_session.specs.Lines.{lines_of, unfinished_of};
 ghost use Rattle.desk_session.specs.Outcomes.{tally_of};
 ghost use Rattle.desk_session.specs.Served.{AfterBytes, IsPromised, IsServed};
+ghost use Rattle.desk_session.specs.Stamped.{IsStampedOn};
 
 use crate::batch::serve_bytes;
 use crate::clock::second_of;
@@ -59,6 +60,7 @@ pub(crate) fn serve_lines<K: Keeper, O: Register, C: Clock, R: Read, W: Write>(
         IfSome (R.remaining (watched reader.old)) (λ input. tally ≡ tally_of (O.leaves setup.now) (O.outcome setup.now) kept (lines_of input))) }
     ensures fault { IfErr result (λ fault. AfterBytes (R.remaining (watched reader.old)) (R.remaining (watched reader.new)) (λ bytes. EndsSession reader.new writer.new bytes fault)) }
     ensures working { OnOk result (has_failed writer.new ≡ false) }
+    ensures stamped { (stamps : List StampView) → K.has_stamps keeper.old stamps → OnOk result (IsStampedOn (K.account keeper.old) (K.has_stamps keeper.new) stamps) }
 {
     let mut begun = Vec::new(alloc);
     let mut buffer = vec![in alloc; 0u8; CHUNK]?;
@@ -112,6 +114,9 @@ pub fn serve<D: Disk, O: Register, C: Clock, R: Read, W: Write>(
         IfSome (R.remaining (watched reader.old)) (λ input. tally ≡ tally_of (O.leaves setup.now) (O.outcome setup.now) kept (lines_of input))) }
     ensures fault { IfErr result (λ fault. AfterBytes (R.remaining (watched reader.old)) (R.remaining (watched reader.new)) (λ bytes. EndsSession reader.new writer.new bytes fault)) }
     ensures working { OnOk result (has_failed writer.new ≡ false) }
+    // What is kept is of the journal's account, and times never go back.
+    ensures stamped { (stamps : List StampView) → KeepsStamps D.Disk.seen D.Disk.may_leave D.Disk.is_usable stamps journal.old
+        → OnOk result (IsStampedOn (stamp_of journal.old).account (λ after. KeepsStamps D.Disk.seen D.Disk.may_leave D.Disk.is_usable after journal.new) stamps) }
 {
     serve_lines(setup, alloc, clock, journal, register, reader, writer)
 }

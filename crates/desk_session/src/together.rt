@@ -1,9 +1,10 @@
 //! Lines that came together: all of them are kept, and then answered.
 ghost use Rattle.std.specs.Prelude.{◌≡◌, ◌≢◌, ◌<◌, ◌⊎◌, ◌++◌, [], ℕ, List, None, Ok, Err, drop, length, false, IfErr, IfOk, OnOk, option_map};
-ghost use Rattle.desk_journal.specs.Words.{IsKept, batch_of, disk_of};
+ghost use Rattle.desk_journal.specs.Words.{IsKept, KeepsStamps, StampView, batch_of, disk_of, stamp_of};
 ghost use Rattle.program_streams.specs.Words.{has_failed, watched};
 ghost use Rattle.desk_session.specs.Faults.{StopsBytes};
 ghost use Rattle.desk_session.specs.Lines.{lines_of, numbered_lines};
+ghost use Rattle.desk_session.specs.Stamped.{IsStampedOn};
 ghost use Rattle.desk_session.specs.Stopped.{first_stopped, stopped_as, stopped_in};
 ghost use Rattle.desk_session.specs.Served.{IsAllOrNone, IsPromised, IsServed};
 ghost use Rattle.desk_session.specs.Taken.{TakesLine, TakesLines, left_by};
@@ -136,6 +137,9 @@ pub fn serve_together<D: Disk, O: Register, W: Write>(
     ensures long { result ≡ Err SessionFault.LongLine → journal.new ≡ journal.old }
     ensures unanswered { (kept : List (List ℕ)) → IsKept D.Disk.seen D.Disk.may_leave D.Disk.is_usable kept journal.old → O.stands setup.now register.old kept → result ≡ Err SessionFault.Write →
         IsKept D.Disk.seen D.Disk.may_leave D.Disk.is_usable (kept ++ left_by (O.leaves setup.now) kept (lines_of input.now)) journal.new }
+    // What is kept is of the journal's account, and times never go back.
+    ensures stamped { (stamps : List StampView) → KeepsStamps D.Disk.seen D.Disk.may_leave D.Disk.is_usable stamps journal.old
+        → OnOk result (IsStampedOn (stamp_of journal.old).account (λ after. KeepsStamps D.Disk.seen D.Disk.may_leave D.Disk.is_usable after journal.new) stamps) }
     ensures fault { IfErr result (StopsBytes (has_failed writer.new) [] input.now) }
 {
     let mut batch = Vec::new(alloc);

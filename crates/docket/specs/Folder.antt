@@ -4,13 +4,13 @@ use Rattle.desk_journal.specs.declared.fault.JournalFault.TheVariants as journal
 use Rattle.desk_program.specs.declared.fault.DeskFault.{DeskFault}
 use Rattle.desk_program.specs.declared.fault.DeskFault.TheVariants.{Journal, OutOfMemory}
 
--- the name of its journal
-abbrev pub journal_name : (folder : List ℕ) → List ℕ
-journal_name folder = folder ++ codes "/journal"
-
--- the name of the folder in which it is
+-- the name of the folder in which a folder is
 abbrev pub above_name : (folder : List ℕ) → List ℕ
 above_name folder = folder ++ codes "/.."
+
+-- the name of the file that an opening makes beside its journal
+abbrev pub spare_name : (folder : List ℕ) → List ℕ
+spare_name folder = folder ++ codes "/journal-wal"
 
 -- the same fault, but that a disk in memory fails for want of memory alone
 abbrev pub fault_in_memory : DeskFault → DeskFault

@@ -1,7 +1,10 @@
 pub mod Endings
 pub mod Folder
+pub mod JournalFile
 pub mod Lines
+pub mod Logs
 pub mod Reports
 pub mod Saved
+pub mod SessionMark
 pub mod Sessions
 pub mod Times

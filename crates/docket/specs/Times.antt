@@ -1,5 +1,5 @@
 -- As of when a folder is read, and which of its entries are listed, by the clock of the court that stands.
-use Rattle.std.specs.Prelude.{◌≡◌, ℕ, ℤ, pos, ◌-◌, int_lt, unsigned_abs, List, Option, None, Some, option_map, string_bytes, take, if◌then◌else◌}
+use Rattle.std.specs.Prelude.{◌≡◌, ℕ, ℤ, pos, ◌-◌, int_lt, nat_lt, unsigned_abs, List, Option, None, Some, option_map, string_bytes, take, if◌then◌else◌}
 use Rattle.court_clock.specs.Words.{ClockView, instant_of}
 use Rattle.court_days.specs.Words.{CourtView}
 use Rattle.desk_entries.specs.Words.{SaysCourt, standing_file}
@@ -31,10 +31,20 @@ end_of clock day = begin_of clock (day_on day (After 1))
 abbrev pub day_then : ClockView → (clock_time : ℤ) → DaySaid → ℤ
 day_then clock clock_time said = day_on (today_by clock clock_time) said
 
--- after the row, or at the last second of the day
+-- a second of a day, counted from midnight, of which a day has 86,400
+abbrev pub second_within : (second : ℕ) → ℕ
+second_within second = if nat_lt second 86_400 then second else 86_399
+
+-- The second at which the clock shows a second of a day: the first of two, and, where the clock jumps over it, one that is later by
+-- the gap.
+abbrev pub second_of : ClockView → (day : ℤ) → (second : ℕ) → ℕ
+second_of clock day second = second_at (instant_of clock.zone day (second_within second))
+
+-- after the row, or at the last second of the day, or at that second
 abbrev pub moment_of : ClockView → AsOf → Moment
 moment_of clock (as_of.Row row) = Row row
 moment_of clock (as_of.Day said clock_time) = Second (end_of clock (day_then clock clock_time said) - 1)
+moment_of clock (as_of.Second day second) = Second (second_of clock day second)
 
 -- The entries that there were then: as many of the first as had come by that moment, by the clock of the court that stands after them
 -- all.
@@ -50,15 +60,11 @@ abbrev pub IsUntil : Option AsOf → (stamps : List StampView) → (entries was 
 IsUntil None stamps entries was = was ≡ entries
 IsUntil (Some as_of) stamps entries was = IsThen as_of stamps entries was
 
--- which entries are listed: those of the row, by the account, from the first second of the first day and before the end of the last
-pub record IsChoice (clock : ClockView) (asked : LogAsked) (choice : LogChoice) : Type 0 where
+-- which entries are listed: those of the row, of the case, by the account, from the first second of the first day and before the end of the last
+pub record IsChoice (clock : ClockView) (asked : LogAsked) (case : Option ℕ) (choice : LogChoice) : Type 0 where
   pub row : choice.row ≡ asked.row
+  pub case_is : choice.case ≡ case
   pub by : option_map string_bytes choice.by ≡ option_map string_bytes asked.by
   pub from : choice.from ≡ option_map (λ said. begin_of clock (day_then clock asked.clock_time said)) asked.from
   pub to : choice.to ≡ option_map (λ said. end_of clock (day_then clock asked.clock_time said)) asked.to
-
--- the same, by the clock of the court that stands after these entries
-pub record IsChosen (entries : List (List ℕ)) (asked : LogAsked) (choice : LogChoice) : Type 0 where
-  pub court : CourtView
-  pub says : SaysCourt (standing_file entries) court
-  pub is : IsChoice court.clock asked choice
+  pub json : choice.json ≡ asked.json

@@ -3,21 +3,20 @@ ghost use Rattle.std.specs.Prelude.{◌≡◌, ◌<◌, ◌≤◌, ◌++◌, cod
 ghost use Rattle.court_clock.specs.Words.{day_text};
 ghost use Rattle.desk_entries.specs.declared.standing.Standing.{Standing};
 ghost use Rattle.desk_journal.specs.Words.{batch_of};
-ghost use Rattle.desk_program.specs.Words.{KeepsDocket, StrikesRow, standing_at};
+ghost use Rattle.desk_program.specs.Words.{KeepsDocket, RestoresRow, StrikesRow, standing_at};
 ghost use Rattle.docket.specs.Sessions.{remark_by, remark_text};
 ghost use Rattle.program_streams.specs.Words.{has_failed, watched};
 
 use crate::fault::Fault;
-use crate::folder::{
-    FolderDesk, journal_name, make_folder, opened, read_file, stamp_now, sync_made,
-};
+use crate::folder::{end_desk, make_folder, opened, read_file, remove_spare, stamp_now, sync_made};
+use crate::journal_file::{check_place, journal_name};
 use court_clock::Day;
 use court_days::Court;
 use desk_program::{Desk, DeskFault, check_court, open_file};
 use desk_session::account_of;
 use program_main::today_by;
 use program_streams::Watched;
-use program_words::Striking;
+use program_words::Correcting;
 use sqlite_disk::Disk;
 use sqlite_std_file::Wary;
 use std::alloc::{AllocError, Global};
@@ -32,27 +31,37 @@ pub fn init(rt: &HostRuntime, folder: &str, court: &str) -> Result<(), Fault> {
     check_court(rt.alloc(), &file)?;
     make_folder(rt, folder)?;
     let name = journal_name(rt.alloc(), folder)?;
+    check_place(rt, name.as_str())?;
     let disk = open_file(rt, name.as_str(), Wary)?;
     let stamp = stamp_now(rt)?;
     match Desk::begin(rt.alloc(), disk, file, stamp) {
-        Ok(_) => Ok(sync_made(rt, folder)?),
+        Ok(_) => {
+            remove_spare(rt, folder);
+            Ok(sync_made(rt, folder)?)
+        }
         Err((fault, _)) => Err(Fault::Desk(fault)),
     }
 }
 
-// What is said of a row that is struck before the account that strikes it.
-fn struck_on(alloc: Global, day: Day) -> Result<String, AllocError>
-    ensures { IfOk result (λ text. string_bytes text ≡ codes "struck " ++ day_text day ++ codes " by ") }
+// What is said of a row that is struck or restored before the account that does it.
+fn done_on(alloc: Global, done: &str, day: Day) -> Result<String, AllocError>
+    ensures { IfOk result (λ text. string_bytes text ≡ done.now ++ codes " " ++ day_text day ++ codes " by ") }
 {
-    format!(in alloc; "struck {day} by ")
+    format!(in alloc; "{done} {day} by ")
 }
 
-// When, by which account and why a row is struck.
+// What is done, when, by which account and why.
 #[tactic(auto, unfolding(crate::specs::Sessions::remark_text))]
-fn remark_of(alloc: Global, day: Day, account: &[u8], reason: &str) -> Result<Vec<u8>, AllocError>
-    ensures { IfOk result (λ remark. remark.items ≡ remark_text day account.now reason.now) }
+fn remark_of(
+    alloc: Global,
+    done: &str,
+    day: Day,
+    account: &[u8],
+    reason: &str,
+) -> Result<Vec<u8>, AllocError>
+    ensures { IfOk result (λ remark. remark.items ≡ remark_text done.now day account.now reason.now) }
 {
-    let begin = struck_on(alloc, day)?;
+    let begin = done_on(alloc, done, day)?;
     let mut remark = Vec::from_slice(alloc, begin.as_bytes())?;
     remark.extend_from_slice(account)?;
     remark.extend_from_slice(b": ")?;
@@ -61,17 +70,18 @@ fn remark_of(alloc: Global, day: Day, account: &[u8], reason: &str) -> Result<Ve
     Ok(remark)
 }
 
-// The same of a row that is struck for that court, on the day that its clock shows.
+// The same of a row for that court, on the day that its clock shows.
 fn remark_by(
     alloc: Global,
+    done: &str,
     court: &Court,
     account: &[u8],
-    striking: &Striking,
+    correcting: &Correcting,
 ) -> Result<Vec<u8>, AllocError>
-    ensures { (under : Standing) → under.court ≡ court.now → IfOk result (λ remark. remark.items ≡ remark_by under account.now striking.now) }
+    ensures { (under : Standing) → under.court ≡ court.now → IfOk result (λ remark. remark.items ≡ remark_by done.now under account.now correcting.now) }
 {
-    let day = today_by(court.clock(), striking.clock_time);
-    remark_of(alloc, day, account, striking.reason.as_str())
+    let day = today_by(court.clock(), correcting.clock_time);
+    remark_of(alloc, done, day, account, correcting.reason.as_str())
 }
 
 // Strikes a row.
@@ -81,45 +91,103 @@ fn stricken<D: Disk, W: Write>(
     desk: &mut Desk<D>,
     entries: &[Vec<u8>],
     account: &[u8],
-    striking: &Striking,
+    correcting: &Correcting,
 ) -> Result<(), DeskFault>
     requires works { has_failed writer.old ≡ false }
     requires some { 0 < length entries.now }
     requires few { length entries.now ≤ 1000000 }
     ensures { KeepsDocket D.Disk.seen D.Disk.may_leave D.Disk.is_usable (batch_of entries.now) desk.old → OnOk result
-        (StrikesRow (standing_at desk.old) (batch_of entries.now) striking.now.row (remark_by (standing_at desk.old) account.now striking.now) striking.now.accept (W.contents (watched writer.old)) (W.contents (watched writer.new))
+        (StrikesRow (standing_at desk.old) (batch_of entries.now) correcting.now.row (remark_by (codes "struck") (standing_at desk.old) account.now correcting.now) correcting.now.accept (W.contents (watched writer.old)) (W.contents (watched writer.new))
         (λ kept. KeepsDocket D.Disk.seen D.Disk.may_leave D.Disk.is_usable kept desk.new)) }
 {
-    let remark = remark_by(alloc, desk.court(), account, striking)?;
+    let remark = remark_by(alloc, "struck", desk.court(), account, correcting)?;
     desk.strike(
         alloc,
         entries,
-        striking.row,
+        correcting.row,
         remark.as_slice(),
-        striking.accept,
+        correcting.accept,
         writer,
     )
 }
 
-/// Writes the answers that would change without a row, and strikes it if there are none, or where that is accepted.
+// Restores a row that is struck.
+fn restored<D: Disk, W: Write>(
+    alloc: Global,
+    writer: &mut Watched<W>,
+    desk: &mut Desk<D>,
+    entries: &[Vec<u8>],
+    account: &[u8],
+    correcting: &Correcting,
+) -> Result<(), DeskFault>
+    requires works { has_failed writer.old ≡ false }
+    requires some { 0 < length entries.now }
+    requires few { length entries.now ≤ 1000000 }
+    ensures { KeepsDocket D.Disk.seen D.Disk.may_leave D.Disk.is_usable (batch_of entries.now) desk.old → OnOk result
+        (RestoresRow (standing_at desk.old) (batch_of entries.now) correcting.now.row (remark_by (codes "restored") (standing_at desk.old) account.now correcting.now) correcting.now.accept (W.contents (watched writer.old)) (W.contents (watched writer.new))
+        (λ kept. KeepsDocket D.Disk.seen D.Disk.may_leave D.Disk.is_usable kept desk.new)) }
+{
+    let remark = remark_by(alloc, "restored", desk.court(), account, correcting)?;
+    desk.restore(
+        alloc,
+        entries,
+        correcting.row,
+        remark.as_slice(),
+        correcting.accept,
+        writer,
+    )
+}
+
+/// Writes what would change without a row, and strikes it if no answer would, or where that is accepted.
 pub fn strike<H: Threads + Wait + Sync, W: Write>(
     rt: &HostRuntime,
     threads: &H,
     writer: &mut Watched<W>,
     folder: &str,
-    striking: &Striking,
+    correcting: &Correcting,
 ) -> Result<(), Fault>
     requires { has_failed writer.old ≡ false }
 {
     let account = account_of(rt)?;
     let (mut desk, entries) = opened(rt, threads, folder)?;
-    let ended = stricken(rt.alloc(), writer, &mut desk, &entries, &account, striking);
-    drop(desk.into_disk());
+    let ended = stricken(
+        rt.alloc(),
+        writer,
+        &mut desk,
+        &entries,
+        &account,
+        correcting,
+    );
+    end_desk(rt, folder, desk);
     Ok(ended?)
 }
 
-/// Writes the answers that another court's file would change, and goes by it from here on if there are none, or where that is
-/// accepted. It is read first, so that where it can't be the journal isn't opened.
+/// Writes what would change with a row that is struck, and restores it if no answer would, or where that is accepted.
+pub fn restore<H: Threads + Wait + Sync, W: Write>(
+    rt: &HostRuntime,
+    threads: &H,
+    writer: &mut Watched<W>,
+    folder: &str,
+    correcting: &Correcting,
+) -> Result<(), Fault>
+    requires { has_failed writer.old ≡ false }
+{
+    let account = account_of(rt)?;
+    let (mut desk, entries) = opened(rt, threads, folder)?;
+    let ended = restored(
+        rt.alloc(),
+        writer,
+        &mut desk,
+        &entries,
+        &account,
+        correcting,
+    );
+    end_desk(rt, folder, desk);
+    Ok(ended?)
+}
+
+/// Writes what another court's file would change, and goes by it from here on if no answer would, or where that is accepted. It is read
+/// first, so that where it can't be the journal isn't opened.
 pub fn change<H: Threads + Wait + Sync, W: Write>(
     rt: &HostRuntime,
     threads: &H,
@@ -133,6 +201,6 @@ pub fn change<H: Threads + Wait + Sync, W: Write>(
     let file = read_file(rt, court)?;
     let (mut desk, entries) = opened(rt, threads, folder)?;
     let ended = desk.change(rt.alloc(), &entries, &file, accept, writer);
-    drop(desk.into_disk());
+    end_desk(rt, folder, desk);
     Ok(ended?)
 }

@@ -10,17 +10,16 @@ ghost use Rattle.docket.specs.Sessions.{WithTally};
 ghost use Rattle.program_streams.specs.Words.{has_failed, watched};
 
 use crate::fault::{Fault, taken};
-use crate::folder::{copied_beside, entries_beside, put, stamped_beside};
+use crate::folder::{copied_beside, entries_beside, put};
 use crate::input::{reading_of, rows_of};
 use crate::progress::told_while;
-use crate::times::choice_of;
 use desk_entries::Docketed;
 use desk_program::{
-    Desk, DeskFault, ask as answer, write_cases, write_count, write_log, write_rows, write_struck,
+    Desk, DeskFault, ask as answer, write_cases, write_count, write_rows, write_struck,
 };
 use desk_warnings::HeldBack;
 use program_streams::Watched;
-use program_words::{AsOf, Lines, LogAsked, Style};
+use program_words::{AsOf, Lines, Style};
 use sqlite_disk::Disk;
 use std::alloc::Global;
 use std::io::{Read, Write};
@@ -222,18 +221,4 @@ pub fn rows<H: Threads + Wait + Sync, W: Write>(
 {
     let (docketed, entries) = docketed_beside(rt, threads, folder, as_of)?;
     Ok(put_rows(rt.alloc(), writer, &docketed, &entries)?)
-}
-
-/// Lists what was entered, by whom and when.
-pub fn log<W: Write>(
-    rt: &HostRuntime,
-    writer: &mut Watched<W>,
-    folder: &str,
-    asked: &LogAsked,
-) -> Result<(), Fault>
-    requires { has_failed writer.old ≡ false }
-{
-    let (entries, stamps) = stamped_beside(rt, folder)?;
-    let choice = choice_of(rt.alloc(), &entries, asked)?;
-    Ok(write_log(rt.alloc(), &entries, &stamps, &choice, writer)?)
 }

@@ -1,15 +1,19 @@
 //! Rows that are kept.
 ghost use Rattle.std.specs.Prelude.{◌≡◌, ◌≢◌, ◌⊎◌, ℕ, List, None, false, true, IfOk, IfSome, OnOk};
-ghost use Rattle.desk_program.specs.Words.{IsDocketAllOrNone, KeepsDocket, answers_at, desk_status, disk_under, held_at, leaves_at, outcome_at, standing_at, stop_of};
+ghost use Rattle.desk_program.specs.Words.{IsDocketAllOrNone, KeepsDocket, KeepsTogether, answers_at, desk_status, disk_under, held_at, leaves_at, outcome_at, standing_at, stop_of};
 ghost use Rattle.desk_session.specs.Words.{IsServed, lines_of, tally_of};
 ghost use Rattle.docket.specs.Lines.{is_json};
 ghost use Rattle.docket.specs.Sessions.{WithTally};
 ghost use Rattle.program_streams.specs.Words.{has_failed, watched};
 
 use crate::fault::{Fault, taken};
-use crate::folder::{FolderDesk, opened};
+use crate::folder::{FolderDesk, end_desk, opened};
 use crate::input::{rows_of, say, whole};
-use desk_program::{Desk, DeskFault, status_of};
+use crate::journal_file::journal_name;
+use crate::place::{GuardedInput, Place, is_replaced, place_of};
+use crate::session_mark::{begin_session, end_session};
+use desk_journal::JournalFault;
+use desk_program::{Desk, DeskFault, file_fault, status_of};
 use desk_session::SessionFault;
 use desk_warnings::HeldBack;
 use program_streams::{Watched, write_all};
@@ -90,6 +94,8 @@ fn kept_together<D: Disk, W: Write, E: Write>(
         → IsDocketAllOrNone (standing_at desk.old) (held_at desk.old) kept (lines_of rows.now) (D.Disk.may_leave (disk_under desk.new)) }
     ensures unwritten { (kept : List (List ℕ)) → KeepsDocket D.Disk.seen D.Disk.may_leave D.Disk.is_usable kept desk.old
         → stop_of (standing_at desk.old) (held_at desk.old) keep_refused kept rows.now ≢ None → disk_under desk.new ≡ disk_under desk.old }
+    ensures together { (kept : List (List ℕ)) → KeepsDocket D.Disk.seen D.Disk.may_leave D.Disk.is_usable kept desk.old → OnOk result
+        (KeepsTogether (standing_at desk.old) (held_at desk.old) keep_refused kept rows.now (W.contents (watched writer.old)) (W.contents (watched writer.new)) (λ entries. KeepsDocket D.Disk.seen D.Disk.may_leave D.Disk.is_usable entries desk.new)) }
 {
     let mut said = Watched::new(Vec::new(alloc));
     match desk.enter_together(alloc, rows, keep_refused, &mut said) {
@@ -106,9 +112,55 @@ fn kept_together<D: Disk, W: Write, E: Write>(
     }
 }
 
+// Looks whether a journal's name still leads to the file that is open. Rows that would be kept in another file are lost with the name.
+fn check_stays(rt: &HostRuntime, name: &str, place: Place) -> Result<(), DeskFault> {
+    if is_replaced(rt, name, place) {
+        return Err(DeskFault::Journal(JournalFault::Changed));
+    }
+    Ok(())
+}
+
+// Whether the session ended since its input couldn't be read.
+fn is_unread(fault: &Fault) -> bool {
+    match fault {
+        Fault::Desk(fault) => match fault {
+            DeskFault::Session(fault) => match fault {
+                SessionFault::Read => true,
+                _ => false,
+            },
+            _ => false,
+        },
+        _ => false,
+    }
+}
+
+// Keeps the rows of standard input while the journal's name leads to the file that is open, and answers each.
+fn kept_guarded<W: Write>(
+    rt: &HostRuntime,
+    name: &str,
+    place: Place,
+    writer: &mut Watched<W>,
+    desk: &mut FolderDesk,
+) -> Result<(), Fault>
+    requires { has_failed writer.old ≡ false }
+{
+    let name_kept = String::from_str(rt.alloc(), name)?;
+    let reader = GuardedInput::new(rt, name_kept, place);
+    match kept_each(rt.alloc(), rt, reader, writer, desk) {
+        Ok(()) => Ok(()),
+        Err(fault) => {
+            if is_unread(&fault) {
+                check_stays(rt, name, place)?;
+            }
+            Err(fault)
+        }
+    }
+}
+
 // Keeps rows, as they are to be.
 fn kept<W: Write, E: Write>(
     rt: &HostRuntime,
+    name: &str,
     writer: &mut Watched<W>,
     errors: &mut Watched<E>,
     desk: &mut FolderDesk,
@@ -118,21 +170,68 @@ fn kept<W: Write, E: Write>(
 ) -> Result<(), Fault>
     requires { has_failed writer.old ≡ false }
 {
+    let place = match place_of(rt, name) {
+        Ok(place) => place,
+        Err(error) => return Err(Fault::Desk(file_fault(rt.alloc(), name, error))),
+    };
     let rows = rows_of(rt, errors, desk.court(), lines, marked)?;
     match (keeping, rows) {
-        (Keeping::Each, None) => kept_each(rt.alloc(), rt, rt.stdin(), writer, desk),
-        (Keeping::Each, Some(rows)) => kept_each(rt.alloc(), rt, rows.as_slice(), writer, desk),
+        (Keeping::Each, None) => kept_guarded(rt, name, place, writer, desk),
+        (Keeping::Each, Some(rows)) => {
+            check_stays(rt, name, place)?;
+            kept_each(rt.alloc(), rt, rows.as_slice(), writer, desk)
+        }
         (Keeping::Together(keep_refused), None) => {
             let rows = whole(rt.alloc(), rt.stdin())?;
+            check_stays(rt, name, place)?;
             kept_together(rt.alloc(), writer, errors, desk, lines, &rows, keep_refused)
         }
         (Keeping::Together(keep_refused), Some(rows)) => {
+            check_stays(rt, name, place)?;
             kept_together(rt.alloc(), writer, errors, desk, lines, &rows, keep_refused)
         }
     }
 }
 
-/// Keeps the rows of standard input, as they are to be, and answers them.
+// Whether each row that is kept was answered, where the session ended with this fault.
+fn is_answered_at(fault: &SessionFault) -> bool {
+    match fault {
+        SessionFault::Journal(fault) => is_unchanged_by(fault),
+        SessionFault::Write | SessionFault::OutOfMemory => false,
+        _ => true,
+    }
+}
+
+// The same, where the desk says so.
+fn is_answered_by(fault: &DeskFault) -> bool {
+    match fault {
+        DeskFault::Journal(fault) => is_unchanged_by(fault),
+        DeskFault::Session(fault) => is_answered_at(fault),
+        DeskFault::OutOfMemory => false,
+        _ => true,
+    }
+}
+
+// Whether each row that is kept was answered, by what the session came to.
+fn is_answered(ended: &Result<(), Fault>) -> bool {
+    match ended {
+        Ok(()) => true,
+        Err(fault) => match fault {
+            Fault::Desk(fault) => is_answered_by(fault),
+            _ => true,
+        },
+    }
+}
+
+// Whether nothing was written to the journal at this fault.
+fn is_unchanged_by(fault: &JournalFault) -> bool {
+    match fault {
+        JournalFault::Changed | JournalFault::Full => true,
+        _ => false,
+    }
+}
+
+/// Keeps the rows of standard input, as they are to be, and answers them. Where a session before was cut off, standard error says so.
 pub fn enter<H: Threads + Wait + Sync, W: Write, E: Write>(
     rt: &HostRuntime,
     threads: &H,
@@ -147,9 +246,23 @@ pub fn enter<H: Threads + Wait + Sync, W: Write, E: Write>(
 {
     let (mut desk, entries) = opened(rt, threads, folder)?;
     drop(entries);
+    let name = journal_name(rt.alloc(), folder)?;
+    begin_session(rt, folder, desk.rows())?;
     desk.hold_back(held_back);
     let marked = held_back.are_marked();
-    let ended = kept(rt, writer, errors, &mut desk, lines, marked, keeping);
-    drop(desk.into_disk());
+    let ended = kept(
+        rt,
+        name.as_str(),
+        writer,
+        errors,
+        &mut desk,
+        lines,
+        marked,
+        keeping,
+    );
+    if is_answered(&ended) {
+        end_session(rt, folder);
+    }
+    end_desk(rt, folder, desk);
     ended
 }

@@ -23,6 +23,8 @@ pub enum Fault {
     Input(OfficeFault),
     /// What is asked for isn't there, as this line says, which ends with LF.
     Missing(String),
+    /// The file of the folder's journal can't be used, as this line says, which ends with LF.
+    Unusable(String),
     /// No court's file is written.
     NotWritten(WriteFault),
     /// Standard error says already what is wrong. The program ends with this status.
@@ -100,6 +102,15 @@ fn not_written<E: Write>(alloc: Global, errors: &mut Watched<E>, fault: &WriteFa
     }
 }
 
+// Says why a journal's file can't be used.
+fn unusable<E: Write>(errors: &mut Watched<E>, line: &str) -> u8
+    ensures status { result ≡ 10 }
+    ensures line { IsGiven E.contents errors.old errors.new line.now }
+{
+    let _ = refused(errors, line);
+    10
+}
+
 /// Says on standard error why the program ends, as far as it can be written, and gives the status.
 pub fn told<E: Write>(alloc: Global, errors: &mut Watched<E>, fault: &Fault) -> u8
     ensures { IsTold fault.now result (IsGiven E.contents errors.old errors.new) }
@@ -108,6 +119,7 @@ pub fn told<E: Write>(alloc: Global, errors: &mut Watched<E>, fault: &Fault) -> 
         Fault::Desk(fault) => ended_by(alloc, errors, fault),
         Fault::Input(fault) => runs::ended_by(alloc, errors, fault),
         Fault::Missing(line) => missing(errors, line.as_str()),
+        Fault::Unusable(line) => unusable(errors, line.as_str()),
         Fault::NotWritten(fault) => not_written(alloc, errors, fault),
         Fault::Told(status) => *status,
     }

@@ -1,9 +1,11 @@
 //! A folder with a journal.
 ghost use Rattle.std.specs.Prelude.{◌≡◌, ◌<◌, ◌≤◌, Err, length, false, string_bytes, IfOk, OnErr, OnOk};
 ghost use Rattle.std.specs.Io.KnownBytes.{Appends};
-ghost use Rattle.docket.specs.Folder.{above_name, fault_in_memory, journal_name};
+ghost use Rattle.docket.specs.Folder.{above_name, fault_in_memory, spare_name};
 ghost use Rattle.program_streams.specs.Words.{has_failed, watched};
 
+use crate::fault::Fault;
+use crate::journal_file::{find_journal, find_own_journal, journal_name};
 use crate::progress::told_while;
 use crate::saved::save_tail;
 use crate::times::until;
@@ -43,13 +45,6 @@ pub fn read_file(rt: &HostRuntime, name: &str) -> Result<Vec<u8>, DeskFault> {
     }
 }
 
-/// The name of a folder's journal.
-pub fn journal_name(alloc: Global, folder: &str) -> Result<String, AllocError>
-    ensures { IfOk result (λ name. string_bytes name ≡ journal_name folder.now) }
-{
-    format!(in alloc; "{folder}/journal")
-}
-
 /// Makes a folder, unless there is one of that name.
 pub fn make_folder(rt: &HostRuntime, folder: &str) -> Result<(), DeskFault> {
     match fs::create_dir(rt, folder) {
@@ -85,15 +80,6 @@ pub fn sync_made(rt: &HostRuntime, folder: &str) -> Result<(), DeskFault> {
     sync_folder(rt, above.as_str())
 }
 
-// Finds a folder's journal, which an opening would otherwise make.
-fn find_journal(rt: &HostRuntime, name: &str) -> Result<(), DeskFault> {
-    match fs::symlink_metadata(rt, name) {
-        Ok(_) => Ok(()),
-        Err(error) if error.kind() == ErrorKind::NotFound => Err(DeskFault::NoJournal),
-        Err(error) => Err(file_fault(rt.alloc(), name, error)),
-    }
-}
-
 /// Who enters what is kept from here on, and when.
 pub fn stamp_now(rt: &HostRuntime) -> Result<Stamp, AllocError> {
     let account = account_of(rt)?;
@@ -105,12 +91,12 @@ pub fn opened<H: Threads + Wait + Sync>(
     rt: &HostRuntime,
     threads: &H,
     folder: &str,
-) -> Result<(FolderDesk, Vec<Vec<u8>>), DeskFault>
+) -> Result<(FolderDesk, Vec<Vec<u8>>), Fault>
     ensures some { IfOk result (λ opened. 0 < length opened.1.items) }
     ensures few { IfOk result (λ opened. length opened.1.items ≤ 1000000) }
 {
     let name = journal_name(rt.alloc(), folder)?;
-    find_journal(rt, name.as_str())?;
+    find_own_journal(rt, name.as_str())?;
     let file = open_file(rt, name.as_str(), Wary)?;
     save_tail(rt, folder, name.as_str())?;
     let stamp = stamp_now(rt)?;
@@ -119,8 +105,34 @@ pub fn opened<H: Threads + Wait + Sync>(
     });
     match opened {
         Ok(opened) => Ok(opened),
-        Err((fault, _)) => Err(fault),
+        Err((fault, _)) => Err(Fault::Desk(fault)),
     }
+}
+
+// The name of the file that an opening makes beside a folder's journal.
+fn spare_name(alloc: Global, folder: &str) -> Result<String, AllocError>
+    ensures { IfOk result (λ name. string_bytes name ≡ spare_name folder.now) }
+{
+    format!(in alloc; "{folder}/journal-wal")
+}
+
+/// Removes the file that an opening makes beside a folder's journal, if it is empty, and as far as it can be.
+pub fn remove_spare(rt: &HostRuntime, folder: &str) {
+    let Ok(name) = spare_name(rt.alloc(), folder) else {
+        return;
+    };
+    match fs::symlink_metadata(rt, name.as_str()) {
+        Ok(found) if found.is_file() && found.len() == 0 => {
+            let _ = fs::remove_file(rt, name.as_str());
+        }
+        _ => {}
+    }
+}
+
+/// Ends a docket of a folder. From here on another program can open it.
+pub fn end_desk(rt: &HostRuntime, folder: &str, desk: FolderDesk) {
+    remove_spare(rt, folder);
+    drop(desk.into_disk());
 }
 
 // How often a journal is read again that changes while it is read.
@@ -144,10 +156,7 @@ fn read_again(
 
 /// The entries of a folder's journal, and the stamp of each, read beside a program that may append to it. Where it seems to be
 /// damaged and has changed meanwhile, it is read again.
-pub fn stamped_beside(
-    rt: &HostRuntime,
-    folder: &str,
-) -> Result<(Vec<Vec<u8>>, Vec<Stamp>), DeskFault>
+pub fn stamped_beside(rt: &HostRuntime, folder: &str) -> Result<(Vec<Vec<u8>>, Vec<Stamp>), Fault>
     ensures few { IfOk result (λ stamped. length stamped.0.items ≤ 1000000) }
     ensures as_many { IfOk result (λ stamped. length stamped.1.items ≡ length stamped.0.items) }
 {
@@ -160,7 +169,10 @@ pub fn stamped_beside(
             Err(fault) => read_again(rt, name.as_str(), &mut bytes, DeskFault::from(fault))?,
         }
     }
-    Ok(stamped_in(rt.alloc(), &bytes)?)
+    match stamped_in(rt.alloc(), &bytes) {
+        Ok(stamped) => Ok(stamped),
+        Err(fault) => Err(Fault::Desk(DeskFault::from(fault))),
+    }
 }
 
 /// The entries of a folder's journal as of then, read beside a program that may append to it, as above.
@@ -168,11 +180,14 @@ pub fn entries_beside(
     rt: &HostRuntime,
     folder: &str,
     as_of: Option<AsOf>,
-) -> Result<Vec<Vec<u8>>, DeskFault>
+) -> Result<Vec<Vec<u8>>, Fault>
     ensures { IfOk result (λ entries. length entries.items ≤ 1000000) }
 {
     let (entries, stamps) = stamped_beside(rt, folder)?;
-    until(rt.alloc(), entries, &stamps, as_of)
+    match until(rt.alloc(), entries, &stamps, as_of) {
+        Ok(was) => Ok(was),
+        Err(fault) => Err(Fault::Desk(fault)),
+    }
 }
 
 // The fault of a desk on a disk in memory, which fails only for want of memory.
@@ -193,7 +208,7 @@ pub fn copied_beside<H: Threads + Wait + Sync>(
     rt: &HostRuntime,
     threads: &H,
     folder: &str,
-) -> Result<Desk<Memory>, DeskFault> {
+) -> Result<Desk<Memory>, Fault> {
     told_while(
         threads,
         rt.stderr(),
@@ -203,7 +218,7 @@ pub fn copied_beside<H: Threads + Wait + Sync>(
     )
 }
 
-fn copied(rt: &HostRuntime, folder: &str) -> Result<Desk<Memory>, DeskFault> {
+fn copied(rt: &HostRuntime, folder: &str) -> Result<Desk<Memory>, Fault> {
     let name = journal_name(rt.alloc(), folder)?;
     find_journal(rt, name.as_str())?;
     let mut bytes = read_file(rt, name.as_str())?;
@@ -217,6 +232,6 @@ fn copied(rt: &HostRuntime, folder: &str) -> Result<Desk<Memory>, DeskFault> {
     }
     match Desk::copied(rt.alloc(), Memory::new(rt.alloc()), &bytes) {
         Ok(desk) => Ok(desk),
-        Err((fault, _)) => Err(fault_in_memory(fault)),
+        Err((fault, _)) => Err(Fault::Desk(fault_in_memory(fault))),
     }
 }

@@ -9,9 +9,13 @@ mod enter;
 mod fault;
 mod folder;
 mod input;
+mod journal_file;
+mod logs;
+mod place;
 mod progress;
 mod reports;
 mod saved;
+mod session_mark;
 mod tasks;
 mod times;
 

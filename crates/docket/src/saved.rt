@@ -5,7 +5,7 @@ ghost use Rattle.docket.specs.Saved.{cut_name, day_at, many_line, one_line, save
 
 use crate::folder::{read_file, sync_folder};
 use court_clock::Day;
-use desk_journal::{JournalFault, tail_in};
+use desk_journal::tail_in;
 use desk_program::{DeskFault, file_fault};
 use desk_session::second_of;
 use program_runs::refused;
@@ -117,13 +117,12 @@ fn saved(rt: &HostRuntime, folder: &str, tail: &[u8]) -> Result<String, DeskFaul
 }
 
 /// Saves what a crash left after the last entry of a folder's journal, of which this is the name, and says so on standard error.
-/// The journal's file has to be open, so that no other program writes to it. Of a journal that is damaged nothing is saved, since
-/// nothing of it is cut off.
+/// The journal's file has to be open, so that no other program writes to it. Of a journal that is damaged, or has no entries, nothing is
+/// saved, since nothing of it is cut off.
 pub fn save_tail(rt: &HostRuntime, folder: &str, journal: &str) -> Result<(), DeskFault> {
     let bytes = read_file(rt, journal)?;
-    let tail = match tail_in(rt.alloc(), &bytes) {
+    let tail = match tail_in(&bytes) {
         Ok(tail) => tail,
-        Err(JournalFault::OutOfMemory) => return Err(DeskFault::OutOfMemory),
         Err(_) => return Ok(()),
     };
     if tail.is_empty() {

@@ -2,11 +2,12 @@
 ghost use Rattle.std.specs.Prelude.{◌≡◌, false};
 ghost use Rattle.program_streams.specs.Words.{has_failed};
 
-use crate::alone::{change, init, strike};
-use crate::beside::{ask, cases, check, log, plain, rows, struck, try_rows};
+use crate::alone::{change, init, restore, strike};
+use crate::beside::{ask, cases, check, plain, rows, struck, try_rows};
 use crate::court::{check_file, write_file};
 use crate::enter::enter;
 use crate::fault::Fault;
+use crate::logs::log;
 use crate::reports::{memo, report};
 use program_streams::Watched;
 use program_words::Task;
@@ -57,12 +58,13 @@ pub fn done<H: Threads + Wait + Sync, W: Write, E: Write>(
             *as_of,
         )?,
         Task::Plain(folder, style) => plain(rt, threads, writer, errors, folder.as_str(), *style)?,
-        Task::Strike(folder, striking) => strike(rt, threads, writer, folder.as_str(), striking)?,
+        Task::Strike(folder, row) => strike(rt, threads, writer, folder.as_str(), row)?,
+        Task::Restore(folder, row) => restore(rt, threads, writer, folder.as_str(), row)?,
         Task::Struck(folder, as_of) => struck(rt, writer, folder.as_str(), *as_of)?,
         Task::Cases(folder, as_of) => cases(rt, threads, writer, folder.as_str(), *as_of)?,
         Task::Check(folder) => check(rt, threads, writer, folder.as_str())?,
         Task::Rows(folder, as_of) => rows(rt, threads, writer, folder.as_str(), *as_of)?,
-        Task::Log(folder, asked) => log(rt, writer, folder.as_str(), asked)?,
+        Task::Log(folder, asked) => log(rt, threads, writer, folder.as_str(), asked)?,
         Task::Report(source, asked) => report(rt, threads, writer, source, asked)?,
         Task::Memo(source, asked) => memo(rt, threads, writer, source, asked)?,
         Task::CourtCheck(file, asked) => return check_file(rt, writer, file.as_str(), asked),

@@ -1,7 +1,7 @@
 //! As of when a folder is read, and which of its entries are listed. Days are those of the clock of the court that stands.
-ghost use Rattle.std.specs.Prelude.{◌≡◌, ◌≤◌, length, option_map, string_bytes, IfOk};
+ghost use Rattle.std.specs.Prelude.{◌≡◌, ◌<◌, ◌≤◌, length, option_map, string_bytes, IfOk};
 ghost use Rattle.desk_journal.specs.Words.{batch_of};
-ghost use Rattle.docket.specs.Times.{IsChoice, IsChosen, IsThen, IsUntil, begin_of, day_then, end_of, moment_of, second_at};
+ghost use Rattle.docket.specs.Times.{IsChoice, IsThen, IsUntil, begin_of, day_then, end_of, moment_of, second_at, second_of, second_within};
 
 use court_clock::{Clock, Day, Instant};
 use desk_entries::standing_file;
@@ -33,6 +33,21 @@ fn end_of(clock: &Clock, day: Day) -> u64
     begin_of(clock, DaySaid::After(1).on(day))
 }
 
+// A second of a day, counted from midnight, of which a day has 86,400.
+fn second_within(second: u32) -> u32
+    ensures value { result ≡ second_within second }
+    ensures in_the_day { result < 86_400 }
+{
+    if second < 86_400 { second } else { 86_399 }
+}
+
+// The second of UTC at which the clock shows a second of a day.
+fn second_of(clock: &Clock, day: Day, second: u32) -> u64
+    ensures { result ≡ second_of clock.now day second }
+{
+    second_at(clock.instant_of(day, second_within(second)))
+}
+
 // The day that is said, where the clock shows that instant.
 fn day_then(clock: &Clock, clock_time: Instant, said: DaySaid) -> Day
     ensures { result ≡ day_then clock.now clock_time said }
@@ -50,6 +65,7 @@ fn moment_of(clock: &Clock, as_of: AsOf) -> Moment
             let day = day_then(clock, clock_time, said);
             Moment::Second(end_of(clock, day).saturating_sub(1))
         }
+        AsOf::Second(day, second) => Moment::Second(second_of(clock, day, second)),
     }
 }
 
@@ -119,28 +135,22 @@ fn to_second(clock: &Clock, clock_time: Instant, said: Option<DaySaid>) -> Optio
     }
 }
 
-// Which entries are listed, by that clock.
-fn choice_by(alloc: Global, clock: &Clock, asked: &LogAsked) -> Result<LogChoice, AllocError>
-    ensures { IfOk result (IsChoice clock.now asked.now) }
+/// Which entries are listed by that clock, of this case if one is asked for.
+pub fn choice_by(
+    alloc: Global,
+    clock: &Clock,
+    asked: &LogAsked,
+    case: Option<u32>,
+) -> Result<LogChoice, AllocError>
+    ensures { IfOk result (IsChoice clock.now asked.now case) }
 {
     let by = copied(alloc, &asked.by)?;
     Ok(LogChoice {
         row: asked.row,
+        case,
         by,
         from: from_second(clock, asked.clock_time, asked.from),
         to: to_second(clock, asked.clock_time, asked.to),
+        json: asked.json,
     })
-}
-
-/// Which entries of these are listed.
-pub fn choice_of(
-    alloc: Global,
-    entries: &[Vec<u8>],
-    asked: &LogAsked,
-) -> Result<LogChoice, DeskFault>
-    ensures { IfOk result (IsChosen (batch_of entries.now) asked.now) }
-{
-    let court = court_of(alloc, standing_file(entries))?;
-    let choice = choice_by(alloc, court.clock(), asked)?;
-    Ok(choice)
 }

@@ -53,11 +53,17 @@ ask_line = with_rule (lines_line (codes "ask")) (text_rule (codes "as-of"))
 abbrev pub plain_line : App
 plain_line = with_style (folder_line (codes "plain"))
 
-abbrev pub strike_line : App
-strike_line = with_rule (with_rule (with_rule (folder_line (codes "strike")) (place_rule (codes "row"))) (needed_rule (codes "reason"))) (flag_rule (codes "accept"))
+-- a row, why it is struck or restored, and whether it is though answers differ
+abbrev pub with_correction : App → App
+with_correction line = with_rule (with_rule (with_rule line (place_rule (codes "row"))) (needed_rule (codes "reason"))) (flag_rule (codes "accept"))
+
+abbrev pub correction_line : (name : Text) → App
+correction_line name = with_correction (folder_line name)
 
 abbrev pub log_line : App
-log_line = with_rule (with_rule (with_rule (with_rule (folder_line (codes "log")) (text_rule (codes "row"))) (text_rule (codes "by"))) (text_rule (codes "from"))) (text_rule (codes "to"))
+log_line =
+    with_rule (with_rule (with_rule (with_rule (with_rule (with_rule (folder_line (codes "log")) (text_rule (codes "row"))) (text_rule (codes "case"))) (text_rule (codes "by"))) (text_rule (codes "from")))
+    (text_rule (codes "to"))) (flag_rule (codes "json"))
 
 -- where a docket is, as of when it is read, and a case
 abbrev pub sheet_line : App
@@ -88,8 +94,8 @@ with_rows line =
 -- those of what a folder keeps
 abbrev pub with_kept : App → App
 with_kept line =
-    with_subcommand (with_subcommand (with_subcommand (with_subcommand (with_subcommand (with_subcommand line strike_line.top) (kept_line (codes "struck")).top) (kept_line (codes "cases")).top)
-    (folder_line (codes "check")).top) (kept_line (codes "rows")).top) log_line.top
+    with_subcommand (with_subcommand (with_subcommand (with_subcommand (with_subcommand (with_subcommand (with_subcommand line (correction_line (codes "strike")).top) (correction_line (codes "restore")).top)
+    (kept_line (codes "struck")).top) (kept_line (codes "cases")).top) (folder_line (codes "check")).top) (kept_line (codes "rows")).top) log_line.top
 
 -- the command line of `docket`: its subcommands, of which `court` has a command line of its own
 abbrev pub command_line : App

@@ -10,7 +10,7 @@ use Rattle.court_clock.specs.Words.{day_of_text}
 use Rattle.court_writing.specs.Words.{district_named, of_district, zone_text}
 use Rattle.desk_warnings.specs.declared.register.HeldBack.{HeldBack}
 use Rattle.desk_warnings.specs.declared.register.HeldBack.TheVariants.{Nothing, Warned}
-use Rattle.program_main.specs.Texts.Words.{day_said, faults_unless, is_day_taken, is_said_taken, number_of}
+use Rattle.program_main.specs.Texts.Words.{day_said, faults_unless, is_case_taken, is_day_taken, is_said_taken, number_of}
 use Rattle.office_texts.specs.Names.Words.{case_called}
 use Rattle.office_texts.specs.declared.names.called.CaseCalled.{CaseCalled}
 use Rattle.report_program.specs.declared.asked.Asked.{Asked}
@@ -21,6 +21,7 @@ use Rattle.program_words.specs.AsOf.{as_of_faults, as_of_in, report_as_of_faults
 use Rattle.program_words.specs.declared.subcommand.Subcommand.{Subcommand}
 use Rattle.program_words.specs.declared.subcommand.Subcommand.TheVariants as sub
 use Rattle.program_words.specs.declared.task.AsOf.{AsOf}
+use Rattle.program_words.specs.declared.task.Correcting.{Correcting}
 use Rattle.program_words.specs.declared.task.Keeping.{Keeping}
 use Rattle.program_words.specs.declared.task.Keeping.TheVariants.{Each, Together}
 use Rattle.program_words.specs.declared.task.Lines.{Lines}
@@ -43,6 +44,7 @@ meant name =
     else if bytes_eq name (codes "ask") then sub.Ask
     else if bytes_eq name (codes "plain") then sub.Plain
     else if bytes_eq name (codes "strike") then sub.Strike
+    else if bytes_eq name (codes "restore") then sub.Restore
     else if bytes_eq name (codes "struck") then sub.Struck
     else if bytes_eq name (codes "cases") then sub.Cases
     else if bytes_eq name (codes "check") then sub.Check
@@ -105,17 +107,30 @@ keeping_of given = if has (codes "all-or-nothing") given then Together (has (cod
 abbrev pub keeping_faults : List Row → Kinds
 keeping_faults given = faults_beside (has (codes "keep-refused") given) (has (codes "all-or-nothing") given)
 
+-- which row is struck or restored, why, and whether it is though answers differ
+pub record IsCorrecting (clock_time : ℤ) (given : List Row) (correcting : Correcting) : Type 0 where
+  pub row : option_and_then number_of (first_of (codes "row") given) ≡ Some correcting.row
+  pub reason : option_and_then line_of (first_of (codes "reason") given) ≡ Some (string_bytes correcting.reason)
+  pub clock : correcting.clock_time ≡ clock_time
+  pub accept : correcting.accept ≡ has (codes "accept") given
+
+-- the faults of the row and of why
+abbrev pub correcting_faults : List Row → Kinds
+correcting_faults given = or_else (faults_reading number_of (first_of (codes "row") given)) (faults_reading line_of (first_of (codes "reason") given))
+
 -- which entries of a folder are listed
 pub record IsLog (clock_time : ℤ) (given : List Row) (asked : LogAsked) : Type 0 where
   pub row : asked.row ≡ option_and_then number_of (first_of (codes "row") given)
+  pub case : asked.case ≡ option_and_then case_called (first_of (codes "case") given)
   pub by : option_map string_bytes asked.by ≡ option_and_then line_of (first_of (codes "by") given)
   pub from : asked.from ≡ option_and_then day_said (first_of (codes "from") given)
   pub to : asked.to ≡ option_and_then day_said (first_of (codes "to") given)
   pub clock : asked.clock_time ≡ clock_time
+  pub json : asked.json ≡ has (codes "json") given
 
 abbrev pub log_faults : List Row → Kinds
 log_faults given =
-    or_else (or_else (faults_if_given number_of (first_of (codes "row") given)) (faults_if_given line_of (first_of (codes "by") given)))
+    or_else (or_else (or_else (faults_if_given number_of (first_of (codes "row") given)) (faults_unless (is_case_taken (first_of (codes "case") given)))) (faults_if_given line_of (first_of (codes "by") given)))
     (or_else (faults_unless (is_said_taken (first_of (codes "from") given))) (faults_unless (is_said_taken (first_of (codes "to") given))))
 
 -- of what a report is, by the texts of FOLDER and `--input`: a folder, as of then, or an input, which `-` says is standard input
@@ -185,9 +200,8 @@ IsTask clock_time sub.Enter name given (task.Enter folder lines held_back keepin
 IsTask clock_time sub.Try name given (task.Try folder lines held_back) = IsText (codes "folder") given folder × (lines ≡ lines_of given) × (held_back ≡ held_back_of given)
 IsTask clock_time sub.Ask name given (task.Ask folder lines as_of) = IsText (codes "folder") given folder × (lines ≡ lines_of given) × (as_of ≡ as_of_in clock_time given)
 IsTask clock_time sub.Plain name given (task.Plain folder style) = IsText (codes "folder") given folder × (style ≡ style_of given)
-IsTask clock_time sub.Strike name given (task.Strike folder striking) =
-    IsText (codes "folder") given folder × (option_and_then number_of (first_of (codes "row") given) ≡ Some striking.row)
-    × (option_and_then line_of (first_of (codes "reason") given) ≡ Some (string_bytes striking.reason)) × (striking.clock_time ≡ clock_time) × (striking.accept ≡ has (codes "accept") given)
+IsTask clock_time sub.Strike name given (task.Strike folder correcting) = IsText (codes "folder") given folder × IsCorrecting clock_time given correcting
+IsTask clock_time sub.Restore name given (task.Restore folder correcting) = IsText (codes "folder") given folder × IsCorrecting clock_time given correcting
 IsTask clock_time sub.Struck name given (task.Struck folder as_of) = IsText (codes "folder") given folder × (as_of ≡ as_of_in clock_time given)
 IsTask clock_time sub.Cases name given (task.Cases folder as_of) = IsText (codes "folder") given folder × (as_of ≡ as_of_in clock_time given)
 IsTask clock_time sub.Check name given (task.Check folder) = IsText (codes "folder") given folder
@@ -218,8 +232,8 @@ faults_given sub.Enter given =
 faults_given sub.Try given = or_else (faults_without (first_of (codes "folder") given)) (or_else (lines_faults given) (held_back_faults given))
 faults_given sub.Ask given = or_else (faults_without (first_of (codes "folder") given)) (or_else (lines_faults given) (as_of_faults given))
 faults_given sub.Plain given = or_else (faults_without (first_of (codes "folder") given)) (style_faults given)
-faults_given sub.Strike given =
-    or_else (or_else (faults_without (first_of (codes "folder") given)) (faults_reading number_of (first_of (codes "row") given))) (faults_reading line_of (first_of (codes "reason") given))
+faults_given sub.Strike given = or_else (faults_without (first_of (codes "folder") given)) (correcting_faults given)
+faults_given sub.Restore given = or_else (faults_without (first_of (codes "folder") given)) (correcting_faults given)
 faults_given sub.Struck given = kept_faults given
 faults_given sub.Cases given = kept_faults given
 faults_given sub.Check given = faults_without (first_of (codes "folder") given)

@@ -6,7 +6,7 @@ ghost use Rattle.program_words.specs.CommandLine.{bare_line, command_line, with_
 
 use crate::court_commands::court;
 use crate::folder_commands::{
-    ask, cases, check, enter, init, log, plain, rows, sheet, strike, struck, trial,
+    ask, cases, check, enter, init, log, plain, restore, rows, sheet, strike, struck, trial,
 };
 use clap::Command;
 use program_main::with_subcommand;
@@ -72,7 +72,8 @@ fn with_kept<'a>(alloc: Global, command: Command<'a>) -> Result<Command<'a>, All
     ensures { IfOk result (λ whole. app_of whole ≡ with_kept (app_of command.entry)) }
 {
     let strike = with_subcommand(command, strike(alloc))?;
-    let struck = with_subcommand(strike, struck(alloc))?;
+    let restore = with_subcommand(strike, restore(alloc))?;
+    let struck = with_subcommand(restore, struck(alloc))?;
     let cases = with_subcommand(struck, cases(alloc))?;
     let check = with_subcommand(cases, check(alloc))?;
     let rows = with_subcommand(check, rows(alloc))?;

@@ -47,8 +47,9 @@ const COURT_NAME: &str = "The court, by its name below";
 const CHANGE: &str = "Give a folder another court's file, if no answer changes by it";
 
 const CHANGE_MORE: &str =
-    "It writes the answers that would change by the other file. The file is taken if
-there are none, or with --accept.
+    "It writes the answers that would change by the other file, and the deadlines and
+hearings that would move. The file is taken if no answer changes, or with
+--accept.
 
 Example:
   docket court change cases district.toml";

@@ -3,7 +3,7 @@
 ghost use Rattle.std.specs.Prelude.{◌≡◌, codes, IfOk};
 ghost use Rattle.clap.specs.Words.{app_of, with_rule};
 ghost use Rattle.program_main.specs.Texts.Words.{text_rule};
-ghost use Rattle.program_words.specs.CommandLine.{ask_line, enter_line, folder_line, init_line, kept_line, lines_line, log_line, plain_line, rows_line, sheet_line, strike_line, with_style};
+ghost use Rattle.program_words.specs.CommandLine.{ask_line, enter_line, folder_line, init_line, kept_line, lines_line, log_line, correction_line, plain_line, rows_line, sheet_line, with_correction, with_style};
 
 use crate::options::{with_flag, with_option_place, with_place};
 use clap::Command;
@@ -25,7 +25,7 @@ const WARN_DAY: &str = "With --warn: the day that counts as today, as 2025-09-15
 
 const COURT: &str = "The court's file";
 
-const AS_OF: &str = "The folder as it was after this row, or at the end of this day";
+const AS_OF: &str = "The folder as it was after this row, or at the end of this day or time";
 
 const TOGETHER: &str = "Keep all rows, or none if one is wrong or refused";
 
@@ -68,12 +68,16 @@ const ASK: &str = "Answer questions";
 const ASK_MORE: &str =
     "Questions are lines of standard input. Another program may enter rows meanwhile.
 With --as-of the answers are those that the docket gave then: after that row, or
-at the end of that day by the court's clock. DAY is a date, as 2025-09-15, or
-today, yesterday, or so many days from today, as (with =) -3d.
+at the end of that day, minute or second by the court's clock. DAY is a date, as
+2025-09-15, or today, yesterday, or so many days from today, as (with =) -3d.
+TIME is a date and a time, as 2025-09-15T14:05 or 2025-09-15T14:05:09. Of a time
+that the clock shows twice, as it is set back, it is the first; and one that it
+jumps over, as it is set ahead, is as much later.
 
 Examples:
   echo '1,sheet,7' | docket ask cases
-  echo '1,sheet,7' | docket ask cases --as-of 2025-09-15";
+  echo '1,sheet,7' | docket ask cases --as-of 2025-09-15
+  echo '1,sheet,7' | docket ask cases --as-of 2025-09-15T14:05";
 
 const PLAIN: &str = "Write the plain rows that lines are as people write them";
 
@@ -91,10 +95,10 @@ const PLAIN_JSON: &str = "Write faults of lines as JSON";
 const STRIKE: &str = "Strike a row, if no other answer changes by it";
 
 const STRIKE_MORE: &str =
-    "It writes the answers that would change without the row. The row is struck if
-there are none, or with --accept. It stays in the journal, with why, by whom and
-when it was struck: by the account that runs this, on the day that the clock
-shows in the court's zone.
+    "It writes the row, the answers that would change without it, and the deadlines
+and hearings that would move. The row is struck if no answer changes, or with
+--accept. It stays in the journal, with why, by whom and when it was struck: by
+the account that runs this, on the day that the clock shows in the court's zone.
 
 Example:
   docket strike cases 17 --reason 'entered twice'";
@@ -105,9 +109,30 @@ const REASON: &str = "Why it is struck, in one line";
 
 const STRIKE_ACCEPT: &str = "Strike it though answers change";
 
+const RESTORE: &str = "Restore a row that is struck, if no other answer changes by it";
+
+const RESTORE_MORE: &str =
+    "The row is in its place again, with its number and those that it gave. It writes
+the row, the answers that would change with it, and the deadlines and hearings
+that would move. The row is restored if no answer changes, or with --accept. The
+strike stays in the journal, and so does why, by whom and when the row was
+restored: by the account that runs this, on the day that the clock shows in the
+court's zone.
+
+Example:
+  docket restore cases 17 --reason 'it was no copy'";
+
+const RESTORE_ROW: &str = "The number of the row that is struck";
+
+const RESTORE_REASON: &str = "Why it is restored, in one line";
+
+const RESTORE_ACCEPT: &str = "Restore it though answers change";
+
 const STRUCK: &str = "List the rows that are struck";
 
-const STRUCK_MORE: &str = "Another program may enter rows meanwhile.
+const STRUCK_MORE: &str =
+    "A row that was restored since it was struck isn't listed. Another program may
+enter rows meanwhile.
 
 Examples:
   docket struck cases
@@ -144,27 +169,35 @@ Examples:
 const LOG: &str = "List what was entered, by whom and when";
 
 const LOG_MORE: &str =
-    "An entry is a row, a court's file or a strike. Each is listed with its time in
-UTC, the account that entered it, and its text; a row with its answer too. All
-entries are listed, or those alone for which all options hold. Another program
-may enter rows meanwhile.
+    "An entry is a row, a court's file, a strike or a restore. Each is listed with
+its time in UTC, the account that entered it, and its text; a row with its answer
+too. All entries are listed, or those alone for which all options hold. Another
+program may enter rows meanwhile.
+
+With --json each is an object on a line of its own: its kind (row, court, strike
+or restore), row, time, account, case, and line and answer, or remark.
 
 Examples:
   docket log cases
   docket log cases --row 17
+  docket log cases --case 1:25-cv-01234 --json
   docket log cases --by Ortiz --from 2025-09-15 --to 2025-09-19
 
 DAY is a date, as 2025-09-15, or today, yesterday, or monday to sunday, the next
 such day from today on; or so many days from today, as (with =) -3d. Days are
 those of the clock in the court's zone, and both of them count.";
 
-const LOG_ROW: &str = "The row of this number alone, and its strike";
+const LOG_ROW: &str = "The row of this number alone, and what struck or restored it";
+
+const LOG_CASE: &str = "The rows of this case, and what struck or restored them";
 
 const LOG_BY: &str = "What this account entered, by its name, which stands before its @";
 
 const LOG_FROM: &str = "The first day";
 
 const LOG_TO: &str = "The last day";
+
+const LOG_JSON: &str = "Write a JSON object for each entry, on a line of its own";
 
 const SHEET: &str = "The sheet of one case: its deadlines and motions, after all rows";
 
@@ -194,7 +227,7 @@ pub(crate) fn of_folder<'a>(
 fn with_as_of<'a>(alloc: Global, command: Command<'a>) -> Result<Command<'a>, AllocError>
     ensures { IfOk result (λ whole. app_of whole ≡ with_rule (app_of command.entry) (text_rule (codes "as-of"))) }
 {
-    with_text(alloc, command, "as-of", "ROW|DAY", AS_OF)
+    with_text(alloc, command, "as-of", "ROW|DAY|TIME", AS_OF)
 }
 
 /// A subcommand of that name, which takes a folder, and as of when it is read.
@@ -289,14 +322,35 @@ pub(crate) fn plain<'a>(alloc: Global) -> Result<Command<'a>, AllocError>
     with_style(alloc, command, PLAIN_DATES, PLAIN_JSON)
 }
 
+/// The command, which also takes a row, why it is struck or restored, and whether it is though answers differ.
+fn with_correction<'a>(
+    alloc: Global,
+    command: Command<'a>,
+    row: &'a str,
+    reason: &'a str,
+    accept: &'a str,
+) -> Result<Command<'a>, AllocError>
+    ensures { IfOk result (λ whole. app_of whole ≡ with_correction (app_of command.entry)) }
+{
+    let command = with_place(alloc, command, "row", "ROW", row)?;
+    let command = with_needed(alloc, command, "reason", "TEXT", reason)?;
+    with_flag(alloc, command, "accept", accept)
+}
+
 /// The subcommand by which a row is struck.
 pub(crate) fn strike<'a>(alloc: Global) -> Result<Command<'a>, AllocError>
-    ensures { IfOk result (λ command. app_of command ≡ strike_line) }
+    ensures { IfOk result (λ command. app_of command ≡ correction_line (codes "strike")) }
 {
     let command = of_folder(alloc, "strike", STRIKE, STRIKE_MORE)?;
-    let command = with_place(alloc, command, "row", "ROW", ROW)?;
-    let command = with_needed(alloc, command, "reason", "TEXT", REASON)?;
-    with_flag(alloc, command, "accept", STRIKE_ACCEPT)
+    with_correction(alloc, command, ROW, REASON, STRIKE_ACCEPT)
+}
+
+/// The subcommand by which a row that is struck is restored.
+pub(crate) fn restore<'a>(alloc: Global) -> Result<Command<'a>, AllocError>
+    ensures { IfOk result (λ command. app_of command ≡ correction_line (codes "restore")) }
+{
+    let command = of_folder(alloc, "restore", RESTORE, RESTORE_MORE)?;
+    with_correction(alloc, command, RESTORE_ROW, RESTORE_REASON, RESTORE_ACCEPT)
 }
 
 /// The subcommand by which struck rows are listed.
@@ -333,9 +387,11 @@ pub(crate) fn log<'a>(alloc: Global) -> Result<Command<'a>, AllocError>
 {
     let command = of_folder(alloc, "log", LOG, LOG_MORE)?;
     let command = with_text(alloc, command, "row", "ROW", LOG_ROW)?;
+    let command = with_text(alloc, command, "case", "N", LOG_CASE)?;
     let command = with_text(alloc, command, "by", "NAME", LOG_BY)?;
     let command = with_text(alloc, command, "from", "DAY", LOG_FROM)?;
-    with_text(alloc, command, "to", "DAY", LOG_TO)
+    let command = with_text(alloc, command, "to", "DAY", LOG_TO)?;
+    with_flag(alloc, command, "json", LOG_JSON)
 }
 
 /// The subcommand by which the sheet of a case is written.

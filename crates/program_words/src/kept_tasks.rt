@@ -7,10 +7,10 @@ ghost use Rattle.program_words.specs.declared.subcommand.Subcommand.{Subcommand}
 ghost use Rattle.program_words.specs.Task.{IsLog, IsTask, faults_given, log_faults};
 
 use crate::as_of::as_of_in;
-use crate::given::both;
+use crate::given::{both, has_flag};
 use crate::task::{LogAsked, Task};
 use crate::tasks::folder_in;
-use crate::values::{name_if_given, row_if_given, said_if_given};
+use crate::values::{case_if_given, name_if_given, row_if_given, said_if_given};
 use clap::ArgMatches;
 use court_clock::Instant;
 use program_main::OptionsFault;
@@ -64,18 +64,22 @@ fn log_asked(
     ensures asked { IfOk result (IsLog clock_time (rows_of (found_of given.now))) }
     ensures faults { IsAnswerFor (log_faults (rows_of (found_of given.now))) result }
 {
-    let which = both(row_if_given(alloc, given), name_if_given(alloc, given));
+    let rows = both(row_if_given(alloc, given), case_if_given(alloc, given));
+    let which = both(rows, name_if_given(alloc, given));
     let days = both(
         said_if_given(alloc, given, "from"),
         said_if_given(alloc, given, "to"),
     );
-    let ((row, by), (from, to)) = both(which, days)?;
+    let (((row, case), by), (from, to)) = both(which, days)?;
+    let json = has_flag(given, "json");
     Ok(LogAsked {
         row,
+        case,
         by,
         from,
         to,
         clock_time,
+        json,
     })
 }
 

@@ -17,5 +17,5 @@ mod tasks;
 mod values;
 mod words;
 
-pub use task::{AsOf, Keeping, Lines, LogAsked, Source, Striking, Style, Task};
+pub use task::{AsOf, Correcting, Keeping, Lines, LogAsked, Source, Style, Task};
 pub use words::asked_of;

@@ -18,6 +18,8 @@ pub(crate) enum Subcommand {
     Plain,
     /// `strike`.
     Strike,
+    /// `restore`.
+    Restore,
     /// `struck`.
     Struck,
     /// `cases`.
@@ -55,6 +57,7 @@ pub(crate) fn meant(name: &str) -> Subcommand
         "ask" => Subcommand::Ask,
         "plain" => Subcommand::Plain,
         "strike" => Subcommand::Strike,
+        "restore" => Subcommand::Restore,
         "struck" => Subcommand::Struck,
         "cases" => Subcommand::Cases,
         "check" => Subcommand::Check,

@@ -1,9 +1,10 @@
 //! What words ask for.
 
-use court_clock::Instant;
+use court_clock::{Day, Instant};
 use court_file_check::Asked as CheckAsked;
 use court_writing::CourtName;
 use desk_warnings::HeldBack;
+use office_texts::CaseCalled;
 use program_main::DaySaid;
 use report_memo::Asked as MemoAsked;
 use report_program::Asked as ReportAsked;
@@ -24,7 +25,9 @@ pub enum Task {
     /// `plain`: rows as people write them, which are written as plain rows.
     Plain(String, Style),
     /// `strike`: a row of the folder, which is struck.
-    Strike(String, Striking),
+    Strike(String, Correcting),
+    /// `restore`: a row of the folder that is struck, which is restored.
+    Restore(String, Correcting),
     /// `struck`: the rows that are struck, and as of when.
     Struck(String, Option<AsOf>),
     /// `cases`: the cases that have names, and as of when.
@@ -65,13 +68,17 @@ pub enum AsOf {
     Row(u32),
     /// At the end of this day by the court's clock. The other is the instant that the clock shows, by which it is today.
     Day(DaySaid, Instant),
+    /// At the end of this second of the day, counted from midnight, by the court's clock.
+    Second(Day, u32),
 }
 
-/// Which entries of a folder are listed: those of which all holds that is said.
+/// Which entries of a folder are listed: those of which all holds that is said. And how.
 #[derive(Debug, Drop)]
 pub struct LogAsked {
     /// The row of this number, counted from 1.
     pub row: Option<u32>,
+    /// The rows that name this case.
+    pub case: Option<CaseCalled>,
     /// By whom, in one line.
     pub by: Option<String>,
     /// The first day.
@@ -80,6 +87,8 @@ pub struct LogAsked {
     pub to: Option<DaySaid>,
     /// The instant that the clock shows, by which it is today.
     pub clock_time: Instant,
+    /// Whether they are listed as JSON.
+    pub json: bool,
 }
 
 /// How the lines of standard input are read.
@@ -109,15 +118,15 @@ pub enum Keeping {
     Together(bool),
 }
 
-/// A row that is struck, and what is said of that.
+/// A row that is struck or restored, and what is said of that.
 #[derive(Debug, Drop)]
-pub struct Striking {
+pub struct Correcting {
     /// The row's number, counted from 1.
     pub row: u32,
-    /// Why it is struck, in one line.
+    /// Why it is struck or restored, in one line.
     pub reason: String,
-    /// The instant that the clock shows, by which it is struck on that day.
+    /// The instant that the clock shows, by which that is done on that day.
     pub clock_time: Instant,
-    /// Whether it is struck though answers differ.
+    /// Whether it is done though answers differ.
     pub accept: bool,
 }

@@ -5,11 +5,11 @@ ghost use Rattle.clap.specs.Words.{Text, first_of, found_of, rows_of};
 ghost use Rattle.program_main.specs.Options.Words.{IsAnswerFor};
 ghost use Rattle.program_words.specs.declared.subcommand.Subcommand.{Subcommand};
 ghost use Rattle.program_words.specs.Given.{faults_without};
-ghost use Rattle.program_words.specs.Task.{IsSheetSource, IsSource, IsSourceOf, IsTask, faults_given, report_source_faults, sheet_asked, sheet_case, sheet_folder, sheet_source_faults, source_faults};
+ghost use Rattle.program_words.specs.Task.{IsCorrecting, IsSheetSource, IsSource, IsSourceOf, IsTask, correcting_faults, faults_given, report_source_faults, sheet_asked, sheet_case, sheet_folder, sheet_source_faults, source_faults};
 
 use crate::as_of::report_as_of;
 use crate::given::{both, has_flag, mistake, needed, text_in};
-use crate::task::{AsOf, Source, Striking, Task};
+use crate::task::{AsOf, Correcting, Source, Task};
 use crate::values::{case_in, line_in, row_in};
 use clap::ArgMatches;
 use court_clock::Instant;
@@ -38,6 +38,28 @@ pub(crate) fn init(alloc: Global, given: &ArgMatches<'_>) -> Result<Task, Option
     Ok(Task::Init(folder, court))
 }
 
+/// A row that is struck or restored, at the clock's time.
+fn correcting(
+    alloc: Global,
+    clock_time: Instant,
+    given: &ArgMatches<'_>,
+) -> Result<Correcting, OptionsFault>
+    ensures correcting { IfOk result (IsCorrecting clock_time (rows_of (found_of given.now))) }
+    ensures faults { IsAnswerFor (correcting_faults (rows_of (found_of given.now))) result }
+{
+    let (row, reason) = both(
+        row_in(alloc, given),
+        line_in(alloc, given, "reason", "--reason <TEXT>"),
+    )?;
+    let accept = has_flag(given, "accept");
+    Ok(Correcting {
+        row,
+        reason,
+        clock_time,
+        accept,
+    })
+}
+
 /// A row that is struck, at the clock's time.
 pub(crate) fn strike(
     alloc: Global,
@@ -47,17 +69,27 @@ pub(crate) fn strike(
     ensures task { (name : Text) → IfOk result (IsTask clock_time Subcommand.Strike name (rows_of (found_of given.now))) }
     ensures faults { IsAnswerFor (faults_given Subcommand.Strike (rows_of (found_of given.now))) result }
 {
-    let of = both(folder_in(alloc, given), row_in(alloc, given));
-    let reason = line_in(alloc, given, "reason", "--reason <TEXT>");
-    let ((folder, row), reason) = both(of, reason)?;
-    let accept = has_flag(given, "accept");
-    let striking = Striking {
-        row,
-        reason,
-        clock_time,
-        accept,
-    };
-    Ok(Task::Strike(folder, striking))
+    let (folder, row) = both(
+        folder_in(alloc, given),
+        correcting(alloc, clock_time, given),
+    )?;
+    Ok(Task::Strike(folder, row))
+}
+
+/// A row that is restored, at the clock's time.
+pub(crate) fn restore(
+    alloc: Global,
+    clock_time: Instant,
+    given: &ArgMatches<'_>,
+) -> Result<Task, OptionsFault>
+    ensures task { (name : Text) → IfOk result (IsTask clock_time Subcommand.Restore name (rows_of (found_of given.now))) }
+    ensures faults { IsAnswerFor (faults_given Subcommand.Restore (rows_of (found_of given.now))) result }
+{
+    let (folder, row) = both(
+        folder_in(alloc, given),
+        correcting(alloc, clock_time, given),
+    )?;
+    Ok(Task::Restore(folder, row))
 }
 
 /// Of what a report is, of a folder as of then.

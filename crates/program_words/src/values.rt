@@ -9,7 +9,7 @@ ghost use Rattle.court_clock.specs.Words.{day_of_text};
 ghost use Rattle.court_writing.specs.Words.{district_named, of_district, zone_text};
 ghost use Rattle.program_main.specs.Options.Words.{IsAnswerFor, IsFaultAmong};
 ghost use Rattle.office_texts.specs.Names.Words.{case_called};
-ghost use Rattle.program_main.specs.Texts.Words.{day_said, faults_unless, is_day_taken, is_said_taken, number_of};
+ghost use Rattle.program_main.specs.Texts.Words.{day_said, faults_unless, is_case_taken, is_day_taken, is_said_taken, number_of};
 ghost use Rattle.program_words.specs.Given.{faults_if_given, faults_reading, is_line, line_of, order_of, year_of};
 
 use crate::courts::nearest_names;
@@ -18,7 +18,9 @@ use clap::ArgMatches;
 use court_clock::Day;
 use court_writing::CourtName;
 use office_texts::CaseCalled;
-use program_main::{DaySaid, OptionsFault, case_said, day_option, number_of, said_option};
+use program_main::{
+    DaySaid, OptionsFault, case_option, case_said, day_option, number_of, said_option,
+};
 use row_fields::DateOrder;
 use std::alloc::Global;
 
@@ -203,6 +205,17 @@ pub(crate) fn day_if_given(
     ensures faults { IsAnswerFor (faults_unless (is_day_taken (first_of (codes "today") (rows_of (found_of given.now))))) result }
 {
     day_option(alloc, "today", text_in(given, "today"))
+}
+
+/// The case of `--case`, if one was given. BadWords where its text calls none.
+pub(crate) fn case_if_given(
+    alloc: Global,
+    given: &ArgMatches<'_>,
+) -> Result<Option<CaseCalled>, OptionsFault>
+    ensures case { IfOk result (λ case. case ≡ option_and_then case_called (first_of (codes "case") (rows_of (found_of given.now)))) }
+    ensures faults { IsAnswerFor (faults_unless (is_case_taken (first_of (codes "case") (rows_of (found_of given.now))))) result }
+{
+    case_option(alloc, text_in(given, "case"))
 }
 
 /// The case that a text calls, which has to be given. BadWords where it isn't, or where it calls none.

@@ -40,6 +40,7 @@ fn task_of(
         Subcommand::Ask => input_tasks::ask(alloc, clock_time, given),
         Subcommand::Plain => input_tasks::plain(alloc, given),
         Subcommand::Strike => tasks::strike(alloc, clock_time, given),
+        Subcommand::Restore => tasks::restore(alloc, clock_time, given),
         Subcommand::Struck => kept_tasks::struck(alloc, clock_time, given),
         Subcommand::Cases => kept_tasks::cases(alloc, clock_time, given),
         Subcommand::Check => Ok(Task::Check(folder_in(alloc, given)?)),

@@ -8,6 +8,7 @@ mod objects;
 mod periods;
 mod reading;
 mod report;
+mod shown;
 mod wording;
 
 pub use later::json_of_said;

@@ -3,7 +3,8 @@
 use crate::advice::advice;
 use crate::nearest::nearest;
 use crate::reading::{FaultyLine, Reading};
-use crate::report::{sentence, shown};
+use crate::report::sentence;
+use crate::shown::text_of;
 use crate::wording::expected;
 use court_days::Court;
 use json::Writer;
@@ -40,7 +41,7 @@ fn put_fault(
     fault: &Fault,
 ) -> Result<(), AllocError> {
     let found = fault.value.as_str();
-    let whole = shown(alloc, &line.line)?;
+    let whole = text_of(alloc, &line.line)?;
     let said = sentence(alloc, court, order, fault)?;
     let advice = advice(alloc, order, fault)?;
     out.begin_object()?;

@@ -3,19 +3,12 @@
 use crate::advice::advice;
 use crate::nearest::nearest;
 use crate::reading::{FaultyLine, Reading};
+use crate::shown::{escaped, line_shown};
 use crate::wording::expected;
 use court_days::Court;
-use row_fields::{DateOrder, typed};
+use row_fields::DateOrder;
 use row_written::{Fault, Flaw};
 use std::alloc::{AllocError, Global};
-
-/// The text of a line, as it can be shown.
-pub(crate) fn shown(alloc: Global, line: &[u8]) -> Result<String, AllocError> {
-    match std::str::from_utf8(line) {
-        Ok(text) => String::from_str(alloc, text),
-        Err(_) => typed(alloc, line),
-    }
-}
 
 /// What is said of a fault in a sentence.
 pub(crate) fn sentence(
@@ -24,7 +17,7 @@ pub(crate) fn sentence(
     order: Option<DateOrder>,
     fault: &Fault,
 ) -> Result<String, AllocError> {
-    let found = fault.value.as_str();
+    let found = escaped(alloc, fault.value.as_str())?;
     let wanted = expected(fault.flaw);
     let mut text = if found.is_empty() {
         format!(in alloc; "found nothing, expected {wanted}")?
@@ -34,7 +27,7 @@ pub(crate) fn sentence(
     } else {
         format!(in alloc; "found \"{found}\", expected {wanted}")?
     };
-    if let Some(word) = nearest(alloc, court, fault.flaw, found)? {
+    if let Some(word) = nearest(alloc, court, fault.flaw, fault.value.as_str())? {
         let word = word.as_str();
         write!(text, "; did you mean {word}?")?;
     }
@@ -75,7 +68,7 @@ fn push_line(
     order: Option<DateOrder>,
     line: &FaultyLine,
 ) -> Result<(), AllocError> {
-    let shown = shown(alloc, &line.line)?;
+    let shown = line_shown(alloc, &line.line)?;
     let number = line.number;
     for fault in &line.faults {
         let place = fault.place.saturating_add(line.mark);

@@ -18,24 +18,23 @@ fn disk_with(alloc: Global, file: &[u8], calls: u64) -> Result<Device> {
     Ok(Fuse::new(memory, calls))
 }
 
-// The entries of a disk's journal, and the disk after its opening: none where the journal is damaged.
+// The entries of a disk's journal, and the disk after its opening: none where the journal is damaged. A file without entries isn't
+// opened, and is as it was.
 fn reopened(alloc: Global, disk: Device) -> Result<Option<(Device, Vec<Vec<u8>>)>> {
     match Journal::open(alloc, disk, stamp(alloc)?) {
         Ok((journal, entries)) => Ok(Some((journal.into_disk(), entries))),
+        Err((JournalFault::NoEntries, disk)) => Ok(Some((disk, Vec::new(alloc)))),
         Err((JournalFault::Damaged(_), _)) | Err((JournalFault::Full, _)) => Ok(None),
         Err((fault, _)) => Err(fault.into()),
     }
 }
 
-// Whether the opening has cut just what `tail_in` gives off the file. At most two bytes are a journal that was being made.
-fn is_cut(alloc: Global, file: &[u8], disk: &mut Device) -> Result<bool> {
-    if file.len() <= 2 {
-        return Ok(true);
-    }
+// Whether the opening has cut just what `tail_in` gives off the file.
+fn is_cut(file: &[u8], disk: &mut Device) -> Result<bool> {
     if !disk.may_be_used() {
         return Ok(false);
     }
-    let tail = tail_in(alloc, file)?;
+    let tail = tail_in(file)?;
     Ok(file.len().checked_sub(tail.len()) == Some(disk.len()?))
 }
 
@@ -46,7 +45,7 @@ pub fn count_kept(alloc: Global, expected: &[Vec<u8>], file: &[u8]) -> Result<Op
     let Some((mut disk, entries)) = reopened(alloc, disk)? else {
         return Ok(None);
     };
-    if !is_cut(alloc, file, &mut disk)? {
+    if !is_cut(file, &mut disk)? {
         return Ok(None);
     }
     let Some((_, again)) = reopened(alloc, disk)? else {
@@ -68,13 +67,38 @@ pub fn are_first(expected: &[Vec<u8>], entries: &[Vec<u8>]) -> bool {
     entries.len() <= expected.len() && both.all(|(one, other)| one == other)
 }
 
-/// Opens the file on disks that pass no call on, then one, and so on. Whether each file that a crash leaves meanwhile has so
-/// many entries too.
+// The disk at which the opening of its journal is stopped: none where it isn't stopped.
+fn stopped_opening(alloc: Global, disk: Device) -> Result<Option<Device>> {
+    match Journal::open(alloc, disk, stamp(alloc)?) {
+        Ok(_journal) => Ok(None),
+        Err((_fault, disk)) => Ok(Some(disk)),
+    }
+}
+
+// The same of the beginning of a journal.
+fn stopped_beginning(alloc: Global, disk: Device) -> Result<Option<Device>> {
+    match Journal::begin(alloc, disk, stamp(alloc)?) {
+        Ok(_journal) => Ok(None),
+        Err((_fault, disk)) => Ok(Some(disk)),
+    }
+}
+
+// The disk at which the opening of its journal is stopped, or the beginning of one where it has no entries.
+fn stopped(alloc: Global, disk: Device, count: usize) -> Result<Option<Device>> {
+    if count == 0 {
+        stopped_beginning(alloc, disk)
+    } else {
+        stopped_opening(alloc, disk)
+    }
+}
+
+/// Opens the file, or begins a journal in it if it has no entries, on disks that pass no call on, then one, and so on. Whether each file
+/// that a crash leaves meanwhile has so many entries too.
 pub fn lasts(alloc: Global, expected: &[Vec<u8>], file: &[u8], count: usize) -> Result<bool> {
     for calls in 0..CALLS {
-        match Journal::open(alloc, disk_with(alloc, file, calls)?, stamp(alloc)?) {
-            Ok(_) => return Ok(true),
-            Err((_, mut disk)) => {
+        match stopped(alloc, disk_with(alloc, file, calls)?, count)? {
+            None => return Ok(true),
+            Some(mut disk) => {
                 let crash = crash_of(alloc, &mut disk)?;
                 if !keeps(alloc, expected, &crash, count)? {
                     return Ok(false);

@@ -21,17 +21,17 @@ pub struct Stopped {
     pub done: usize,
 }
 
-/// Opens a journal on an empty disk, and then keeps a court's file and rows, batch by batch.
+/// Begins a journal on an empty disk, and then keeps a court's file and rows, batch by batch.
 pub fn session(alloc: Global, file: &[u8], rows: &str, calls: u64) -> Result<Stopped> {
     let mut answers = Vec::new(alloc);
     let disk = Fuse::new(Memory::new(alloc), calls);
-    match Journal::open(alloc, disk, stamp(alloc)?) {
+    match Journal::begin(alloc, disk, stamp(alloc)?) {
         Err((_, disk)) => Ok(Stopped {
             disk,
             answers,
             done: 0,
         }),
-        Ok((mut journal, _)) => {
+        Ok(mut journal) => {
             let done = keep_all(alloc, &mut journal, file, rows, &mut answers)?;
             Ok(Stopped {
                 disk: journal.into_disk(),

@@ -6,15 +6,16 @@ ghost use Rattle.program_streams.specs.Words.{has_failed};
 use crate::calendar::{first_instant, push_ending};
 use crate::clerk::{ACCOUNT, FirstClock, stamp};
 use crate::stored::push_name;
-use desk_entries::Docketed;
-use desk_journal::Stamp;
+use desk_entries::{Docketed, standing_file};
+use desk_journal::{Stamp, stamped_in};
 use desk_program::{
-    Desk, DeskFault, all_taken, ask, ended_by, write_cases, write_count, write_rows, write_struck,
+    Desk, DeskFault, LogChoice, all_taken, ask, court_of, ended_by, write_cases, write_count,
+    write_log, write_rows, write_struck,
 };
 use program_main::today_by;
 use program_runs::refused;
 use program_streams::{Watched, write_all};
-use program_words::{Keeping, Striking, Task, asked_of};
+use program_words::{Correcting, Keeping, LogAsked, Task, asked_of};
 use sqlite_disk::Memory;
 use std::alloc::{AllocError, Global};
 
@@ -127,11 +128,17 @@ fn opened(
             desk.hold_back(*held_back);
             return tried(alloc, desk, input, writer);
         }
-        Task::Strike(_, striking) => struck(alloc, &mut desk, entries, striking, writer),
+        Task::Strike(_, correcting) => struck(alloc, &mut desk, entries, correcting, writer),
+        Task::Restore(_, correcting) => restored(alloc, &mut desk, entries, correcting, writer),
         Task::CourtChange(_, _, accept) => desk.change(alloc, entries, input, *accept, writer),
         Task::Cases(_, _) => {
             let disk = desk.into_disk();
             let ended = copied_cases(alloc, disk.bytes(), writer);
+            return (ended, disk);
+        }
+        Task::Log(_, asked) => {
+            let disk = desk.into_disk();
+            let ended = logged(alloc, disk.bytes(), asked, writer);
             return (ended, disk);
         }
         Task::Ask(_, _, _) => asked(alloc, entries, input, writer),
@@ -205,30 +212,75 @@ fn asked(
     all_taken(ask(alloc, docketed, &mut reader, writer)?)
 }
 
+// What is kept of a correction beside its row: what was done, when, by whom and why.
+fn remark_of(
+    alloc: Global,
+    done: &str,
+    desk: &Desk<Memory>,
+    correcting: &Correcting,
+) -> Result<String, AllocError> {
+    let day = today_by(desk.court().clock(), correcting.clock_time);
+    let reason = &correcting.reason;
+    format!(in alloc; "{done} {day} by {ACCOUNT}: {reason}\n")
+}
+
 // Strikes a row.
 fn struck(
     alloc: Global,
     desk: &mut Desk<Memory>,
     entries: &[Vec<u8>],
-    striking: &Striking,
+    correcting: &Correcting,
     writer: &mut Watched<Vec<u8>>,
 ) -> Result<(), DeskFault>
     requires works { has_failed writer.old ≡ false }
     requires some { 0 < length entries.now }
     requires few { length entries.now ≤ 1000000 }
 {
-    let day = today_by(desk.court().clock(), striking.clock_time);
-    let reason = &striking.reason;
-    let remark = format!(in alloc; "struck {day} by {ACCOUNT}: {reason}\n")?;
-    let remark = remark.as_bytes();
-    desk.strike(
-        alloc,
-        entries,
-        striking.row,
-        remark,
-        striking.accept,
-        writer,
-    )
+    let remark = remark_of(alloc, "struck", desk, correcting)?;
+    let Correcting { row, accept, .. } = correcting;
+    desk.strike(alloc, entries, *row, remark.as_bytes(), *accept, writer)
+}
+
+// Restores a row that is struck.
+fn restored(
+    alloc: Global,
+    desk: &mut Desk<Memory>,
+    entries: &[Vec<u8>],
+    correcting: &Correcting,
+    writer: &mut Watched<Vec<u8>>,
+) -> Result<(), DeskFault>
+    requires works { has_failed writer.old ≡ false }
+    requires some { 0 < length entries.now }
+    requires few { length entries.now ≤ 1000000 }
+{
+    let remark = remark_of(alloc, "restored", desk, correcting)?;
+    let Correcting { row, accept, .. } = correcting;
+    desk.restore(alloc, entries, *row, remark.as_bytes(), *accept, writer)
+}
+
+// Lists the entries of a journal's file, or those of one row.
+fn logged(
+    alloc: Global,
+    file: &[u8],
+    asked: &LogAsked,
+    writer: &mut Watched<Vec<u8>>,
+) -> Result<(), DeskFault>
+    requires { has_failed writer.old ≡ false }
+{
+    let (entries, stamps) = match stamped_in(alloc, file) {
+        Ok(found) => found,
+        Err(fault) => return Err(DeskFault::Journal(fault)),
+    };
+    let court = court_of(alloc, standing_file(&entries))?;
+    let choice = LogChoice {
+        row: asked.row,
+        case: None,
+        by: None,
+        from: None,
+        to: None,
+        json: asked.json,
+    };
+    write_log(alloc, &court, &entries, &stamps, &choice, writer)
 }
 
 // Writes the cases that have names, of a copy of a journal's file.

@@ -1,110 +1,64 @@
--- A strike is read as it is written.
-use Rattle.std.proofs.Common.{◌≡◌, ◌∙◌, ◌+◌, ◌<◌, ◌&&◌, ℕ, suc, Bool, true, false, not, cond, List, [], ◌∷◌, ◌++◌, Some, drop, length, nat_eq, option_and_then, option_map, refl, sym, take, ap, append_assoc, arith}
+-- Strikes and restores are read as they are written, and no entry is both.
+use Rattle.std.proofs.Common.{◌≡◌, ◌&&◌, ℕ, Bool, true, false, cond, List, [], ◌∷◌, Some, None, codes, drop, length, nat_eq, option_and_then, option_map, refl, take, ap, arith}
 use Rattle.std.proofs.lemmas.Bool.Decides.{nat_tests}
-use Rattle.std.proofs.lemmas.Grind.{common_steps}
-use Rattle.std.proofs.lemmas.List.{take_all}
-use Rattle.std.specs.Char.{is_ascii_digit}
-use Rattle.std.specs.Fmt.{decimal}
-use Rattle.std.specs.List.{list_all}
-use Rattle.row_forms.specs.Words.{number_of}
-use Rattle.desk_numbers.specs.declared.strikes.strike.Strike.{Strike}
-use Rattle.desk_numbers.specs.Strikes.Laws.{StrikesAreReadBack}
-use Rattle.desk_numbers.specs.Strikes.Strike.{after_mark, before, length_before, past, remark_in, strike_entry, strike_from, strike_in, strike_line, strike_mark, strike_of}
-use Rattle.desk_numbers.proofs.StrikesLemmas.NumberLemmas.{all_digits, number_back}
+use Rattle.std.specs.Cmp.Lexicographic.{pointwise}
+use Rattle.std.specs.List.{starts_with}
+use Rattle.desk_numbers.specs.Strikes.Laws.{NoEntryIsBoth, RestoresAreReadBack, StrikesAreReadBack}
+use Rattle.desk_numbers.specs.Strikes.Line.{before, row_after, row_named}
+use Rattle.desk_numbers.specs.Strikes.Restore.{restore_entry, restore_from, restore_in, restore_mark}
+use Rattle.desk_numbers.specs.Strikes.Strike.{strike_entry, strike_from, strike_in, strike_mark}
+use Rattle.desk_numbers.proofs.StrikesLemmas.LineLemmas.{named_back, remark_back}
 
--- none of these bytes is that one
-abbrev lacks : (byte : ℕ) → List ℕ → Bool
-lacks byte text = list_all (λ b. not (nat_eq b byte)) text
-
-lacks-append : (byte : ℕ) (some more : List ℕ) → lacks byte some ≡ true → lacks byte more ≡ true → lacks byte (some ++ more) ≡ true
-lacks-append byte [] more h k = k
-lacks-append byte (b ∷ some) more h k = by (not (nat_eq b byte)) refl h (λ rest. lacks-append byte some more rest k)
-  where
-    by : (t : Bool) → not (nat_eq b byte) ≡ t → (t && lacks byte some) ≡ true → (lacks byte some ≡ true → lacks byte (some ++ more) ≡ true) → (t && lacks byte (some ++ more)) ≡ true
-    by true e h rest = rest h
-    by false e h rest = cc h
-
-itself : (byte : ℕ) → nat_eq byte byte ≡ true
-itself byte = grind (arith, nat_tests)
-
--- a text is cut at the first such byte
-length_cut : (byte : ℕ) (front rest : List ℕ) → lacks byte front ≡ true → length_before byte (front ++ byte ∷ rest) ≡ length front
-length_cut byte [] rest h = rw (itself byte) refl
-length_cut byte (b ∷ front) rest h = by (not (nat_eq b byte)) h (length_cut byte front rest)
-  where
-    by : (t : Bool) → (t && lacks byte front) ≡ true → (lacks byte front ≡ true → length_before byte (front ++ byte ∷ rest) ≡ length front) → cond t (1 + length_before byte (front ++ byte ∷ rest)) 0 ≡ length (b ∷ front)
-    by true h more = omega (arith, more h)
-    by false h more = cc h
-
-length_uncut : (byte : ℕ) (text : List ℕ) → lacks byte text ≡ true → length_before byte text ≡ length text
-length_uncut byte [] h = refl
-length_uncut byte (b ∷ text) h = by (not (nat_eq b byte)) h (length_uncut byte text)
-  where
-    by : (t : Bool) → (t && lacks byte text) ≡ true → (lacks byte text ≡ true → length_before byte text ≡ length text) → cond t (1 + length_before byte text) 0 ≡ length (b ∷ text)
-    by true h more = omega (arith, more h)
-    by false h more = cc h
-
-take_front : (front rest : List ℕ) → take (length front) (front ++ rest) ≡ front
-take_front [] rest = refl
-take_front (b ∷ front) rest = ap (λ l. b ∷ l) (take_front front rest)
-
-drop_front : (front : List ℕ) (byte : ℕ) (rest : List ℕ) → drop (suc (length front)) (front ++ byte ∷ rest) ≡ rest
-drop_front [] byte rest = refl
-drop_front (b ∷ front) byte rest = drop_front front byte rest
-
-before_cut : (byte : ℕ) (front rest : List ℕ) → lacks byte front ≡ true → before byte (front ++ byte ∷ rest) ≡ front
-before_cut byte front rest h = ap (λ n. take n (front ++ byte ∷ rest)) (length_cut byte front rest h) ∙ take_front front (byte ∷ rest)
-
-past_cut : (byte : ℕ) (front rest : List ℕ) → lacks byte front ≡ true → past byte (front ++ byte ∷ rest) ≡ rest
-past_cut byte front rest h =
-    let past_it : length_before byte (front ++ byte ∷ rest) + 1 ≡ suc (length front) = omega (arith, length_cut byte front rest h) in
-    ap (λ n. drop n (front ++ byte ∷ rest)) past_it ∙ drop_front front byte rest
-
-before_uncut : (byte : ℕ) (text : List ℕ) → lacks byte text ≡ true → before byte text ≡ text
-before_uncut byte text h = ap (λ n. take n text) (length_uncut byte text h) ∙ take_all (length text) text (omega arith)
-
--- digits are no such bytes
-digits_lack : (byte : ℕ) → byte < 48 → (ds : List ℕ) → list_all is_ascii_digit ds ≡ true → lacks byte ds ≡ true
-digits_lack byte low [] h = refl
-digits_lack byte low (d ∷ ds) h = by (is_ascii_digit d) refl h (digits_lack byte low ds)
-  where
-    differs : is_ascii_digit d ≡ true → not (nat_eq d byte) ≡ true
-    differs digit = by_eq (nat_eq d byte) refl
-      where
-        by_eq : (b : Bool) → nat_eq d byte ≡ b → not b ≡ true
-        by_eq true e = grind (arith, common_steps)
-        by_eq false e = refl
-
-    by : (t : Bool) → is_ascii_digit d ≡ t → (t && list_all is_ascii_digit ds) ≡ true → (list_all is_ascii_digit ds ≡ true → lacks byte ds ≡ true) → (not (nat_eq d byte) && lacks byte ds) ≡ true
-    by true e h rest = rw (differs e) (rest h)
-    by false e h rest = cc h
-
-number_lacks : (byte n : ℕ) → byte < 48 → n < 1_000_000_000 → lacks byte (decimal n) ≡ true
-number_lacks byte n low small = digits_lack byte low (decimal n) (all_digits n small)
-
--- what a line says after its mark
-row_back : (row : ℕ) → row < 1_000_000_000 → strike_of (decimal row) ≡ Some (record { row = row })
-unfolding strike_of
-row_back row small =
-    ap (λ (n : List ℕ). option_map strike_from (number_of n)) (before_uncut 32 (decimal row) (number_lacks 32 row (omega arith) small))
-    ∙ ap (option_map strike_from) (number_back row small)
-
--- an entry is its mark, the rest of its first line, and its remark
-in_parts : (strike : Strike) (remark line : List ℕ) → strike_line strike ≡ strike_mark ++ (line ++ 10 ∷ []) → strike_entry strike remark ≡ strike_mark ++ (line ++ 10 ∷ remark)
-unfolding strike_entry
-in_parts strike remark line is = ap (λ (l : List ℕ). l ++ remark) is ∙ ap (λ (l : List ℕ). strike_mark ++ l) (append_assoc line (10 ∷ []) remark)
-
-read_back : (strike : Strike) (remark line : List ℕ) → strike_line strike ≡ strike_mark ++ (line ++ 10 ∷ []) → lacks 10 line ≡ true → strike_of line ≡ Some strike
-    → (strike_in (strike_entry strike remark) ≡ Some strike) × (remark_in (strike_entry strike remark) ≡ remark)
-unfolding strike_in remark_in
-read_back strike remark line is none said =
-    let parts = in_parts strike remark line is in (
-      ap (λ (e : List ℕ). option_and_then (λ rest. strike_of (before 10 rest)) (after_mark e)) parts ∙ ap strike_of (before_cut 10 line remark none) ∙ said,
-      ap (past 10) (parts ∙ sym (append_assoc strike_mark line (10 ∷ remark))) ∙ past_cut 10 (strike_mark ++ line) remark (lacks-append 10 strike_mark line refl none),
-    )
-
--- the law
+-- the laws
 pub strikes_back : StrikesAreReadBack
+unfolding strike_in strike_entry
 strikes_back strike remark small =
-    read_back strike remark (decimal strike.row) (append_assoc strike_mark (decimal strike.row) (10 ∷ []))
-    (number_lacks 10 strike.row (omega arith) small) (row_back strike.row small)
+    (ap (option_map strike_from) (named_back strike_mark refl (λ rest. refl) strike.row remark small), remark_back strike_mark refl (λ rest. refl) strike.row remark small)
+
+pub restores_back : RestoresAreReadBack
+unfolding restore_in restore_entry
+restores_back restore remark small =
+    (ap (option_map restore_from) (named_back restore_mark refl (λ rest. refl) restore.row remark small), remark_back restore_mark refl (λ rest. refl) restore.row remark small)
+
+-- a text begins with one of both marks at most: they differ in their third byte
+third : (c : ℕ) → nat_eq 115 c ≡ true → nat_eq 114 c ≡ false
+third c is = grind (arith, nat_tests)
+
+begins_once : (text : List ℕ) → starts_with nat_eq text strike_mark ≡ true → starts_with nat_eq text restore_mark ≡ false
+begins_once [] h = refl
+begins_once (a ∷ []) h = alone (nat_eq 37 a)
+  where
+    alone : (p : Bool) → (p && false) ≡ false
+    alone true = refl
+    alone false = refl
+begins_once (a ∷ b ∷ []) h = both (nat_eq 37 a) (nat_eq 37 b)
+  where
+    both : (p q : Bool) → (p && (q && false)) ≡ false
+    both true true = refl
+    both true false = refl
+    both false q = refl
+begins_once (a ∷ b ∷ c ∷ text) h = by (nat_eq 37 a) (nat_eq 37 b) (nat_eq 115 c) refl h
+  where
+    strike_on : Bool
+    strike_on = pointwise nat_eq (codes "trike ") (take 6 text)
+
+    restore_on : Bool
+    restore_on = pointwise nat_eq (codes "estore ") (take 7 text)
+
+    by : (p q r : Bool) → nat_eq 115 c ≡ r → (p && (q && (r && strike_on))) ≡ true → (p && (q && (nat_eq 114 c && restore_on))) ≡ false
+    by true true true is h = rw (third c is) refl
+    by true true false is h = cc h
+    by true false r is h = refl
+    by false q r is h = refl
+
+none_named : (entry : List ℕ) → starts_with nat_eq entry restore_mark ≡ false → restore_in entry ≡ None
+unfolding restore_in row_after
+none_named entry other = rw other refl
+
+pub not_both : NoEntryIsBoth
+unfolding strike_in row_after
+not_both entry strike is = by (starts_with nat_eq entry strike_mark) refl is
+  where
+    by : (b : Bool) → starts_with nat_eq entry strike_mark ≡ b → option_map strike_from (option_and_then (λ rest. row_named (before 10 rest)) (cond b (Some (drop (length strike_mark) entry)) None)) ≡ Some strike → restore_in entry ≡ None
+    by true begins said = none_named entry (begins_once entry begins)
+    by false other said = cc said

@@ -1,5 +1,5 @@
--- What strikes come to: the rows that are struck, and the numbers that rows keep.
-use Rattle.std.specs.Prelude.{ℕ, Bool, List, [], ◌∷◌, ◌++◌, Option, nat_eq, nat_lt, if◌then◌else◌}
+-- What strikes and restores come to: the rows that are struck, and the numbers that rows keep.
+use Rattle.std.specs.Prelude.{ℕ, Bool, not, List, [], ◌∷◌, ◌++◌, Option, filter, nat_eq, nat_lt, if◌then◌else◌}
 use Rattle.std.specs.List.{list_all, list_any}
 use Rattle.desk_numbers.specs.declared.given.Given.{Given}
 
@@ -26,3 +26,7 @@ all_before corrections number = list_all (λ row. nat_lt row number) corrections
 -- the rows that are struck with one more
 unfoldable pub struck_with : List ℕ → (row : ℕ) → List ℕ
 struck_with struck row = if is_among struck row then struck else struck ++ row ∷ []
+
+-- the rows that are struck once this one is restored: the others, in their order
+abbrev pub struck_without : List ℕ → (row : ℕ) → List ℕ
+struck_without struck row = filter (λ other. not (nat_eq other row)) struck

@@ -1,6 +1,6 @@
-//! What strikes come to.
-ghost use Rattle.std.specs.Prelude.{◌≡◌, IfOk, OnErr, OnOk};
-ghost use Rattle.desk_numbers.specs.Strikes.Corrections.{CorrectionsView, is_struck, no_corrections, struck_with};
+//! What strikes and restores come to.
+ghost use Rattle.std.specs.Prelude.{◌≡◌, nat_eq, not, IfOk, OnErr, OnOk};
+ghost use Rattle.desk_numbers.specs.Strikes.Corrections.{CorrectionsView, is_struck, no_corrections, struck_with, struck_without};
 
 use crate::KeptNumbers;
 use indexmap::IndexSet;
@@ -63,5 +63,16 @@ impl Corrections {
     {
         self.struck.insert(row)?;
         Ok(())
+    }
+
+    /// Restores the row of that number: it isn't struck from here on, and the others are as they were.
+    pub fn restore(&mut self, row: u32)
+        ensures { self.new ≡ record { struck = struck_without self.old.struck row; kept = self.old.kept } }
+    {
+        self.struck.retain(
+            |other: &u32| -> bool
+                ensures { result ≡ not (nat_eq other.now row) }
+            { *other != row },
+        );
     }
 }

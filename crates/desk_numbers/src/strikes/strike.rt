@@ -1,8 +1,8 @@
 //! A strike, and the entry that says it.
-ghost use Rattle.std.specs.Prelude.{◌≡◌, ◌++◌, option_map, string_bytes, IfOk};
-ghost use Rattle.desk_numbers.specs.Strikes.Strike.{after_mark, remark_in, strike_entry, strike_in, strike_line, strike_of};
+ghost use Rattle.std.specs.Prelude.{◌≡◌, string_bytes, IfOk};
+ghost use Rattle.desk_numbers.specs.Strikes.Strike.{strike_entry, strike_in, strike_line};
 
-use crate::strikes::words::{cut, number_of};
+use crate::strikes::line::{row_after, with_remark};
 use std::alloc::{AllocError, Global};
 
 /// A row that is struck.
@@ -17,18 +17,10 @@ pub struct Strike {
 pub fn strike_in(entry: &[u8]) -> Option<Strike>
     ensures { result ≡ strike_in entry.now }
 {
-    match after_mark(entry) {
-        Some(rest) => strike_of(cut(rest, b'\n').0),
+    match row_after(b"%%strike ", entry) {
+        Some(row) => Some(Strike { row }),
         None => None,
     }
-}
-
-/// The remark of an entry that is a strike: what comes after its first line.
-#[tactic(auto, unfolding(crate::specs::Strikes::Strike::remark_in))]
-pub fn remark_in(entry: &[u8]) -> &[u8]
-    ensures { result.now ≡ remark_in entry.now }
-{
-    cut(entry, b'\n').1
 }
 
 /// The entry of a strike, with a remark of any text. `Err` says that memory ran out.
@@ -36,9 +28,7 @@ pub fn remark_in(entry: &[u8]) -> &[u8]
 pub fn strike_entry(alloc: Global, strike: &Strike, remark: &[u8]) -> Result<Vec<u8>, AllocError>
     ensures { IfOk result (λ entry. entry.items ≡ strike_entry strike.now remark.now) }
 {
-    let mut entry = strike_line(alloc, strike)?.into_bytes();
-    entry.extend_from_slice(remark)?;
-    Ok(entry)
+    with_remark(strike_line(alloc, strike)?, remark)
 }
 
 // Its first line, with its end.
@@ -47,22 +37,4 @@ fn strike_line(alloc: Global, strike: &Strike) -> Result<String, AllocError>
 {
     let row = strike.row;
     format!(in alloc; "%%strike {row}\n")
-}
-
-// What comes after the mark, where a text begins with it.
-fn after_mark(text: &[u8]) -> Option<&[u8]>
-    ensures { option_map (λ rest. rest.now) result ≡ after_mark text.now }
-{
-    text.strip_prefix(b"%%strike ")
-}
-
-// What the first line says after its mark.
-#[tactic(auto, unfolding(crate::specs::Strikes::Strike::strike_of))]
-fn strike_of(line: &[u8]) -> Option<Strike>
-    ensures { result ≡ strike_of line.now }
-{
-    match number_of(cut(line, b' ').0) {
-        Some(row) => Some(Strike { row }),
-        None => None,
-    }
 }

@@ -3,7 +3,7 @@ ghost use Rattle.std.specs.Prelude.{◌≡◌, ◌≤◌, length};
 ghost use Rattle.std.specs.Char.{is_ascii_digit};
 ghost use Rattle.std.specs.List.{list_all};
 ghost use Rattle.row_forms.specs.Words.{is_number, number_of};
-ghost use Rattle.desk_numbers.specs.Strikes.Strike.{before, length_before, past};
+ghost use Rattle.desk_numbers.specs.Strikes.Line.{before, length_before, past};
 
 use std::str;
 

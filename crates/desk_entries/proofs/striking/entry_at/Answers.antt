@@ -7,7 +7,7 @@ use Rattle.desk_entries.proofs.StrikingLemmas.{from_first, is_first, is_later, n
 use Rattle.desk_entries.proofs.striking.entry_at.Goals as goal
 
 pub rows-init : goal.rows-init
-rows-init c = record { begun = omega arith; there = from_first c.args.entries.now c.args.row }
+rows-init c = record { begun = omega arith; there = ap (λ (n : ℕ). slice_index_or (rows_among (batch_of (drop 1 c.args.entries.now))) n []) c.saturating_sub-left.ensures ∙ from_first c.args.entries.now c.args.row }
 
 pub rows-preserved : goal.rows-preserved
 rows-preserved c =

@@ -3,10 +3,13 @@ use Rattle.std.proofs.lemmas.Bool.{false≢true}
 use Rattle.desk_journal.specs.Frames.{first_checksum, frames}
 use Rattle.desk_journal.proofs.recovery.read_file.Goals as goal
 use Rattle.desk_journal.proofs.RecoverLemmas.{damaged_behind, whole_file}
+use Rattle.desk_journal.proofs.WalkLemmas.{counted_to}
 
 pub returns-then-ends_foreign-clause-cause : goal.returns-then-ends_foreign-clause-cause
 returns-then-ends_foreign-clause-cause c =
-    damaged_behind c.args.bytes.now c.requires c.in_ok-walked.walked.entries.items c.in_ok-walked.walked.last c.in_ok-walked.walked.rest.now c.len-count.result c.in_ok-walked.ensures.read.read c.in_ok-walked.ensures.shut (c.len-count.ensures ∙ c.in_ok-walked.walked.entries.ok.0) (c.ends_foreign.ensures.0 c.if-ends_foreign.true)
+    damaged_behind c.args.bytes.now c.requires c.len-count.result c.in_ok-walked.walked.last c.in_ok-walked.walked.rest.now
+    (counted_to c.args.bytes.now c.in_ok-walked.walked.entries.items c.len-count.result c.in_ok-walked.walked.last c.in_ok-walked.walked.rest.now c.in_ok-walked.ensures.read.read (c.len-count.ensures ∙ c.in_ok-walked.walked.entries.ok.0))
+    c.in_ok-walked.ensures.shut (c.ends_foreign.ensures.0 c.if-ends_foreign.true)
 
 pub returns-clause-found : goal.returns-clause-found
 returns-clause-found c =
@@ -22,4 +25,6 @@ returns-clause-found c =
 
 pub returns-clause-whole : goal.returns-clause-whole
 returns-clause-whole c =
-    whole_file c.args.bytes.now c.requires c.in_ok-walked.walked.entries.items c.in_ok-walked.walked.last c.in_ok-walked.walked.rest.now c.len-count.result c.in_ok-walked.ensures.read.read c.in_ok-walked.ensures.shut (c.len-count.ensures ∙ c.in_ok-walked.walked.entries.ok.0) (λ was. false≢true (sym c.if-ends_foreign.false ∙ c.ends_foreign.ensures.1 was))
+    whole_file c.args.bytes.now c.requires c.len-count.result c.in_ok-walked.walked.last c.in_ok-walked.walked.rest.now
+    (counted_to c.args.bytes.now c.in_ok-walked.walked.entries.items c.len-count.result c.in_ok-walked.walked.last c.in_ok-walked.walked.rest.now c.in_ok-walked.ensures.read.read (c.len-count.ensures ∙ c.in_ok-walked.walked.entries.ok.0))
+    c.in_ok-walked.ensures.shut (λ was. false≢true (sym c.if-ends_foreign.false ∙ c.ends_foreign.ensures.1 was))

@@ -2,6 +2,7 @@ use Rattle.std.proofs.Common.{◌≡◌, ◌≤◌, ◌++◌, ℕ, List, drop, f
 use Rattle.std.specs.Io.KnownBytes.{Appends}
 use Rattle.desk_journal.specs.Words.{batch_of}
 use Rattle.program_streams.specs.Words.{has_failed, watched}
+use Rattle.row_forms.specs.Words.{names_of}
 use Rattle.desk_program.specs.Log.{later_log, log_text}
 use Rattle.desk_program.proofs.log.write_log.Given as goal
 
@@ -12,4 +13,4 @@ invariant-loop-place g l =
     × (l.number ≤ l.place)
     × (has_failed l.writer ≡ false)
     × (written : List ℕ) × Appends (g.W.Write.contents (watched l.fn.writer)) (g.W.Write.contents (watched l.writer)) written
-    × (written ++ (l.text.items ++ later_log l.choice l.number (batch_of (drop l.place l.entries)) (drop l.place l.stamps)) ≡ log_text l.choice (batch_of l.entries) l.stamps)
+    × (written ++ (l.text.items ++ later_log l.choice l.named.items l.number (batch_of (drop l.place l.entries)) (drop l.place l.stamps)) ≡ log_text (names_of l.court) l.choice (batch_of l.entries) l.stamps)

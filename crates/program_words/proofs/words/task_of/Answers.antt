@@ -19,6 +19,9 @@ returns-in-Plain-clause-task c = rw c.in-Plain.is (c.plain.ensures.task c.args.c
 pub returns-in-Strike-clause-task : goal.returns-in-Strike-clause-task
 returns-in-Strike-clause-task c = rw c.in-Strike.is (c.strike.ensures.task c.args.name.now)
 
+pub returns-in-Restore-clause-task : goal.returns-in-Restore-clause-task
+returns-in-Restore-clause-task c = rw c.in-Restore.is (c.restore.ensures.task c.args.name.now)
+
 pub returns-in-Struck-clause-task : goal.returns-in-Struck-clause-task
 returns-in-Struck-clause-task c = rw c.in-Struck.is (c.struck.ensures.task c.args.name.now)
 

@@ -1,4 +1,4 @@
-use Rattle.std.proofs.Common.{Err, refl, ◌≡◌, ◌∙◌, ap, arith}
+use Rattle.std.proofs.Common.{refl, ◌≡◌, ◌∙◌, ap, arith}
 use Rattle.std.specs.Prelude.{max}
 use Rattle.std.proofs.Math.Nat.{le-max_right}
 use Rattle.desk_journal.specs.Batches.{batch_of}
@@ -9,14 +9,6 @@ use Rattle.desk_journal.proofs.RecoverLemmas.{opened_kept}
 
 pub overflow_cast-journal : goal.overflow_cast-journal
 overflow_cast-journal g c = omega (arith, c.in-Ok.ensures.few, c.in-Ok.found.entries.ok.0, c.len.ensures)
-
-pub returns-in-Err-clause-untouched : goal.returns-in-Err-clause-untouched
-returns-in-Err-clause-untouched g c = λ file number was same.
-    c.in-Err.ensures.untouched file number was (λ i. Err (same i))
-
-pub returns-in-Err-clause-older : goal.returns-in-Err-clause-older
-returns-in-Err-clause-older g c = λ file was same.
-    c.in-Err.ensures.older file was (λ i. Err (same i))
 
 pub returns-in-Ok-clause-kept : goal.returns-in-Ok-clause-kept
 returns-in-Ok-clause-kept g c = λ file was clean.

@@ -1,5 +1,5 @@
 use Rattle.std.proofs.Common.{◌≡◌, ◌≤◌, ◌+◌, ◌-◌, drop, length}
-use Rattle.desk_numbers.specs.Strikes.Strike.{length_before}
+use Rattle.desk_numbers.specs.Strikes.Line.{length_before}
 use Rattle.desk_numbers.proofs.strikes.words.length_before.Given as goal
 
 -- the bytes so far, and those that come now

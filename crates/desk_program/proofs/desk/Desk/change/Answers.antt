@@ -14,11 +14,9 @@ returns-in-Ok-reviewed-clause-taken g c = λ keeps.
     let short : length entries < most_entries = omega (arith, c.if-entries.false, length_batch c.args.entries.now) in
     on_ok_weaker c.take_file.result
     (λ taken. record {
-      under = c.in-Ok.standing;
-      says = c.in-Ok.ensures.court;
-      corrections = c.in-Ok.ensures.corrections entries keeps;
+      then = c.in-Ok.standing;
+      changed = record { court = c.in-Ok.ensures.court; corrections = c.in-Ok.ensures.corrections entries keeps };
       listed = c.in-Ok-reviewed.ensures.listed;
-      without_leave = c.in-Ok-reviewed.ensures.without_leave;
       entry = taken.0;
       is_file = taken.1;
       keeps = taken.2;
@@ -27,18 +25,17 @@ returns-in-Ok-reviewed-clause-taken g c = λ keeps.
 
 pub returns-in-Err-reviewed-clause-refused : goal.returns-in-Err-reviewed-clause-refused
 returns-in-Err-reviewed-clause-refused g c = λ count keeps is.
-    let differs = same_fault c.in-Err-reviewed.fault (Differs count) is in
-    let (many, some, listed) = c.in-Err-reviewed.ensures.differs count (ap (λ (f : DeskFault). Err f) differs) in (
+    let differs = same_fault c.in-Err-reviewed.fault (Differs count) is in (
       record {
-        under = c.in-Ok.standing;
-        says = c.in-Ok.ensures.court;
-        corrections = c.in-Ok.ensures.corrections (batch_of c.args.entries.now) keeps;
-        listed = listed;
-        count_is = many;
-        some = some;
+        then = c.in-Ok.standing;
+        changed = record { court = c.in-Ok.ensures.court; corrections = c.in-Ok.ensures.corrections (batch_of c.args.entries.now) keeps };
+        listed = c.in-Err-reviewed.ensures.differs count (ap (λ (f : DeskFault). Err f) differs);
       },
       refl,
     )
 
 pub returns-in-Ok-reviewed-clause-crash : goal.returns-in-Ok-reviewed-clause-crash
 returns-in-Ok-reviewed-clause-crash g c = λ keeps x left. c.take_file.ensures.crash (batch_of c.args.entries.now) keeps x left
+
+pub returns-in-Ok-reviewed-clause-refused : goal.returns-in-Ok-reviewed-clause-refused
+returns-in-Ok-reviewed-clause-refused g c = λ count keeps is. absurd (c.take_file.ensures.fault count is)

@@ -1,11 +1,12 @@
 use Rattle.std.proofs.Common.{ℕ, List, subst}
 use Rattle.std.specs.Prelude.{IsTrue, Vec}
 use Rattle.std.specs.declared.alloc.Global.{Global}
-use Rattle.desk_journal.specs.Words.{batch_of}
+use Rattle.desk_journal.specs.Words.{IsDurable, batch_of}
 use Rattle.desk_journal.proofs.CallerLemmas.{rest_kept}
 use Rattle.desk_entries.specs.Words.{HasHistoryFault, IsDocketed}
 use Rattle.desk_program.proofs.DeskLemmas.{same_entries}
-use Rattle.desk_program.proofs.OpenLemmas.{unopened_by_history}
+use Rattle.desk_program.proofs.FaultLemmas.{unless_written}
+use Rattle.desk_program.proofs.OpenLemmas.{unopened_by_history, unopened_by_journal}
 use Rattle.desk_program.proofs.desk.Desk.open.Goals as goal
 
 pub returns-in-Ok-of-clause-opened : goal.returns-in-Ok-of-clause-opened
@@ -33,3 +34,11 @@ returns-in-Err-of-clause-cause g c = λ file was clean.
     let all = c.in-Ok.ensures.kept file was (subst (λ (d : g.row.D.Denot). IsTrue (g.D.Disk.is_clean d)) c.into_disk.ensures clean) in
     unopened_by_history (g.D.Disk.faults c.args.disk) (g.D.Disk.faults c.into_disk.result) file (batch_of c.in-Ok.opened.1.items) c.in-Err-of.fault c.from-in-Err-of.result c.from-in-Err-of.ensures all.0
     (subst (λ (e : List (Vec ℕ Global)). HasHistoryFault (batch_of e) c.in-Err-of.fault) c.deref.ensures.value c.in-Err-of.ensures.cause)
+
+pub returns-in-Err-clause-cause : goal.returns-in-Err-clause-cause
+returns-in-Err-clause-cause g c = λ file was clean.
+    unopened_by_journal (g.D.Disk.faults c.args.disk) (g.D.Disk.faults c.in-Err.disk) file c.in-Err.fault c.from.result c.from.ensures (c.in-Err.ensures.cause file was clean)
+
+pub returns-in-Err-clause-none : goal.returns-in-Err-clause-none
+returns-in-Err-clause-none g c = λ file was is.
+    unless_written c.in-Err.fault c.from.result (IsDurable g.D.Disk.seen g.D.Disk.may_leave g.D.Disk.is_usable file c.in-Err.disk) c.from.ensures (λ write. cc (is, write)) (λ sync. cc (is, sync)) (c.in-Err.ensures.untouched file was)

@@ -22,22 +22,18 @@ returns-in-Ok-reviewed-clause-struck g c = λ keeps.
       then = c.in-Ok-standing_with.standing;
       struck = record { strike_is = is; court = c.in-Ok-standing_with.ensures.court; corrections = corrections };
       listed = c.in-Ok-reviewed.ensures.listed;
-      without_leave = c.in-Ok-reviewed.ensures.without_leave;
       keeps = taken;
     })
     (c.take_strike.ensures.kept entries c.args.row keeps is c.in-Ok-standing_with.ensures.court corrections c.in-Ok-reviewed.ensures.stands short)
 
 pub returns-in-Err-reviewed-clause-refused : goal.returns-in-Err-reviewed-clause-refused
 returns-in-Err-reviewed-clause-refused g c = λ count keeps is.
-    let differs = same_fault c.in-Err-reviewed.fault (Differs count) is in
-    let (many, some, listed) = c.in-Err-reviewed.ensures.differs count (ap (λ (f : DeskFault). Err f) differs) in (
+    let differs = same_fault c.in-Err-reviewed.fault (Differs count) is in (
       record {
         strike = c.in-Ok.strike;
         then = c.in-Ok-standing_with.standing;
         struck = record { strike_is = c.in-Ok.ensures.strike keeps; court = c.in-Ok-standing_with.ensures.court; corrections = c.in-Ok-standing_with.ensures.corrections keeps };
-        listed = listed;
-        count_is = many;
-        some = some;
+        listed = c.in-Err-reviewed.ensures.differs count (ap (λ (f : DeskFault). Err f) differs);
       },
       refl,
     )

@@ -1,0 +1,40 @@
+//! A restore, and the entry that says it.
+ghost use Rattle.std.specs.Prelude.{◌≡◌, string_bytes, IfOk};
+ghost use Rattle.desk_numbers.specs.Strikes.Restore.{restore_entry, restore_in, restore_line};
+
+use crate::strikes::line::{row_after, with_remark};
+use std::alloc::{AllocError, Global};
+
+/// A row that was struck, and is in its place again.
+#[derive(Clone, Copy, Debug, PartialEq, Eq)]
+pub struct Restore {
+    /// The row's number, counted from 1.
+    pub row: u32,
+}
+
+/// The restore that an entry is. `None` says that it is none.
+#[tactic(auto, unfolding(crate::specs::Strikes::Restore::restore_in))]
+pub fn restore_in(entry: &[u8]) -> Option<Restore>
+    ensures { result ≡ restore_in entry.now }
+{
+    match row_after(b"%%restore ", entry) {
+        Some(row) => Some(Restore { row }),
+        None => None,
+    }
+}
+
+/// The entry of a restore, with a remark of any text. `Err` says that memory ran out.
+#[tactic(auto, unfolding(crate::specs::Strikes::Restore::restore_entry))]
+pub fn restore_entry(alloc: Global, restore: &Restore, remark: &[u8]) -> Result<Vec<u8>, AllocError>
+    ensures { IfOk result (λ entry. entry.items ≡ restore_entry restore.now remark.now) }
+{
+    with_remark(restore_line(alloc, restore)?, remark)
+}
+
+// Its first line, with its end.
+fn restore_line(alloc: Global, restore: &Restore) -> Result<String, AllocError>
+    ensures { IfOk result (λ line. string_bytes line ≡ restore_line restore.now) }
+{
+    let row = restore.row;
+    format!(in alloc; "%%restore {row}\n")
+}

@@ -1,0 +1,43 @@
+use Rattle.std.proofs.Common.{◌<◌, ℕ, List, Err, ap, length, refl, arith}
+use Rattle.std.proofs.lemmas.Result.{on_ok_weaker}
+use Rattle.desk_journal.specs.Words.{batch_of}
+use Rattle.desk_entries.specs.Words.{most_entries}
+use Rattle.desk_entries.proofs.CallerLemmas.{length_batch}
+use Rattle.desk_program.specs.Desk.{standing_at}
+use Rattle.desk_program.proofs.DeskLemmas.{one_restore}
+use Rattle.desk_program.proofs.FaultLemmas.{same_fault}
+use Rattle.desk_program.specs.declared.fault.DeskFault.{DeskFault}
+use Rattle.desk_program.specs.declared.fault.DeskFault.TheVariants.{Differs}
+use Rattle.desk_program.proofs.desk.Desk.restore.Goals as goal
+
+pub returns-in-Ok-reviewed-clause-restored : goal.returns-in-Ok-reviewed-clause-restored
+returns-in-Ok-reviewed-clause-restored g c = λ keeps.
+    let entries : List (List ℕ) = batch_of c.args.entries.now in
+    let short : length entries < most_entries = omega (arith, c.if-entries.false, length_batch c.args.entries.now) in
+    let is = c.in-Ok.ensures.restore (batch_of c.args.entries.now) keeps in
+    let corrections = c.in-Ok-standing_without.ensures.corrections keeps in
+    on_ok_weaker c.take_restore.result
+    (λ taken. record {
+      restore = c.in-Ok.restore;
+      then = c.in-Ok-standing_without.standing;
+      restored = record { restore_is = is; court = c.in-Ok-standing_without.ensures.court; corrections = corrections };
+      listed = c.in-Ok-reviewed.ensures.listed;
+      keeps = taken;
+    })
+    (c.take_restore.ensures.kept entries c.args.row keeps is c.in-Ok-standing_without.ensures.court corrections c.in-Ok-reviewed.ensures.stands short)
+
+pub returns-in-Err-reviewed-clause-refused : goal.returns-in-Err-reviewed-clause-refused
+returns-in-Err-reviewed-clause-refused g c = λ count keeps is.
+    let differs = same_fault c.in-Err-reviewed.fault (Differs count) is in (
+      record {
+        restore = c.in-Ok.restore;
+        then = c.in-Ok-standing_without.standing;
+        restored = record { restore_is = c.in-Ok.ensures.restore (batch_of c.args.entries.now) keeps; court = c.in-Ok-standing_without.ensures.court; corrections = c.in-Ok-standing_without.ensures.corrections keeps };
+        listed = c.in-Err-reviewed.ensures.differs count (ap (λ (f : DeskFault). Err f) differs);
+      },
+      refl,
+    )
+
+pub returns-in-Ok-reviewed-clause-crash : goal.returns-in-Ok-reviewed-clause-crash
+returns-in-Ok-reviewed-clause-crash g c = λ keeps x left.
+    one_restore x (standing_at c.args.self.now) (batch_of c.args.entries.now) c.args.row c.in-Ok.restore c.args.remark.now (c.in-Ok.ensures.restore (batch_of c.args.entries.now) keeps) (c.take_restore.ensures.crash (batch_of c.args.entries.now) keeps x left)

@@ -1,0 +1,38 @@
+//! Bytes as they are shown, so that no control character reaches a terminal.
+ghost use Rattle.std.specs.Prelude.{◌≡◌, ◌++◌, ◌<◌, OnOk};
+ghost use Rattle.std.specs.List.{flat_map};
+ghost use Rattle.desk_program.specs.Shown.{hex_digit, shown, shown_byte};
+
+use std::alloc::AllocError;
+
+// A digit to the base 16.
+fn hex_digit(n: u8) -> u8
+    requires { n < 16 }
+    ensures { result ≡ hex_digit n }
+{
+    if n < 10 { b'0' + n } else { b'a' - 10 + n }
+}
+
+/// Adds a byte as it is shown.
+pub(crate) fn push_shown_byte(text: &mut Vec<u8>, byte: u8) -> Result<(), AllocError>
+    ensures { OnOk result (text.new.items ≡ text.old.items ++ shown_byte byte) }
+{
+    if byte < 32 || byte == 127 {
+        text.extend_from_slice(b"\\x")?;
+        text.push(hex_digit(byte / 16))?;
+        text.push(hex_digit(byte % 16))?;
+        return Ok(());
+    }
+    text.push(byte)?;
+    Ok(())
+}
+
+/// Adds bytes as they are shown.
+pub(crate) fn push_shown(text: &mut Vec<u8>, bytes: &[u8]) -> Result<(), AllocError>
+    ensures { OnOk result (text.new.items ≡ text.old.items ++ shown bytes.now) }
+{
+    for byte in bytes {
+        push_shown_byte(text, *byte)?;
+    }
+    Ok(())
+}

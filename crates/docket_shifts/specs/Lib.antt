@@ -1,0 +1,6 @@
+pub mod Compared
+pub mod Texts
+pub mod Sheets
+pub mod Line
+pub mod Shifts
+pub mod Words

@@ -1,0 +1,34 @@
+-- What sheets show with a number: the ends of deadlines, and the hearings of motions.
+use Rattle.std.specs.Prelude.{ℕ, List, [], ◌∷◌, Option, Some, None, map}
+use Rattle.std.specs.List.{flat_map}
+use Rattle.court_clock.specs.Words.{ClockView}
+use Rattle.court_days.specs.Words.{CourtView}
+use Rattle.docket_rows.specs.declared.sheet.SheetDeadline.{SheetDeadline}
+use Rattle.docket_rows.specs.declared.sheet.SheetHearing.{SheetHearing}
+use Rattle.docket_rows.specs.declared.sheet.SheetMotion.{SheetMotion}
+use Rattle.docket_rows.specs.declared.view.View.{View}
+use Rattle.docket_rows.specs.declared.view.View.TheVariants as view
+use Rattle.office_texts.specs.Words.{hearing_text, shown_text}
+use Rattle.docket_shifts.specs.Texts.{NumberedTextView}
+
+-- the end of a deadline
+abbrev pub end_of : ClockView → SheetDeadline → NumberedTextView
+end_of clock d = record { number = d.number; text = shown_text clock d.shown }
+
+-- those of a sheet; a case that isn't open has none
+abbrev pub ends_in : CourtView → View → List NumberedTextView
+ends_in court (view.Sheet sheet) = map (end_of court.clock) sheet.deadlines
+ends_in court other = []
+
+-- the hearing of a motion, if it has one
+abbrev pub hearing_under : CourtView → (number : ℕ) → Option SheetHearing → List NumberedTextView
+hearing_under court number None = []
+hearing_under court number (Some hearing) = record { number = number; text = hearing_text court hearing } ∷ []
+
+abbrev pub hearing_of : CourtView → SheetMotion → List NumberedTextView
+hearing_of court m = hearing_under court m.number m.hearing
+
+-- those of a sheet
+abbrev pub hearings_in : CourtView → View → List NumberedTextView
+hearings_in court (view.Sheet sheet) = flat_map (hearing_of court) sheet.motions
+hearings_in court other = []

@@ -1,0 +1,13 @@
+//! What differs between two dockets of the same cases, as one stands now and as it would stand otherwise: the ends of deadlines
+//! and the hearings of motions, by their numbers, with a line for each.
+#![tactic(auto)]
+
+mod compared;
+mod line;
+mod sheets;
+mod shifts;
+mod texts;
+
+pub use compared::Compared;
+pub use line::push_shift;
+pub use shifts::push_shifts;

@@ -1,0 +1,105 @@
+//! What sheets show with a number: the ends of deadlines, and the hearings of motions.
+ghost use Rattle.std.specs.Prelude.{◌≡◌, ◌++◌, map, IfOk, OnOk};
+ghost use Rattle.std.specs.List.{flat_map};
+ghost use Rattle.docket_shifts.specs.Sheets.{end_of, ends_in, hearing_of, hearings_in};
+
+use crate::texts::NumberedText;
+use court_days::Court;
+use docket_rows::{SheetDeadline, SheetMotion, View};
+use office_texts::{push_hearing, push_shown};
+use std::alloc::{AllocError, Global};
+
+// The end of a deadline, as answers show it.
+fn end_of(
+    alloc: Global,
+    court: &Court,
+    deadline: &SheetDeadline,
+) -> Result<NumberedText, AllocError>
+    ensures { IfOk result (λ end. end ≡ end_of court.now.clock deadline.now) }
+{
+    let mut text = String::new(alloc);
+    push_shown(&mut text, court.clock(), &deadline.shown)?;
+    Ok(NumberedText {
+        number: deadline.number,
+        text,
+    })
+}
+
+// The ends of deadlines.
+fn ends_of(
+    alloc: Global,
+    court: &Court,
+    deadlines: &[SheetDeadline],
+) -> Result<Vec<NumberedText>, AllocError>
+    ensures { IfOk result (λ ends. ends.items ≡ map (end_of court.now.clock) deadlines.now) }
+{
+    let mut ends = Vec::new(alloc);
+    for deadline in deadlines {
+        ends.push(end_of(alloc, court, deadline)?)?;
+    }
+    Ok(ends)
+}
+
+// The ends of the deadlines of a sheet, where the view is one.
+pub(crate) fn ends_in(
+    alloc: Global,
+    court: &Court,
+    view: &View,
+) -> Result<Vec<NumberedText>, AllocError>
+    ensures { IfOk result (λ ends. ends.items ≡ ends_in court.now view.now) }
+{
+    match view {
+        View::Sheet(sheet) => ends_of(alloc, court, sheet.deadlines.as_slice()),
+        _ => Ok(Vec::new(alloc)),
+    }
+}
+
+// Adds the hearing of a motion, as sheets show it, if it has one.
+fn push_hearing_of(
+    alloc: Global,
+    court: &Court,
+    motion: &SheetMotion,
+    hearings: &mut Vec<NumberedText>,
+) -> Result<(), AllocError>
+    ensures { OnOk result (hearings.new.items ≡ hearings.old.items ++ hearing_of court.now motion.now) }
+{
+    let Some(hearing) = motion.hearing else {
+        return Ok(());
+    };
+    let mut text = String::new(alloc);
+    push_hearing(&mut text, court, &hearing)?;
+    hearings.push(NumberedText {
+        number: motion.number,
+        text,
+    })?;
+    Ok(())
+}
+
+// The hearings of motions.
+fn hearings_of(
+    alloc: Global,
+    court: &Court,
+    motions: &[SheetMotion],
+) -> Result<Vec<NumberedText>, AllocError>
+    ensures { IfOk result (λ hearings. hearings.items ≡ flat_map (hearing_of court.now) motions.now) }
+{
+    let mut hearings = Vec::new(alloc);
+    for motion in motions {
+        push_hearing_of(alloc, court, motion, &mut hearings)?;
+    }
+    Ok(hearings)
+}
+
+// The hearings of the motions of a sheet, where the view is one.
+pub(crate) fn hearings_in(
+    alloc: Global,
+    court: &Court,
+    view: &View,
+) -> Result<Vec<NumberedText>, AllocError>
+    ensures { IfOk result (λ hearings. hearings.items ≡ hearings_in court.now view.now) }
+{
+    match view {
+        View::Sheet(sheet) => hearings_of(alloc, court, sheet.motions.as_slice()),
+        _ => Ok(Vec::new(alloc)),
+    }
+}
