@@ -34,8 +34,13 @@ from reference.text_out import shown_text
 REFERENCE = CHECKS / "office_reference.py"
 # With how many choices of words each input goes through the checks: a large one takes a minute each.
 SMALL, LARGE = range(8), range(2)
-# Of a row that is struck, the day and the account with which the merge gate strikes it, in place of those of this machine.
-STRUCK, BY = re.compile(rb"^(row \d+ struck )[-\d]+ by [^:]+: ", re.MULTILINE), rb"\g<1>1969-12-31 by clerk@court (1000): "
+# The day, the second and the account of the merge gate, in place of those of this machine: of a row that is struck or restored, and
+# of each entry of a log, as text and as JSON.
+IN_THE_GATE = [(re.compile(found, re.MULTILINE), put) for found, put in (
+    (rb"^((?:row \d+ |  )(?:struck|restored) )[-\d]+ by [^:\n]+: ", rb"\g<1>1969-12-31 by clerk@court (1000): "),
+    (rb"^((?:(?:strike of |restore of )?row \d+|court's file)  )[-\d]+ [:\d]+ UTC  .+$", rb"\g<1>1970-01-01 00:00:00 UTC  clerk@court (1000)"),
+    (rb'"time":"[^"\n]+","account":"[^"\n]+"', rb'"time":"1970-01-01T00:00:00Z","account":"clerk@court (1000)"'),
+    (rb'("remark":"(?:struck|restored) )[-\d]+ by [^:\n]+: ', rb"\g<1>1969-12-31 by clerk@court (1000): "))]
 
 
 def written(programs, run):
@@ -109,6 +114,13 @@ def desk_kept(run):
     return kept(run, "".join(line + "\n" for line in told(data)).encode()) + kept(run, data)
 
 
+def in_the_gate(text):
+    """What the gate's run writes in place of this text."""
+    for found, put in IN_THE_GATE:
+        text = found.sub(put, text)
+    return text
+
+
 def calls_text(programs, run):
     """What the calls of a desk write in a folder, each after its line, and how it ended where it isn't well."""
     text = b""
@@ -117,7 +129,7 @@ def calls_text(programs, run):
             if "court.toml" in words:
                 (pathlib.Path(folder) / "court.toml").write_bytes(given)
             ended = run_program([programs.docket, *words], given, cwd=folder)
-            text += "$ {}\n".format(" ".join(words)).encode() + STRUCK.sub(BY, ended.output)
+            text += "$ {}\n".format(" ".join(words)).encode() + in_the_gate(ended.output)
             if ended.status != 0:
                 text += "status {}\n".format(ended.status).encode() + ended.errors
     return text

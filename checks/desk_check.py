@@ -4,7 +4,8 @@
     desk_check.py DOCKET CLERK_OFFICE [SEED [COUNT]]
 
 The examples of examples/ of one clerk are entered in two sessions, and answered as by clerk_office. What is said of an
-empty folder, of one that has a journal, and of a second program is looked at. A question is asked and rows are tried beside
+empty folder, of one that has a journal, of a file without entries and of a second program is looked at, and what becomes of a
+session under which the journal is written over. A question is asked and rows are tried beside
 a program that enters rows, rows that draw warnings are held back, plain, as written and kept together, rows are kept together
 or not at all, rows with faults are counted, a folder is filled with cases, cases have their numbers as courts write them,
 holidays and outages are answered with the deadlines that they move, and a court is given another file. Then COUNT times (300
@@ -78,6 +79,46 @@ def check_cut(programs):
             assert ended.errors == line and re.fullmatch(r"cut-\d{4}-\d\d-\d\d-\d+", name), (ended, name)
         assert len(desk.cut()) == 2 and not desk.call("enter").errors
     return "what a crash left is saved before it is cut off"
+
+
+def check_unbegun(programs):
+    """A file without entries is no journal: nothing is written to it but by `init`, which begins one, and it refuses a journal."""
+    with tempfile.TemporaryDirectory() as parent:
+        desk = Desk(programs, parent, SHORT_COURT)
+        whole = desk.journal.read_bytes()
+        for data in (b"", b"-", b"+", b"--", b"xy", b"--" + whole[2:100], b"--x"):
+            desk.journal.write_bytes(data)
+            for words in (("enter",), ("check",), ("strike", 1, "--reason", "twice")):
+                ended = desk.call(*words)
+                assert ended.status == REFUSED and not ended.output and b"no journal" in ended.errors, (data, words, ended)
+                assert desk.journal.read_bytes() == data and not desk.cut(), (data, words)
+            ended = desk.call("init", "--court", parent + "/court.toml")
+            assert ended.status == 0 and desk.read().entries == [SHORT_COURT], (data, ended)
+            whole = desk.journal.read_bytes()
+            ended = desk.call("init", "--court", parent + "/court.toml")
+            assert ended.status == REFUSED and b"journal already" in ended.errors and desk.journal.read_bytes() == whole, (data, ended)
+    return "a file without entries, which `init` alone writes to"
+
+
+def check_changed(programs):
+    """A journal that is written over under a session: no row more is kept or answered, and the file is as the other program left it."""
+    with tempfile.TemporaryDirectory() as parent:
+        desk = Desk(programs, parent, SHORT_COURT)
+        backup = desk.journal.read_bytes()
+        # What the other program makes of the journal: the backup is copied over it, it is cut, it gets an end of another kind, and more.
+        for left in (lambda data: backup, lambda data: data[:-1], lambda data: data[:-1] + b"+", lambda data: data[:-2] + b"\r\n", lambda data: data + b"x", lambda data: b""):
+            desk.journal.write_bytes(backup)
+            with desk.session() as session:
+                session.stdin.write(b"1,open,1,2025-03-03\n")
+                session.stdin.flush()
+                assert session.stdout.readline() == b"1 1 opened\n"
+                data = left(desk.journal.read_bytes())
+                desk.journal.write_bytes(data)
+                session.stdin.write(b"1,open,2,2025-03-03\n")
+                session.stdin.close()
+                assert session.stdout.read() == b"" and b"another program has written to the journal" in session.stderr.read()
+            assert session.returncode == REFUSED and desk.journal.read_bytes() == data and not desk.cut()
+    return "a journal that another program writes over under a session is left as it is"
 
 
 def check_second(programs):
@@ -487,7 +528,8 @@ def check_court(programs):
 def main(words):
     programs, (seed, count) = programs_of(words[:2]), seed_and_count(words[2:], 300)
     draw = random.Random(seed)
-    for check in (lambda: check_examples(programs, draw), lambda: check_folder(programs), lambda: check_cut(programs), lambda: check_second(programs),
+    for check in (lambda: check_examples(programs, draw), lambda: check_folder(programs), lambda: check_cut(programs), lambda: check_unbegun(programs),
+                  lambda: check_changed(programs), lambda: check_second(programs),
                   lambda: check_trial(programs, draw), lambda: check_warnings(programs), lambda: check_choices(programs, draw), lambda: check_together(programs, draw),
                   lambda: check_refused(programs), lambda: check_faulty(programs), lambda: check_cases(programs),
                   lambda: check_numbers(programs), lambda: check_moves(programs, draw), lambda: check_court(programs),

@@ -10,7 +10,7 @@ sectors that it had before its last rows back, and other journals and other file
 The desk must then say what the reader in lib/journal.py finds: the number of the entry that is damaged, with status 10 and the
 file as it was; or the journal is opened with the first of its rows and their answers, and never with others. No changed byte hides an
 entry, and of the larger journal's damage nothing does but what a crash may leave: a file of at most two bytes, and one whose last
-batch isn't there. It needs Python 3.8 or later.
+batch isn't there. A file without entries is no journal: status 10, and it is as it was. It needs Python 3.8 or later.
 """
 import concurrent.futures
 import itertools
@@ -105,7 +105,9 @@ def check_file(desk, rows, data):
     kept = rows_of(journal)
     assert kept == rows[:len(kept)], "other rows were found than were kept"
     if not journal.entries:
-        assert ended.status == REFUSED and not ended.output, ended
+        for ended in (ended, desk.call("enter")):
+            assert ended.status == REFUSED and not ended.output and b"no journal" in ended.errors, ended
+        assert desk.journal.read_bytes() == data and not desk.cut(), "a file without entries was written to"
         return FEWER
     assert ended.status == 0, ended
     assert ended.output == desk.input_of(row for row, _ in kept), ended.output

@@ -8,8 +8,9 @@ every row that it answered is kept, and with room again it goes on. A folder tha
 that has the journal: the desk is refused, and the journal is as it was. A day of ROWS rows (100,000 without it), which
 are written one after another to a pipe while the answers are read from another: the memory of the desk grows by less than
 4 MB after its first 10,000 rows. A folder with twice as many rows, more than an input may have: each report must say of it what
-it says of those rows alone that change the docket, and the answers must be there, each once. A journal of ENTRIES entries (1,000,000 without it) is filled to its end, the row after
-the last is refused, and it is opened again. It needs Linux and Python 3.8 or later.
+it says of those rows alone that change the docket, and the answers must be there, each once. A journal is filled with rows up to
+ENTRIES entries (999,000 without it, after which none is taken). The row after the last is refused, the journal is opened again, and
+there is room for a question, a strike, a restore and another court's file. It needs Linux and Python 3.8 or later.
 """
 import contextlib
 import json
@@ -26,7 +27,7 @@ import threading
 import time
 
 from lib.desk import Desk, FAULTY, REFUSED, SHORT_COURT, drawn_rows
-from lib.journal import rows_of
+from lib.journal import MOST_ROWS, rows_of, struck_in
 from lib.programs import programs_of
 
 NOBODY = 65534
@@ -223,11 +224,11 @@ def check_many(programs, draw, count):
 
 
 def check_full_journal(programs, count):
-    """A journal is filled to its end and opened again."""
-    row = b"1,compute,59e,2025-08-04,,,\n"
+    """A journal is filled with rows and opened again, and corrections still have room."""
+    opens, row = b"1,open,1,2025-03-03\n", b"1,compute,59e,2025-08-04,,,\n"
     with tempfile.TemporaryDirectory() as parent:
         desk = Desk(programs, parent, SHORT_COURT)
-        ended = desk.call("enter", given=row * count)
+        ended = desk.call("enter", given=opens + row * (count - 1))
         *_, last, beyond = ended.output.splitlines()
         assert ended.status == FAULTY and last.startswith(b"%d 1 " % (count - 1)) and b"TooManyRows" in beyond, (last, beyond)
         began = time.monotonic()
@@ -235,13 +236,21 @@ def check_full_journal(programs, count):
         seconds = time.monotonic() - began
         assert ended.status == 0, ended
         size = desk.journal.stat().st_size
-    return "a journal of {:,} entries and {:,} bytes is full, and is opened in {:.1f} s".format(count, size, seconds)
+        ended = desk.call("ask", given=b"1,sheet,1\n")
+        assert ended.status == 0 and ended.output.startswith(b"%d 1 sheet\ncase 1 " % count), ended
+        for word, struck in (("strike", {1}), ("restore", set())):
+            ended = desk.call(word, 1, "--reason", "twice", "--accept")
+            assert ended.status == 0 and struck_in(desk.read()) == struck, ended
+        assert desk.take_court(SHORT_COURT).status == 0
+        assert len(desk.read().entries) == count + 3
+    return "a journal of {:,} entries and {:,} bytes takes no row more, and is opened in {:.1f} s; questions and corrections have room".format(
+        count, size, seconds)
 
 
 def main(words):
     programs, draw = programs_of(words[:2]), random.Random(1)
     rows = int(words[2]) if len(words) > 2 else 100_000
-    entries = int(words[3]) if len(words) > 3 else 1_000_000
+    entries = int(words[3]) if len(words) > 3 else MOST_ROWS
     for check in (lambda: check_second(programs), lambda: check_read_only(programs, draw),
                   lambda: check_short_file(programs, draw), lambda: check_full_disk(programs, draw),
                   lambda: check_day(programs, draw, rows), lambda: check_many(programs, draw, 2 * rows), lambda: check_full_journal(programs, entries)):

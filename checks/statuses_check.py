@@ -39,8 +39,8 @@ FILES = {
 REPORTS = ("due", "week --judge Ames --of 2025-03-03", "page", "ics --stamp 20250901T120000Z", "json", "json --lines", "sql", "memo",
            "memo --case 1 --today 2025-03-10")
 # As of when a folder is read: before any case was opened, and after that.
-BEFORE = ("0", "yesterday", "-1d", "2025-03-03")
-AS_OF = (*BEFORE, "2", "3", "99", "today", "+7d", "monday", "2190-01-01")
+BEFORE = ("0", "yesterday", "-1d", "2025-03-03", "2025-03-09T02:30", "2025-11-02T01:30:00")
+AS_OF = (*BEFORE, "2", "3", "99", "today", "+7d", "monday", "2190-01-01", "2190-01-01T14:05", "2190-01-01T23:59:59")
 
 
 def of_report(words):
@@ -92,7 +92,7 @@ def of_kept(words):
     """The calls of a command that takes a folder, and as of when it is read."""
     yield from of_folder(words)
     yield from ((words + " F --as-of=" + then, b"", 0) for then in AS_OF)
-    yield from ((words + more, b"", WORDS) for more in (" F --as-of x", " F --as-of", " F --as-of 1 --as-of 2", " --as-of 1"))
+    yield from ((words + more, b"", WORDS) for more in (" F --as-of x", " F --as-of", " F --as-of 1 --as-of 2", " --as-of 1", *(" F --as-of 2025-03-03T" + time for time in ("", "24:00", "1:05", "14:5", "14:05:", "14:05:60", "14:05:09Z"))))
     yield from ((words + place, b"", JOURNAL) for place in (" N --as-of 1", " E --as-of 1"))
 
 
@@ -124,9 +124,14 @@ TABLE = [
     ("strike F 1 " + STRIKE, b"", DIFFERS), ("strike F 3 --accept " + STRIKE, b"", 0), ("strike F 99 " + STRIKE, b"", LINES), ("strike F 0 " + STRIKE, b"", LINES),
     ("strike F 3 --reason r --by b", b"", WORDS), ("strike F 3 --reason r --today 2025-09-02", b"", WORDS), ("strike F 3 --reason=", b"", WORDS),
     ("strike F x " + STRIKE, b"", WORDS), ("strike F 3", b"", WORDS), ("strike F " + STRIKE, b"", WORDS),
+    ("restore S 3 " + STRIKE, b"", 0), ("restore S 3 --accept " + STRIKE, b"", 0), ("restore S 1 " + STRIKE, b"", LINES), ("restore S 99 " + STRIKE, b"", LINES),
+    ("restore S 3 --reason r --by b", b"", WORDS), ("restore S 3 --reason=", b"", WORDS), ("restore S x " + STRIKE, b"", WORDS), ("restore S 3", b"", WORDS),
+    ("restore S " + STRIKE, b"", WORDS), ("restore N 3 " + STRIKE, b"", JOURNAL), ("restore F 3 " + STRIKE + BESIDE, b"", JOURNAL),
     ("strike F 1 " + STRIKE + FULL, b"", STREAM), ("strike N 3 " + STRIKE, b"", JOURNAL), ("strike F 3 " + STRIKE + BESIDE, b"", JOURNAL),
     *of_kept("struck"), *of_kept("cases"), *of_kept("rows"), *of_folder("check"), *of_folder("log"), ("check F --as-of 1", b"", WORDS),
-    *((("log S --" + more, b"", 0) for more in ("row 3", "row 99", "by x", "from today", "to yesterday", "row 1 --by x --from=-3d --to today"))),
+    *((("log S --" + more, b"", 0) for more in ("row 3", "row 99", "by x", "from today", "to yesterday", "row 1 --by x --from=-3d --to today",
+                                                   "case 1", "case 4096", "json", "row 3 --json", "case 1 --json"))),
+    *((("log S --case " + case, b"", status) for case, status in (("1:25-cv-8", ABSENT), ("4097", WORDS), ("0", WORDS), ("x", WORDS)))),
     *((("log S --" + more, b"", WORDS) for more in ("row x", "row=", "by=", "from x", "to 2025-02-30", "as-of 1"))),
     ("ask F --as-of 2", QUESTION, 0), ("ask F --as-of=-1d", QUESTION, 0), ("ask F --as-of x", QUESTION, WORDS), ("ask N --as-of 1", QUESTION, JOURNAL),
     ("enter F --as-of 1", NEW, WORDS), ("try F --as-of 1", NEW, WORDS),

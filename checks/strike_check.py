@@ -1,16 +1,18 @@
 #!/usr/bin/env python3
-"""Strikes rows of dockets at random, and compares the desk with a replay in Python of the other rows.
+"""Strikes and restores rows of dockets at random, and compares the desk with a replay in Python of the rows that stand.
 
     strike_check.py DOCKET CLERK_OFFICE [SEED [COUNT]]
 
-COUNT dockets (100 without it) are entered. Then one to three rows of each are struck, one after another, with rows entered in
-between, and sometimes with another court's file. In the replay the number of a deadline or a motion belongs to the row that
-gave it: the row gives the same whenever it is decided again, and a row that gives one for the first time gives the next after
-all that were ever given in its case. After each strike these are compared with it: the answers that the desk lists as changed,
-the sheets of all cases and the calendars of all judges, the answers to later rows, what clerk_office makes of the rows that the
-desk writes, which counts deadlines and motions by their places, and the reports of the folder, which show the numbers of rows,
-deadlines and motions that `enter` answered. Without --accept a strike that changes an answer changes nothing, and a row is
-struck once. It needs Python 3.8 or later.
+COUNT dockets (100 without it) are entered. Then one to five rows of each are struck or restored, one after another, with rows
+entered in between, and sometimes with another court's file. In the replay the number of a deadline or a motion belongs to the
+row that gave it: the row gives the same whenever it is decided again, also after it was restored, and a row that gives one for
+the first time gives the next after all that were ever given in its case. After each strike and each restore these are compared
+with it: the row that the desk shows, the answers that it lists as changed, each deadline and hearing that it lists as another than
+before, the sheets of all cases and the calendars of all judges, the answers to
+later rows, what clerk_office makes of the rows that the desk writes, which counts deadlines and motions by their places, and
+the reports of the folder, which show the numbers of rows, deadlines and motions that `enter` answered. Without --accept a
+strike or a restore that changes an answer changes nothing; a row that is struck isn't struck again, and only such a row is
+restored. It needs Python 3.8 or later.
 """
 import json
 import random
@@ -20,14 +22,15 @@ import sys
 import tempfile
 
 from lib.desk import Desk, SHORT_COURT
-from lib.journal import rows_of as rows_kept
+from lib.journal import rows_of as rows_kept, struck_in
 from lib.json_text import office_text
 from lib.kept_numbers import Numbers
 from lib.programs import programs_of, seed_and_count
 from reference.court_file import court_of
-from reference.docket import STEPS, opening, step, view
+from reference.docket import STEPS, deadlines_of, hearing_of, motions_of, opening, step, view
+from reference.periods import shown
 from reference.rows_in import rows_of
-from reference.text_out import answer_lines, closing_lines
+from reference.text_out import answer_lines, closing_lines, hearing_line, shown_text
 
 DIFFERS, FAULT = 7, 3
 WHY = ["--reason", "entered twice"]
@@ -134,13 +137,64 @@ class Replay:
             hearings=[item._replace(motion=motion(item, item.motion)) for item in self.docket.hearings])
 
 
-def changed(kept, replay):
-    """What the desk has to list: the rows whose kept answers aren't those of the replay."""
+def is_done(number, answer):
+    """Whether an answer says that its row was done."""
+    words = answer.split(b" ", 2)
+    return words[0] == b"%d" % number and not words[2].startswith(b"refused ")
+
+
+def mark_of(number, was, then):
+    """The line of a row that is done with one of these answers alone."""
+    before, after = is_done(number, was), is_done(number, then)
+    if before == after:
+        return b""
+    return b"row %d was %s\n" % (number, b"done and would no longer be" if before else b"not done and would be")
+
+
+def changed(kept, now, after):
+    """What the desk has to list of answers: the rows that are answered otherwise after a correction than now. A row that is struck
+    has no answer; one that is restored counts as answered as it is kept."""
     text = b""
-    for number, ((row, answer), other) in enumerate(zip(kept, replay.answers), 1):
-        if other is not None and other != answer:
-            text += b"row %d is kept as\n" % number + row + answer + b"and would be answered\n" + other
+    for number, ((row, answer), had, then) in enumerate(zip(kept, now.answers, after.answers), 1):
+        was = answer if had is None else had
+        if then is None or then == was:
+            continue
+        text += b"row %d is kept as\n" % number + row + answer
+        if was != answer:
+            text += b"row %d is answered now\n" % number + was
+        text += b"and would be answered\n" + then + mark_of(number, was, then)
     return text
+
+
+def ends_of(replay, case):
+    """The ends of the deadlines of a case, by their numbers."""
+    rows, court = replay.docket, replay.court
+    return {deadline.number: shown_text(court, shown(rows.days, court.clock, deadline.row)) for deadline in deadlines_of(rows, case)}
+
+
+def hearings_in(replay, case):
+    """The hearings of a case, by the numbers of their motions."""
+    found = {motion.number: hearing_of(replay.docket, case, motion.number) for motion in motions_of(replay.docket, case)}
+    return {number: hearing_line(replay.court, replay.docket, hearing) for number, hearing in found.items() if hearing is not None}
+
+
+def shifts(now, after):
+    """What the desk has to list of deadlines and hearings: those that are shown otherwise after a correction than now."""
+    text = ""
+    for case in CASES:
+        for word, shown_in in (("deadline", ends_of), ("motion", hearings_in)):
+            was, then = shown_in(now, case), shown_in(after, case)
+            for number in [*was, *(number for number in then if number not in was)]:
+                before, later = was.get(number, "none"), then.get(number, "none")
+                if before != later:
+                    text += "  case {} {} {}: {}, now {}\n".format(case, word, number, before, later)
+    return text.encode()
+
+
+def told_first(kept, word, row):
+    """The row that is struck or restored, as the desk shows it before all else."""
+    entry = b"".join(kept[row - 1])
+    return b"%s of row %d:\n  " % (word.encode(), row) + entry[:-1].replace(b"\n", b"\n  ") + b"\n"
 
 
 def answers_in(text):
@@ -183,14 +237,32 @@ def beyond(replay):
     return found
 
 
-def compare_calendars(before, after, replay, what):
-    """What a calendar program takes of the calendar after a strike: no SEQUENCE falls, what an event says otherwise has a higher one,
-    and none vanishes, but for a deadline that ends beyond the days covered. The deadlines that rows started once and start no more
-    are cancelled, and no others."""
+def unsaid(kept, replay):
+    """The hearings whose events may vanish without a word: those that only rows set which were refused when they were entered, as an
+    entry keeps the first answer alone; and those of a motion that is none any more, where another motion is at the place of its
+    number."""
+    numbers = replay.moved()["motion"]
+    having = {(case, number) for (case, _), number in numbers.items()}
+    named, done = set(), set()
+    for number, (row, answer) in enumerate(kept, 1):
+        fields = row.decode().rstrip("\n").split(",")
+        if fields[1] in ("book", "move"):
+            motion = int(fields[2]), int(fields[3])
+            named.add(motion)
+            if is_done(number, answer):
+                done.add(motion)
+    return {"case-{}-motion-{}@jerghuma".format(*motion) for motion in named
+            if motion not in done or motion in numbers and motion not in having}
+
+
+def compare_calendars(before, after, kept, replay, what):
+    """What a calendar program takes of the calendar after a strike or a restore: no SEQUENCE falls, what an event says otherwise has a
+    higher one, and none vanishes, but for a deadline that ends beyond the days covered and what may be left unsaid. The deadlines that
+    rows started once and start no more are cancelled, and no others."""
     for uid, (old, said) in before.items():
         new, says = after.get(uid, (old, said))
         assert new > old or new == old and said == says, (what, uid, before[uid], after[uid])
-        assert uid in after or uid in beyond(replay), (what, uid)
+        assert uid in after or uid in beyond(replay) or uid in unsaid(kept, replay), (what, uid)
     started = {uid_of(case, number) for word, case, number in replay.given.values() if word == "start"}
     cancelled = {uid for uid, (_, says) in after.items() if "-deadline-" in uid and says.get("STATUS") == "CANCELLED"}
     assert cancelled == started - {uid_of(item.case, item.number) for item in replay.docket.deadlines}, (what, cancelled)
@@ -270,53 +342,80 @@ def other_court(draw):
     return SHORT_COURT.replace(b'"2025-07-04"', b'"2025-07-04", "2025-%02d-%02d"' % (draw.randint(3, 9), draw.randint(1, 28)))
 
 
+def drawn_correction(draw, lines, struck):
+    """A strike or a restore, and the number of its row: now and then of one that can't be."""
+    if struck and draw.random() < 0.5:
+        return "restore", draw.choice(sorted(struck)) if draw.random() < 0.8 else chosen_row(draw, lines)
+    return "strike", chosen_row(draw, lines)
+
+
+def wrong_with(word, row, lines, struck):
+    """What the desk has to say of a strike or a restore that can't be; None of one that can."""
+    if word == "restore":
+        return None if row in struck else b"isn't struck"
+    if row in struck:
+        return b"struck already"
+    return b"no command" if lines[row - 1].split(b",")[1] == b"sheet" else None
+
+
+def correct(desk, word, row, now, after):
+    """Strikes or restores a row; the docket is the first of these before it, and the other after it. Gives how many answers
+    changed."""
+    before, kept = desk.journal.read_bytes(), rows_kept(desk.read())
+    differs = changed(kept, now, after)
+    text = told_first(kept, word, row) + differs + shifts(now, after)
+    ended = desk.call(word, row, *WHY)
+    assert ended.output == text, (word, row, ended, text)
+    assert ended.status == (DIFFERS if differs else 0), (word, row, ended)
+    if differs:
+        assert desk.journal.read_bytes() == before, "a correction that isn't taken changed the journal"
+        ended = desk.call(word, row, "--accept", *WHY)
+        assert ended.status == 0 and ended.output == text, (word, row, ended, text)
+    assert struck_in(desk.read()) == after.struck
+    return differs.count(b" is kept as\n")
+
+
 def check_docket(programs, draw):
-    """One docket, of which one to three rows are struck. Gives how many rows those are, and how many answers changed."""
+    """One docket, of which rows are struck and restored. Gives how many were struck, how many restored, and how many answers
+    changed."""
     with tempfile.TemporaryDirectory() as parent:
         desk, court = Desk(programs, parent, SHORT_COURT), court_of(SHORT_COURT)
-        lines, struck, given, many = [], set(), {}, 0
-        for _ in range(draw.randint(1, 3)):
+        lines, struck, given, many, done = [], set(), {}, 0, {"strike": 0, "restore": 0}
+        for _ in range(draw.randint(1, 5)):
+            now = Replay(court, lines, struck, given)
             if draw.random() < 0.3:
                 file = other_court(draw)
                 court = court_of(file)
                 after = Replay(court, lines, struck, given)
                 ended = desk.take_court(file)
-                assert ended.status == 0 and ended.output == changed(rows_kept(desk.read()), after), (file, ended)
+                assert ended.status == 0 and ended.output == changed(rows_kept(desk.read()), now, after) + shifts(now, after), (file, ended)
                 given = after.given
             more = opened(draw) + [drawn_row(draw) for _ in range(draw.randint(5, 25))]
             replay = Replay(court, lines, struck, given)
             answers = b"".join(replay.take(line) for line in more)
             lines += more
             assert desk.enter(more) == answers, (more, answers)
-            given, kept = replay.given, rows_kept(desk.read())
-            row = chosen_row(draw, lines)
+            given = replay.given
+            word, row = drawn_correction(draw, lines, struck)
+            wrong = wrong_with(word, row, lines, struck)
+            if wrong:
+                ended = desk.call(word, row, *WHY)
+                assert ended.status == FAULT and wrong in ended.errors, (word, row, ended)
+                continue
             calendar = sequences(desk)
-            before, ended = desk.journal.read_bytes(), desk.call("strike", row, *WHY)
-            if row in struck:
-                assert ended.status == FAULT and b"struck already" in ended.errors, ended
-                continue
-            if lines[row - 1].split(b",")[1] == b"sheet":
-                assert ended.status == FAULT and b"no command" in ended.errors, ended
-                continue
-            after = Replay(court, lines, struck | {row}, given)
-            text = changed(kept, after)
-            assert ended.output == text, (row, ended, text)
-            assert ended.status == (DIFFERS if text else 0), ended
-            if text:
-                many += text.count(b" is kept as\n")
-                assert desk.journal.read_bytes() == before, "a strike that isn't taken changed the journal"
-                ended = desk.call("strike", row, "--accept", *WHY)
-                assert ended.status == 0 and ended.output == text, (row, ended, text)
-            struck, given = struck | {row}, after.given
-            compare(desk, after, (lines, row))
-            compare_calendars(calendar, sequences(desk), after, (lines, row))
+            struck = struck - {row} if word == "restore" else struck | {row}
+            after = Replay(court, lines, struck, given)
+            many += correct(desk, word, row, replay, after)
+            given, done[word] = after.given, done[word] + 1
+            compare(desk, after, (lines, word, row))
+            compare_calendars(calendar, sequences(desk), rows_kept(desk.read()), after, (lines, word, row))
             assert b"rows kept: %d," % len(lines) in desk.call("check").output
         numbers = list(given.values())
         assert len(set(numbers)) == len(numbers), "a number was given twice"
         listed = desk.call("struck").output
         found = re.findall(rb"^row (\d+) struck \d{4}-\d\d-\d\d by [^@:]+@[^@:]+ \(\d+\): entered twice\n", listed, re.MULTILINE)
         assert listed.count(b"\n") == len(struck) and {int(row) for row in found} == struck, listed
-        return len(struck), many
+        return done["strike"], done["restore"], many
 
 
 def main(words):
@@ -326,8 +425,8 @@ def main(words):
     programs, (seed, count) = programs_of(words[:2]), seed_and_count(words[2:], 100)
     draw = random.Random(seed)
     counted = [check_docket(programs, draw) for _ in range(count)]
-    print("{} dockets: {} rows were struck, and {} answers changed, each as a replay of the others says".format(
-        count, sum(rows for rows, _ in counted), sum(many for _, many in counted)))
+    print("{} dockets: {} rows were struck, {} were restored, and {} answers changed, each as a replay of the rows that stand says".format(
+        count, *map(sum, zip(*counted))))
     return 0
 
 

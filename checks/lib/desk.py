@@ -13,6 +13,8 @@ REFUSED = 10
 TOGETHER, KEEP_REFUSED, FAULTS = "--all-or-nothing", "--keep-refused", 3
 # The status with which a session ends in which some rows had faults, and the line with which such a row is answered.
 FAULTY, FAULT_LINE = 8, re.compile(rb"row \d+ fault ")
+# What a session says first where the one before it was cut off.
+CUT_OFF = re.compile(rb"docket: the session before this one was cut off; the last row that is kept is row (\d+): see 'docket log [^\n]* --row \1'\n")
 # A court's file that is short, so that a journal's bytes are mostly those of its rows.
 SHORT_COURT = b"""zone = "EST5EDT,M3.2.0/2,M11.1.0/2"
 opens = "08:30"
@@ -120,7 +122,7 @@ class Desk:
         """The answers to rows, as the journal keeps them. Where some have faults, the session says how many at its end."""
         ended = self.call("enter", given=b"".join(rows))
         faulty = sum(FAULT_LINE.match(line) is not None for line in ended.output.splitlines())
-        assert ended.status == (FAULTY if faulty else 0) and ended.errors.startswith(b"%d of " % faulty if faulty else b""), ended
+        assert ended.status == (FAULTY if faulty else 0) and CUT_OFF.sub(b"", ended.errors).startswith(b"%d of " % faulty if faulty else b""), ended
         return answers_alone(ended.output)
 
     def rows(self):

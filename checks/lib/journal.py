@@ -7,14 +7,16 @@ FIRST_CHECKSUM = hashlib.sha256(b"durable journal, version 2").digest()
 # What comes between a latch and the content: two numbers of four bytes, and a checksum.
 HEAD = 4 + 4 + 32
 MOST_ENTRIES = 1_000_000
+# After how many entries no row is taken: the others are for court's files, strikes and restores.
+MOST_ROWS = 999_000
 # How many bytes the time of a stamp has.
 TIME = 8
 # The line with which the entry of a later court's file begins.
 COURT_LINE = b"%%\n"
 # With what the line begins in which a row's entry has the new name of its case, before the row.
 NAME_MARK = b"%%case "
-# With what an entry begins by which a row is struck.
-STRIKE_MARK = b"%%strike "
+# With what an entry begins by which a row is struck, and one by which it is restored.
+STRIKE_MARK, RESTORE_MARK = b"%%strike ", b"%%restore "
 
 
 class Damaged(Exception):
@@ -146,9 +148,19 @@ class Kept(NamedTuple):
 
 def rows_of(journal):
     """The rows of a journal with their answers. The first entry is a court's file, and so is each that begins with a line `%%`; one
-    that strikes a row is none either."""
-    rows = [after_name(entry).partition(b"\n") for entry in journal.entries[1:] if not entry.startswith((COURT_LINE, STRIKE_MARK))]
+    that strikes or restores a row is none either."""
+    rows = [after_name(entry).partition(b"\n") for entry in journal.entries[1:] if not entry.startswith((COURT_LINE, STRIKE_MARK, RESTORE_MARK))]
     return [Kept(row + end, answer) for row, end, answer in rows]
+
+
+def struck_in(journal):
+    """The numbers of the rows that are struck: those whose last strike no restore follows."""
+    struck = set()
+    for entry in journal.entries[1:]:
+        if entry.startswith((STRIKE_MARK, RESTORE_MARK)):
+            row = int(entry.partition(b"\n")[0].split(b" ")[1])
+            struck = struck | {row} if entry.startswith(STRIKE_MARK) else struck - {row}
+    return struck
 
 
 def courts_of(journal):
