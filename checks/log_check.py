@@ -272,7 +272,7 @@ def check_replaced(programs):
 
 
 def check_cut_off(programs):
-    """A session that is cut off is told by the next one, once, and one that ends isn't."""
+    """After a session that was cut off the next one says so, once; after one that ended it doesn't."""
     with tempfile.TemporaryDirectory() as parent:
         desk = Desk(programs, parent, SHORT_COURT)
         for rows, said in ((0, False), (2, True)):
@@ -299,7 +299,7 @@ def main(words):
     check_no_file(programs)
     check_replaced(programs)
     check_cut_off(programs)
-    print("{} folders and {} entries: each says who entered it and when, and the log lists them; sessions that are cut off are told".format(2 * count, entries))
+    print("{} folders and {} entries: each says who entered it and when, and the log lists them; after a session that was cut off the next says so".format(2 * count, entries))
 
 
 if __name__ == "__main__":
