@@ -15,9 +15,5 @@ module _ {S : Type 0} {g : calls.Ghosts Host} where
   abbrev pub file_may_leave : (start : Ghosts S) → Modelled Host S g start → List ℕ → Type 0
   file_may_leave start f = let m = replay (start_of start f) f.calls.log.events in MayLeave start.is_mixing m.seen m.synced m.steps
 
-  -- no answer of the file was other than the model's
-  abbrev pub file_is_clean : (start : Ghosts S) → Modelled Host S g start → Bool
-  file_is_clean start f = (replay (start_of start f) f.calls.log.events).is_honest
-
   abbrev pub file_is_usable : (start : Ghosts S) → Modelled Host S g start → Bool
   file_is_usable start f = (replay (start_of start f) f.calls.log.events).is_usable

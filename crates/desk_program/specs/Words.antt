@@ -8,7 +8,6 @@ pub use Rattle.desk_program.specs.ChangedText.{changes_text}
 pub use Rattle.desk_program.specs.Correction.{IsListed, IsOnlyListed, correction_text, shown_at}
 pub use Rattle.desk_program.specs.Desk.{HasNoDocket, IsPromisedDocket, IsUnopened, KeepsDocket, answers_at, disk_under, held_at, leaves_at, outcome_at, stamp_under, standing_at}
 pub use Rattle.desk_program.specs.Faults.{desk_status}
-pub use Rattle.desk_program.specs.File.{file_is_clean, file_is_usable, file_may_leave, file_seen}
 pub use Rattle.desk_program.specs.Log.{log_text}
 pub use Rattle.desk_program.specs.Restore.{IsRestored, RefusesRestore, RestoresRow}
 pub use Rattle.desk_program.specs.Rows.{written_rows}
