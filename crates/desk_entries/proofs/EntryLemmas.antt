@@ -1,7 +1,7 @@
 -- An entry is read again as the row that it was made of.
 use Rattle.std.proofs.Common.{◌≡◌, ◌∙◌, ◌+◌, ◌≤◌, ◌==◌, ◌&&◌, ℕ, suc, Bool, cond, List, [], ◌∷◌, ◌++◌, Option, Some, None, Result, Ok, Err, true, false, not, leb, ltb, length, refl, sym, ap, subst, append_assoc, arith}
 use Rattle.std.proofs.lemmas.Grind.{common_steps}
-use Rattle.std.specs.Prelude.{◌||◌, codes, nat_eq, nat_lt}
+use Rattle.std.specs.Prelude.{◌||◌, All, codes, nat_eq, nat_lt}
 use Rattle.std.specs.Char.{is_ascii_digit}
 use Rattle.std.specs.List.{list_all, list_any}
 use Rattle.std.specs.Option.{ok_or, option_and_then}
@@ -13,7 +13,10 @@ use Rattle.csv.specs.Records.{field_at}
 use Rattle.csv.specs.Writing.{default_writer, escaped, field_text, fields_text, is_blank, needs_byte, read_back, row_text}
 use Rattle.csv.specs.declared.parser.State.TheVariants as st
 use Rattle.csv.proofs.RoundTrip.{read-write}
-use Rattle.desk_numbers.specs.Strikes.Words.{restore_in, row_after, strike_in}
+use Rattle.desk_numbers.specs.declared.said.Said.{Said}
+use Rattle.desk_numbers.specs.Strikes.Words.{Fits, remark_in, restore_in, row_after, said_as, said_in, said_text, strike_in}
+use Rattle.desk_numbers.proofs.StrikesLemmas.LineLemmas.{lacks, lacks-append, past_cut}
+use Rattle.desk_numbers.proofs.StrikesLemmas.SaidTextLemmas.{entry_in_parts, said_read, text_lacks}
 use Rattle.desk_entries.specs.declared.standing.Standing.{Standing}
 use Rattle.row_forms.specs.declared.fault.RowCause.{RowCause}
 use Rattle.row_forms.specs.declared.fault.RowCause.TheVariants.{BadClerk, NotText, TooManyRows, WrongCount}
@@ -29,7 +32,7 @@ use Rattle.case_numbers.specs.Words.{CasesView, NameView, after_name, case_read,
 use Rattle.case_numbers.proofs.CallerLemmas.{name_of_line, no_name_line, no_name_past, rest_of_line}
 use Rattle.desk_entries.specs.Cases.{cases_of}
 use Rattle.desk_entries.specs.CaseLines.{case_in, fresh_for, lacks_field, most_name, named, named_if, newly, reading_of}
-use Rattle.desk_entries.specs.Entries.{most_clerks, most_rows, note_in}
+use Rattle.desk_entries.specs.Entries.{court_mark, later_file, most_clerks, most_rows, note_in}
 use Rattle.desk_entries.specs.Rows.{answer_to, entry_of, follows, kept_leaves, leaves, left_of, plain_leaves, reading_at, with_name, within}
 use Rattle.desk_entries.specs.Laws.{WhatIsLeftFollows}
 use Rattle.desk_entries.proofs.ListLemmas.{no_note}
@@ -298,3 +301,13 @@ left_follows under kept bytes entry h = by (within kept (line_read most_clerks (
           ap note_in (sym is_entry) ∙ is_no_note_named (names_of under.court) (fields_read text) row (answer_to under kept row) spelled name,
           subst (follows under kept) is_entry (follows_named under kept (fields_read text) row name (reading_read (names_of under.court) (cases_of under kept) bytes) spelled),
         )
+
+-- The entry of a later court's file is read back: the file, and what it says of rows.
+pub court_back : (said : List Said) (file entry : List ℕ) → All Fits said → entry ≡ ((court_mark ++ said_text said) ++ codes "\n") ++ file → (later_file entry ≡ Some file) × (said_in entry ≡ said)
+unfolding remark_in said_in said_as
+court_back said file entry fits is =
+    let whole : entry ≡ (court_mark ++ said_text said) ++ 10 ∷ file = is ∙ append_assoc (court_mark ++ said_text said) (10 ∷ []) file in
+    let first : lacks 10 (court_mark ++ said_text said) ≡ true = lacks-append 10 court_mark (said_text said) refl (text_lacks said fits) in (
+      ap later_file whole ∙ ap (λ (rest : List ℕ). Some rest) (past_cut 10 (court_mark ++ said_text said) file first),
+      ap said_in whole ∙ ap said_in (sym (entry_in_parts court_mark said file)) ∙ said_read court_mark said file refl refl fits,
+    )

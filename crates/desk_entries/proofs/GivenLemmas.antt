@@ -1,5 +1,5 @@
 -- Rows keep the numbers that they gave before the last correction.
-use Rattle.std.proofs.Common.{◌≡◌, ◌∙◌, ◌+◌, ◌-◌, ◌<◌, ℕ, zero, suc, Bool, true, false, cond, List, [], ◌∷◌, ◌++◌, Option, Some, None, length, length-append, refl, sym, ap, subst, arith}
+use Rattle.std.proofs.Common.{◌≡◌, ◌∙◌, ◌+◌, ◌-◌, ◌<◌, ◌≤◌, ℕ, zero, suc, Bool, true, false, cond, List, [], ◌∷◌, ◌++◌, Option, Some, None, length, length-append, refl, sym, ap, subst, arith}
 use Rattle.std.specs.Prelude.{nat_lt, slice_index_or}
 use Rattle.std.proofs.lemmas.Bool.Decides.{nat_tests}
 use Rattle.case_numbers.specs.Words.{after_name}
@@ -90,3 +90,24 @@ unfolding run_by
 rows_keep under kept row own some within is =
     let all = all_kept under (opening_run under) 1 (row_entries kept) (first_kept under.corrections.kept) in
     all.keep row own some (omega (arith, within)) is
+
+-- as many rows gave something or nothing as there are
+pub as_many_gave : (under : Standing) (kept : List (List ℕ)) → length (run_by under kept).numbers.given ≡ length (row_entries kept)
+unfolding run_by
+as_many_gave under kept = let all = all_kept under (opening_run under) 1 (row_entries kept) (first_kept under.corrections.kept) in omega (arith, all.count)
+
+within_of : (given : List (Option Given)) (n : ℕ) (own : Given) → slice_index_or given n None ≡ Some own → n < length given
+within_of [] n own is = cc is
+within_of (g ∷ given) zero own is = omega arith
+within_of (g ∷ given) (suc n) own is = omega (arith, within_of given n own is)
+
+-- and each row that keeps a number gave one
+gave_one : (under : Standing) (kept : List (List ℕ)) (place : ℕ) (own : Given) → length under.corrections.kept ≤ length (row_entries kept) → slice_index_or under.corrections.kept place None ≡ Some own → slice_index_or (run_by under kept).numbers.given place None ≡ None → ⊥
+gave_one under kept place own few is none =
+    let within : place < length under.corrections.kept = within_of under.corrections.kept place own is in
+    let same : suc place - 1 ≡ place = omega arith in
+    subst (KeepsNumber own) (ap (λ (n : ℕ). slice_index_or (run_by under kept).numbers.given n None) same ∙ none)
+    (rows_keep under kept (suc place) own (omega arith) (omega (arith, within, few)) (ap (λ (n : ℕ). slice_index_or under.corrections.kept n None) same ∙ is))
+
+pub kept_were_given : (under : Standing) (kept : List (List ℕ)) (row : ℕ) (own : Given) → length under.corrections.kept ≤ length (row_entries kept) → kept_of under.corrections.kept row ≡ Some own → kept_of (run_by under kept).numbers.given row ≡ None → ⊥
+kept_were_given under kept row own few is none = gave_one under kept (row - 1) own few is none

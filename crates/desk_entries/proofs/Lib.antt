@@ -7,10 +7,11 @@ pub mod DecidedLemmas
 pub mod EntryLemmas
 pub mod ExportLemmas
 pub mod ReportedLemmas
+pub mod SaidLemmas
 pub mod FieldLemmas
 pub mod GivenLemmas
+pub mod FaultyLemmas
 pub mod HistoryLemmas
-pub mod KeepLemmas
 pub mod LineFaultLemmas
 pub mod ListLemmas
 pub mod NoteLemmas
@@ -22,3 +23,4 @@ pub mod RestoreLemmas
 pub mod RunLemmas
 pub mod ShiftLemmas
 pub mod StrikingLemmas
+pub mod WalkLemmas

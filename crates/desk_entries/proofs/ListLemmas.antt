@@ -222,6 +222,13 @@ other_of P Q (Some x) q e = (x, q)
 pub parted : (entries : List (Vec ℕ Global)) (n : ℕ) → batch_of (take n entries) ++ batch_of (drop n entries) ≡ batch_of entries
 parted entries n = sym (map-append (λ (v : Vec ℕ Global). v.items) (take n entries) (drop n entries)) ∙ ap batch_of (take-append-drop n entries)
 
+-- where an entry comes at a place, entries are those before it, it, and those after it
+pub parts_at : (entries : List (Vec ℕ Global)) (place : ℕ) (entry : List ℕ) → batch_of (take (place + 1) entries) ≡ batch_of (take place entries) ++ entry ∷ []
+    → batch_of entries ≡ batch_of (take place entries) ++ entry ∷ batch_of (drop (place + 1) entries)
+parts_at entries place entry is =
+    sym (parted entries (place + 1)) ∙ ap (λ (l : List (List ℕ)). l ++ batch_of (drop (place + 1) entries)) is
+    ∙ append_assoc (batch_of (take place entries)) (entry ∷ []) (batch_of (drop (place + 1) entries))
+
 pub none_unless : {A : Type 0} (P : Type 0) (Q : A → Type 0) (x : Option A) → MatchOption x P Q → ((a : A) → x ≡ Some a → ⊥) → P
 none_unless P Q None p never = p
 none_unless P Q (Some x) q never = absurd (never x refl)

@@ -8,10 +8,10 @@ use Rattle.desk_entries.specs.declared.standing.Standing.{Standing}
 use Rattle.case_numbers.specs.Words.{after_name}
 use Rattle.row_forms.specs.Words.{names_of}
 use Rattle.row_forms.specs.Line.Words.{line_read}
-use Rattle.desk_entries.specs.Entries.{Note, most_clerks, next_number, note_in, row_entries, row_only}
+use Rattle.desk_entries.specs.Entries.{most_clerks, next_number, Note, note_in, row_entries, row_only, rows_with}
 use Rattle.desk_journal.specs.Words.{batch_of}
 use Rattle.desk_entries.specs.declared.past.Corrected.{Corrected}
-use Rattle.desk_entries.specs.Past.{corrected_by, corrected_with, is_restored, is_struck_first, noted_after, restores_it, row_struck_as, row_struck_said, rows_struck, rows_with, strikes_first, strikes_it}
+use Rattle.desk_entries.specs.Past.{corrected_by, corrected_with, is_restored, is_struck_first, noted_after, restores_it, row_struck_as, row_struck_said, rows_struck, strikes_first, strikes_it}
 use Rattle.desk_entries.proofs.ListLemmas.{row_entries-more}
 
 -- what is struck of an entry that is a row, and of one that is none

@@ -20,7 +20,7 @@ use Rattle.desk_entries.specs.History.{StandsAfter}
 use Rattle.desk_entries.specs.Laws.{ARestoreLeavesTheDocket, KeepsNumber, with_restore, with_strike}
 use Rattle.desk_entries.specs.Run.{Run, opening_run, reply_by_places, run_after, run_by, run_entry, run_past, run_said}
 use Rattle.desk_entries.proofs.GivenLemmas.{at_before, at_end, rows_keep}
-use Rattle.desk_entries.proofs.HistoryLemmas.{stands_corrected}
+use Rattle.desk_entries.proofs.HistoryLemmas.{stands_after_note}
 use Rattle.desk_entries.proofs.ListLemmas.{row_entries-note}
 
 -- after each row there is what it gave, or what it keeps
@@ -131,13 +131,13 @@ leaves_the_docket under kept strike restore row are stands live =
     let again = with_restore struck after row in
     let begun : 0 < length after = omega (arith, are.begun, length-append kept (strike ∷ [])) in
     let same : again.corrections.struck ≡ under.corrections.struck = (undone under.corrections.struck row).0 live in
-    let once : StandsAfter after struck = stands_corrected under struck kept strike (row_struck (record { row = row })) are.begun are.struck refl stands stands.court refl in
+    let once : StandsAfter after struck = stands_after_note under struck kept strike (row_struck (record { row = row })) are.begun are.struck stands are.strike_says stands.court refl in
     let rows_after : row_entries after ≡ row_entries kept = row_entries-note kept strike are.begun (ap is_some are.struck) in
     let rows : row_entries (after ++ restore ∷ []) ≡ row_entries kept = row_entries-note after restore begun (ap is_some are.restored) ∙ rows_after in
     let alike : Alike (run_after under (opening_run under) 1 (row_entries kept)) (run_after again (opening_run again) 1 (row_entries kept)) =
     all_alike under again.corrections same (opening_run under) (opening_run again) 1 (row_entries kept) refl (record { docketed = refl; moved = refl })
     (λ n own some within has. rows_keep struck after n own some (omega (arith, within, ap length rows_after)) has) in (
-      stands_corrected struck again after restore (row_restored (record { row = row })) begun are.restored refl once once.court refl,
+      stands_after_note struck again after restore (row_restored (record { row = row })) begun are.restored once are.restore_says once.court refl,
       same,
       ap (λ (r : List (List ℕ)). (run_after again (opening_run again) 1 r).docketed) rows ∙ sym alike.docketed,
       ap (λ (r : List (List ℕ)). (run_after again (opening_run again) 1 r).numbers.moved) rows ∙ sym alike.moved,

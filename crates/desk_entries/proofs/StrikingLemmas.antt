@@ -1,6 +1,6 @@
 -- The strike of a row, found among entries, and the restore of one that is struck.
 use Rattle.std.proofs.Common.{◌≡◌, ◌∙◌, ◌+◌, ◌-◌, ◌<◌, ◌≤◌, ◌&&◌, ℕ, zero, suc, Bool, true, false, cond, List, [], ◌∷◌, ◌++◌, Option, Some, None, Ok, Err, drop, get_or, length, refl, sym, ap, arith}
-use Rattle.std.specs.Prelude.{Vec, nat_eq, nat_lt, slice_index_or}
+use Rattle.std.specs.Prelude.{All, Vec, nat_eq, nat_lt, slice_index_or}
 use Rattle.std.specs.declared.alloc.Global.{Global}
 use Rattle.std.proofs.lemmas.List.{at_drop_more, drop_all}
 use Rattle.desk_journal.specs.Words.{batch_of}
@@ -12,9 +12,10 @@ use Rattle.row_forms.specs.Words.{names_of}
 use Rattle.row_forms.specs.declared.line.line.Line.{Line}
 use Rattle.row_forms.specs.declared.line.line.Line.TheVariants as line
 use Rattle.row_forms.specs.Line.Words.{line_read}
+use Rattle.desk_numbers.specs.declared.said.Said.{Said}
 use Rattle.desk_numbers.specs.declared.strikes.restore.Restore.{Restore}
 use Rattle.desk_numbers.specs.declared.strikes.strike.Strike.{Strike}
-use Rattle.desk_numbers.specs.Strikes.Words.{is_among, is_struck, restore_entry, row_after, strike_entry, strike_in}
+use Rattle.desk_numbers.specs.Strikes.Words.{Fits, is_among, is_struck, restore_entry, row_after, said_in, strike_entry, strike_in}
 use Rattle.desk_numbers.proofs.StrikesLemmas.CallerLemmas.{restores_back, strikes_back}
 use Rattle.desk_entries.specs.declared.fault.StrikeFault.TheVariants.{AlreadyStruck, NoSuchRow, NotStruck}
 use Rattle.desk_entries.specs.declared.standing.Standing.{Standing}
@@ -111,25 +112,26 @@ both_true true false h = cc h
 both_true false b h = cc h
 
 -- an entry that is a strike is no court's file
-later_file-strike : (strike : Strike) (remark : List ℕ) → later_file (strike_entry strike remark) ≡ None
+later_file-strike : (strike : Strike) (said : List Said) (remark : List ℕ) → later_file (strike_entry strike said remark) ≡ None
 unfolding strike_entry
-later_file-strike strike remark = refl
+later_file-strike strike said remark = refl
 
 -- it can be struck by what the entries say
 can_be : (kept : List (List ℕ)) (strike : Strike) (row : ℕ) (struck : List ℕ) → struck ≡ struck_in kept → strike.row ≡ row → nat_lt 0 row ≡ true → nat_lt row (next_number kept) ≡ true → is_among struck row ≡ false → can_strike kept strike ≡ true
 can_be kept strike row struck is same low before live = rw (same, low, before, ← is, live) refl
 
 -- The entry of the strike of a row says it, and may follow.
-pub strike_said_again : (under : Standing) (kept : List (List ℕ)) (row : ℕ) (strike : Strike) (remark : List ℕ) → 0 < length kept → length kept ≤ most_entries → StandsAfter kept under → strike_for under kept row ≡ Ok strike
-    → (note_in (strike_entry strike remark) ≡ Some (row_struck strike)) × (can_strike kept strike ≡ true)
-strike_said_again under kept row strike remark begun few stands is =
+pub strike_said_again : (under : Standing) (kept : List (List ℕ)) (row : ℕ) (strike : Strike) (said : List Said) (remark : List ℕ) → 0 < length kept → length kept ≤ most_entries → StandsAfter kept under → strike_for under kept row ≡ Ok strike → All Fits said
+    → (note_in (strike_entry strike said remark) ≡ Some (row_struck strike)) × (can_strike kept strike ≡ true) × (said_in (strike_entry strike said remark) ≡ said)
+strike_said_again under kept row strike said remark begun few stands is fits =
     let (there, live, same) = is_there under kept row strike is in
     let low = both_true (nat_lt 0 row) (nat_lt row (next_number kept)) there in
     let less : row < next_number kept = grind (arith, nat_tests) in
     let small : strike.row < 1_000_000_000 = omega (arith, same, less, next_number-few kept begun, few) in
-    let again = strikes_back strike remark small in (
-      strike_noted (strike_entry strike remark) strike (later_file-strike strike remark) again.0,
+    let again = strikes_back strike said remark small fits in (
+      strike_noted (strike_entry strike said remark) strike (later_file-strike strike said remark) again.0,
       can_be kept strike row under.corrections.struck stands.struck same low.0 low.1 live,
+      again.2,
     )
 
 -- a row that can be restored was entered, and is struck
@@ -144,23 +146,24 @@ can_again under kept row restore is = by (has_row kept row) (is_struck under.cor
     by false b there struck h = cc h
 
 -- an entry that is a restore is no court's file and no strike
-later_file-restore : (restore : Restore) (remark : List ℕ) → later_file (restore_entry restore remark) ≡ None
+later_file-restore : (restore : Restore) (said : List Said) (remark : List ℕ) → later_file (restore_entry restore said remark) ≡ None
 unfolding restore_entry
-later_file-restore restore remark = refl
+later_file-restore restore said remark = refl
 
-strike_in-restore : (restore : Restore) (remark : List ℕ) → strike_in (restore_entry restore remark) ≡ None
+strike_in-restore : (restore : Restore) (said : List Said) (remark : List ℕ) → strike_in (restore_entry restore said remark) ≡ None
 unfolding restore_entry strike_in row_after
-strike_in-restore restore remark = refl
+strike_in-restore restore said remark = refl
 
 -- The entry of the restore of a row says it, and may follow.
-pub restore_said_again : (under : Standing) (kept : List (List ℕ)) (row : ℕ) (restore : Restore) (remark : List ℕ) → 0 < length kept → length kept ≤ most_entries → StandsAfter kept under → restore_for under kept row ≡ Ok restore
-    → (note_in (restore_entry restore remark) ≡ Some (row_restored restore)) × (can_restore kept restore ≡ true)
-restore_said_again under kept row restore remark begun few stands is =
+pub restore_said_again : (under : Standing) (kept : List (List ℕ)) (row : ℕ) (restore : Restore) (said : List Said) (remark : List ℕ) → 0 < length kept → length kept ≤ most_entries → StandsAfter kept under → restore_for under kept row ≡ Ok restore → All Fits said
+    → (note_in (restore_entry restore said remark) ≡ Some (row_restored restore)) × (can_restore kept restore ≡ true) × (said_in (restore_entry restore said remark) ≡ said)
+restore_said_again under kept row restore said remark begun few stands is fits =
     let (there, struck, same) = can_again under kept row restore is in
     let low = both_true (nat_lt 0 row) (nat_lt row (next_number kept)) there in
     let less : row < next_number kept = grind (arith, nat_tests) in
     let small : restore.row < 1_000_000_000 = omega (arith, same, less, next_number-few kept begun, few) in
-    let again = restores_back restore remark small in (
-      restore_noted (restore_entry restore remark) restore (later_file-restore restore remark) (strike_in-restore restore remark) again.0,
+    let again = restores_back restore said remark small fits in (
+      restore_noted (restore_entry restore said remark) restore (later_file-restore restore said remark) (strike_in-restore restore said remark) again.0,
       rw (sym stands.struck, same, struck) refl,
+      again.2,
     )

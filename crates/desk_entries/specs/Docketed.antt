@@ -1,5 +1,5 @@
 -- A court and its docket, made of a journal's entries, or why they make none.
-use Rattle.std.specs.Prelude.{◌≡◌, ◌+◌, ℕ, false, List, [], ◌∷◌, ◌++◌, length, Option, None, Some, Err}
+use Rattle.std.specs.Prelude.{◌≡◌, ◌<◌, ◌+◌, ◌⊎◌, ℕ, false, List, [], ◌∷◌, ◌++◌, length, Option, None, Some, Err}
 use Rattle.court_days.specs.Words.{court_in}
 use Rattle.court_file_text.specs.declared.fault.CourtFault.{CourtFault}
 use Rattle.desk_entries.specs.declared.docketed.Docketed.{Docketed}
@@ -7,24 +7,14 @@ use Rattle.desk_entries.specs.declared.fault.HistoryFault.{HistoryFault}
 use Rattle.desk_entries.specs.declared.fault.HistoryFault.TheVariants.{Court, NoCourt, Other, OutOfMemory, Strike}
 use Rattle.desk_entries.specs.declared.standing.Standing.{Standing}
 use Rattle.desk_entries.specs.Entries.{Note, can_restore, can_strike, court_file, next_number, note_in, row_restored, row_struck, standing_file}
-use Rattle.desk_entries.specs.History.{IsHistory, StandsAfter}
+use Rattle.desk_entries.specs.History.{IsHistory, SaysNumbers, StandsAfter}
 use Rattle.desk_entries.specs.Register.{IsReadyAt}
 use Rattle.desk_entries.specs.Rows.{follows}
 
--- the entries are a history, this is what stands after them, and the docket is that of their rows
+-- this is what stands after the entries, and the docket is that of their rows
 pub record IsDocketed (docketed : Docketed) (entries : List (List ℕ)) : Type 0 where
-  pub history : IsHistory entries
   pub standing : StandsAfter entries docketed.standing
   pub stands : IsReadyAt docketed.standing docketed.register entries
-
--- an entry is a court's file with a fault, after a history
-pub record HasBadFile (entries : List (List ℕ)) (number : ℕ) (cause : CourtFault) : Type 0 where
-  pub before : List (List ℕ)
-  pub entry : List ℕ
-  pub after : List (List ℕ)
-  pub parts : entries ≡ before ++ entry ∷ after
-  pub number_is : number ≡ length before + 1
-  pub fault : court_in (standing_file (before ++ entry ∷ [])) ≡ Err cause
 
 -- why a file is no court's, which is in the entry of that number
 abbrev pub IsBadFile : (file : List ℕ) → (number : ℕ) → HistoryFault → Type 0
@@ -34,40 +24,58 @@ IsBadFile file number (Strike n) = ⊥
 IsBadFile file number (Other n) = ⊥
 IsBadFile file number OutOfMemory = Unit {0}
 
+-- an entry says other numbers than rows gave
+abbrev pub SaysOthers : (before : List (List ℕ)) → (entry : List ℕ) → Type 0
+SaysOthers before entry = (under : Standing) × StandsAfter before under × (SaysNumbers under before entry → ⊥)
+
 -- a strike is of a row that can't be struck, or a restore of one that isn't
-abbrev pub CannotBe : Option Note → (before : List (List ℕ)) → Type 0
-CannotBe None before = ⊥
-CannotBe (Some (court_file file)) before = ⊥
-CannotBe (Some (row_struck struck)) before = can_strike before struck ≡ false
-CannotBe (Some (row_restored restored)) before = can_restore before restored ≡ false
+abbrev pub CannotBe : Note → (before : List (List ℕ)) → Type 0
+CannotBe (court_file file) before = ⊥
+CannotBe (row_struck struck) before = can_strike before struck ≡ false
+CannotBe (row_restored restored) before = can_restore before restored ≡ false
 
--- an entry is a strike or a restore that can't be, after a history
-pub record HasBadStrike (entries : List (List ℕ)) (number : ℕ) : Type 0 where
+-- an entry is a note that can't be, or says other numbers
+abbrev pub IsBadNote : Option Note → (before : List (List ℕ)) → (entry : List ℕ) → Type 0
+IsBadNote None before entry = ⊥
+IsBadNote (Some note) before entry = CannotBe note before ⊎ SaysOthers before entry
+
+-- a row gets another answer than its entry has, under what stands after these
+abbrev pub GetsOtherAnswer : (before : List (List ℕ)) → (entry : List ℕ) → Type 0
+GetsOtherAnswer before entry = (under : Standing) × StandsAfter before under × (follows under before entry → ⊥)
+
+-- what is wrong with an entry that comes after these: a court's file with a fault, a bad note, or a row with another answer
+abbrev pub IsFaultyEntry : (before : List (List ℕ)) → (entry : List ℕ) → HistoryFault → Type 0
+IsFaultyEntry before entry NoCourt = ⊥
+IsFaultyEntry before entry (Court number cause) = (number ≡ length before + 1) × (court_in (standing_file (before ++ entry ∷ [])) ≡ Err cause)
+IsFaultyEntry before entry (Strike number) = (number ≡ length before + 1) × IsBadNote (note_in entry) before entry
+IsFaultyEntry before entry (Other number) = (number ≡ next_number before) × (note_in entry ≡ None) × GetsOtherAnswer before entry
+IsFaultyEntry before entry OutOfMemory = Unit {0}
+
+-- an entry is faulty that comes after some of which this is so
+pub record HasFaultyEntry (So : List (List ℕ) → Type 0) (entries : List (List ℕ)) (fault : HistoryFault) : Type 0 where
   pub before : List (List ℕ)
   pub entry : List ℕ
   pub after : List (List ℕ)
   pub parts : entries ≡ before ++ entry ∷ after
-  pub number_is : number ≡ length before + 1
-  pub history : IsHistory before
-  pub cannot : CannotBe (note_in entry) before
+  pub so : So before
+  pub faulty : IsFaultyEntry before entry fault
 
--- a row after a history has another answer than it gets under what stands there
-pub record HasOtherAnswer (entries : List (List ℕ)) (number : ℕ) : Type 0 where
-  pub before : List (List ℕ)
-  pub entry : List ℕ
-  pub after : List (List ℕ)
-  pub parts : entries ≡ before ++ entry ∷ after
-  pub number_is : number ≡ next_number before
-  pub history : IsHistory before
-  pub row : note_in entry ≡ None
-  pub under : Standing
-  pub stands : StandsAfter before under
-  pub other : follows under before entry → ⊥
+-- why entries make no docket, where this is so of those before the one that is faulty
+abbrev pub HasFault : (So : List (List ℕ) → Type 0) → List (List ℕ) → HistoryFault → Type 0
+HasFault So entries NoCourt = entries ≡ []
+HasFault So entries (Court number cause) = HasFaultyEntry So entries (Court number cause)
+HasFault So entries (Strike number) = HasFaultyEntry So entries (Strike number)
+HasFault So entries (Other number) = HasFaultyEntry So entries (Other number)
+HasFault So entries OutOfMemory = Unit {0}
 
--- why entries make no docket
+-- why they make no docket, whatever those before the one that is faulty are
+abbrev pub HasDocketFault : List (List ℕ) → HistoryFault → Type 0
+HasDocketFault entries fault = HasFault (λ before. Unit {0}) entries fault
+
+-- entries are a history, if there are any
+abbrev pub AreHistory : List (List ℕ) → Type 0
+AreHistory entries = 0 < length entries → IsHistory entries
+
+-- why they are no history: those before the one that is faulty are
 abbrev pub HasHistoryFault : List (List ℕ) → HistoryFault → Type 0
-HasHistoryFault entries NoCourt = entries ≡ []
-HasHistoryFault entries (Court number cause) = HasBadFile entries number cause
-HasHistoryFault entries (Strike number) = HasBadStrike entries number
-HasHistoryFault entries (Other number) = HasOtherAnswer entries number
-HasHistoryFault entries OutOfMemory = Unit {0}
+HasHistoryFault entries fault = HasFault AreHistory entries fault

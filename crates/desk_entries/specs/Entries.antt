@@ -2,9 +2,11 @@
 -- them.
 use Rattle.std.specs.Prelude.{ℕ, ◌+◌, ◌&&◌, Bool, not, List, [], ◌∷◌, ◌++◌, codes, drop, length, nat_eq, nat_lt, Option, Some, None, if◌then◌else◌}
 use Rattle.std.specs.List.{starts_with}
+use Rattle.desk_numbers.specs.declared.given.Given.{Given}
 use Rattle.desk_numbers.specs.declared.strikes.restore.Restore.{Restore}
 use Rattle.desk_numbers.specs.declared.strikes.strike.Strike.{Strike}
-use Rattle.desk_numbers.specs.Strikes.Words.{is_among, restore_in, strike_in, struck_with, struck_without}
+use Rattle.desk_numbers.specs.Words.{kept_with}
+use Rattle.desk_numbers.specs.Strikes.Words.{is_among, remark_in, restore_in, said_in, strike_in, struck_with, struck_without}
 
 -- how many entries a journal has at most
 abbrev pub most_entries : ℕ
@@ -18,13 +20,13 @@ most_rows = 999_000
 abbrev pub most_clerks : ℕ
 most_clerks = 64
 
--- the line with which a later court's file begins; a row never begins so
-abbrev pub court_line : List ℕ
-court_line = codes "%%\n"
+-- with what the first line begins before a later court's file; a row never begins so
+abbrev pub court_mark : List ℕ
+court_mark = codes "%%court"
 
--- the court's file that a later entry is, if it is one
+-- the court's file that a later entry is, if it is one: what comes after its first line
 abbrev pub later_file : (entry : List ℕ) → Option (List ℕ)
-later_file entry = if starts_with nat_eq entry court_line then Some (drop (length court_line) entry) else None
+later_file entry = if starts_with nat_eq entry court_mark then Some (remark_in entry) else None
 
 -- an entry that is no row: a later court's file, a strike, or a restore of a row that is struck
 pub data Note : Type 0 where
@@ -74,6 +76,26 @@ struck_after struck (entry ∷ later) = struck_after (struck_by struck (note_in 
 -- the rows that are struck after entries, of which the first is a court's file as it is
 abbrev pub struck_in : (kept : List (List ℕ)) → List ℕ
 struck_in kept = struck_after [] (drop 1 kept)
+
+-- how many rows there are with an entry more, which is this note or a row
+abbrev pub rows_with : Option Note → (rows : ℕ) → ℕ
+rows_with (Some note) rows = rows
+rows_with None rows = rows + 1
+
+-- The numbers that rows keep after an entry, which is this note or a row, where there are that many rows before it: after a note those
+-- too that it says.
+abbrev pub kept_as : Option Note → (rows : ℕ) → (numbers : List (Option Given)) → (entry : List ℕ) → List (Option Given)
+kept_as None rows numbers entry = numbers
+kept_as (Some note) rows numbers entry = kept_with numbers rows (said_in entry)
+
+-- after later entries
+unfoldable pub kept_after : (rows : ℕ) → (numbers : List (Option Given)) → (later : List (List ℕ)) → List (Option Given)
+kept_after rows numbers [] = numbers
+kept_after rows numbers (entry ∷ later) = kept_after (rows_with (note_in entry) rows) (kept_as (note_in entry) rows numbers entry) later
+
+-- the numbers that rows keep after entries, of which the first is a court's file as it is
+abbrev pub kept_in : (kept : List (List ℕ)) → List (Option Given)
+kept_in kept = kept_after 0 [] (drop 1 kept)
 
 -- an entry that is a row
 abbrev pub row_only : Option Note → (entry : List ℕ) → List (List ℕ)

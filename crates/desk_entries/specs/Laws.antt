@@ -20,7 +20,7 @@ use Rattle.desk_entries.specs.Entries.{most_clerks, most_rows, next_number, note
 use Rattle.desk_entries.specs.Rows.{answers, cased_at, follows, leaves, reading_at, rows_in}
 use Rattle.desk_entries.specs.Run.{corrections_then, docketed_by, reply_by_places, reply_under, run_by}
 use Rattle.desk_entries.specs.Export.{row_written, shown_as}
-use Rattle.desk_entries.specs.History.{IsHistory, StandsAfter}
+use Rattle.desk_entries.specs.History.{IsHistory, SaysNumbers, StandsAfter}
 use Rattle.desk_entries.specs.LineFaults.{faults_of, left_before}
 use Rattle.desk_entries.specs.Subjects.{named_in}
 
@@ -28,10 +28,10 @@ use Rattle.desk_entries.specs.Subjects.{named_in}
 abbrev pub WhatIsLeftFollows : Type 0
 WhatIsLeftFollows = (under : Standing) (kept : List (List ℕ)) (line entry : List ℕ) → leaves under kept line ≡ entry ∷ [] → (note_in entry ≡ None) × follows under kept entry
 
--- What lines leave after a history is a history with it, under what stands, and the same stands after them.
+-- What stands after entries stands after what lines leave then, and if they are a history they are one with it.
 abbrev pub WhatIsLeftIsHistory : Type 0
-WhatIsLeftIsHistory = (under : Standing) (kept lines : List (List ℕ)) → IsHistory kept → StandsAfter kept under
-    → IsHistory (kept ++ left_by (leaves under) kept lines) × StandsAfter (kept ++ left_by (leaves under) kept lines) under
+WhatIsLeftIsHistory = (under : Standing) (kept lines : List (List ℕ)) → 0 < length kept → StandsAfter kept under
+    → StandsAfter (kept ++ left_by (leaves under) kept lines) under × (IsHistory kept → IsHistory (kept ++ left_by (leaves under) kept lines))
 
 -- a line has no fault
 abbrev pub HasNoFault : CourtNames → List ℕ → Type 0
@@ -85,16 +85,18 @@ with_strike under kept row = record { court = under.court; corrections = correct
 abbrev pub with_restore : Standing → (kept : List (List ℕ)) → (row : ℕ) → Standing
 with_restore under kept row = record { court = under.court; corrections = corrections_then under kept (struck_without under.corrections.struck row) }
 
--- entries, and then a strike and a restore of one row
-pub record AreStruckAndRestored (kept : List (List ℕ)) (strike restore : List ℕ) (row : ℕ) : Type 0 where
+-- entries after which this stands, and then a strike and a restore of one row, each of which says what rows gave
+pub record AreStruckAndRestored (under : Standing) (kept : List (List ℕ)) (strike restore : List ℕ) (row : ℕ) : Type 0 where
   pub begun : 0 < length kept
   pub struck : note_in strike ≡ Some (row_struck (record { row = row }))
+  pub strike_says : SaysNumbers under kept strike
   pub restored : note_in restore ≡ Some (row_restored (record { row = row }))
+  pub restore_says : SaysNumbers (with_strike under kept row) (kept ++ strike ∷ []) restore
 
 -- A row that is struck and then restored leaves the docket as it was: the same rows are struck, the same is docketed, and what isn't
 -- at the place of its number is the same, so that each deadline and each motion has the number that it had.
 abbrev pub ARestoreLeavesTheDocket : Type 0
-ARestoreLeavesTheDocket = (under : Standing) (kept : List (List ℕ)) (strike restore : List ℕ) (row : ℕ) → AreStruckAndRestored kept strike restore row → StandsAfter kept under → is_struck under.corrections row ≡ false →
+ARestoreLeavesTheDocket = (under : Standing) (kept : List (List ℕ)) (strike restore : List ℕ) (row : ℕ) → AreStruckAndRestored under kept strike restore row → StandsAfter kept under → is_struck under.corrections row ≡ false →
     let after = kept ++ strike ∷ [] in
     let again = with_restore (with_strike under kept row) after row in
     StandsAfter (after ++ restore ∷ []) again

@@ -18,3 +18,4 @@ pub mod Shifts
 pub mod Laws
 pub mod Questions
 pub mod Words
+pub mod Inside

@@ -15,13 +15,8 @@ use Rattle.desk_numbers.specs.Strikes.Words.{is_struck, remark_in}
 use Rattle.desk_entries.specs.declared.past.Corrected.{Corrected}
 use Rattle.desk_entries.specs.declared.standing.Standing.{Standing}
 use Rattle.desk_entries.specs.Differences.{Change}
-use Rattle.desk_entries.specs.Entries.{Note, court_file, most_clerks, note_in, row_restored, row_struck}
+use Rattle.desk_entries.specs.Entries.{Note, court_file, most_clerks, note_in, row_restored, row_struck, rows_with}
 use Rattle.desk_entries.specs.Reported.{said_standing}
-
--- how many rows there are with an entry more, which is a note or a row
-abbrev pub rows_with : Option Note → (rows : ℕ) → ℕ
-rows_with (Some note) rows = rows
-rows_with None rows = rows + 1
 
 -- the answer that the entry of a row keeps, after the line of the row
 abbrev pub answer_in : (entry : List ℕ) → List ℕ

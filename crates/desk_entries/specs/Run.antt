@@ -7,7 +7,8 @@ use Rattle.row_forms.specs.declared.row.Work.{Work}
 use Rattle.row_forms.specs.Words.{names_of}
 use Rattle.office_texts.specs.declared.run.reply.Reply.{Reply}
 use Rattle.office_texts.specs.Run.Words.{docketed_then, reply_to}
-use Rattle.desk_numbers.specs.Words.{NumbersView, given_by, no_numbers, numbered, numbers_after, passed, placed}
+use Rattle.desk_numbers.specs.declared.said.Said.{Said}
+use Rattle.desk_numbers.specs.Words.{NumbersView, given_by, no_numbers, numbered, numbers_after, passed, placed, unsaid}
 use Rattle.row_forms.specs.declared.line.line.Line.{Line}
 use Rattle.row_forms.specs.declared.line.line.Line.TheVariants as line
 use Rattle.row_forms.specs.Line.Words.{line_read}
@@ -76,3 +77,7 @@ docketed_by under kept = (run_by under kept).docketed
 -- what is struck from now on, and the numbers that rows keep: those that they have by now
 abbrev pub corrections_then : Standing → (kept : List (List ℕ)) → (struck : List ℕ) → CorrectionsView
 corrections_then under kept struck = record { struck = struck; kept = (run_by under kept).numbers.given }
+
+-- what a correction says that comes after entries: what rows gave by then and don't keep yet
+abbrev pub unsaid_by : Standing → (kept : List (List ℕ)) → List Said
+unsaid_by under kept = unsaid under.corrections.kept (run_by under kept).numbers.given 1

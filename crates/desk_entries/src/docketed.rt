@@ -1,5 +1,6 @@
 //! A court and its docket, made of a journal's entries.
-ghost use Rattle.std.specs.Prelude.{◌≡◌, ◌<◌, ◌≤◌, ◌+◌, ◌&&◌, ◌++◌, ◌∷◌, [], ℕ, false, List, length, nat_lt, not, take, None, Some, IfErr, IfOk, OnOk};
+ghost use Rattle.std.specs.Prelude.{◌≡◌, ◌<◌, ◌≤◌, ◌+◌, ◌&&◌, ◌++◌, ◌∷◌, [], ℕ, true, false, List, length, nat_lt, not, take, None, Some, IfErr, IfOk, IsSome, OnOk};
+ghost use Rattle.court_days.specs.Words.{CourtView};
 ghost use Rattle.desk_journal.specs.Words.{batch_of};
 ghost use Rattle.desk_entries.specs.Entries.{later_file, most_entries, note_in, row_restored, row_struck};
 ghost use Rattle.desk_numbers.specs.Strikes.Words.{is_struck, no_corrections, struck_with, struck_without};
@@ -8,14 +9,14 @@ ghost use Rattle.desk_entries.specs.Docketed.{IsBadFile};
 ghost use Rattle.desk_entries.specs.History.{SaysCourt};
 ghost use Rattle.desk_entries.specs.Run.{corrections_then};
 
-use crate::entry::later_file;
+use crate::entry::{is_row, later_file};
 use crate::fault::HistoryFault;
 use crate::register::DocketRegister;
 use crate::review::{Review, decided_again};
 use crate::standing::Standing;
+use crate::what_stands::{court_of, standing_after};
 use court_days::Court;
-use court_file_text::CourtFault;
-use desk_numbers::{Corrections, Restore, Strike, restore_in, strike_in};
+use desk_numbers::{Corrections, Restore, Strike, restore_in, said_in, strike_in};
 use std::alloc::{AllocError, Global};
 use std::mem;
 
@@ -26,18 +27,6 @@ pub struct Docketed {
     pub standing: Standing,
     /// The docket after the rows.
     pub register: DocketRegister,
-}
-
-// The court of a file, which is in the entry of that number.
-fn court_of(alloc: Global, file: &[u8], number: u32) -> Result<Court, HistoryFault>
-    ensures court { IfOk result (λ court. SaysCourt file.now court) }
-    ensures cause { IfErr result (IsBadFile file.now number) }
-{
-    match Court::from_bytes(alloc, file) {
-        Ok(court) => Ok(court),
-        Err(CourtFault::OutOfMemory) => Err(HistoryFault::OutOfMemory),
-        Err(cause) => Err(HistoryFault::Court(number, cause)),
-    }
 }
 
 // A court and its docket before the first row, with nothing struck.
@@ -53,12 +42,28 @@ fn before_rows(alloc: Global, court: Court) -> Result<Docketed, AllocError>
     Ok(Docketed { standing, register })
 }
 
+// The place of the last entry that is no row; the first, a court's file, is none.
+fn last_note(entries: &[Vec<u8>]) -> usize
+    requires { 0 < length entries.now }
+    ensures { result < length entries.now }
+{
+    let mut last = 0;
+    for place in 1..entries.len() {
+        if !is_row(&entries[place]) {
+            last = place;
+        }
+    }
+    last
+}
+
 impl Docketed {
-    ghost use Rattle.desk_entries.specs.Docketed.{HasHistoryFault, IsDocketed};
+    ghost use Rattle.desk_entries.specs.Docketed.{HasDocketFault, HasHistoryFault, IsDocketed, IsFaultyEntry};
+    ghost use Rattle.desk_entries.specs.History.{CanBe, IsHistory, MayFollow, SaysNumbers};
 
     // A court and its docket before the first row.
     fn begin(alloc: Global, file: &[u8]) -> Result<Docketed, HistoryFault>
         ensures docketed { IfOk result (λ docketed. IsDocketed docketed (file.now ∷ [])) }
+        ensures history { OnOk result (IsHistory (file.now ∷ [])) }
         ensures cause { IfErr result (IsBadFile file.now 1) }
     {
         let court = court_of(alloc, file, 1)?;
@@ -112,6 +117,16 @@ impl Docketed {
         self.decide(alloc, entries)
     }
 
+    // Whether an entry that comes next says what rows gave and don't keep yet.
+    fn says_numbers(&self, alloc: Global, entry: &[u8]) -> Result<bool, AllocError>
+        ensures says { (kept : List (List ℕ)) → StandsAt self.now.standing self.now.register kept → IfOk result (λ says. says ≡ true → SaysNumbers self.now.standing kept entry.now) }
+        ensures other { (kept : List (List ℕ)) → StandsAt self.now.standing self.now.register kept → IfOk result (λ says. says ≡ false → SaysNumbers self.now.standing kept entry.now → ⊥) }
+    {
+        let said = said_in(alloc, entry)?;
+        let unsaid = self.register.unsaid(alloc, &self.standing)?;
+        Ok(said.as_slice() == unsaid.as_slice())
+    }
+
     // Goes by a later court's file from here on, which is in the last of these entries: their rows are decided again.
     fn change(
         &mut self,
@@ -121,8 +136,9 @@ impl Docketed {
     ) -> Result<(), HistoryFault>
         requires some { 0 < length entries.now }
         requires few { length entries.now ≤ most_entries }
-        ensures docketed { (before : List (List ℕ)) (entry : List ℕ) → batch_of entries.now ≡ before ++ entry ∷ [] → later_file entry ≡ Some file.now → IsDocketed self.old before
+        ensures docketed { (before : List (List ℕ)) (entry : List ℕ) → batch_of entries.now ≡ before ++ entry ∷ [] → later_file entry ≡ Some file.now → SaysNumbers self.old.standing before entry → IsDocketed self.old before
             → OnOk result (IsDocketed self.new (before ++ entry ∷ [])) }
+        ensures court { OnOk result ((court : CourtView) × SaysCourt file.now court) }
         ensures cause { IfErr result (IsBadFile file.now (length entries.now)) }
     {
         let court = court_of(alloc, file, entries.len() as u32)?;
@@ -150,10 +166,11 @@ impl Docketed {
     ) -> Result<(), HistoryFault>
         requires some { 0 < length entries.now }
         requires few { length entries.now ≤ most_entries }
-        ensures docketed { (before : List (List ℕ)) (entry : List ℕ) → batch_of entries.now ≡ before ++ entry ∷ [] → note_in entry ≡ Some (row_struck strike) → IsDocketed self.old before
+        ensures docketed { (before : List (List ℕ)) (entry : List ℕ) → batch_of entries.now ≡ before ++ entry ∷ [] → note_in entry ≡ Some (row_struck strike) → SaysNumbers self.old.standing before entry → IsDocketed self.old before
             → OnOk result (IsDocketed self.new (before ++ entry ∷ [])) }
+        ensures can { (before : List (List ℕ)) → IsDocketed self.old before → OnOk result (CanBe (row_struck strike) before) }
         ensures cause { (before : List (List ℕ)) (entry : List ℕ) → batch_of entries.now ≡ before ++ entry ∷ [] → note_in entry ≡ Some (row_struck strike) → IsDocketed self.old before
-            → IfErr result (HasHistoryFault (before ++ entry ∷ [])) }
+            → IfErr result (IsFaultyEntry before entry) }
     {
         if !self.can_strike(&strike) {
             return Err(HistoryFault::Strike(entries.len() as u32));
@@ -172,10 +189,11 @@ impl Docketed {
     ) -> Result<(), HistoryFault>
         requires some { 0 < length entries.now }
         requires few { length entries.now ≤ most_entries }
-        ensures docketed { (before : List (List ℕ)) (entry : List ℕ) → batch_of entries.now ≡ before ++ entry ∷ [] → note_in entry ≡ Some (row_restored restore) → IsDocketed self.old before
+        ensures docketed { (before : List (List ℕ)) (entry : List ℕ) → batch_of entries.now ≡ before ++ entry ∷ [] → note_in entry ≡ Some (row_restored restore) → SaysNumbers self.old.standing before entry → IsDocketed self.old before
             → OnOk result (IsDocketed self.new (before ++ entry ∷ [])) }
+        ensures can { (before : List (List ℕ)) → IsDocketed self.old before → OnOk result (CanBe (row_restored restore) before) }
         ensures cause { (before : List (List ℕ)) (entry : List ℕ) → batch_of entries.now ≡ before ++ entry ∷ [] → note_in entry ≡ Some (row_restored restore) → IsDocketed self.old before
-            → IfErr result (HasHistoryFault (before ++ entry ∷ [])) }
+            → IfErr result (IsFaultyEntry before entry) }
     {
         if !self.standing.corrections.is_struck(restore.row) {
             return Err(HistoryFault::Strike(entries.len() as u32));
@@ -191,7 +209,8 @@ impl Docketed {
         requires room { self.old.register.count < most_entries }
         requires stays { is_struck self.old.standing.corrections self.old.register.number ≡ false }
         ensures docketed { (before : List (List ℕ)) → IsDocketed self.old before → OnOk result (IsDocketed self.new (before ++ entry.now ∷ [])) }
-        ensures cause { (before : List (List ℕ)) → IsDocketed self.old before → IfErr result (HasHistoryFault (before ++ entry.now ∷ [])) }
+        ensures follows { (before : List (List ℕ)) → IsDocketed self.old before → OnOk result (MayFollow before entry.now) }
+        ensures cause { (before : List (List ℕ)) → IsDocketed self.old before → IfErr result (IsFaultyEntry before entry.now) }
     {
         let number = self.register.number;
         let other = self.register.review(alloc, &self.standing, entry)?;
@@ -201,7 +220,33 @@ impl Docketed {
         Ok(())
     }
 
-    // Takes an entry, which is the last of these.
+    // Takes an entry that is a later court's file, a strike or a restore, and the last of these, if it can be.
+    fn correct_by(
+        &mut self,
+        alloc: Global,
+        entry: &[u8],
+        entries: &[Vec<u8>],
+    ) -> Result<(), HistoryFault>
+        requires note { IsSome (note_in entry.now) }
+        requires some { 0 < length entries.now }
+        requires few { length entries.now ≤ most_entries }
+        ensures docketed { (before : List (List ℕ)) → batch_of entries.now ≡ before ++ entry.now ∷ [] → SaysNumbers self.old.standing before entry.now → IsDocketed self.old before → OnOk result (IsDocketed self.new (before ++ entry.now ∷ [])) }
+        ensures follows { (before : List (List ℕ)) → SaysNumbers self.old.standing before entry.now → IsDocketed self.old before → OnOk result (MayFollow before entry.now) }
+        ensures cause { (before : List (List ℕ)) → batch_of entries.now ≡ before ++ entry.now ∷ [] → IsDocketed self.old before → IfErr result (IsFaultyEntry before entry.now) }
+    {
+        match later_file(entry) {
+            Some(file) => self.change(alloc, file, entries),
+            None => match strike_in(entry) {
+                Some(strike) => self.strike(alloc, strike, entries),
+                None => match restore_in(entry) {
+                    Some(restore) => self.restore(alloc, restore, entries),
+                    None => Ok(()),
+                },
+            },
+        }
+    }
+
+    // Takes an entry, which is the last of these, if it may follow those before it.
     fn take_entry(
         &mut self,
         alloc: Global,
@@ -213,28 +258,35 @@ impl Docketed {
         requires room { self.old.register.count < most_entries }
         requires stays { is_struck self.old.standing.corrections self.old.register.number ≡ false }
         ensures docketed { (before : List (List ℕ)) → batch_of entries.now ≡ before ++ entry.now ∷ [] → IsDocketed self.old before → OnOk result (IsDocketed self.new (before ++ entry.now ∷ [])) }
-        ensures cause { (before : List (List ℕ)) → batch_of entries.now ≡ before ++ entry.now ∷ [] → IsDocketed self.old before → IfErr result (HasHistoryFault (before ++ entry.now ∷ [])) }
+        ensures follows { (before : List (List ℕ)) → IsDocketed self.old before → OnOk result (MayFollow before entry.now) }
+        ensures cause { (before : List (List ℕ)) → batch_of entries.now ≡ before ++ entry.now ∷ [] → IsDocketed self.old before → IfErr result (IsFaultyEntry before entry.now) }
     {
-        match later_file(entry) {
-            Some(file) => self.change(alloc, file, entries),
-            None => match strike_in(entry) {
-                Some(strike) => self.strike(alloc, strike, entries),
-                None => match restore_in(entry) {
-                    Some(restore) => self.restore(alloc, restore, entries),
-                    None => self.retake(alloc, entry),
-                },
-            },
+        if is_row(entry) {
+            return self.retake(alloc, entry);
         }
+        if !self.says_numbers(alloc, entry)? {
+            return Err(HistoryFault::Strike(entries.len() as u32));
+        }
+        self.correct_by(alloc, entry, entries)
     }
 
-    // Takes the entries after the first.
-    fn take_later(&mut self, alloc: Global, entries: &[Vec<u8>]) -> Result<(), HistoryFault>
+    // Takes the entries from that place on.
+    fn take_from(
+        &mut self,
+        alloc: Global,
+        entries: &[Vec<u8>],
+        from: usize,
+    ) -> Result<(), HistoryFault>
         requires few { length entries.now ≤ most_entries }
-        requires begun { IsDocketed self.old (batch_of (take 1 entries.now)) }
+        requires some { 0 < from }
+        requires within { from ≤ length entries.now }
+        requires begun { IsDocketed self.old (batch_of (take from entries.now)) }
         ensures docketed { OnOk result (IsDocketed self.new (batch_of entries.now)) }
-        ensures cause { IfErr result (HasHistoryFault (batch_of entries.now)) }
+        ensures history { IsHistory (batch_of (take from entries.now)) → OnOk result (IsHistory (batch_of entries.now)) }
+        ensures cause { IfErr result (HasDocketFault (batch_of entries.now)) }
+        ensures no_history { IsHistory (batch_of (take from entries.now)) → IfErr result (HasHistoryFault (batch_of entries.now)) }
     {
-        for place in 1..entries.len() {
+        for place in from..entries.len() {
             match self.take_entry(alloc, &entries[place], entries.split_at(place + 1).0) {
                 Ok(()) => {}
                 Err(fault) => return Err(fault),
@@ -243,12 +295,49 @@ impl Docketed {
         Ok(())
     }
 
-    /// The court and its docket to which a journal's entries come, of which the first is a court's file. Each row must have
-    /// the answer that it gets under what stands before it, each strike must be of a row before it that isn't struck, and each
-    /// restore of one that is; after a later court's file, a strike or a restore all rows so far are decided again.
+    // What these entries come to: all their rows are decided once, under what stands after them, whatever they were answered.
+    fn at(alloc: Global, entries: &[Vec<u8>]) -> Result<Docketed, HistoryFault>
+        requires few { length entries.now ≤ most_entries }
+        ensures docketed { IfOk result (λ docketed. IsDocketed docketed (batch_of entries.now)) }
+        ensures cause { IfErr result (HasDocketFault (batch_of entries.now)) }
+    {
+        let standing = match standing_after(alloc, entries) {
+            Ok(standing) => standing,
+            Err(fault) => return Err(fault),
+        };
+        let Review { register, .. } = decided_again(alloc, &standing, entries)?;
+        Ok(Docketed { standing, register })
+    }
+
+    /// The court and its docket to which a journal's entries come, of which the first is a court's file. The rows before the last
+    /// correction are decided once, under what stands after it: what they were answered is for `checked` to say. Each row
+    /// after it must have the answer that it gets, each strike must be of a row before it that isn't struck, and each restore of
+    /// one that is.
     pub fn of(alloc: Global, entries: &[Vec<u8>]) -> Result<Docketed, HistoryFault>
         requires few { length entries.now ≤ most_entries }
         ensures docketed { IfOk result (λ docketed. IsDocketed docketed (batch_of entries.now)) }
+        ensures cause { IfErr result (HasDocketFault (batch_of entries.now)) }
+    {
+        if entries.is_empty() {
+            return Err(HistoryFault::NoCourt);
+        }
+        let from = last_note(entries) + 1;
+        let mut docketed = match Docketed::at(alloc, entries.split_at(from).0) {
+            Ok(docketed) => docketed,
+            Err(fault) => return Err(fault),
+        };
+        match docketed.take_from(alloc, entries, from) {
+            Ok(()) => Ok(docketed),
+            Err(fault) => Err(fault),
+        }
+    }
+
+    /// The same, where the entries are a history: each row has the answer that it got under what stood before it, and each
+    /// correction could be made then and says what rows had given. After each correction all rows so far are decided again.
+    pub fn checked(alloc: Global, entries: &[Vec<u8>]) -> Result<Docketed, HistoryFault>
+        requires few { length entries.now ≤ most_entries }
+        ensures docketed { IfOk result (λ docketed. IsDocketed docketed (batch_of entries.now)) }
+        ensures history { OnOk result (IsHistory (batch_of entries.now)) }
         ensures cause { IfErr result (HasHistoryFault (batch_of entries.now)) }
     {
         let Some(file) = entries.first() else {
@@ -258,7 +347,7 @@ impl Docketed {
             Ok(docketed) => docketed,
             Err(fault) => return Err(fault),
         };
-        match docketed.take_later(alloc, entries) {
+        match docketed.take_from(alloc, entries, 1) {
             Ok(()) => Ok(docketed),
             Err(fault) => Err(fault),
         }

@@ -1,16 +1,17 @@
 //! An entry: a row and its answer, a later court's file, a strike, or a restore.
-ghost use Rattle.std.specs.Prelude.{◌≡◌, ◌++◌, IfOk, Some, is_none, option_map, string_bytes};
+ghost use Rattle.std.specs.Prelude.{◌≡◌, ◌++◌, All, IfOk, Some, is_none, option_map, string_bytes};
 ghost use Rattle.csv.specs.Records.{fields_of};
 ghost use Rattle.csv.specs.Writing.{default_writer, row_text};
 ghost use Rattle.case_numbers.specs.Words.{name_line};
 ghost use Rattle.office_texts.specs.Named.Words.{named_line_of};
 ghost use Rattle.desk_journal.specs.Words.{batch_of};
+ghost use Rattle.desk_numbers.specs.Strikes.Words.{Fits, said_in};
 ghost use Rattle.desk_entries.specs.Entries.{later_file, note_in, standing_file};
 
 use case_numbers::{CaseName, Cases, push_name_line};
 use court_days::Court;
 use csv::StringRecord;
-use desk_numbers::{restore_in, strike_in};
+use desk_numbers::{Said, push_said, remark_in, restore_in, strike_in};
 use office_texts::{Reply, push_named_line};
 use row_forms::push_row_text;
 use std::alloc::{AllocError, Global};
@@ -19,7 +20,11 @@ use std::alloc::{AllocError, Global};
 pub fn later_file(entry: &[u8]) -> Option<&[u8]>
     ensures { option_map (λ file. file.now) result ≡ later_file entry.now }
 {
-    entry.strip_prefix(b"%%\n")
+    if entry.starts_with(b"%%court") {
+        Some(remark_in(entry))
+    } else {
+        None
+    }
 }
 
 /// Whether an entry is a row: no court's file, no strike and no restore.
@@ -46,11 +51,15 @@ pub fn standing_file(entries: &[Vec<u8>]) -> &[u8]
     file
 }
 
-/// The entry of a later court's file. `Err` says that memory ran out.
-pub fn court_entry(alloc: Global, file: &[u8]) -> Result<Vec<u8>, AllocError>
-    ensures { IfOk result (λ entry. later_file entry.items ≡ Some file.now) }
+/// The entry of a later court's file, which says these numbers. `Err` says that memory ran out.
+pub fn court_entry(alloc: Global, said: &[Said], file: &[u8]) -> Result<Vec<u8>, AllocError>
+    requires { All Fits said.now }
+    ensures file { IfOk result (λ entry. later_file entry.items ≡ Some file.now) }
+    ensures says { IfOk result (λ entry. said_in entry.items ≡ said.now) }
 {
-    let mut entry = Vec::from_slice(alloc, b"%%\n")?;
+    let mut entry = Vec::from_slice(alloc, b"%%court")?;
+    push_said(alloc, &mut entry, said)?;
+    entry.extend_from_slice(b"\n")?;
     entry.extend_from_slice(file)?;
     Ok(entry)
 }

@@ -13,8 +13,8 @@ pub enum HistoryFault {
     NoCourt,
     /// The entry of this number, counted from 1, is a court's file with this fault.
     Court(u32, CourtFault),
-    /// The entry of this number, counted from 1, strikes a row that wasn't entered before it or that is struck already, or restores
-    /// one that isn't struck.
+    /// The entry of this number, counted from 1, strikes a row that wasn't entered before it or that is struck already, restores
+    /// one that isn't struck, or says other numbers than rows had given.
     Strike(u32),
     /// The row of this number, counted from 1, has another answer than it gets.
     Other(u32),

@@ -21,6 +21,7 @@ mod shifts;
 mod standing;
 mod striking;
 mod subject;
+mod what_stands;
 
 pub use cause::{LineCause, Unfound, push_unfound, too_many_words};
 pub use docketed::Docketed;

@@ -5,8 +5,8 @@ ghost use Rattle.desk_journal.specs.Words.{batch_of};
 ghost use Rattle.row_forms.specs.Words.{names_of};
 ghost use Rattle.row_forms.specs.Line.Words.{line_read};
 ghost use Rattle.desk_entries.specs.Differences.{change_in};
-ghost use Rattle.desk_entries.specs.Entries.{most_clerks, most_entries, note_in};
-ghost use Rattle.desk_entries.specs.Past.{corrected_with, corrections_in, is_restored, is_struck_first, refuses, restores_it, row_refused, row_struck_as, row_struck_said, rows_refused, rows_struck, rows_with, stays_struck, strikes_it};
+ghost use Rattle.desk_entries.specs.Entries.{most_clerks, most_entries, note_in, rows_with};
+ghost use Rattle.desk_entries.specs.Past.{corrected_with, corrections_in, is_restored, is_struck_first, refuses, restores_it, row_refused, row_struck_as, row_struck_said, rows_refused, rows_struck, stays_struck, strikes_it};
 
 use crate::entry::{is_row, later_file};
 use crate::register::{MOST_CLERKS, RowTypes};

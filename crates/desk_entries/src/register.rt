@@ -1,5 +1,5 @@
 //! The register of rows.
-ghost use Rattle.std.specs.Prelude.{◌≡◌, ◌<◌, ◌≤◌, ◌+◌, ◌++◌, ◌∷◌, ◌≢◌, [], ℕ, false, List, length, None, IfOk, IsSome, MatchOption, OnOk, nat_lt, string_bytes};
+ghost use Rattle.std.specs.Prelude.{◌≡◌, ◌<◌, ◌≤◌, ◌+◌, ◌++◌, ◌∷◌, ◌≢◌, [], ℕ, false, List, length, None, All, IfOk, IsSome, MatchOption, OnOk, nat_lt, string_bytes};
 ghost use Rattle.csv.specs.Records.{fields_of};
 ghost use Rattle.row_forms.specs.Words.{names_of};
 ghost use Rattle.row_forms.specs.declared.row.Row.{Row as RowOf};
@@ -14,10 +14,11 @@ ghost use Rattle.docket_rows.specs.Words.{setup_of};
 ghost use Rattle.office_texts.specs.Run.Words.{Holds};
 ghost use Rattle.desk_entries.specs.LineCauses.{cause_or};
 ghost use Rattle.desk_entries.specs.Rows.{IsReadAt, answer_to, follows, outcome_by, special_at};
-ghost use Rattle.desk_entries.specs.Run.{corrections_then, docketed_by, docketed_with, numbers_with, reply_by_places, run_by};
+ghost use Rattle.desk_entries.specs.Run.{corrections_then, docketed_by, docketed_with, numbers_with, reply_by_places, run_by, unsaid_by};
 ghost use Rattle.docket_rows.specs.declared.command.Command.{Command as CommandOf};
 ghost use Rattle.row_forms.specs.declared.row.Work.TheVariants as work;
 ghost use Rattle.desk_numbers.specs.Words.{numbered, passed};
+ghost use Rattle.desk_numbers.specs.Strikes.Words.{Fits};
 ghost use Rattle.office_texts.specs.Named.Words.{named_line_of};
 
 use crate::case_line::{note_case, opens_too_many};
@@ -29,7 +30,7 @@ use crate::standing::Standing;
 use case_numbers::{CaseName, Cases, after_name, name_before};
 use court_clock::Day;
 use csv::StringRecord;
-use desk_numbers::{Corrections, RowNumbers, given_by};
+use desk_numbers::{Corrections, RowNumbers, Said, given_by};
 use desk_session::{Outcome, Register};
 use docket_core::Docket;
 use docket_rows::{Command, Query};
@@ -307,6 +308,14 @@ impl DocketRegister {
     {
         let kept = self.numbers.kept(alloc)?;
         under.corrections.keeping(kept)
+    }
+
+    /// What a correction says that comes next: what rows gave and don't keep yet. `Err` says that memory ran out.
+    pub fn unsaid(&self, alloc: Global, under: &Standing) -> Result<Vec<Said>, AllocError>
+        ensures said { (kept : List (List ℕ)) → StandsAt under.now self.now kept → IfOk result (λ said. said.items ≡ unsaid_by under.now kept) }
+        ensures fits { IfOk result (λ said. All Fits said.items) }
+    {
+        self.numbers.unsaid(alloc, under.corrections.kept())
     }
 
     /// The cases that were opened, with their names.

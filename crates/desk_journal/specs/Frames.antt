@@ -47,11 +47,14 @@ checksum previous f = sha256 (previous ++ f.durable ++ f.size ++ f.content)
 
 -- what counts as the checksum before the first entry: the SHA-256 of the format's name and version
 unfoldable pub first_checksum : List ℕ
-first_checksum = sha256 (codes "durable journal, version 2")
+first_checksum = sha256 (codes "durable journal, version 3")
 
--- the same of the format before this one
-unfoldable pub older_checksum : List ℕ
-older_checksum = sha256 (codes "durable journal, version 1")
+-- the same of the two formats before this one
+unfoldable pub first_format_checksum : List ℕ
+first_format_checksum = sha256 (codes "durable journal, version 1")
+
+unfoldable pub second_format_checksum : List ℕ
+second_format_checksum = sha256 (codes "durable journal, version 2")
 
 -- a frame as it is written after its latch, where the entry before it has that checksum
 abbrev pub packed : List ℕ → Frame → List ℕ

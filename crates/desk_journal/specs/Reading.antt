@@ -1,7 +1,7 @@
 -- What is read from a file's bytes.
 use Rattle.std.specs.Prelude.{◌≡◌, ◌≢◌, ◌<◌, ◌≤◌, ◌+◌, ◌⊎◌, ℕ, List, [], ◌∷◌, length, ◌++◌, All, Vec}
 use Rattle.std.specs.declared.alloc.Global.{Global}
-use Rattle.desk_journal.specs.Frames.{AreShut, Frame, IsFrame, IsShut, IsSized, StandsFor, number_of, checksum, first_checksum, older_checksum, last_checksum, packed, frames, entries_of, stamps_of}
+use Rattle.desk_journal.specs.Frames.{AreShut, Frame, IsFrame, IsShut, IsSized, StandsFor, number_of, checksum, first_checksum, first_format_checksum, second_format_checksum, last_checksum, packed, frames, entries_of, stamps_of}
 use Rattle.desk_journal.specs.Stamps.{StampView}
 use Rattle.desk_journal.specs.Batches.{batch_of}
 
@@ -31,10 +31,18 @@ pub record IsBody (previous behind : List ℕ) (durable : ℕ) (sum content rest
 abbrev pub HasNoBody : List ℕ → List ℕ → Type 0
 HasNoBody previous behind = (f : Frame) (rest : List ℕ) → IsSized f → behind ≡ packed previous f ++ rest → ⊥
 
--- The file is a journal of the format before this one, of at least one entry: a latch of one byte, `+`, and a frame that has no stamp and
--- another first checksum.
+-- The file is a journal of the first format, of at least one entry: after a latch of one byte, `+`, come the parts of a frame with the
+-- checksum that they have in that format.
+abbrev pub IsOfFirst : List ℕ → Type 0
+IsOfFirst file = (f : Frame) × (rest : List ℕ) × IsSized f × (file ≡ 43 ∷ (packed first_format_checksum f ++ rest))
+
+-- The same of the second format, in which a latch is `++`.
+abbrev pub IsOfSecond : List ℕ → Type 0
+IsOfSecond file = (f : Frame) × (rest : List ℕ) × IsSized f × (file ≡ 43 ∷ 43 ∷ (packed second_format_checksum f ++ rest))
+
+-- the file is a journal of an earlier format, of at least one entry
 abbrev pub IsOlder : List ℕ → Type 0
-IsOlder file = (f : Frame) × (rest : List ℕ) × IsSized f × (file ≡ 43 ∷ (packed older_checksum f ++ rest))
+IsOlder file = IsOfFirst file ⊎ IsOfSecond file
 
 -- the file is frames of these entries, of which the last has this checksum, and then `rest`
 pub record IsReadTo (file : List ℕ) (entries : List (Vec ℕ Global)) (last rest : List ℕ) : Type 0 where

@@ -1,6 +1,6 @@
 //! The checksum of an entry, which takes in that of the entry before it.
 ghost use Rattle.std.specs.Prelude.{◌≡◌, ◌++◌, length};
-ghost use Rattle.desk_journal.specs.Frames.{checksum, first_checksum, number_of, older_checksum};
+ghost use Rattle.desk_journal.specs.Frames.{checksum, first_checksum, first_format_checksum, number_of, second_format_checksum};
 
 use sha2::{Digest, Sha256};
 
@@ -30,15 +30,23 @@ pub fn checksum_of(
 pub fn first() -> [u8; 32]
     ensures { result ≡ first_checksum }
 {
-    Sha256::digest(b"durable journal, version 2")
+    Sha256::digest(b"durable journal, version 3")
 }
 
-/// The same of the format before this one.
-#[tactic(auto, unfolding(crate::specs::Frames::older_checksum))]
-pub fn older() -> [u8; 32]
-    ensures { result ≡ older_checksum }
+/// The same of the first format.
+#[tactic(auto, unfolding(crate::specs::Frames::first_format_checksum))]
+pub fn first_format() -> [u8; 32]
+    ensures { result ≡ first_format_checksum }
 {
     Sha256::digest(b"durable journal, version 1")
+}
+
+/// The same of the second format.
+#[tactic(auto, unfolding(crate::specs::Frames::second_format_checksum))]
+pub fn second_format() -> [u8; 32]
+    ensures { result ≡ second_format_checksum }
+{
+    Sha256::digest(b"durable journal, version 2")
 }
 
 /// Four bytes as a number, the highest first.

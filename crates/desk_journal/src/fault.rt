@@ -11,8 +11,8 @@ pub enum JournalFault {
     /// The entry of this number, counted from 1, is damaged, or the latch before it. The file is as it was.
     #[error("entry {0} is damaged")]
     Damaged(u32),
-    /// The file is of the format before this one. It is as it was.
-    #[error("the journal is of the first format, which this version doesn't read")]
+    /// The file is of an earlier format. It is as it was.
+    #[error("the journal is of an earlier format, which this version doesn't read")]
     Older,
     /// More than 1,000,000 entries, an entry of more than 16,777,216 bytes, or no room for its end in a number.
     #[error("the journal is full, or an entry is too long")]

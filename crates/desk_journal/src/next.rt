@@ -1,10 +1,10 @@
 //! One frame, read from known bytes.
 ghost use Rattle.std.specs.Prelude.{◌<◌, ◌↔◌, ◌∷◌, ℕ, length, IsTrue, IfSome, IfNone, MatchOption};
 ghost use Rattle.desk_journal.specs.Frames.{AreShut, IsShut};
-ghost use Rattle.desk_journal.specs.Reading.{HasNoBody, HasNoFrame, HasNoLatch, IsBehind, IsBody, IsNext, IsOlder};
+ghost use Rattle.desk_journal.specs.Reading.{HasNoBody, HasNoFrame, HasNoLatch, IsBehind, IsBody, IsNext, IsOfFirst, IsOfSecond, IsOlder};
 ghost use Rattle.desk_journal.specs.Stamps.{HasStamp};
 
-use crate::checksum::{checksum_of, number_in, older};
+use crate::checksum::{checksum_of, first_format, number_in, second_format};
 use crate::stamp::has_stamp;
 
 /// A frame, and what comes after it.
@@ -98,12 +98,29 @@ pub fn next_frame<'a>(bytes: &'a [u8], previous: &[u8; 32]) -> Option<Found<'a>>
     }
 }
 
-/// Whether these bytes are a journal of the format before this one.
+// Whether these bytes are a journal of the first format.
+fn is_of_first(bytes: &[u8]) -> bool
+    ensures { IsTrue result ↔ IsOfFirst bytes.now }
+{
+    match bytes {
+        [b'+', behind @ ..] => next_sized(behind, &first_format()).is_some(),
+        _ => false,
+    }
+}
+
+// Whether these bytes are a journal of the second format.
+fn is_of_second(bytes: &[u8]) -> bool
+    ensures { IsTrue result ↔ IsOfSecond bytes.now }
+{
+    match bytes {
+        [b'+', b'+', behind @ ..] => next_sized(behind, &second_format()).is_some(),
+        _ => false,
+    }
+}
+
+/// Whether these bytes are a journal of an earlier format.
 pub fn is_older(bytes: &[u8]) -> bool
     ensures { IsTrue result ↔ IsOlder bytes.now }
 {
-    match bytes {
-        [b'+', behind @ ..] => next_sized(behind, &older()).is_some(),
-        _ => false,
-    }
+    is_of_first(bytes) || is_of_second(bytes)
 }

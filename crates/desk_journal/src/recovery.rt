@@ -77,7 +77,7 @@ fn read_file(alloc: Global, bytes: &[u8]) -> Result<Recovered, JournalFault>
 }
 
 /// The entries of a journal's bytes and the stamp of each, as they are read beside a program that appends to them: nothing is written.
-/// At most two bytes have none. `Damaged` names an entry that is damaged, `Older` says that they are of the format before this one, and
+/// At most two bytes have none. `Damaged` names an entry that is damaged, `Older` says that they are of an earlier format, and
 /// `Full` that more than 1,000,000 entries follow one another.
 pub fn stamped_in(alloc: Global, bytes: &[u8]) -> Result<(Vec<Vec<u8>>, Vec<Stamp>), JournalFault>
     ensures stamped { IfOk result (λ found. StandsStamped bytes.now (batch_of found.0.items) found.1.items) }

@@ -41,7 +41,7 @@ fn fault_at(bytes: &[u8], number: u32) -> JournalFault
 }
 
 /// The entries and their stamps up to the shut latch: `Damaged` where a latch isn't shut and no whole frame follows it, or the bytes
-/// end, and `Older` where they are of the format before this one.
+/// end, and `Older` where they are of an earlier format.
 pub fn walk_entries<'a>(alloc: Global, bytes: &'a [u8]) -> Result<Walked<'a>, JournalFault>
     requires { 2 < length bytes.now }
     ensures read { IfOk result (λ w. IsStampedTo bytes.now w.entries.items w.stamps.items w.last w.rest.now) }

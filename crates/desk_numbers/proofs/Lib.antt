@@ -4,5 +4,6 @@ pub mod TopLemmas
 pub mod PlainLemmas
 pub mod MapLemmas
 pub mod SubjectLemmas
+pub mod SaidLemmas
 pub mod CallerLemmas
 pub mod StrikesLemmas

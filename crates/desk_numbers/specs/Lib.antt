@@ -1,5 +1,6 @@
 pub mod Given
 pub mod Kept
+pub mod Said
 pub mod Tops
 pub mod Moved
 pub mod Numbers

@@ -1,4 +1,5 @@
 pub mod Line
+pub mod SaidText
 pub mod Strike
 pub mod Restore
 pub mod Corrections

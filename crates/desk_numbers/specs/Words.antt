@@ -1,5 +1,7 @@
 -- The words of clauses and definitions, for the crates above, from one place.
 pub use Rattle.desk_numbers.specs.Kept.{kept_of}
+pub use Rattle.desk_numbers.specs.Said.{AllGave, WhatIsSaidIsKept, extended, keeps, said_of, with_said}
+unfoldable pub use Rattle.desk_numbers.specs.Said.{kept_with, unsaid, with_all}
 pub use Rattle.desk_numbers.specs.Numbers.{NumbersView, new_number, no_numbers, number_for, own_or, passed, with_number}
 unfoldable pub use Rattle.desk_numbers.specs.Given.{given_by}
 unfoldable pub use Rattle.desk_numbers.specs.Numbers.{numbers_after}

@@ -62,8 +62,8 @@ impl KeptNumbers {
         }
     }
 
-    // Those that rows gave. `Err` says that memory ran out.
-    pub(crate) fn of(alloc: Global, rows: &[Option<Given>]) -> Result<KeptNumbers, AllocError>
+    /// Those that rows gave, of which this is by row what it gave. `Err` says that memory ran out.
+    pub fn of(alloc: Global, rows: &[Option<Given>]) -> Result<KeptNumbers, AllocError>
         ensures { IfOk result (λ kept. kept ≡ rows.now) }
     {
         let tops = tops_of(alloc, rows)?;

@@ -1,5 +1,6 @@
 //! Laws of the definitions, the contracts of functions that do nothing.
 ghost use Rattle.desk_numbers.specs.Laws.{ANumberIsGivenOnce, ARowKeepsItsNumber, NothingMovesAtFirst, NumberAndPlaceGoTogether, OthersAreAtTheirPlaces, WithNoneMovedNothingChanges};
+ghost use Rattle.desk_numbers.specs.Said.{WhatIsSaidIsKept};
 
 /// A row keeps the number that it gave.
 #[tactic(auto, using(crate::proofs::NumberLemmas::keeps))]
@@ -29,6 +30,11 @@ pub fn others_are_at_their_places()
 #[tactic(auto, using(crate::proofs::NumberLemmas::nothing_moves))]
 pub fn nothing_moves_at_first()
     ensures { NothingMovesAtFirst }
+{}
+
+/// Where a correction says what rows gave and don't keep yet, they keep after it what they gave.
+pub fn what_is_said_is_kept()
+    ensures { WhatIsSaidIsKept }
 {}
 
 /// Where all is at its place, what rows ask for and what they are answered stays as it is.

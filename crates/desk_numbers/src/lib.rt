@@ -8,6 +8,7 @@ mod moved;
 mod numbered;
 mod numbers;
 mod placed;
+mod said;
 mod shown;
 mod strikes;
 mod subjects;
@@ -17,13 +18,15 @@ pub use given::{Given, given_by};
 pub use kept::{KeptNumbers, given_at};
 pub use laws::{
     a_number_is_given_once, a_row_keeps_its_number, nothing_moves_at_first,
-    number_and_place_go_together, others_are_at_their_places, with_none_moved_nothing_changes,
+    number_and_place_go_together, others_are_at_their_places, what_is_said_is_kept,
+    with_none_moved_nothing_changes,
 };
 pub use moved::{Moved, MovedNumbers};
 pub use numbers::RowNumbers;
+pub use said::{Said, say};
 pub use strikes::{
-    Corrections, Restore, Strike, a_restore_undoes_its_strike, no_entry_is_both, remark_in,
-    restore_entry, restore_in, restores_are_read_back, strike_entry, strike_in,
-    strikes_are_read_back,
+    Corrections, Restore, Strike, a_restore_undoes_its_strike, no_entry_is_both,
+    numbers_are_read_back, push_said, remark_in, restore_entry, restore_in, restores_are_read_back,
+    said_in, strike_entry, strike_in, strikes_are_read_back,
 };
 pub use subjects::{Found, SubjectName};

@@ -6,6 +6,7 @@ use Rattle.desk_journal.specs.Words.{IsKept, StandsFor, batch_of}
 use Rattle.desk_journal.proofs.CallerLemmas.{one_list, rest_kept}
 use Rattle.desk_session.proofs.CallerLemmas.{unanswered}
 use Rattle.desk_session.specs.Words.{IsAllOrNone, IsPromised, IsServed, left_by, lines_of, unfinished_of}
+use Rattle.desk_numbers.specs.declared.said.Said.{Said}
 use Rattle.desk_numbers.specs.declared.strikes.restore.Restore.{Restore}
 use Rattle.desk_numbers.specs.declared.strikes.strike.Strike.{Strike}
 use Rattle.desk_numbers.specs.Strikes.Words.{restore_entry, strike_entry}
@@ -56,7 +57,7 @@ module _ {D : Type 0} (seen : D → List ℕ) (may_leave : D → List ℕ → Ty
     promised = promised;
     opens = λ file may.
         let (n, later, stands) = promised.lasts file may in
-        let both = careful_history (standing_at before) (held_at before) kept (take n lines) keeps.docketed.history keeps.docketed.standing in
+        let both = careful_history (standing_at before) (held_at before) kept (take n lines) keeps.docketed.stands.at.begun keeps.docketed.standing in
         (kept ++ left_by (leaves_at before) kept (take n lines), stands, both.0, both.1);
   }
 
@@ -72,10 +73,10 @@ module _ {D : Type 0} (seen : D → List ℕ) (may_leave : D → List ℕ → Ty
       → IsAllOrNone (leaves_at before) kept lines MayLeave → IsDocketAllOrNone (standing_at before) (held_at before) kept lines MayLeave
   all_or_none_docket keeps lines MayLeave either = record { all_or_none = either; opens = λ file may. by file (either file may) }
     where
-      by : (file : List ℕ) → StandsFor file kept ⊎ StandsFor file (kept ++ left_by (leaves_at before) kept lines) → (entries : List (List ℕ)) × StandsFor file entries × IsHistory entries × StandsAfter entries (standing_at before)
-      by file (inl stands) = (kept, stands, keeps.docketed.history, keeps.docketed.standing)
+      by : (file : List ℕ) → StandsFor file kept ⊎ StandsFor file (kept ++ left_by (leaves_at before) kept lines) → (entries : List (List ℕ)) × StandsFor file entries × StandsAfter entries (standing_at before) × (IsHistory kept → IsHistory entries)
+      by file (inl stands) = (kept, stands, keeps.docketed.standing, λ history. history)
       by file (inr stands) =
-          let both = careful_history (standing_at before) (held_at before) kept lines keeps.docketed.history keeps.docketed.standing in
+          let both = careful_history (standing_at before) (held_at before) kept lines keeps.docketed.stands.at.begun keeps.docketed.standing in
           (kept ++ left_by (leaves_at before) kept lines, stands, both.0, both.1)
 
   -- and where nothing was done
@@ -113,16 +114,16 @@ one_file c entries file entry says (inl stands) = inl stands
 one_file c entries file entry says (inr stands) = inr (entry, says, stands)
 
 -- or a strike
-pub one_strike : (c : List ℕ) (under : Standing) (entries : List (List ℕ)) (row : ℕ) (strike : Strike) (remark : List ℕ) → strike_for under entries row ≡ Ok strike → StandsFor c entries ⊎ StandsFor c (entries ++ strike_entry strike remark ∷ [])
-    → StandsFor c entries ⊎ ((s : Strike) × (strike_for under entries row ≡ Ok s) × StandsFor c (entries ++ strike_entry s remark ∷ []))
-one_strike c under entries row strike remark is (inl stands) = inl stands
-one_strike c under entries row strike remark is (inr stands) = inr (strike, is, stands)
+pub one_strike : (c : List ℕ) (under : Standing) (entries : List (List ℕ)) (row : ℕ) (strike : Strike) (said : List Said) (remark : List ℕ) → strike_for under entries row ≡ Ok strike → StandsFor c entries ⊎ StandsFor c (entries ++ strike_entry strike said remark ∷ [])
+    → StandsFor c entries ⊎ ((s : Strike) × (strike_for under entries row ≡ Ok s) × StandsFor c (entries ++ strike_entry s said remark ∷ []))
+one_strike c under entries row strike said remark is (inl stands) = inl stands
+one_strike c under entries row strike said remark is (inr stands) = inr (strike, is, stands)
 
 -- or a restore
-pub one_restore : (c : List ℕ) (under : Standing) (entries : List (List ℕ)) (row : ℕ) (restore : Restore) (remark : List ℕ) → restore_for under entries row ≡ Ok restore → StandsFor c entries ⊎ StandsFor c (entries ++ restore_entry restore remark ∷ [])
-    → StandsFor c entries ⊎ ((r : Restore) × (restore_for under entries row ≡ Ok r) × StandsFor c (entries ++ restore_entry r remark ∷ []))
-one_restore c under entries row restore remark is (inl stands) = inl stands
-one_restore c under entries row restore remark is (inr stands) = inr (restore, is, stands)
+pub one_restore : (c : List ℕ) (under : Standing) (entries : List (List ℕ)) (row : ℕ) (restore : Restore) (said : List Said) (remark : List ℕ) → restore_for under entries row ≡ Ok restore → StandsFor c entries ⊎ StandsFor c (entries ++ restore_entry restore said remark ∷ [])
+    → StandsFor c entries ⊎ ((r : Restore) × (restore_for under entries row ≡ Ok r) × StandsFor c (entries ++ restore_entry r said remark ∷ []))
+one_restore c under entries row restore said remark is (inl stands) = inl stands
+one_restore c under entries row restore said remark is (inr stands) = inr (restore, is, stands)
 
 -- what is appended is a docket's first court's file
 pub first_file : (c : List ℕ) (entries batch : List (List ℕ)) (file : List ℕ) → entries ≡ [] → batch ≡ file ∷ [] → StandsFor c [] ⊎ StandsFor c ([] ++ batch)

@@ -8,7 +8,7 @@ use Rattle.desk_entries.specs.declared.standing.Standing.{Standing}
 use Rattle.desk_session.specs.declared.outcome.Outcome.{Outcome}
 use Rattle.desk_entries.specs.declared.fault.HistoryFault.{HistoryFault}
 use Rattle.desk_entries.specs.declared.fault.HistoryFault.TheVariants as history
-use Rattle.desk_entries.specs.Words.{HasHistoryFault, IsDocketed, IsHistory, StandsAfter}
+use Rattle.desk_entries.specs.Words.{HasDocketFault, IsDocketed, IsHistory, StandsAfter}
 use Rattle.desk_warnings.specs.declared.register.HeldBack.{HeldBack}
 use Rattle.desk_warnings.specs.Words.{careful_answers, careful_leaves, careful_outcome}
 use Rattle.program_runs.specs.Words.{court_part}
@@ -46,14 +46,14 @@ outcome_at desk = careful_outcome (standing_at desk) (held_at desk)
 abbrev pub docketed_at : {D : Type 0} → Desk D → Docketed
 docketed_at desk = record { standing = desk.setup.standing; register = desk.careful.register }
 
--- The entries are kept on the disk, they are a history, and its docket is the one to which they come.
+-- The entries are kept on the disk, and the docket is the one to which they come.
 pub record KeepsDocket {D : Type 0} (seen : D → List ℕ) (may_leave : D → List ℕ → Type 0) (is_usable : D → Bool) (entries : List (List ℕ)) (desk : Desk D) : Type 0 where
   pub kept : IsKept seen may_leave is_usable entries desk.journal
   pub docketed : IsDocketed (docketed_at desk) entries
 
 -- the entries for which a file stands make no docket
 abbrev pub HasNoDocket : (file : List ℕ) → HistoryFault → Type 0
-HasNoDocket file fault = (entries : List (List ℕ)) × StandsFor file entries × HasHistoryFault entries fault
+HasNoDocket file fault = (entries : List (List ℕ)) × StandsFor file entries × HasDocketFault entries fault
 
 -- Why the docket of a file isn't opened: its journal isn't, where the disk may have failed between these two counts of its faults; or
 -- its entries make no docket; or memory ran out.
@@ -67,11 +67,11 @@ IsUnopened before after file OutOfMemory = Unit {0}
 IsUnopened before after file _ = ⊥
 
 -- What a session promises of a docket, however it ends: what `IsPromised` says of its lines, each of which leaves its row
--- with its answer, or is held back; and whatever a crash leaves is a history after which the same stands, so that the next
--- opening takes it.
+-- with its answer, or is held back; and after whatever a crash leaves the same stands, and it is a history if the entries before were,
+-- so that the next opening takes it.
 pub record IsPromisedDocket (under : Standing) (held : HeldBack) (kept lines : List (List ℕ)) (before after : Option (List ℕ)) (HasWritten : Type 0) (MayLeave : List ℕ → Type 0) : Type 0 where
   pub promised : IsPromised (careful_leaves under held) (careful_answers under held) kept lines before after HasWritten MayLeave
-  pub opens : (file : List ℕ) → MayLeave file → (entries : List (List ℕ)) × StandsFor file entries × IsHistory entries × StandsAfter entries under
+  pub opens : (file : List ℕ) → MayLeave file → (entries : List (List ℕ)) × StandsFor file entries × StandsAfter entries under × (IsHistory kept → IsHistory entries)
 
 -- why a file isn't taken as a court's
 abbrev pub HasCourtFault : (file : List ℕ) → DeskFault → Type 0

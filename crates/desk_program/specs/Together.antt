@@ -68,11 +68,11 @@ pub record RefusesLines (under : Standing) (held : HeldBack) (kept : List (List 
 abbrev pub IsAtFault : Standing → HeldBack → (kept : List (List ℕ)) → (input : List ℕ) → Type 0
 IsAtFault under held kept input = (faults_in under held kept input ≢ []) ⊎ (unfinished_of input ≢ [])
 
--- Whatever a crash leaves stands for the entries before, or for these and all rows. Either is a history under the court, so
--- the next opening takes it.
+-- Whatever a crash leaves stands for the entries before, or for these and all rows. After either the same stands, and it is a history if
+-- the entries before were, so the next opening takes it.
 pub record IsDocketAllOrNone (under : Standing) (held : HeldBack) (kept lines : List (List ℕ)) (MayLeave : List ℕ → Type 0) : Type 0 where
   pub all_or_none : IsAllOrNone (careful_leaves under held) kept lines MayLeave
-  pub opens : (file : List ℕ) → MayLeave file → (entries : List (List ℕ)) × StandsFor file entries × IsHistory entries × StandsAfter entries under
+  pub opens : (file : List ℕ) → MayLeave file → (entries : List (List ℕ)) × StandsFor file entries × StandsAfter entries under × (IsHistory kept → IsHistory entries)
 
 -- why rows that came together aren't served, as the desk says it: of a line that is too long it is said that nothing is kept
 abbrev pub together_fault : SessionFault → DeskFault

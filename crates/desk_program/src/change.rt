@@ -2,7 +2,7 @@
 ghost use Rattle.std.specs.Prelude.{◌≡◌, ◌≢◌, ◌≤◌, ◌<◌, ◌⊎◌, ◌++◌, ◌∷◌, [], ℕ, List, length, false, Err, Some, IfOk, OnOk};
 ghost use Rattle.desk_entries.specs.declared.fault.StrikeFault.{StrikeFault as StrikeFaultOf};
 ghost use Rattle.desk_journal.specs.Words.{StandsFor, batch_of};
-ghost use Rattle.desk_entries.specs.Words.{SaysCourt, StandsAt, corrections_then, later_file, most_entries};
+ghost use Rattle.desk_entries.specs.Words.{IsHistory, SaysCourt, SaysNumbers, StandsAt, corrections_then, later_file, most_entries};
 ghost use Rattle.program_streams.specs.Words.{has_failed, watched};
 
 use crate::correction::reviewed;
@@ -30,13 +30,15 @@ impl<D: Disk> Desk<D> {
         file: &[u8],
     ) -> Result<(), DeskFault>
         ensures kept { (entries : List (List ℕ)) → KeepsDocket D.Disk.seen D.Disk.may_leave D.Disk.is_usable entries self.old → SaysCourt file.now standing.court → standing.corrections ≡ corrections_then (standing_at self.old) entries (standing_at self.old).corrections.struck → StandsAt standing register entries → length entries < most_entries
-            → OnOk result ((entry : List ℕ) × (later_file entry ≡ Some file.now) × KeepsDocket D.Disk.seen D.Disk.may_leave D.Disk.is_usable (entries ++ entry ∷ []) self.new) }
+            → OnOk result ((entry : List ℕ) × (later_file entry ≡ Some file.now) × SaysNumbers (standing_at self.old) entries entry × KeepsDocket D.Disk.seen D.Disk.may_leave D.Disk.is_usable (entries ++ entry ∷ []) self.new
+            × (IsHistory entries → IsHistory (entries ++ entry ∷ []))) }
         ensures crash { (entries : List (List ℕ)) → KeepsDocket D.Disk.seen D.Disk.may_leave D.Disk.is_usable entries self.old → (c : List ℕ) → D.Disk.may_leave (disk_under self.new) c
             → StandsFor c entries ⊎ ((entry : List ℕ) × (later_file entry ≡ Some file.now) × StandsFor c (entries ++ entry ∷ [])) }
         ensures fault { (count : ℕ) → result ≢ Err (DeskFault.Differs count) }
         ensures unstruck { (fault : StrikeFaultOf) → result ≢ Err (DeskFault.Unstruck fault) }
     {
-        let entry = court_entry(alloc, file)?;
+        let said = self.careful.register.unsaid(alloc, &self.setup.standing)?;
+        let entry = court_entry(alloc, &said, file)?;
         self.take_note(alloc, standing, register, entry)
     }
 

@@ -61,7 +61,7 @@ impl<D: Disk> Desk<D> {
             → IfErr result (λ e. IsTrue (D.Disk.is_clean e.1) → (c : List ℕ) → D.Disk.may_leave e.1 c → StandsFor c entries) }
         ensures cause { (file : List ℕ) → IsDurable D.Disk.seen D.Disk.may_leave D.Disk.is_usable file disk
             → IfErr result (λ e. IsTrue (D.Disk.is_clean e.1) → IsUnopened (D.Disk.faults disk) (D.Disk.faults e.1) file e.0) }
-        // Where an entry is damaged, or the journal is of the first format, nothing is written.
+        // Where an entry is damaged, or the journal is of an earlier format, nothing is written.
         ensures untouched { (file : List ℕ) (number : ℕ) → IsDurable D.Disk.seen D.Disk.may_leave D.Disk.is_usable file disk
             → IfErr result (λ e. e.0 ≡ DeskFault.Journal (JournalFault.Damaged number) → IsDurable D.Disk.seen D.Disk.may_leave D.Disk.is_usable file e.1) }
         ensures older { (file : List ℕ) → IsDurable D.Disk.seen D.Disk.may_leave D.Disk.is_usable file disk

@@ -24,8 +24,8 @@ pub enum DeskFault {
     KeptCourt(u32, CourtFault),
     /// The row of this number, counted from 1, has another answer than it gets.
     Other(u32),
-    /// The entry of this number, counted from 1, strikes a row that wasn't entered before it or that is struck already, or restores one
-    /// that isn't struck.
+    /// The entry of this number, counted from 1, strikes a row that wasn't entered before it or that is struck already, restores one
+    /// that isn't struck, or says other numbers than rows had given.
     BadStrike(u32),
     /// This many rows would get other answers by the new court's file or the strike, which isn't taken.
     Differs(usize),

@@ -78,7 +78,7 @@ fn write_journal_fault<W: fmt::Write>(
 ) -> fmt::Result {
     match fault {
         JournalFault::Older => f.write_str(
-            "the journal is of the first format, which this program doesn't read: open the folder with the version that wrote it",
+            "the journal is of an earlier format, which this program doesn't read: open the folder with the version that wrote it",
         ),
         JournalFault::Changed => f.write_str(
             "another program has written to the journal since this one read it, or put another file in its place: nothing more is kept or answered",
@@ -152,7 +152,7 @@ impl<'a> fmt::Display for DeskFaultLine<'a> {
             ),
             DeskFault::BadStrike(number) => write!(
                 f,
-                "entry {number} of the journal strikes a row that isn't there or is struck already, or restores one that isn't struck"
+                "entry {number} of the journal strikes a row that isn't there or is struck already, restores one that isn't struck, or says other numbers than rows had given"
             ),
             DeskFault::Differs(1) => f.write_str(
                 "an answer would differ: nothing is changed, unless --accept says so",

@@ -2,7 +2,7 @@
 ghost use Rattle.std.specs.Prelude.{◌≡◌, ◌≢◌, ◌<◌, ◌≤◌, ◌⊎◌, ◌++◌, ◌∷◌, [], ℕ, List, length, false, Err, Ok, IfOk, OnOk};
 ghost use Rattle.desk_entries.specs.declared.fault.StrikeFault.{StrikeFault as StrikeFaultOf};
 ghost use Rattle.desk_journal.specs.Words.{StandsFor, batch_of};
-ghost use Rattle.desk_entries.specs.Words.{SaysCourt, StandsAt, corrections_then, most_entries, restore_for, standing_file};
+ghost use Rattle.desk_entries.specs.Words.{IsHistory, SaysCourt, StandsAt, corrections_then, most_entries, restore_for, standing_file, unsaid_by};
 ghost use Rattle.program_streams.specs.Words.{has_failed, watched};
 ghost use Rattle.desk_numbers.specs.Strikes.Words.{restore_entry, struck_without};
 ghost use Rattle.desk_numbers.specs.declared.strikes.restore.Restore.{Restore as RestoreOf};
@@ -63,18 +63,21 @@ impl<D: Disk> Desk<D> {
     ) -> Result<(), DeskFault>
         ensures kept { (entries : List (List ℕ)) (row : ℕ) → KeepsDocket D.Disk.seen D.Disk.may_leave D.Disk.is_usable entries self.old → restore_for (standing_at self.old) entries row ≡ Ok restore.now
             → SaysCourt (standing_file entries) standing.court → standing.corrections ≡ corrections_then (standing_at self.old) entries (struck_without (standing_at self.old).corrections.struck restore.now.row) → StandsAt standing register entries → length entries < most_entries
-            → OnOk result (KeepsDocket D.Disk.seen D.Disk.may_leave D.Disk.is_usable (entries ++ restore_entry restore.now remark.now ∷ []) self.new) }
+            → OnOk result (KeepsDocket D.Disk.seen D.Disk.may_leave D.Disk.is_usable (entries ++ restore_entry restore.now (unsaid_by (standing_at self.old) entries) remark.now ∷ []) self.new
+            × (IsHistory entries → IsHistory (entries ++ restore_entry restore.now (unsaid_by (standing_at self.old) entries) remark.now ∷ []))) }
         ensures crash { (entries : List (List ℕ)) → KeepsDocket D.Disk.seen D.Disk.may_leave D.Disk.is_usable entries self.old → (c : List ℕ) → D.Disk.may_leave (disk_under self.new) c
-            → StandsFor c entries ⊎ StandsFor c (entries ++ restore_entry restore.now remark.now ∷ []) }
+            → StandsFor c entries ⊎ StandsFor c (entries ++ restore_entry restore.now (unsaid_by (standing_at self.old) entries) remark.now ∷ []) }
         ensures fault { (count : ℕ) → result ≢ Err (DeskFault.Differs count) }
         ensures unstruck { (fault : StrikeFaultOf) → result ≢ Err (DeskFault.Unstruck fault) }
     {
-        let entry = restore_entry(alloc, restore, remark)?;
+        let said = self.careful.register.unsaid(alloc, &self.setup.standing)?;
+        let entry = restore_entry(alloc, restore, &said, remark)?;
         self.take_note(alloc, standing, register, entry)
     }
 
     /// Restores a row that was struck, which is counted from 1: from here on it is in its place again, and each deadline and each
-    /// motion has the number that its row gave it. The restore is kept as the next entry, with a remark. The row is written, then the
+    /// motion has the number that its row gave it. The restore is kept as the next entry, with the numbers that rows gave since the last
+    /// correction and a remark. The row is written, then the
     /// rows that are answered otherwise with it than now, each with its answers, and then each deadline and hearing that moves. If
     /// there are such rows, the row is restored only with leave; without it, at `Differs`, the journal is as it was.
     pub fn restore<W: Write>(
@@ -95,7 +98,7 @@ impl<D: Disk> Desk<D> {
             → RefusesRestore (standing_at self.old) (batch_of entries.now) row count (W.contents (watched writer.old)) (W.contents (watched writer.new)) × (self.new ≡ self.old) }
         ensures unstruck { (fault : StrikeFaultOf) → KeepsDocket D.Disk.seen D.Disk.may_leave D.Disk.is_usable (batch_of entries.now) self.old → result ≡ Err (DeskFault.Unstruck fault) → restore_for (standing_at self.old) (batch_of entries.now) row ≡ Err fault }
         ensures crash { KeepsDocket D.Disk.seen D.Disk.may_leave D.Disk.is_usable (batch_of entries.now) self.old → (c : List ℕ) → D.Disk.may_leave (disk_under self.new) c
-            → StandsFor c (batch_of entries.now) ⊎ ((restore : RestoreOf) × (restore_for (standing_at self.old) (batch_of entries.now) row ≡ Ok restore) × StandsFor c (batch_of entries.now ++ restore_entry restore remark.now ∷ [])) }
+            → StandsFor c (batch_of entries.now) ⊎ ((restore : RestoreOf) × (restore_for (standing_at self.old) (batch_of entries.now) row ≡ Ok restore) × StandsFor c (batch_of entries.now ++ restore_entry restore (unsaid_by (standing_at self.old) (batch_of entries.now)) remark.now ∷ [])) }
     {
         if entries.len() >= MOST_ENTRIES as usize {
             return Err(DeskFault::Journal(JournalFault::Full));

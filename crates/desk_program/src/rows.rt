@@ -1,14 +1,14 @@
 //! The rows of a docket, written as clerk_office reads them.
-ghost use Rattle.std.specs.Prelude.{◌≡◌, ◌≤◌, ◌+◌, ◌++◌, [], ℕ, List, length, false, IfOk, OnOk};
+ghost use Rattle.std.specs.Prelude.{◌≡◌, ◌≤◌, ◌+◌, ◌++◌, [], ℕ, List, length, false, IfErr, IfOk, OnOk};
 ghost use Rattle.std.specs.Io.KnownBytes.{Appends};
 ghost use Rattle.desk_journal.specs.Words.{batch_of};
 ghost use Rattle.program_streams.specs.Words.{has_failed, watched};
-ghost use Rattle.desk_entries.specs.Words.{most_entries, note_in, row_only, rows_written};
+ghost use Rattle.desk_entries.specs.Words.{HasHistoryFault, IsHistory, most_entries, note_in, row_entries, row_only, rows_written};
 ghost use Rattle.desk_program.specs.Rows.{count_text, ended, head_of, written_rows};
 
 use crate::fault::DeskFault;
 use csv::StringRecord;
-use desk_entries::{Standing, is_row, push_row, standing_file};
+use desk_entries::{Docketed, HistoryFault, Standing, is_row, push_row, standing_file};
 use desk_numbers::MovedNumbers;
 use program_streams::{Watched, write_all};
 use std::alloc::{AllocError, Global};
@@ -119,6 +119,19 @@ pub fn write_rows<W: Write>(
         put_if_long(writer, &mut text)?;
     }
     put(writer, &mut text)
+}
+
+/// How many rows these entries have, each with the answer that it got under what stood at its time: all are decided again, as
+/// often as there are corrections. `Err` says what is wrong with them.
+pub fn checked_rows(alloc: Global, entries: &[Vec<u8>]) -> Result<u32, HistoryFault>
+    requires few { length entries.now ≤ most_entries }
+    ensures count { IfOk result (λ count. IsHistory (batch_of entries.now) × (count ≡ length (row_entries (batch_of entries.now)))) }
+    ensures cause { IfErr result (HasHistoryFault (batch_of entries.now)) }
+{
+    match Docketed::checked(alloc, entries) {
+        Ok(docketed) => Ok(docketed.register.next_number().saturating_sub(1)),
+        Err(fault) => Err(fault),
+    }
 }
 
 /// Writes how many rows are kept.

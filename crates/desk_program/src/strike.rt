@@ -2,7 +2,7 @@
 ghost use Rattle.std.specs.Prelude.{◌≡◌, ◌≢◌, ◌<◌, ◌≤◌, ◌⊎◌, ◌++◌, ◌∷◌, [], ℕ, List, length, false, Err, Ok, IfOk, OnOk};
 ghost use Rattle.desk_entries.specs.declared.fault.StrikeFault.{StrikeFault as StrikeFaultOf};
 ghost use Rattle.desk_journal.specs.Words.{StandsFor, batch_of};
-ghost use Rattle.desk_entries.specs.Words.{SaysCourt, StandsAt, corrections_then, most_entries, standing_file, strike_for};
+ghost use Rattle.desk_entries.specs.Words.{IsHistory, SaysCourt, StandsAt, corrections_then, most_entries, standing_file, strike_for, unsaid_by};
 ghost use Rattle.program_streams.specs.Words.{has_failed, watched};
 ghost use Rattle.desk_numbers.specs.Strikes.Words.{strike_entry, struck_with};
 ghost use Rattle.desk_numbers.specs.declared.strikes.strike.Strike.{Strike as StrikeOf};
@@ -69,19 +69,21 @@ impl<D: Disk> Desk<D> {
     ) -> Result<(), DeskFault>
         ensures kept { (entries : List (List ℕ)) (row : ℕ) → KeepsDocket D.Disk.seen D.Disk.may_leave D.Disk.is_usable entries self.old → strike_for (standing_at self.old) entries row ≡ Ok strike.now
             → SaysCourt (standing_file entries) standing.court → standing.corrections ≡ corrections_then (standing_at self.old) entries (struck_with (standing_at self.old).corrections.struck strike.now.row) → StandsAt standing register entries → length entries < most_entries
-            → OnOk result (KeepsDocket D.Disk.seen D.Disk.may_leave D.Disk.is_usable (entries ++ strike_entry strike.now remark.now ∷ []) self.new) }
+            → OnOk result (KeepsDocket D.Disk.seen D.Disk.may_leave D.Disk.is_usable (entries ++ strike_entry strike.now (unsaid_by (standing_at self.old) entries) remark.now ∷ []) self.new
+            × (IsHistory entries → IsHistory (entries ++ strike_entry strike.now (unsaid_by (standing_at self.old) entries) remark.now ∷ []))) }
         ensures crash { (entries : List (List ℕ)) → KeepsDocket D.Disk.seen D.Disk.may_leave D.Disk.is_usable entries self.old → (c : List ℕ) → D.Disk.may_leave (disk_under self.new) c
-            → StandsFor c entries ⊎ StandsFor c (entries ++ strike_entry strike.now remark.now ∷ []) }
+            → StandsFor c entries ⊎ StandsFor c (entries ++ strike_entry strike.now (unsaid_by (standing_at self.old) entries) remark.now ∷ []) }
         ensures fault { (count : ℕ) → result ≢ Err (DeskFault.Differs count) }
         ensures unstruck { (fault : StrikeFaultOf) → result ≢ Err (DeskFault.Unstruck fault) }
     {
-        let entry = strike_entry(alloc, strike, remark)?;
+        let said = self.careful.register.unsaid(alloc, &self.setup.standing)?;
+        let entry = strike_entry(alloc, strike, &said, remark)?;
         self.take_note(alloc, standing, register, entry)
     }
 
     /// Strikes a row, which is counted from 1: from here on the docket is that of the other rows. Each deadline and each motion
     /// keeps the number that its row gave it, and no number is given again. The strike is kept as the next entry,
-    /// with a remark, and the row's entry stays. The row is written, then the rows that are answered otherwise without it than now,
+    /// with the numbers that rows gave since the last correction and a remark, and the row's entry stays. The row is written, then the rows that are answered otherwise without it than now,
     /// each with its answers, and then each deadline and hearing that moves. If there are such rows, the row is struck only with
     /// leave; without it, at `Differs`, the journal is as it was.
     pub fn strike<W: Write>(
@@ -102,7 +104,7 @@ impl<D: Disk> Desk<D> {
             → RefusesStrike (standing_at self.old) (batch_of entries.now) row count (W.contents (watched writer.old)) (W.contents (watched writer.new)) × (self.new ≡ self.old) }
         ensures unstruck { (fault : StrikeFaultOf) → KeepsDocket D.Disk.seen D.Disk.may_leave D.Disk.is_usable (batch_of entries.now) self.old → result ≡ Err (DeskFault.Unstruck fault) → strike_for (standing_at self.old) (batch_of entries.now) row ≡ Err fault }
         ensures crash { KeepsDocket D.Disk.seen D.Disk.may_leave D.Disk.is_usable (batch_of entries.now) self.old → (c : List ℕ) → D.Disk.may_leave (disk_under self.new) c
-            → StandsFor c (batch_of entries.now) ⊎ ((strike : StrikeOf) × (strike_for (standing_at self.old) (batch_of entries.now) row ≡ Ok strike) × StandsFor c (batch_of entries.now ++ strike_entry strike remark.now ∷ [])) }
+            → StandsFor c (batch_of entries.now) ⊎ ((strike : StrikeOf) × (strike_for (standing_at self.old) (batch_of entries.now) row ≡ Ok strike) × StandsFor c (batch_of entries.now ++ strike_entry strike (unsaid_by (standing_at self.old) (batch_of entries.now)) remark.now ∷ [])) }
     {
         if entries.len() >= MOST_ENTRIES as usize {
             return Err(DeskFault::Journal(JournalFault::Full));

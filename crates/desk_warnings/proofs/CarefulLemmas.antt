@@ -32,9 +32,9 @@ keep_nothing under held kept (line ∷ lines) =
     one_taken under kept (taken_at under held kept line) _ _ (keep_nothing under held (kept ++ careful_leaves under held kept line) lines)
 
 pub careful_history : CarefulIsHistory
-careful_history under held kept lines history stands =
-    subst (λ (l : List (List ℕ)). IsHistory (kept ++ l) × StandsAfter (kept ++ l) under) (sym (keep_nothing under held kept lines))
-    (left_history under kept (lines_taken under held kept lines) history stands)
+careful_history under held kept lines begun stands =
+    subst (λ (l : List (List ℕ)). StandsAfter (kept ++ l) under × (IsHistory kept → IsHistory (kept ++ l))) (sym (keep_nothing under held kept lines))
+    (left_history under kept (lines_taken under held kept lines) begun stands)
 
 -- what a careful register makes of a line
 module _ (under : Standing) (held : HeldBack) (register : DocketRegister) (kept : List (List ℕ)) (line : List ℕ) (batch batch_after : List (List ℕ)) (text text_after : List ℕ) where

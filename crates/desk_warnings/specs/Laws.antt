@@ -1,5 +1,5 @@
 -- What these definitions come to.
-use Rattle.std.specs.Prelude.{◌≡◌, ℕ, ℤ, List, [], ◌∷◌, ◌++◌, Option, Some, None}
+use Rattle.std.specs.Prelude.{◌≡◌, ◌<◌, ℕ, ℤ, List, [], ◌∷◌, ◌++◌, Option, Some, None, length}
 use Rattle.docket_rows.specs.declared.command.Command.{Command as CommandOf}
 use Rattle.docket_rows.specs.declared.refusal.Refusal.{Refusal}
 use Rattle.docket_rows.specs.Words.{parts_of, refusal, setup_of}
@@ -31,10 +31,10 @@ abbrev pub WarningsKeepNothing : Type 0
 WarningsKeepNothing = (under : Standing) (held : HeldBack) (kept lines : List (List ℕ))
     → left_by (careful_leaves under held) kept lines ≡ left_by (leaves under) kept (lines_taken under held kept lines)
 
--- So what they leave after a history is a history with it, under what stands, and the same stands after them.
+-- So what stands after entries stands after what they leave then, and if the entries are a history they are one with it.
 abbrev pub CarefulIsHistory : Type 0
-CarefulIsHistory = (under : Standing) (held : HeldBack) (kept lines : List (List ℕ)) → IsHistory kept → StandsAfter kept under
-    → IsHistory (kept ++ left_by (careful_leaves under held) kept lines) × StandsAfter (kept ++ left_by (careful_leaves under held) kept lines) under
+CarefulIsHistory = (under : Standing) (held : HeldBack) (kept lines : List (List ℕ)) → 0 < length kept → StandsAfter kept under
+    → StandsAfter (kept ++ left_by (careful_leaves under held) kept lines) under × (IsHistory kept → IsHistory (kept ++ left_by (careful_leaves under held) kept lines))
 
 -- A command that would be refused by what is docketed before it is taken with a '!' before it alone.
 abbrev pub RefusedAreHeld : Type 0

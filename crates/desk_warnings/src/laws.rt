@@ -7,8 +7,7 @@ pub fn warnings_keep_nothing()
     ensures { WarningsKeepNothing }
 {}
 
-/// What they leave after a history is a history with it, and the same stands after it.
-#[tactic(auto, using(crate::proofs::CarefulLemmas::careful_history))]
+/// What stands after entries stands after what lines leave then, and if the entries are a history they are one with it.
 pub fn careful_is_history()
     ensures { CarefulIsHistory }
 {}

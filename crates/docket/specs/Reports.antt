@@ -2,7 +2,7 @@
 use Rattle.std.specs.Prelude.{◌≡◌, ℕ, List, ⊤, Option, Some, None, Result, Ok, Err, String, drop}
 use Rattle.std.specs.declared.alloc.Global.{Global}
 use Rattle.desk_entries.specs.declared.standing.Standing.{Standing}
-use Rattle.desk_entries.specs.Words.{IsHistory, StandsAfter, cases_of, changes_by, corrections_in, rows_refused, rows_standing, rows_struck, run_by, standing_file}
+use Rattle.desk_entries.specs.Words.{StandsAfter, cases_of, changes_by, corrections_in, rows_refused, rows_standing, rows_struck, run_by, standing_file}
 use Rattle.std.specs.Io.KnownBytes.{Appends}
 use Rattle.desk_program.specs.Words.{cases_text, written_rows}
 use Rattle.program_runs.specs.declared.fault.OfficeFault.{OfficeFault}
@@ -14,9 +14,8 @@ use Rattle.report_texts.specs.Words.{LabelsView, labels_of}
 use Rattle.docket.specs.declared.fault.Fault.{Fault}
 use Rattle.docket.specs.declared.fault.Fault.TheVariants.{Input, Missing}
 
--- this is so of what stands after the entries, which are a history
+-- this is so of what stands after the entries
 pub record AfterEntries (entries : List (List ℕ)) (IsSo : Standing → Type 0) : Type 0 where
-  pub history : IsHistory entries
   pub under : Standing
   pub stands : StandsAfter entries under
   pub is_so : IsSo under

@@ -15,7 +15,8 @@ use crate::input::{reading_of, rows_of};
 use crate::progress::told_while;
 use desk_entries::Docketed;
 use desk_program::{
-    Desk, DeskFault, ask as answer, write_cases, write_count, write_rows, write_struck,
+    Desk, DeskFault, ask as answer, checked_rows, write_cases, write_count, write_rows,
+    write_struck,
 };
 use desk_warnings::HeldBack;
 use program_streams::Watched;
@@ -181,7 +182,7 @@ pub fn struck<W: Write>(
     Ok(write_struck(rt.alloc(), &entries, writer)?)
 }
 
-/// Writes how many rows the folder has, all of which are decided again.
+/// Writes how many rows the folder has, all of which are decided again as they were entered.
 pub fn check<H: Threads + Wait + Sync, W: Write>(
     rt: &HostRuntime,
     threads: &H,
@@ -190,8 +191,11 @@ pub fn check<H: Threads + Wait + Sync, W: Write>(
 ) -> Result<(), Fault>
     requires { has_failed writer.old ≡ false }
 {
-    let desk = copied_beside(rt, threads, folder)?;
-    Ok(write_count(rt.alloc(), desk.rows(), writer)?)
+    let entries = entries_beside(rt, folder, None)?;
+    let count = told_while(threads, rt.stderr(), "reading", folder, || {
+        checked_rows(rt.alloc(), &entries)
+    })?;
+    Ok(write_count(rt.alloc(), count, writer)?)
 }
 
 // Writes the court's file and the rows that stand of a docket, which is made of these entries.

@@ -9,8 +9,8 @@ use crate::stored::push_name;
 use desk_entries::{Docketed, standing_file};
 use desk_journal::{Stamp, stamped_in};
 use desk_program::{
-    Desk, DeskFault, LogChoice, all_taken, ask, court_of, ended_by, write_cases, write_count,
-    write_log, write_rows, write_struck,
+    Desk, DeskFault, LogChoice, all_taken, ask, checked_rows, court_of, ended_by, write_cases,
+    write_count, write_log, write_rows, write_struck,
 };
 use program_main::today_by;
 use program_runs::refused;
@@ -143,7 +143,7 @@ fn opened(
         }
         Task::Ask(_, _, _) => asked(alloc, entries, input, writer),
         Task::Struck(_, _) => write_struck(alloc, entries, writer),
-        Task::Check(_) => write_count(alloc, desk.rows(), writer),
+        Task::Check(_) => checked(alloc, entries, writer),
         _ => write_rows(alloc, desk.standing(), desk.moved(), entries, writer),
     };
     (ended, desk.into_disk())
@@ -210,6 +210,19 @@ fn asked(
     let docketed = Docketed::of(alloc, entries)?;
     let mut reader = Watched::new(input);
     all_taken(ask(alloc, docketed, &mut reader, writer)?)
+}
+
+// Decides all rows again, and writes how many there are.
+fn checked(
+    alloc: Global,
+    entries: &[Vec<u8>],
+    writer: &mut Watched<Vec<u8>>,
+) -> Result<(), DeskFault>
+    requires works { has_failed writer.old ≡ false }
+    requires few { length entries.now ≤ 1000000 }
+{
+    let count = checked_rows(alloc, entries)?;
+    write_count(alloc, count, writer)
 }
 
 // What is kept of a correction beside its row: what was done, when, by whom and why.

@@ -1,14 +1,13 @@
--- Texts are cut at the first byte of a value, and so a first line is read as it is written.
-use Rattle.std.proofs.Common.{◌≡◌, ◌∙◌, ◌+◌, ◌<◌, ◌&&◌, ℕ, suc, Bool, true, false, not, cond, List, [], ◌∷◌, ◌++◌, Option, Some, drop, length, nat_eq, option_and_then, refl, sym, take, ap, append_assoc, arith}
+-- Texts are cut at the first byte of a value.
+use Rattle.std.proofs.Common.{◌≡◌, ◌∙◌, ◌+◌, ◌<◌, ◌&&◌, ◌||◌, ℕ, suc, Bool, true, false, not, cond, List, [], ◌∷◌, ◌++◌, drop, length, nat_eq, refl, take, ap, arith}
 use Rattle.std.proofs.lemmas.Bool.Decides.{nat_tests}
 use Rattle.std.proofs.lemmas.Grind.{common_steps}
 use Rattle.std.proofs.lemmas.List.{take_all}
 use Rattle.std.specs.Char.{is_ascii_digit}
 use Rattle.std.specs.Fmt.{decimal}
-use Rattle.std.specs.List.{list_all}
-use Rattle.row_forms.specs.Words.{number_of}
-use Rattle.desk_numbers.specs.Strikes.Line.{after_mark, before, length_before, line_with, past, remark_in, row_after, row_named}
-use Rattle.desk_numbers.proofs.StrikesLemmas.NumberLemmas.{all_digits, number_back}
+use Rattle.std.specs.List.{list_all, list_any}
+use Rattle.desk_numbers.specs.Strikes.Line.{before, length_before, past}
+use Rattle.desk_numbers.proofs.StrikesLemmas.NumberLemmas.{all_digits}
 
 -- none of these bytes is that one
 abbrev pub lacks : (byte : ℕ) → List ℕ → Bool
@@ -77,29 +76,17 @@ digits_lack byte low (d ∷ ds) h = by (is_ascii_digit d) refl h (digits_lack by
     by true e h rest = rw (differs e) (rest h)
     by false e h rest = cc h
 
-pub number_lacks : (byte n : ℕ) → byte < 48 → n < 1_000_000_000 → lacks byte (decimal n) ≡ true
+pub number_lacks : (byte n : ℕ) → byte < 48 → n < 4_294_967_296 → lacks byte (decimal n) ≡ true
 number_lacks byte n low small = digits_lack byte low (decimal n) (all_digits n small)
 
--- the row that a first line names
-row_back : (row : ℕ) → row < 1_000_000_000 → row_named (decimal row) ≡ Some row
-unfolding row_named
-row_back row small = ap (λ (n : List ℕ). number_of n) (before_uncut 32 (decimal row) (number_lacks 32 row (omega arith) small)) ∙ number_back row small
+-- the bytes of a text that has none of a value
+pub lacks_that : (byte : ℕ) (text : List ℕ) → list_any (nat_eq byte) text ≡ false → lacks byte text ≡ true
+lacks_that byte [] none = refl
+lacks_that byte (b ∷ text) none = by (nat_eq b byte) (about byte b) none (lacks_that byte text)
+  where
+    about : (m n : ℕ) → nat_eq m n ≡ nat_eq n m
+    about m n = grind (arith, nat_tests)
 
--- an entry with a mark that has no end of a line: its mark, the number of the row, the end of the first line, and its remark
-module _ (mark : List ℕ) (lacking : lacks 10 mark ≡ true) (found : (rest : List ℕ) → after_mark mark (mark ++ rest) ≡ Some rest) where
-  in_parts : (row : ℕ) (remark : List ℕ) → line_with mark row ++ remark ≡ mark ++ (decimal row ++ 10 ∷ remark)
-  in_parts row remark = append_assoc (mark ++ decimal row) (10 ∷ []) remark ∙ append_assoc mark (decimal row) (10 ∷ remark)
-
-  pub named_back : (row : ℕ) (remark : List ℕ) → row < 1_000_000_000 → row_after mark (line_with mark row ++ remark) ≡ Some row
-  unfolding row_after
-  named_back row remark small =
-      ap (λ (e : List ℕ). option_and_then (λ rest. row_named (before 10 rest)) (after_mark mark e)) (in_parts row remark)
-      ∙ ap (λ (o : Option (List ℕ)). option_and_then (λ rest. row_named (before 10 rest)) o) (found (decimal row ++ 10 ∷ remark))
-      ∙ ap row_named (before_cut 10 (decimal row) remark (number_lacks 10 row (omega arith) small))
-      ∙ row_back row small
-
-  pub remark_back : (row : ℕ) (remark : List ℕ) → row < 1_000_000_000 → remark_in (line_with mark row ++ remark) ≡ remark
-  unfolding remark_in
-  remark_back row remark small =
-      ap (past 10) (in_parts row remark ∙ sym (append_assoc mark (decimal row) (10 ∷ remark)))
-      ∙ past_cut 10 (mark ++ decimal row) remark (lacks-append 10 mark (decimal row) lacking (number_lacks 10 row (omega arith) small))
+    by : (t : Bool) → nat_eq byte b ≡ t → (nat_eq byte b || list_any (nat_eq byte) text) ≡ false → (list_any (nat_eq byte) text ≡ false → lacks byte text ≡ true) → (not t && lacks byte text) ≡ true
+    by true is none rest = cc (rw is at none)
+    by false is none rest = rest (rw is at none)

@@ -1,12 +1,7 @@
 -- The entries by which a row is struck or restored: a first line with a mark and the number of the row, and then a remark.
-use Rattle.std.specs.Prelude.{ℕ, ◌+◌, not, List, ◌++◌, Option, Some, None, codes, drop, length, nat_eq, option_and_then, take, if◌then◌else◌}
-use Rattle.std.specs.Fmt.{decimal}
+use Rattle.std.specs.Prelude.{ℕ, ◌+◌, not, List, Option, Some, None, drop, length, nat_eq, option_and_then, take, if◌then◌else◌}
 use Rattle.std.specs.List.{prefix_len, starts_with}
 use Rattle.row_forms.specs.Words.{number_of}
-
--- the first line, with its end
-abbrev pub line_with : (mark : List ℕ) → (row : ℕ) → List ℕ
-line_with mark row = mark ++ decimal row ++ codes "\n"
 
 -- how many bytes come before the first of this value, what they are, and what comes after it
 abbrev pub length_before : (byte : ℕ) → List ℕ → ℕ
@@ -18,8 +13,8 @@ before byte text = take (length_before byte text) text
 abbrev pub past : (byte : ℕ) → List ℕ → List ℕ
 past byte text = drop (length_before byte text + 1) text
 
--- What the first line says after its mark: the number of the row. What may come after a space isn't read; entries of an earlier
--- form have there what follows from their row.
+-- The row that the first line names after its mark. What comes after a blank isn't read here: it is what the entry says that rows
+-- gave, and in entries of an earlier form what follows from their row.
 unfoldable pub row_named : (line : List ℕ) → Option ℕ
 row_named line = number_of (before 32 line)
 

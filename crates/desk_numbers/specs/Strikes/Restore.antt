@@ -1,19 +1,22 @@
--- Entries by which a row that is struck is restored: `%%restore 7`, and then a remark.
+-- Entries by which a row that is struck is restored: `%%restore 7`, then what rows gave, and a remark on the lines below.
 use Rattle.std.specs.Prelude.{ℕ, List, ◌++◌, Option, codes, option_map}
+use Rattle.std.specs.Fmt.{decimal}
+use Rattle.desk_numbers.specs.declared.said.Said.{Said}
 use Rattle.desk_numbers.specs.declared.strikes.restore.Restore.{Restore}
-use Rattle.desk_numbers.specs.Strikes.Line.{line_with, row_after}
+use Rattle.desk_numbers.specs.Strikes.Line.{row_after}
+use Rattle.desk_numbers.specs.Strikes.SaidText.{entry_with}
 
 -- with what such an entry begins; a row never begins so
 abbrev pub restore_mark : List ℕ
 restore_mark = codes "%%restore "
 
--- the first line, with its end
+-- what its first line says first: the row
 abbrev pub restore_line : Restore → List ℕ
-restore_line restore = line_with restore_mark restore.row
+restore_line restore = restore_mark ++ decimal restore.row
 
--- the entry
-unfoldable pub restore_entry : Restore → (remark : List ℕ) → List ℕ
-restore_entry restore remark = restore_line restore ++ remark
+-- the entry, which says what rows gave, and has a remark
+unfoldable pub restore_entry : Restore → List Said → (remark : List ℕ) → List ℕ
+restore_entry restore said remark = entry_with (restore_line restore) said remark
 
 -- the restore that an entry is, if it is one
 abbrev pub restore_from : (row : ℕ) → Restore

@@ -1,9 +1,8 @@
 //! The first line of an entry by which a row is struck or restored, and its remark.
-ghost use Rattle.std.specs.Prelude.{◌≡◌, ◌++◌, option_map, string_bytes, IfOk};
+ghost use Rattle.std.specs.Prelude.{◌≡◌, option_map};
 ghost use Rattle.desk_numbers.specs.Strikes.Line.{after_mark, remark_in, row_after, row_named};
 
 use crate::strikes::words::{cut, number_of};
-use std::alloc::AllocError;
 
 /// The remark of such an entry: what comes after its first line.
 #[tactic(auto, unfolding(crate::specs::Strikes::Line::remark_in))]
@@ -37,13 +36,4 @@ fn row_named(line: &[u8]) -> Option<u32>
     ensures { result ≡ row_named line.now }
 {
     number_of(cut(line, b' ').0)
-}
-
-// The entry with this first line and a remark. `Err` says that memory ran out.
-pub(crate) fn with_remark(line: String, remark: &[u8]) -> Result<Vec<u8>, AllocError>
-    ensures { IfOk result (λ entry. entry.items ≡ string_bytes line ++ remark.now) }
-{
-    let mut entry = line.into_bytes();
-    entry.extend_from_slice(remark)?;
-    Ok(entry)
 }

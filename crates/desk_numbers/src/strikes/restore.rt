@@ -2,7 +2,9 @@
 ghost use Rattle.std.specs.Prelude.{◌≡◌, string_bytes, IfOk};
 ghost use Rattle.desk_numbers.specs.Strikes.Restore.{restore_entry, restore_in, restore_line};
 
-use crate::strikes::line::{row_after, with_remark};
+use crate::said::Said;
+use crate::strikes::line::row_after;
+use crate::strikes::said_text::entry_with;
 use std::alloc::{AllocError, Global};
 
 /// A row that was struck, and is in its place again.
@@ -23,18 +25,24 @@ pub fn restore_in(entry: &[u8]) -> Option<Restore>
     }
 }
 
-/// The entry of a restore, with a remark of any text. `Err` says that memory ran out.
+/// The entry of a restore: its first line says what rows gave since the correction before it, each with a number below 2 to the 32,
+/// and on the lines below is a remark of any text. `Err` says that memory ran out.
 #[tactic(auto, unfolding(crate::specs::Strikes::Restore::restore_entry))]
-pub fn restore_entry(alloc: Global, restore: &Restore, remark: &[u8]) -> Result<Vec<u8>, AllocError>
-    ensures { IfOk result (λ entry. entry.items ≡ restore_entry restore.now remark.now) }
+pub fn restore_entry(
+    alloc: Global,
+    restore: &Restore,
+    said: &[Said],
+    remark: &[u8],
+) -> Result<Vec<u8>, AllocError>
+    ensures { IfOk result (λ entry. entry.items ≡ restore_entry restore.now said.now remark.now) }
 {
-    with_remark(restore_line(alloc, restore)?, remark)
+    entry_with(alloc, restore_line(alloc, restore)?, said, remark)
 }
 
-// Its first line, with its end.
+// What its first line says first: the row.
 fn restore_line(alloc: Global, restore: &Restore) -> Result<String, AllocError>
     ensures { IfOk result (λ line. string_bytes line ≡ restore_line restore.now) }
 {
     let row = restore.row;
-    format!(in alloc; "%%restore {row}\n")
+    format!(in alloc; "%%restore {row}")
 }

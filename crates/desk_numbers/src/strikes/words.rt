@@ -2,8 +2,9 @@
 ghost use Rattle.std.specs.Prelude.{◌≡◌, ◌≤◌, length};
 ghost use Rattle.std.specs.Char.{is_ascii_digit};
 ghost use Rattle.std.specs.List.{list_all};
-ghost use Rattle.row_forms.specs.Words.{is_number, number_of};
+ghost use Rattle.row_forms.specs.Words.{number_of};
 ghost use Rattle.desk_numbers.specs.Strikes.Line.{before, length_before, past};
+ghost use Rattle.desk_numbers.specs.Strikes.SaidText.{is_numeral, numeral_of};
 
 use std::str;
 
@@ -33,11 +34,22 @@ pub(crate) fn cut(text: &[u8], byte: u8) -> (&[u8], &[u8])
 }
 
 // A number of one to nine decimal digits, with no sign and no leading zero but `0` itself.
-#[tactic(auto, unfolding(row_forms::specs::Words::number_of))]
+#[tactic(auto, using(crate::proofs::StrikesLemmas::NumberLemmas::number_long, crate::proofs::StrikesLemmas::NumberLemmas::number_short))]
 pub(crate) fn number_of(text: &[u8]) -> Option<u32>
     ensures { result ≡ number_of text.now }
 {
-    if !is_number(text) {
+    if text.len() > 9 {
+        return None;
+    }
+    numeral_of(text)
+}
+
+// A number below 2 to the 32, in one to ten decimal digits, with no sign and no leading zero but `0` itself.
+#[tactic(auto, unfolding(crate::specs::Strikes::SaidText::numeral_of))]
+pub(crate) fn numeral_of(text: &[u8]) -> Option<u32>
+    ensures { result ≡ numeral_of text.now }
+{
+    if !is_numeral(text) {
         return None;
     }
     match str::from_utf8(text) {
@@ -46,11 +58,11 @@ pub(crate) fn number_of(text: &[u8]) -> Option<u32>
     }
 }
 
-// Whether the text is written as numbers are.
-fn is_number(text: &[u8]) -> bool
-    ensures { result ≡ is_number text.now }
+// Whether the text is written as such numbers are.
+fn is_numeral(text: &[u8]) -> bool
+    ensures { result ≡ is_numeral text.now }
 {
-    if text.is_empty() || text.len() > 9 {
+    if text.is_empty() || text.len() > 10 {
         return false;
     }
     if text.len() > 1 && text[0] == b'0' {

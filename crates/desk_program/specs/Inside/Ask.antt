@@ -7,14 +7,12 @@ use Rattle.desk_session.specs.declared.fault.SessionFault.{SessionFault}
 use Rattle.desk_session.specs.declared.outcome.Tally.{Tally}
 use Rattle.desk_session.specs.Words.{EndsSession, tally_of, told_to}
 use Rattle.desk_entries.specs.declared.standing.Standing.{Standing}
-use Rattle.desk_entries.specs.Words.{IsHistory, StandsAfter, came_shown, shown}
+use Rattle.desk_entries.specs.Words.{StandsAfter, came_shown, shown}
 use Rattle.desk_program.specs.declared.fault.DeskFault.{DeskFault}
 use Rattle.desk_program.specs.declared.fault.DeskFault.TheVariants.{Unkept}
 
--- The entries are a history, and each line is answered as a question on the docket after them, under what stands
--- there. No line changes what the next is answered. The tally says how many lines there were, and how many had faults.
+-- Each line is answered as a question on the docket after the entries, under what stands there. No line changes what the next is answered. The tally says how many lines there were, and how many had faults.
 pub record AnswersQuestions (entries lines : List (List ℕ)) (tally : Tally) (before after : Option (List ℕ)) : Type 0 where
-  pub history : IsHistory entries
   pub under : Standing
   pub stands : StandsAfter entries under
   pub told : Appends before after (told_to (λ kept line. []) (shown under) entries lines)
@@ -22,7 +20,6 @@ pub record AnswersQuestions (entries lines : List (List ℕ)) (tally : Tally) (b
 
 -- What is written is a beginning of these answers.
 pub record AnswersInPart (entries lines : List (List ℕ)) (before after : Option (List ℕ)) : Type 0 where
-  pub history : IsHistory entries
   pub under : Standing
   pub stands : StandsAfter entries under
   pub told : AppendsFront before after (told_to (λ kept line. []) (shown under) entries lines)

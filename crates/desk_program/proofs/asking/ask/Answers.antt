@@ -12,16 +12,16 @@ returns-in-Ok-clause-answered g c = λ entries docketed.
     some_both (g.R.Read.remaining (watched c.args.reader.now))
     (λ input. Appends (g.W.Write.contents (watched c.args.writer.now)) (g.W.Write.contents (watched c.answer.new.writer)) (told_to (λ kept line. []) (shown under) entries (lines_of input)))
     (λ input. c.in-Ok.tally ≡ tally_of (λ kept line. []) (came_shown under) entries (lines_of input)) _
-    (λ input told counted. record { history = docketed.history; under = under; stands = docketed.standing; told = told; counted = counted })
+    (λ input told counted. record { under = under; stands = docketed.standing; told = told; counted = counted })
     (c.in-Ok.ensures.answered entries docketed.stands.at)
     (c.in-Ok.ensures.tally entries docketed.stands.at)
 
 pub returns-in-Ok-clause-front : goal.returns-in-Ok-clause-front
 returns-in-Ok-clause-front g c = λ entries docketed.
     let it = c.answer.ensures.front entries docketed.stands.at in
-    (it.0, it.1, record { history = docketed.history; under = c.args.docketed.standing; stands = docketed.standing; told = it.2 })
+    (it.0, it.1, record { under = c.args.docketed.standing; stands = docketed.standing; told = it.2 })
 
 pub returns-clause-front : goal.returns-clause-front
 returns-clause-front g c = λ entries docketed.
     let it = c.answer.ensures.front entries docketed.stands.at in
-    (it.0, it.1, record { history = docketed.history; under = c.args.docketed.standing; stands = docketed.standing; told = it.2 })
+    (it.0, it.1, record { under = c.args.docketed.standing; stands = docketed.standing; told = it.2 })

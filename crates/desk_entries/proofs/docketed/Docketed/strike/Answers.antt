@@ -1,23 +1,27 @@
-use Rattle.std.proofs.Common.{◌≡◌, ◌∙◌, ℕ, List, true, false, ap, length, sym, subst}
+use Rattle.std.proofs.Common.{◌≡◌, ◌∙◌, ℕ, List, true, false, ap, inl, length, sym, subst}
 use Rattle.court_days.specs.Words.{CourtView}
 use Rattle.desk_entries.specs.declared.standing.Standing.{Standing}
 use Rattle.desk_entries.specs.Entries.{can_strike, row_struck, standing_file}
 use Rattle.desk_entries.specs.History.{SaysCourt}
 use Rattle.desk_entries.specs.Register.{StandsAt}
-use Rattle.desk_entries.proofs.HistoryLemmas.{bad_note, can_is, docketed_strike}
+use Rattle.desk_entries.proofs.FaultyLemmas.{bad_note}
+use Rattle.desk_entries.proofs.HistoryLemmas.{can_is, docketed_note}
 use Rattle.desk_entries.proofs.ListLemmas.{length_batch}
 use Rattle.desk_entries.proofs.docketed.Docketed.strike.Goals as goal
 
 pub returns-then-not-can_strike-clause-cause : goal.returns-then-not-can_strike-clause-cause
 returns-then-not-can_strike-clause-cause c = λ before entry parts some is.
     let cannot : can_strike before c.args.strike ≡ false = sym (can_is c.args.self.now before c.args.strike is) ∙ sym c.can_strike.ensures ∙ c.if-not-can_strike.true in
-    bad_note c.args.self.now before entry (row_struck c.args.strike) (length c.args.entries.now) is some (sym (length_batch c.args.entries.now) ∙ ap length parts) cannot
+    bad_note before entry (row_struck c.args.strike) (length c.args.entries.now) some (sym (length_batch c.args.entries.now) ∙ ap length parts) (inl cannot)
+
+pub returns-clause-can : goal.returns-clause-can
+returns-clause-can c = λ before is. sym (can_is c.args.self.now before c.args.strike is) ∙ sym c.can_strike.ensures ∙ c.if-not-can_strike.false
 
 pub returns-clause-docketed : goal.returns-clause-docketed
-returns-clause-docketed c = λ before entry parts some is.
+returns-clause-docketed c = λ before entry parts some says is.
     let can : can_strike before c.args.strike ≡ true = sym (can_is c.args.self.now before c.args.strike is) ∙ sym c.can_strike.ensures ∙ c.if-not-can_strike.false in
     let same = c.correct.ensures.standing in
-    docketed_strike c.args.self.now _ before entry c.args.strike is some can
+    docketed_note c.args.self.now _ before entry (row_struck c.args.strike) is some can says
     (subst (λ (court : CourtView). SaysCourt (standing_file before) court) (sym (ap (λ (u : Standing). u.court) same)) is.standing.court)
     (ap (λ (u : Standing). u.corrections) same ∙ c.in_ok-corrections.ensures before is.stands.at)
     (subst (λ (e : List (List ℕ)). StandsAt c.correct.new.self.standing c.correct.new.self.register e) parts c.in_ok-correct.ensures.stands)

@@ -19,7 +19,9 @@ returns-in-Ok-reviewed-clause-taken g c = λ keeps.
       listed = c.in-Ok-reviewed.ensures.listed;
       entry = taken.0;
       is_file = taken.1;
-      keeps = taken.2;
+      says = taken.2;
+      keeps = taken.3;
+      history = taken.4;
     })
     (c.take_file.ensures.kept entries keeps c.in-Ok.ensures.court (c.in-Ok.ensures.corrections entries keeps) c.in-Ok-reviewed.ensures.stands short)
 

@@ -3,7 +3,7 @@ use Rattle.std.specs.Prelude.{IsTrue, Vec}
 use Rattle.std.specs.declared.alloc.Global.{Global}
 use Rattle.desk_journal.specs.Words.{IsDurable, batch_of}
 use Rattle.desk_journal.proofs.CallerLemmas.{rest_kept}
-use Rattle.desk_entries.specs.Words.{HasHistoryFault, IsDocketed}
+use Rattle.desk_entries.specs.Words.{HasDocketFault, IsDocketed}
 use Rattle.desk_program.proofs.DeskLemmas.{same_entries}
 use Rattle.desk_program.proofs.FaultLemmas.{unless_written}
 use Rattle.desk_program.proofs.OpenLemmas.{unopened_by_history, unopened_by_journal}
@@ -33,7 +33,7 @@ pub returns-in-Err-of-clause-cause : goal.returns-in-Err-of-clause-cause
 returns-in-Err-of-clause-cause g c = λ file was clean.
     let all = c.in-Ok.ensures.kept file was (subst (λ (d : g.row.D.Denot). IsTrue (g.D.Disk.is_clean d)) c.into_disk.ensures clean) in
     unopened_by_history (g.D.Disk.faults c.args.disk) (g.D.Disk.faults c.into_disk.result) file (batch_of c.in-Ok.opened.1.items) c.in-Err-of.fault c.from-in-Err-of.result c.from-in-Err-of.ensures all.0
-    (subst (λ (e : List (Vec ℕ Global)). HasHistoryFault (batch_of e) c.in-Err-of.fault) c.deref.ensures.value c.in-Err-of.ensures.cause)
+    (subst (λ (e : List (Vec ℕ Global)). HasDocketFault (batch_of e) c.in-Err-of.fault) c.deref.ensures.value c.in-Err-of.ensures.cause)
 
 pub returns-in-Err-clause-cause : goal.returns-in-Err-clause-cause
 returns-in-Err-clause-cause g c = λ file was clean.

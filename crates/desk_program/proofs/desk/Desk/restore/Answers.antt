@@ -1,7 +1,7 @@
 use Rattle.std.proofs.Common.{◌<◌, ℕ, List, Err, ap, length, refl, arith}
 use Rattle.std.proofs.lemmas.Result.{on_ok_weaker}
 use Rattle.desk_journal.specs.Words.{batch_of}
-use Rattle.desk_entries.specs.Words.{most_entries}
+use Rattle.desk_entries.specs.Words.{most_entries, unsaid_by}
 use Rattle.desk_entries.proofs.CallerLemmas.{length_batch}
 use Rattle.desk_program.specs.Desk.{standing_at}
 use Rattle.desk_program.proofs.DeskLemmas.{one_restore}
@@ -22,7 +22,8 @@ returns-in-Ok-reviewed-clause-restored g c = λ keeps.
       then = c.in-Ok-standing_without.standing;
       restored = record { restore_is = is; court = c.in-Ok-standing_without.ensures.court; corrections = corrections };
       listed = c.in-Ok-reviewed.ensures.listed;
-      keeps = taken;
+      keeps = taken.0;
+      history = taken.1;
     })
     (c.take_restore.ensures.kept entries c.args.row keeps is c.in-Ok-standing_without.ensures.court corrections c.in-Ok-reviewed.ensures.stands short)
 
@@ -40,4 +41,4 @@ returns-in-Err-reviewed-clause-refused g c = λ count keeps is.
 
 pub returns-in-Ok-reviewed-clause-crash : goal.returns-in-Ok-reviewed-clause-crash
 returns-in-Ok-reviewed-clause-crash g c = λ keeps x left.
-    one_restore x (standing_at c.args.self.now) (batch_of c.args.entries.now) c.args.row c.in-Ok.restore c.args.remark.now (c.in-Ok.ensures.restore (batch_of c.args.entries.now) keeps) (c.take_restore.ensures.crash (batch_of c.args.entries.now) keeps x left)
+    one_restore x (standing_at c.args.self.now) (batch_of c.args.entries.now) c.args.row c.in-Ok.restore (unsaid_by (standing_at c.args.self.now) (batch_of c.args.entries.now)) c.args.remark.now (c.in-Ok.ensures.restore (batch_of c.args.entries.now) keeps) (c.take_restore.ensures.crash (batch_of c.args.entries.now) keeps x left)

@@ -1,7 +1,7 @@
 use Rattle.std.proofs.Common.{◌<◌, ℕ, List, Err, ap, length, refl, arith}
 use Rattle.std.proofs.lemmas.Result.{on_ok_weaker}
 use Rattle.desk_journal.specs.Words.{batch_of}
-use Rattle.desk_entries.specs.Words.{most_entries}
+use Rattle.desk_entries.specs.Words.{most_entries, unsaid_by}
 use Rattle.desk_entries.proofs.CallerLemmas.{length_batch}
 use Rattle.desk_program.specs.Desk.{standing_at}
 use Rattle.desk_program.proofs.DeskLemmas.{one_strike}
@@ -22,7 +22,8 @@ returns-in-Ok-reviewed-clause-struck g c = λ keeps.
       then = c.in-Ok-standing_with.standing;
       struck = record { strike_is = is; court = c.in-Ok-standing_with.ensures.court; corrections = corrections };
       listed = c.in-Ok-reviewed.ensures.listed;
-      keeps = taken;
+      keeps = taken.0;
+      history = taken.1;
     })
     (c.take_strike.ensures.kept entries c.args.row keeps is c.in-Ok-standing_with.ensures.court corrections c.in-Ok-reviewed.ensures.stands short)
 
@@ -40,4 +41,4 @@ returns-in-Err-reviewed-clause-refused g c = λ count keeps is.
 
 pub returns-in-Ok-reviewed-clause-crash : goal.returns-in-Ok-reviewed-clause-crash
 returns-in-Ok-reviewed-clause-crash g c = λ keeps x left.
-    one_strike x (standing_at c.args.self.now) (batch_of c.args.entries.now) c.args.row c.in-Ok.strike c.args.remark.now (c.in-Ok.ensures.strike keeps) (c.take_strike.ensures.crash (batch_of c.args.entries.now) keeps x left)
+    one_strike x (standing_at c.args.self.now) (batch_of c.args.entries.now) c.args.row c.in-Ok.strike (unsaid_by (standing_at c.args.self.now) (batch_of c.args.entries.now)) c.args.remark.now (c.in-Ok.ensures.strike keeps) (c.take_strike.ensures.crash (batch_of c.args.entries.now) keeps x left)

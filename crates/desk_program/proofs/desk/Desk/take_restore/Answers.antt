@@ -1,23 +1,37 @@
-use Rattle.std.proofs.Common.{◌≡◌, ◌⊎◌, ◌++◌, ◌∷◌, [], Some, refl, sym, subst}
-use Rattle.std.specs.Prelude.{IsSome}
+use Rattle.std.proofs.Common.{◌≡◌, ◌∙◌, ◌⊎◌, ◌++◌, ◌∷◌, [], ℕ, List, Some, ap, refl, sym, subst}
+use Rattle.std.specs.Prelude.{All, IsSome}
 use Rattle.std.proofs.lemmas.Result.{on_ok_weaker}
 use Rattle.desk_journal.specs.Words.{StandsFor}
-use Rattle.desk_entries.specs.Words.{note_in, row_restored}
-use Rattle.desk_entries.proofs.CallerLemmas.{restore_said_again}
+use Rattle.desk_numbers.specs.declared.said.Said.{Said}
+use Rattle.desk_numbers.specs.Strikes.Words.{Fits, said_in, restore_entry}
+use Rattle.desk_entries.specs.Words.{IsHistory, note_in, row_restored, unsaid_by}
+use Rattle.desk_entries.proofs.CallerLemmas.{history_more, note_may_follow, restore_said_again}
 use Rattle.desk_program.specs.Desk.{KeepsDocket, docketed_at, standing_at}
-use Rattle.desk_program.proofs.NoteLemmas.{comes_by_restore}
+use Rattle.desk_program.proofs.NoteLemmas.{comes_by_note}
 use Rattle.desk_program.proofs.desk.Desk.take_restore.Goals as goal
 
 pub returns-clause-kept : goal.returns-clause-kept
 returns-clause-kept g c = λ entries row keeps is says more stands short.
-    let entry = c.in_ok-entry.entry.items in
+    let under = standing_at c.args.self.now in
     let at = keeps.docketed.stands.at in
-    let (said, can) = restore_said_again (standing_at c.args.self.now) entries row c.args.restore.now c.args.remark.now at.begun at.few keeps.docketed.standing is in
-    let noted = subst (λ e. note_in e ≡ Some (row_restored c.args.restore.now)) (sym c.in_ok-entry.ensures) said in
+    let entry : List ℕ = c.in_ok-entry.entry.items in
+    let gave : List Said = unsaid_by under entries in
+    let said_is = c.in_ok-said.ensures.said entries at in
+    let entry_is : entry ≡ restore_entry c.args.restore.now gave c.args.remark.now = c.in_ok-entry.ensures ∙ ap (λ (s : List Said). restore_entry c.args.restore.now s c.args.remark.now) (c.deref.ensures.value ∙ said_is) in
+    let again = restore_said_again under entries row c.args.restore.now gave c.args.remark.now at.begun at.few keeps.docketed.standing is (subst (All Fits) said_is c.in_ok-said.ensures.fits) in
+    let noted : note_in entry ≡ Some (row_restored c.args.restore.now) = ap note_in entry_is ∙ again.0 in
+    let says_them : said_in entry ≡ gave = ap said_in entry_is ∙ again.2 in
     on_ok_weaker c.take_note.result
-    (λ kept. subst (λ e. KeepsDocket g.D.Disk.seen g.D.Disk.may_leave g.D.Disk.is_usable (entries ++ e ∷ []) c.take_note.new.self) c.in_ok-entry.ensures kept)
-    (c.take_note.ensures.kept entries keeps stands short (subst IsSome (sym noted) refl) (comes_by_restore (docketed_at c.args.self.now) c.args.standing entries entry c.args.restore.now keeps.docketed noted can says more))
+    (λ kept. (
+      subst (λ e. KeepsDocket g.D.Disk.seen g.D.Disk.may_leave g.D.Disk.is_usable (entries ++ e ∷ []) c.take_note.new.self) entry_is kept,
+      λ history. subst (λ e. IsHistory (entries ++ e ∷ [])) entry_is (history_more entries entry history (note_may_follow (docketed_at c.args.self.now) entries entry (row_restored c.args.restore.now) keeps.docketed noted again.1 says_them)),
+    ))
+    (c.take_note.ensures.kept entries keeps stands short (subst IsSome (sym noted) refl) (comes_by_note (docketed_at c.args.self.now) c.args.standing entries entry (row_restored c.args.restore.now) keeps.docketed noted again.1 says_them says more))
 
 pub returns-clause-crash : goal.returns-clause-crash
 returns-clause-crash g c = λ entries keeps x left.
-    subst (λ e. StandsFor x entries ⊎ StandsFor x (entries ++ e ∷ [])) c.in_ok-entry.ensures (c.take_note.ensures.crash entries keeps x left)
+    let under = standing_at c.args.self.now in
+    let gave : List Said = unsaid_by under entries in
+    let said_is = c.in_ok-said.ensures.said entries keeps.docketed.stands.at in
+    let entry_is : c.in_ok-entry.entry.items ≡ restore_entry c.args.restore.now gave c.args.remark.now = c.in_ok-entry.ensures ∙ ap (λ (s : List Said). restore_entry c.args.restore.now s c.args.remark.now) (c.deref.ensures.value ∙ said_is) in
+    subst (λ e. StandsFor x entries ⊎ StandsFor x (entries ++ e ∷ [])) entry_is (c.take_note.ensures.crash entries keeps x left)
