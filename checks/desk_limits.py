@@ -1,5 +1,5 @@
 #!/usr/bin/env python3
-"""Takes the desk to its limits: a full disk, a folder that can't be written to, and very many rows.
+"""Takes the desk to its limits: a full disk, a folder that can't be written to, very many rows, and very many strikes.
 
     desk_limits.py DOCKET CLERK_OFFICE [ROWS [ENTRIES]]
 
@@ -10,7 +10,9 @@ are written one after another to a pipe while the answers are read from another:
 4 MB after its first 10,000 rows. A folder with twice as many rows, more than an input may have: each report must say of it what
 it says of those rows alone that change the docket, and the answers must be there, each once. A journal is filled with rows up to
 ENTRIES entries (999,000 without it, after which none is taken). The row after the last is refused, the journal is opened again, and
-there is room for a question, a strike, a restore and another court's file. It needs Linux and Python 3.8 or later.
+there is room for a question, a strike, a restore and another court's file. A journal of ROWS rows with a hundredth as many strikes at
+random places is written here; it must be opened in a second of a processor (two on a machine that is busy), and the sheets must have what
+isn't struck, with its numbers. A shorter one that is written so must be one to `docket check`. It needs Linux and Python 3.8 or later.
 """
 import contextlib
 import json
@@ -27,12 +29,17 @@ import threading
 import time
 
 from lib.desk import Desk, FAULTY, REFUSED, SHORT_COURT, drawn_rows
-from lib.journal import MOST_ROWS, rows_of, struck_in
+from lib.journal import MOST_ROWS, STRIKE_MARK, packed, rows_of, struck_in, with_said
+from lib.kept_numbers import given_by
 from lib.programs import programs_of
 
 NOBODY = 65534
 GROWTH_KB = 4000
 BEGUN = 10_000
+# In how many seconds of a processor a folder with very many strikes is opened, and how many times as many it may take on a machine that
+# is busy.
+OPENED_IN, BUSY = 1.0, 2
+REMARK = b"struck 2025-10-09 by ames@registry (1000): entered twice\n"
 
 
 def check_stopped(desk, rows, **how):
@@ -247,13 +254,93 @@ def check_full_journal(programs, count):
         count, size, seconds)
 
 
+def rows_to_strike(draw, count):
+    """Rows that open cases, how many those are, and rows after them, each of which can be struck and changes no later answer."""
+    cases = max(1, count // 50)
+    rows = [b"1,open,%d,2025-02-03\n" % (case + 1) for case in range(cases)]
+    for place in range(count - cases):
+        case, day = 1 + place % cases, b"2025-%02d-%02d" % (draw.randint(3, 9), draw.randint(1, 28))
+        rows.append(draw.choice([b"1,start,%d,59e,%s,,,\n" % (case, day), b"1,start,%d,12a1Ai,%s,,,\n" % (case, day),
+                                 b"1,motion,%d,%s,14\n" % (case, day), b"1,compute,59e,%s,,,\n" % day]))
+    return rows, cases
+
+
+def with_strikes(journal, draw, opens, count):
+    """The batches of a journal into which so many strikes are put at random places, none of the first rows, as `docket strike` writes
+    them. Each says what rows gave since the one before it. Then by row what it gave, of those that aren't struck."""
+    places, struck, given, new = set(draw.sample(range(opens + count, len(journal.entries)), count)), set(), {}, []
+    batches = [[(journal.stamps[0], journal.entries[0])]]
+    for number, (stamp, entry) in enumerate(zip(journal.stamps[1:], journal.entries[1:]), 1):
+        batches.append([(stamp, entry)])
+        line, answer = entry.splitlines()
+        said = given_by(number, line, answer)
+        if said is not None:
+            given[number] = said
+            new.append(said)
+        if number in places:
+            row = next(row for row in iter(lambda: draw.randint(opens + 1, number), None) if row not in struck)
+            struck.add(row)
+            batches.append([(stamp, with_said(STRIKE_MARK + b"%d\n" % row + REMARK, new))])
+            new = []
+    return batches, {row: said for row, said in given.items() if row not in struck}
+
+
+def folder_with_strikes(programs, parent, draw, count, strikes):
+    """A folder of so many rows, of which some are struck, and by row what the others gave."""
+    desk = Desk(programs, parent, SHORT_COURT)
+    rows, opens = rows_to_strike(draw, count)
+    desk.enter(rows)
+    batches, given = with_strikes(desk.read(), draw, opens, strikes)
+    desk.journal.write_bytes(packed(batches))
+    return desk, given
+
+
+def sheet_numbers(desk, case):
+    """The deadlines and the motions that the sheet of a case shows."""
+    ended = desk.call("ask", given=b"1,sheet,%d\n" % case)
+    assert ended.status == 0, ended
+    return [(kind.decode(), int(number)) for kind, number in re.findall(rb"(?m)^(deadline|motion) (\d+) ", ended.output)]
+
+
+def seconds_of(desk, *words, **how):
+    """How long the shortest of five calls takes, and how much time of processors the least of them."""
+    taken, used = [], []
+    for _ in range(5):
+        began, before = time.monotonic(), resource.getrusage(resource.RUSAGE_CHILDREN)
+        ended = desk.call(*words, **how)
+        after = resource.getrusage(resource.RUSAGE_CHILDREN)
+        taken.append(time.monotonic() - began)
+        used.append(after.ru_utime + after.ru_stime - before.ru_utime - before.ru_stime)
+        assert ended.status == 0, ended
+    return min(taken), min(used)
+
+
+def check_strikes(programs, draw, count):
+    """A folder with very many strikes is opened without deciding its rows again at each."""
+    with tempfile.TemporaryDirectory() as parent:
+        desk, _ = folder_with_strikes(programs, parent, draw, count // 50, count // 2000)
+        ended = desk.call("check")
+        assert ended.output == b"rows kept: %d, and each is answered as it was\n" % (count // 50), ended
+    with tempfile.TemporaryDirectory() as parent:
+        desk, given = folder_with_strikes(programs, parent, draw, count, count // 100)
+        assert desk.call("struck").output.count(b"\n") == count // 100
+        for case in draw.sample(range(1, count // 50 + 1), 5):
+            wanted = [(said.kind, said.number) for said in given.values() if said.case == case]
+            assert sorted(sheet_numbers(desk, case)) == sorted(wanted), (case, wanted)
+        ask, cases = seconds_of(desk, "ask", given=b"1,sheet,1\n"), seconds_of(desk, "cases")
+        assert max(ask[1], cases[1]) <= OPENED_IN * BUSY, (ask, cases)
+    return "a folder of {:,} rows and {:,} strikes: 'ask' takes {:.2f} s ({:.2f} s of a processor), and 'cases' {:.2f} s ({:.2f} s)".format(
+        count, count // 100, *ask, *cases)
+
+
 def main(words):
     programs, draw = programs_of(words[:2]), random.Random(1)
     rows = int(words[2]) if len(words) > 2 else 100_000
     entries = int(words[3]) if len(words) > 3 else MOST_ROWS
     for check in (lambda: check_second(programs), lambda: check_read_only(programs, draw),
                   lambda: check_short_file(programs, draw), lambda: check_full_disk(programs, draw),
-                  lambda: check_day(programs, draw, rows), lambda: check_many(programs, draw, 2 * rows), lambda: check_full_journal(programs, entries)):
+                  lambda: check_day(programs, draw, rows), lambda: check_many(programs, draw, 2 * rows), lambda: check_strikes(programs, draw, rows),
+                  lambda: check_full_journal(programs, entries)):
         print(check(), flush=True)
 
 

@@ -6,11 +6,12 @@
 lib/large_docket.py makes it, of a seed, and COUNT of them (1 without it). Its rows are entered at the desk, with the names of
 their cases, and 200 of the first are struck before the others come, one of them for a reason of 5,000 bytes. The answers must
 be those of the reference in plain Python, since a number that was given isn't given again. The journal must have all its
-entries, and the rows that the desk writes must be the others, in which deadlines and motions are named by their places. Of the
-folder what is due, a week, a page, iCalendar, JSON and SQL must say what the reference and `docket memo` say of these rows
-(lib/calendar_faults.py), with the numbers and names that the desk answered. It needs Python 3.8 or later, sqlite3 and
-python3-icalendar; the status is 0 where all is alike.
+entries, each strike must say the numbers that rows gave since the one before it, and the rows that the desk writes must be the
+others, in which deadlines and motions are named by their places. Of the folder what is due, a week, a page, iCalendar, JSON and
+SQL must say what the reference and `docket memo` say of these rows (lib/calendar_faults.py), with the numbers and names that the
+desk answered. It needs Python 3.8 or later, sqlite3 and python3-icalendar; the status is 0 where all is alike.
 """
+import itertools
 import re
 import sys
 import tempfile
@@ -19,7 +20,8 @@ from lib.calendar_faults import fault_of
 from lib.desk import Desk
 from lib.given_docket import Given, names_in
 from lib.ics_wanted import lost_of
-from lib.kept_numbers import Numbers
+from lib.journal import corrections_in, said_in
+from lib.kept_numbers import Numbers, said_wanted
 from lib.large_docket import large_docket
 from lib.programs import CHECKS, Programs, programs_of, seed_and_count
 from office_reference import answers_of
@@ -112,6 +114,8 @@ def entered(programs, parent, docket, answers):
     kept = desk.call("check")
     assert kept.output == "rows kept: {}, and each is answered as it was\n".format(len(docket.rows)).encode(), kept
     assert len(desk.call("struck").output.splitlines()) == len(docket.strikes)
+    journal = desk.read()
+    assert [said_in(entry) for _, entry in corrections_in(journal)] == said_wanted(journal, itertools.repeat(b"")), "other numbers are said"
     assert names_in(desk) == docket.names, "other names of cases"
     return desk
 

@@ -26,7 +26,7 @@ import time
 from typing import NamedTuple
 
 from lib.desk import CUT_OFF, Desk, REFUSED, SHORT_COURT, drawn_rows
-from lib.journal import COURT_LINE, RESTORE_MARK, STRIKE_MARK, Stamp, after_name, packed, read_journal
+from lib.journal import COURT_MARK, RESTORE_MARK, STRIKE_MARK, Stamp, after_name, packed, read_journal
 from lib.programs import programs_of, seed_and_count
 
 # What the environment says of who this is.
@@ -102,7 +102,7 @@ def listed_in(journal):
     """The entries of a journal as the log has them."""
     cases = [None]
     for place, entry in enumerate(journal.entries):
-        if place == 0 or entry.startswith(COURT_LINE):
+        if place == 0 or entry.startswith(COURT_MARK):
             yield Listed("court", None, None, b"")
         elif entry.startswith((STRIKE_MARK, RESTORE_MARK)):
             line, _, remark = entry.partition(b"\n")

@@ -74,7 +74,7 @@ ALL = [
     Check("desk_damage", [["desk_damage.py", DOCKET]],
           "each byte of a journal cut off and changed", "5 min", seeded=True),
     Check("desk_limits", [["desk_limits.py", DOCKET, CLERK]],
-          "a full disk, 200,000 rows, a full journal", "3 min"),
+          "a full disk, 200,000 rows, 1,000 strikes", "4 min"),
     Check("refuse_desk", [["refuse_desk.py", DOCKET]],
           "each growth refused to the desk (needs cc)", "2 min"),
     Check("folder_check", [["folder_check.py", DOCKET]],

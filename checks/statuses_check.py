@@ -6,7 +6,7 @@
 TABLE below has the commands, and for each what is done and the status that it must end with. Where a command ends with status 1
 to 6 or 10, standard output must be empty, but for what `court check` finds and for answers that came before, and standard error must
 say what is wrong; lines about the words of the command line begin with `error: `. A folder's journal must be as it was where the
-status is neither 0 nor 8. It needs Linux (/dev/full) and Python 3.8 or later. The last line counts the runs as 'N passed, M
+status is neither 0 nor 8. Of a journal of an earlier format each command must say so, and leave it as it is. It needs Linux (/dev/full) and Python 3.8 or later. The last line counts the runs as 'N passed, M
 failed'; the status is 0 where none failed.
 """
 import pathlib
@@ -16,6 +16,7 @@ import sys
 import tempfile
 
 from lib.desk import Desk, SHORT_COURT
+from lib.journal import VERSION, packed, read_journal
 from lib.programs import Ended, programs_of
 
 ROWS = [b"1,open,1,2025-03-03\n", b"1,start,1,59e,2025-03-03,,,\n", b"1,holiday,2025-03-31,state\n"]
@@ -26,6 +27,10 @@ STRIKE = "--reason twice"
 # What stands in the place of standard output in a call that ends with FULL: a disk that is full. In one that ends with UNREAD
 # standard input can't be read, and in one that ends with BESIDE another program enters rows.
 FULL, UNREAD, BESIDE = " > full", " < folder", " beside"
+
+# The folders whose journal is of an earlier format, and what is said of one.
+EARLIER = ["V{}".format(version) for version in range(1, VERSION)]
+EARLIER_FORMAT = b"the journal is of an earlier format, which this program doesn't read: open the folder with the version that wrote it\n"
 
 # Each file beside the folder.
 FILES = {
@@ -105,6 +110,15 @@ def of_folder(words):
     yield words + " S" + FULL, b"", STREAM
 
 
+def of_earlier(name):
+    """The calls of a folder whose journal is of an earlier format."""
+    yield from (("{} {}".format(words, name), given, JOURNAL) for words, given in (
+        *((words, b"") for words in ("struck", "cases", "rows", "check", "log", "plain", "enter", *REPORTS)), *((words, QUESTION) for words in ("enter", "try", "ask"))))
+    yield from (("{} {} {}".format(words, name, more), b"", JOURNAL) for words, more in (
+        ("strike", "1 " + STRIKE), ("restore", "1 " + STRIKE), ("court change", "court.toml"), ("cases", "--as-of 1")))
+    yield "init {} --court court.toml".format(name), b"", JOURNAL
+
+
 TABLE = [
     ("--help", b"", 0), ("--version", b"", 0), ("help due", b"", 0), ("due --help", b"", 0), ("court --help", b"", 0), ("court check --help", b"", 0),
     ("--help" + FULL, b"", STREAM), ("", b"", WORDS), ("nothing", b"", WORDS), ("nothing --help", b"", WORDS), ("court", b"", WORDS), ("court nothing", b"", WORDS),
@@ -149,12 +163,14 @@ TABLE = [
     ("court write --court hawaii", b"", WORDS), ("court write --court hawaii --from 2024 --to 2026" + FULL, b"", STREAM),
     ("court change F more.toml", b"", 0), ("court change F other.toml", b"", DIFFERS), ("court change F other.toml --accept", b"", 0),
     ("court change F faulty.toml", b"", COURT), ("court change F none.toml", b"", STREAM), ("court change F", b"", WORDS), ("court change N more.toml", b"", JOURNAL),
+    *(call for name in EARLIER for call in of_earlier(name)),
     ("court change F more.toml" + BESIDE, b"", JOURNAL), ("court change F other.toml" + FULL, b"", STREAM),
 ]
 
 
 class Place:
-    """A folder with a desk that has rows, one with a row struck (`S`), an empty one and files, made anew for each call."""
+    """A folder with a desk that has rows, one with a row struck (`S`), those of earlier formats (`V1`, `V2`), an empty one and files,
+    made anew for each call."""
 
     def __init__(self, programs, parent):
         self.programs, self.parent, self.made = programs, pathlib.Path(parent), pathlib.Path(parent) / "made"
@@ -170,6 +186,10 @@ class Place:
                 assert desk.call("strike", 3, "--accept", *STRIKE.split(" ")).status == 0
             desk.folder.rename(self.made / name)
             (self.made / "E" / "court.toml").unlink()
+        journal = read_journal((self.made / "F" / "journal").read_bytes())
+        for version, name in enumerate(EARLIER, 1):
+            (self.made / name).mkdir()
+            (self.made / name / "journal").write_bytes(packed([[both] for both in zip(journal.stamps, journal.entries)], version))
 
     def run(self, folder, text, given):
         """How a call ends that is done in this folder."""
@@ -197,9 +217,10 @@ class Place:
             session.stdin.write(QUESTION)
             session.stdin.flush()
             session.stdout.readline()
-        before = (folder / "F" / "journal").read_bytes()
+        journals = [folder / name / "journal" for name in ("F", *EARLIER)]
+        before = [journal.read_bytes() for journal in journals]
         ended = self.run(folder, text, given)
-        is_as_it_was = (folder / "F" / "journal").read_bytes() == before
+        is_as_it_was = [journal.read_bytes() for journal in journals] == before
         if session:
             session.communicate()
         shutil.rmtree(folder)
@@ -211,6 +232,8 @@ class Place:
             return "it wrote {}".format(ended)
         if status in (WORDS, COURT, LINES, STREAM, ABSENT, JOURNAL) and not text.startswith("court check faulty.toml") and not ended.errors.strip():
             return "it says nothing of what is wrong: {}".format(ended)
+        if set(EARLIER) & set(text.split()) and not text.startswith("init") and ended.errors != EARLIER_FORMAT:
+            return "it doesn't say that the journal is of an earlier format: {}".format(ended)
         return "it doesn't say that the words are wrong: {}".format(ended) if status == WORDS and not ended.errors.startswith(b"error: ") else None
 
 

@@ -12,7 +12,9 @@ before, the sheets of all cases and the calendars of all judges, the answers to
 later rows, what clerk_office makes of the rows that the desk writes, which counts deadlines and motions by their places, and
 the reports of the folder, which show the numbers of rows, deadlines and motions that `enter` answered. Without --accept a
 strike or a restore that changes an answer changes nothing; a row that is struck isn't struck again, and only such a row is
-restored. It needs Python 3.8 or later.
+restored. The first line of each correction must say the numbers that rows gave since the one before it and don't keep yet: those of
+the replay, and those that the answers and the lists of the folder show. A journal in which one correction says others, or a row has another answer,
+is refused by `docket check`, and nothing opens it where that row comes after the last correction. It needs Python 3.8 or later.
 """
 import json
 import random
@@ -21,10 +23,10 @@ import sqlite3
 import sys
 import tempfile
 
-from lib.desk import Desk, SHORT_COURT
-from lib.journal import rows_of as rows_kept, struck_in
+from lib.desk import Desk, REFUSED, SHORT_COURT
+from lib.journal import CORRECTIONS, Said, corrections_in, packed, rows_of as rows_kept, said_in, struck_in, with_said
 from lib.json_text import office_text
-from lib.kept_numbers import Numbers
+from lib.kept_numbers import GIVES, Numbers, said_wanted, to_say
 from lib.programs import programs_of, seed_and_count
 from reference.court_file import court_of
 from reference.docket import STEPS, deadlines_of, hearing_of, motions_of, opening, step, view
@@ -164,6 +166,63 @@ def changed(kept, now, after):
             text += b"row %d is answered now\n" % number + was
         text += b"and would be answered\n" + then + mark_of(number, was, then)
     return text
+
+
+def said_by(given):
+    """What rows gave, as a correction says it, by row."""
+    return {row: Said(row, case, GIVES[word.encode()], number) for row, (word, case, number) in given.items()}
+
+
+def spoiled(said, rows, draw):
+    """Other numbers than these, where so many rows were entered."""
+    at = draw.randrange(len(said)) if said else 0
+    ways = [said + [Said(rows + 1, 1, "deadline", 1)], [Said(1, 4000, "motion", 1)] + said]
+    if said:
+        ways += [said[:at] + said[at + 1:], said[:at] + [said[at]] + said[at:],
+                 *(said[:at] + [said[at]._replace(**other)] + said[at + 1:] for other in (
+                     {"number": said[at].number + 1}, {"case": said[at].case + 1}, {"row": said[at].row + 1},
+                     {"kind": "motion" if said[at].kind == "deadline" else "deadline"}))]
+    if len(said) > 1:
+        ways.append(said[1:] + said[:1])
+    return draw.choice(ways)
+
+
+def compare_said(desk, wanted, lists):
+    """What the corrections say: `wanted` is what the replay has of each, and `lists` what each wrote."""
+    journal = desk.read()
+    corrections = corrections_in(journal)
+    assert [said_in(entry) for _, entry in corrections] == wanted, (corrections, wanted)
+    assert said_wanted(journal, lists) == wanted, (wanted, said_wanted(journal, lists))
+    assert all(with_said(entry, said) == entry for (_, entry), said in zip(corrections, wanted)), corrections
+
+
+def refused_where(desk, journal, place, entry, words, tasks):
+    """Each of these calls refuses the journal in which this entry is at that place, in these words."""
+    whole = desk.journal.read_bytes()
+    entries = journal.entries[:place] + [entry] + journal.entries[place + 1:]
+    desk.journal.write_bytes(packed([[both] for both in zip(journal.stamps, entries)]))
+    for task in tasks:
+        ended = desk.call(task)
+        assert ended.status == REFUSED and not ended.output and words in ended.errors, (task, journal.entries[place], entry, ended)
+    desk.journal.write_bytes(whole)
+
+
+def check_spoiled(desk, draw):
+    """`docket check` refuses the journal where one of its corrections says other numbers, or one of its rows has another answer. Where
+    it is a row after the last correction, no folder with it is opened."""
+    journal = desk.read()
+    places = range(1, len(journal.entries))
+    corrections = [place for place in places if journal.entries[place].startswith(CORRECTIONS)]
+    rows = [place for place in places if place not in corrections]
+    if corrections:
+        place = draw.choice(corrections)
+        entry = journal.entries[place]
+        other = with_said(entry, spoiled(said_in(entry), sum(row < place for row in rows), draw))
+        refused_where(desk, journal, place, other, b"entry %d of the journal " % (place + 1), ["check"])
+    last = max(corrections, default=0)
+    for chosen in (draw.choice(rows), *[place for place in rows if place > last][-1:]):
+        refused_where(desk, journal, chosen, journal.entries[chosen][:-1] + b"0\n", b"row %d has another answer " % (1 + rows.index(chosen)),
+                      ["check", "cases", "ask"] if chosen > last else ["check"])
 
 
 def ends_of(replay, case):
@@ -360,7 +419,7 @@ def wrong_with(word, row, lines, struck):
 
 def correct(desk, word, row, now, after):
     """Strikes or restores a row; the docket is the first of these before it, and the other after it. Gives how many answers
-    changed."""
+    changed, and what was written."""
     before, kept = desk.journal.read_bytes(), rows_kept(desk.read())
     differs = changed(kept, now, after)
     text = told_first(kept, word, row) + differs + shifts(now, after)
@@ -372,15 +431,23 @@ def correct(desk, word, row, now, after):
         ended = desk.call(word, row, "--accept", *WHY)
         assert ended.status == 0 and ended.output == text, (word, row, ended, text)
     assert struck_in(desk.read()) == after.struck
-    return differs.count(b" is kept as\n")
+    return differs.count(b" is kept as\n"), text
 
 
 def check_docket(programs, draw):
-    """One docket, of which rows are struck and restored. Gives how many were struck, how many restored, and how many answers
-    changed."""
+    """One docket, of which rows are struck and restored. Gives how many were struck, how many restored, how many answers
+    changed, and how many numbers were said."""
     with tempfile.TemporaryDirectory() as parent:
         desk, court = Desk(programs, parent, SHORT_COURT), court_of(SHORT_COURT)
         lines, struck, given, many, done = [], set(), {}, 0, {"strike": 0, "restore": 0}
+        kept, said, lists = {}, [], []
+
+        def corrected(written):
+            """Takes down what the correction has to say that was made, and what it wrote."""
+            nonlocal kept
+            said.append(to_say(said_by(given), kept))
+            kept = said_by(given)
+            lists.append(written)
         for _ in range(draw.randint(1, 5)):
             now = Replay(court, lines, struck, given)
             if draw.random() < 0.3:
@@ -389,6 +456,7 @@ def check_docket(programs, draw):
                 after = Replay(court, lines, struck, given)
                 ended = desk.take_court(file)
                 assert ended.status == 0 and ended.output == changed(rows_kept(desk.read()), now, after) + shifts(now, after), (file, ended)
+                corrected(ended.output)
                 given = after.given
             more = opened(draw) + [drawn_row(draw) for _ in range(draw.randint(5, 25))]
             replay = Replay(court, lines, struck, given)
@@ -405,17 +473,21 @@ def check_docket(programs, draw):
             calendar = sequences(desk)
             struck = struck - {row} if word == "restore" else struck | {row}
             after = Replay(court, lines, struck, given)
-            many += correct(desk, word, row, replay, after)
+            changes, written = correct(desk, word, row, replay, after)
+            corrected(written)
+            many += changes
             given, done[word] = after.given, done[word] + 1
             compare(desk, after, (lines, word, row))
             compare_calendars(calendar, sequences(desk), rows_kept(desk.read()), after, (lines, word, row))
             assert b"rows kept: %d," % len(lines) in desk.call("check").output
+        compare_said(desk, said, lists)
+        check_spoiled(desk, draw)
         numbers = list(given.values())
         assert len(set(numbers)) == len(numbers), "a number was given twice"
         listed = desk.call("struck").output
         found = re.findall(rb"^row (\d+) struck \d{4}-\d\d-\d\d by [^@:]+@[^@:]+ \(\d+\): entered twice\n", listed, re.MULTILINE)
         assert listed.count(b"\n") == len(struck) and {int(row) for row in found} == struck, listed
-        return done["strike"], done["restore"], many
+        return done["strike"], done["restore"], many, sum(map(len, said))
 
 
 def main(words):
@@ -425,7 +497,7 @@ def main(words):
     programs, (seed, count) = programs_of(words[:2]), seed_and_count(words[2:], 100)
     draw = random.Random(seed)
     counted = [check_docket(programs, draw) for _ in range(count)]
-    print("{} dockets: {} rows were struck, {} were restored, and {} answers changed, each as a replay of the rows that stand says".format(
+    print("{} dockets: {} rows were struck, {} were restored, {} answers changed, and corrections said {} numbers, each as a replay of the rows that stand says".format(
         count, *map(sum, zip(*counted))))
     return 0
 

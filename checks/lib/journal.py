@@ -3,7 +3,16 @@ import hashlib
 from typing import NamedTuple
 
 OPEN, SHUT = b"++", b"--"
-FIRST_CHECKSUM = hashlib.sha256(b"durable journal, version 2").digest()
+
+
+def first_checksum(version):
+    """What counts as the checksum before the first entry, in this version of the format."""
+    return hashlib.sha256(b"durable journal, version %d" % version).digest()
+
+
+# The version that is read, and what its first checksum is.
+VERSION = 3
+FIRST_CHECKSUM = first_checksum(VERSION)
 # What comes between a latch and the content: two numbers of four bytes, and a checksum.
 HEAD = 4 + 4 + 32
 MOST_ENTRIES = 1_000_000
@@ -11,12 +20,16 @@ MOST_ENTRIES = 1_000_000
 MOST_ROWS = 999_000
 # How many bytes the time of a stamp has.
 TIME = 8
-# The line with which the entry of a later court's file begins.
-COURT_LINE = b"%%\n"
+# With what the line begins that comes before a later court's file in its entry.
+COURT_MARK = b"%%court"
 # With what the line begins in which a row's entry has the new name of its case, before the row.
 NAME_MARK = b"%%case "
 # With what an entry begins by which a row is struck, and one by which it is restored.
 STRIKE_MARK, RESTORE_MARK = b"%%strike ", b"%%restore "
+# With what the entries begin that correct the docket: they take no number.
+CORRECTIONS = (COURT_MARK, STRIKE_MARK, RESTORE_MARK)
+# The letters with which a correction says numbers, and what gives one by them.
+KINDS = {"d": "deadline", "m": "motion"}
 
 
 class Damaged(Exception):
@@ -146,10 +159,57 @@ class Kept(NamedTuple):
     answer: bytes
 
 
+class Said(NamedTuple):
+    """A number that a correction says: the row that gave it, the case, what it is a number of, and the number."""
+    row: int
+    case: int
+    kind: str
+    number: int
+
+    @property
+    def word(self):
+        """As the first line of a correction has it."""
+        return "{}{}.{}.{}".format(self.kind[0], self.row, self.case, self.number).encode()
+
+
+def said_by(word):
+    """What a word of a correction's first line says."""
+    row, case, number = map(int, word[1:].split(b"."))
+    return Said(row, case, KINDS[word[:1].decode()], number)
+
+
+def said_in(entry):
+    """The numbers that a correction says in its first line, after its mark and the row that it strikes or restores."""
+    words = entry.partition(b"\n")[0].split(b" ")
+    return [said_by(word) for word in words[1 if entry.startswith(COURT_MARK) else 2:]]
+
+
+def with_said(entry, said):
+    """A correction with these numbers in place of those that it says."""
+    line, end, rest = entry.partition(b"\n")
+    words = line.split(b" ")[:1 if entry.startswith(COURT_MARK) else 2]
+    return b" ".join([*words, *(one.word for one in said)]) + end + rest
+
+
+def corrections_in(journal):
+    """The corrections of a journal, each with how many rows come before it."""
+    rows, found = 0, []
+    for entry in journal.entries[1:]:
+        if entry.startswith(CORRECTIONS):
+            found.append((rows, entry))
+        else:
+            rows += 1
+    return found
+
+
+def kept_in(journal):
+    """The numbers that rows keep after all corrections, by row."""
+    return {said.row: said for _, entry in corrections_in(journal) for said in said_in(entry)}
+
+
 def rows_of(journal):
-    """The rows of a journal with their answers. The first entry is a court's file, and so is each that begins with a line `%%`; one
-    that strikes or restores a row is none either."""
-    rows = [after_name(entry).partition(b"\n") for entry in journal.entries[1:] if not entry.startswith((COURT_LINE, STRIKE_MARK, RESTORE_MARK))]
+    """The rows of a journal with their answers. The first entry is a court's file, and no correction is a row."""
+    rows = [after_name(entry).partition(b"\n") for entry in journal.entries[1:] if not entry.startswith(CORRECTIONS)]
     return [Kept(row + end, answer) for row, end, answer in rows]
 
 
@@ -165,25 +225,26 @@ def struck_in(journal):
 
 def courts_of(journal):
     """The court's files of a journal, the first and all later ones."""
-    later = [entry[len(COURT_LINE):] for entry in journal.entries[1:] if entry.startswith(COURT_LINE)]
+    later = [entry.partition(b"\n")[2] for entry in journal.entries[1:] if entry.startswith(COURT_MARK)]
     return journal.entries[:1] + later
 
 
-def frame_bytes(count, previous, stamp, entry):
-    """The bytes of an entry's frame after its latch, and its checksum. `count` entries were on the disk before its batch, and `previous`
-    is the checksum of the entry before it."""
-    content = stamp.bytes + entry
+def frame_bytes(count, previous, content):
+    """The bytes of a frame after its latch, and its checksum. `count` entries were on the disk before its batch, and `previous` is the
+    checksum of the entry before it."""
     head = count.to_bytes(4, "big") + len(content).to_bytes(4, "big")
     checksum = hashlib.sha256(previous + head + content).digest()
     return head + checksum + content, checksum
 
 
-def packed(batches):
-    """The bytes of a journal to which these batches were appended, of entries with their stamps."""
-    data, previous, count = bytearray(), FIRST_CHECKSUM, 0
+def packed(batches, version=VERSION):
+    """The bytes of a journal to which these batches were appended, of entries with their stamps, in this version of the format. The
+    first has latches of one byte and no stamps."""
+    data, previous, count = bytearray(), first_checksum(version), 0
+    size = 1 if version == 1 else len(OPEN)
     for batch in batches:
         for stamp, entry in batch:
-            frame, previous = frame_bytes(count, previous, stamp, entry)
-            data += OPEN + frame
+            frame, previous = frame_bytes(count, previous, entry if version == 1 else stamp.bytes + entry)
+            data += OPEN[:size] + frame
         count += len(batch)
-    return bytes(data + SHUT)
+    return bytes(data + SHUT[:size])
