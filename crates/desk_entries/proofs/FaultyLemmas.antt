@@ -1,5 +1,5 @@
 -- What is wrong with entries.
-use Rattle.std.proofs.Common.{◌≡◌, ◌∙◌, ◌+◌, ◌<◌, ◌⊎◌, ℕ, List, [], ◌∷◌, ◌++◌, Option, Some, None, Err, length, length-append, refl, sym, ap, subst, append_assoc, arith}
+use Rattle.std.proofs.Common.{◌≡◌, ◌∙◌, ◌+◌, ◌<◌, ◌⊎◌, ℕ, List, [], ◌∷◌, ◌++◌, Option, Some, Err, length, length-append, refl, sym, ap, subst, append_assoc, arith}
 use Rattle.std.specs.Prelude.{Vec, slice_get}
 use Rattle.std.specs.declared.alloc.Global.{Global}
 use Rattle.desk_journal.specs.Words.{batch_of}
@@ -7,7 +7,7 @@ use Rattle.court_days.specs.Words.{court_in}
 use Rattle.desk_entries.specs.declared.fault.HistoryFault.{HistoryFault}
 use Rattle.desk_entries.specs.declared.fault.HistoryFault.TheVariants.{Court, NoCourt, Other, OutOfMemory, Strike}
 use Rattle.desk_entries.specs.Docketed.{AreHistory, CannotBe, HasFault, IsBadFile, IsBadNote, IsFaultyEntry, SaysOthers}
-use Rattle.desk_entries.specs.Entries.{Note, court_file, file_after, note_in, standing_file}
+use Rattle.desk_entries.specs.Entries.{Note, court_file, file_after, note_in}
 use Rattle.desk_entries.proofs.ListLemmas.{standing_file-file}
 
 -- a faulty entry makes entries faulty that begin with those before it

@@ -1,34 +1,29 @@
 -- Histories, after one entry more and after what lines leave.
-use Rattle.std.proofs.Common.{◌≡◌, ◌∙◌, ◌<◌, ◌&&◌, ℕ, Bool, true, false, not, List, [], ◌∷◌, ◌++◌, Option, Some, None, Err, length, length-append, refl, sym, ap, subst, append_assoc, append-nil, arith}
-use Rattle.std.specs.Prelude.{IsSome, Vec, is_some, nat_lt, slice_get}
-use Rattle.std.specs.declared.alloc.Global.{Global}
+use Rattle.std.proofs.Common.{◌≡◌, ◌∙◌, ◌<◌, ◌&&◌, ℕ, Bool, true, false, not, List, [], ◌∷◌, ◌++◌, Option, Some, None, length, length-append, refl, sym, ap, subst, append_assoc, append-nil, arith}
+use Rattle.std.specs.Prelude.{IsSome, is_some, nat_lt}
 use Rattle.std.specs.List.{list_all}
-use Rattle.desk_journal.specs.Words.{batch_of}
-use Rattle.court_days.specs.Words.{CourtView, court_in}
+use Rattle.court_days.specs.Words.{CourtView}
 use Rattle.row_forms.specs.declared.line.line.Line.{Line}
 use Rattle.row_forms.specs.declared.line.line.Line.TheVariants as line
 use Rattle.row_forms.specs.Words.{names_of}
 use Rattle.row_forms.specs.Line.Words.{fields_read, line_read}
 use Rattle.desk_session.specs.Taken.{left_by}
-use Rattle.desk_entries.specs.declared.fault.HistoryFault.{HistoryFault}
-use Rattle.desk_entries.specs.declared.fault.HistoryFault.TheVariants.{Court, NoCourt, Other, OutOfMemory, Strike}
-use Rattle.desk_entries.specs.Docketed.{HasFault, IsBadFile, IsBadNote, IsDocketed, IsFaultyEntry}
+use Rattle.desk_entries.specs.Docketed.{IsDocketed}
 use Rattle.desk_entries.specs.declared.docketed.Docketed.{Docketed}
 use Rattle.desk_numbers.specs.declared.strikes.restore.Restore.{Restore as RestoreOf}
 use Rattle.desk_numbers.specs.declared.strikes.strike.Strike.{Strike as StrikeOf}
-use Rattle.desk_numbers.specs.Strikes.Words.{CorrectionsView, all_before, is_among, is_struck, no_corrections, struck_with, struck_without}
+use Rattle.desk_numbers.specs.Strikes.Words.{CorrectionsView, all_before, is_among, is_struck, no_corrections}
 use Rattle.desk_numbers.proofs.StrikesLemmas.CallerLemmas.{still_before}
-use Rattle.desk_numbers.specs.declared.given.Given.{Given}
 use Rattle.desk_entries.specs.declared.standing.Standing.{Standing}
-use Rattle.desk_entries.specs.Entries.{Note, can_restore, can_strike, court_file, file_after, file_with, kept_after, kept_as, kept_in, most_clerks, next_number, note_in, row_entries, row_restored, row_struck, standing_file, struck_by, struck_in}
+use Rattle.desk_entries.specs.Entries.{Note, can_restore, can_strike, court_file, file_after, file_with, kept_as, kept_in, most_clerks, next_number, note_in, row_entries, row_restored, row_struck, standing_file, struck_by, struck_in}
 use Rattle.desk_entries.specs.History.{AllFollow, CanBe, FollowsAs, IsHistory, MayFollow, SaysCourt, SaysNumbers, StandsAfter}
 use Rattle.desk_entries.specs.Laws.{WhatIsLeftIsHistory}
 use Rattle.desk_entries.specs.Register.{IsReadyAt, StandsAt}
 use Rattle.case_numbers.specs.Words.{NameView, after_name, name_before}
 use Rattle.desk_entries.specs.Rows.{follows, kept_leaves, leaves, left_again, left_of, plain_leaves, reading_at, with_name, within}
-use Rattle.desk_entries.specs.Run.{corrections_then, run_by}
+use Rattle.desk_entries.specs.Run.{corrections_then}
 use Rattle.desk_entries.proofs.EntryLemmas.{left_follows}
-use Rattle.desk_entries.proofs.ListLemmas.{before-note, before-row, before_strike, none_struck, standing_file-file, standing_file-more, struck_in-more}
+use Rattle.desk_entries.proofs.ListLemmas.{before-note, before-row, before_strike, none_struck, standing_file-more, struck_in-more}
 use Rattle.desk_entries.proofs.SaidLemmas.{kept_in-more, none_kept, says_given}
 
 AllFollow-append : (kept some more : List (List ℕ)) → AllFollow kept some → AllFollow (kept ++ some) more → AllFollow kept (some ++ more)

@@ -1,7 +1,6 @@
 -- A court and its docket, made of a journal's entries, or why they make none.
 use Rattle.std.specs.Prelude.{◌≡◌, ◌<◌, ◌+◌, ◌⊎◌, ℕ, false, List, [], ◌∷◌, ◌++◌, length, Option, None, Some, Err}
 use Rattle.court_days.specs.Words.{court_in}
-use Rattle.court_file_text.specs.declared.fault.CourtFault.{CourtFault}
 use Rattle.desk_entries.specs.declared.docketed.Docketed.{Docketed}
 use Rattle.desk_entries.specs.declared.fault.HistoryFault.{HistoryFault}
 use Rattle.desk_entries.specs.declared.fault.HistoryFault.TheVariants.{Court, NoCourt, Other, OutOfMemory, Strike}

@@ -1,4 +1,4 @@
-use Rattle.std.proofs.Common.{◌∙◌, ◌++◌, ◌∷◌, [], ap, length, length-append, sym}
+use Rattle.std.proofs.Common.{◌∙◌, ◌∷◌, [], ap, length, length-append, sym}
 use Rattle.std.proofs.lemmas.Result.{IfErr-weaker}
 use Rattle.desk_entries.specs.Docketed.{IsBadFile, IsFaultyEntry}
 use Rattle.desk_entries.proofs.FaultyLemmas.{bad_file}

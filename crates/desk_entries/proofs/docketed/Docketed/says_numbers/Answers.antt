@@ -1,4 +1,4 @@
-use Rattle.std.proofs.Common.{rules, ◌≡◌, ◌∙◌, ℕ, Bool, true, List, subst, sym}
+use Rattle.std.proofs.Common.{rules, ◌≡◌, ◌∙◌, true, List, subst, sym}
 use lib.Pointwise.{pointwise, pointwise_decides}
 use Rattle.desk_numbers.specs.declared.said.Said.{Said}
 use Rattle.desk_numbers.specs.contracts.said.SaidPartialEq.TheImpl.{eq-value}

@@ -1,4 +1,4 @@
-use Rattle.std.proofs.Common.{◌≡◌, ◌∙◌, ◌+◌, ◌++◌, ◌∷◌, [], true, false, ap, inl, length, length-append, subst, sym}
+use Rattle.std.proofs.Common.{◌≡◌, ◌∙◌, ◌∷◌, [], true, false, ap, inl, length-append, subst, sym}
 use Rattle.desk_numbers.specs.Strikes.Words.{CorrectionsView}
 use Rattle.desk_entries.specs.Entries.{can_strike, row_struck, standing_file}
 use Rattle.desk_entries.specs.History.{SaysCourt}

@@ -1,7 +1,6 @@
-use Rattle.std.proofs.Common.{◌≡◌, ◌∙◌, ◌+◌, ◌<◌, ◌++◌, ◌∷◌, ℕ, List, [], ap, drop, length, sym, subst, arith, take}
+use Rattle.std.proofs.Common.{◌≡◌, ◌∙◌, ◌+◌, ◌++◌, ◌∷◌, ℕ, List, [], ap, drop, length, sym, subst, arith, take}
 use Rattle.desk_journal.specs.Words.{batch_of}
 use Rattle.desk_entries.specs.Docketed.{HasFault}
-use Rattle.desk_entries.specs.Entries.{most_entries}
 use Rattle.desk_entries.specs.Inside.Walk.{IsWalked}
 use Rattle.desk_entries.proofs.FaultyLemmas.{faulty_so}
 use Rattle.desk_entries.proofs.ListLemmas.{length_batch, next_number-few, parts_at, take_batch}
