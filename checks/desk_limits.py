@@ -11,7 +11,7 @@ are written one after another to a pipe while the answers are read from another:
 it says of those rows alone that change the docket, and the answers must be there, each once. A journal is filled with rows up to
 ENTRIES entries (999,000 without it, after which none is taken). The row after the last is refused, the journal is opened again, and
 there is room for a question, a strike, a restore and another court's file. A journal of ROWS rows with a hundredth as many strikes at
-random places is written here; it must be opened in a second of a processor (two on a machine that is busy), and the sheets must have what
+random places is written here; it must be opened in two seconds of a processor at most (the aim is one), and the sheets must have what
 isn't struck, with its numbers. A shorter one that is written so must be one to `docket check`. It needs Linux and Python 3.8 or later.
 """
 import contextlib
@@ -266,8 +266,8 @@ def rows_to_strike(draw, count):
 
 
 def with_strikes(journal, draw, opens, count):
-    """The batches of a journal into which so many strikes are put at random places, none of the first rows, as `docket strike` writes
-    them. Each says what rows gave since the one before it. Then by row what it gave, of those that aren't struck."""
+    """The batches of a journal with `count` strikes more, at random places and as `docket strike` writes them, none of a row that opens
+    a case. Each says what rows gave since the one before it. Also, by row, the number that each row gave that isn't struck."""
     places, struck, given, new = set(draw.sample(range(opens + count, len(journal.entries)), count)), set(), {}, []
     batches = [[(journal.stamps[0], journal.entries[0])]]
     for number, (stamp, entry) in enumerate(zip(journal.stamps[1:], journal.entries[1:]), 1):
@@ -286,7 +286,7 @@ def with_strikes(journal, draw, opens, count):
 
 
 def folder_with_strikes(programs, parent, draw, count, strikes):
-    """A folder of so many rows, of which some are struck, and by row what the others gave."""
+    """A folder of `count` rows with `strikes` of them struck, and by row the numbers that the others gave."""
     desk = Desk(programs, parent, SHORT_COURT)
     rows, opens = rows_to_strike(draw, count)
     desk.enter(rows)

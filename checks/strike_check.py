@@ -174,7 +174,7 @@ def said_by(given):
 
 
 def spoiled(said, rows, draw):
-    """Other numbers than these, where so many rows were entered."""
+    """Numbers that differ from these, in a folder of `rows` rows."""
     at = draw.randrange(len(said)) if said else 0
     ways = [said + [Said(rows + 1, 1, "deadline", 1)], [Said(1, 4000, "motion", 1)] + said]
     if said:

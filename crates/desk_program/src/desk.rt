@@ -41,10 +41,10 @@ pub(crate) fn batch_with(alloc: Global, entry: Vec<u8>) -> Result<Vec<Vec<u8>>, 
 impl<D: Disk> Desk<D> {
     ghost use Rattle.desk_program.specs.Desk.{IsPromisedDocket, IsUnopened, KeepsDocket, answers_at, disk_under, docketed_at, held_at, leaves_at, outcome_at, stamp_under, standing_at};
 
-    /// Opens the docket of a disk that a crash may have left, and gives the entries of its journal. Each row must have the
-    /// answer that it gets under the court's file of its time. Nothing is held back at first. What is kept there gets this stamp,
-    /// with the time of the last entry where that is later. At an `Err` the disk is given back, and a crash leaves what stands for
-    /// the same entries.
+    /// Opens the docket of a disk that a crash may have left, and gives the entries of its journal. Each row after the last
+    /// correction must have the answer that it gets; of the rows before it `checked_rows` says whether they had theirs. Nothing
+    /// is held back at first. What is kept there gets this stamp, with the time of the last entry where that is later. At an
+    /// `Err` the disk is given back, and a crash leaves what stands for the same entries.
     pub fn open(
         alloc: Global,
         disk: D,
