@@ -11,7 +11,8 @@ use Rattle.desk_entries.specs.Words.{StandsAfter, came_shown, shown}
 use Rattle.desk_program.specs.declared.fault.DeskFault.{DeskFault}
 use Rattle.desk_program.specs.declared.fault.DeskFault.TheVariants.{Unkept}
 
--- Each line is answered as a question on the docket after the entries, under what stands there. No line changes what the next is answered. The tally says how many lines there were, and how many had faults.
+-- Each line is answered as a question on the docket after the entries, under what stands there. No line changes what the next is
+-- answered. The tally says how many lines there were, and how many had faults.
 pub record AnswersQuestions (entries lines : List (List ℕ)) (tally : Tally) (before after : Option (List ℕ)) : Type 0 where
   pub under : Standing
   pub stands : StandsAfter entries under
