@@ -4,4 +4,5 @@ pub mod Warnings
 pub mod AreWarnings
 pub mod Check
 pub mod Review
+pub mod Places
 pub mod Inside

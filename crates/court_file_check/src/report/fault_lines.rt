@@ -1,11 +1,11 @@
 //! The lines of faults.
 
+use crate::places::Part;
 use crate::report::hints::{date_hint, example_of, time_hint, zone_hint};
 use crate::report::near_key::near_key;
 use crate::report::sheet::Sheet;
 use crate::{Fault, What};
 use court_clock::{Day, minute_from_text};
-use court_file_places::Part;
 use court_file_text::{CourtFault, Key, NumberedFault};
 use std::alloc::{AllocError, Global};
 use toml::{Table, Value};

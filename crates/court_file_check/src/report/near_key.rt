@@ -1,6 +1,6 @@
 //! The key that a person may have meant by another one.
 
-use court_file_places::key_of;
+use crate::places::key_of;
 use court_file_text::Key;
 use std::alloc::{AllocError, Global};
 use strsim::levenshtein;

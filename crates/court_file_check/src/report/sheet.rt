@@ -1,9 +1,9 @@
 //! The text as it is written, line by line.
 
+use crate::places::{Mark, Part, Place, Places, place_at};
 use crate::report::report::Report;
 use crate::warnings::slips::day_of_item;
 use court_clock::Day;
-use court_file_places::{Mark, Part, Place, Places, place_at};
 use court_file_text::Key;
 use std::alloc::{AllocError, Global};
 use toml::{Table, Value};

@@ -1,7 +1,7 @@
 //! The line of a file that is no TOML.
 
+use crate::places::place_at;
 use crate::report::sheet::Sheet;
-use court_file_places::place_at;
 use std::alloc::AllocError;
 use toml::de::Error;
 

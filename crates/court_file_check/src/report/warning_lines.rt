@@ -1,10 +1,10 @@
 //! The lines of warnings.
 
+use crate::places::{Mark, Part};
 use crate::report::sheet::{Sheet, item_after, item_of};
 use crate::review::{Due, due_on};
 use crate::{Alike, Asked, Slip, Warnings, ZoneDoubt};
 use court_clock::Day;
-use court_file_places::{Mark, Part};
 use court_file_text::Key;
 use court_holidays::{FederalHoliday, observed_for};
 use std::alloc::AllocError;

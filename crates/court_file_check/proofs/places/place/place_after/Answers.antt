@@ -1,6 +1,6 @@
 use Rattle.std.proofs.Common.{◌∙◌, arith}
-use Rattle.court_file_places.proofs.PlaceLemmas.{next_line, next_column}
-use Rattle.court_file_places.proofs.place.place_after.Goals as goal
+use Rattle.court_file_check.proofs.places.PlaceLemmas.{next_line, next_column}
+use Rattle.court_file_check.proofs.places.place.place_after.Goals as goal
 
 pub loop-byte-preserved : goal.loop-byte-preserved
 loop-byte-preserved c = record {

@@ -1,5 +1,4 @@
 //! Where each key, value and item is in the text of a court's file.
-#![tactic(auto)]
 
 mod keys;
 mod marks;

@@ -1,7 +1,7 @@
 //! The line and the column of a place.
 
 ghost use Rattle.std.specs.Prelude.{◌≡◌, ◌+◌, ◌<◌, ◌^◌, count_by, if◌then◌else◌};
-ghost use Rattle.court_file_places.specs.Place.{column_of, is_line_end, last_line, line_of, starts_character};
+ghost use Rattle.court_file_check.specs.Places.Place.{column_of, is_line_end, last_line, line_of, starts_character};
 
 use std::fmt;
 
@@ -80,7 +80,7 @@ fn starts_character(byte: u8) -> bool
 /// Writes the place as `12:15`.
 impl fmt::Display for Place {
     ghost use Rattle.std.specs.Prelude.{Some};
-    ghost use Rattle.court_file_places.specs.Place.{place_text};
+    ghost use Rattle.court_file_check.specs.Places.Place.{place_text};
 
     ghost output = { λ place. Some (place_text place.line place.column) };
 

@@ -4,8 +4,8 @@ use Rattle.toml.specs.Data.{Data, Members, as_str, at, get_member}
 use Rattle.toml.specs.Parse.{parse_value}
 use Rattle.court_file_text.specs.Words.{key_name}
 use Rattle.court_file_text.specs.declared.key.Key.{Key}
-use Rattle.court_file_places.specs.declared.marks.Part.{Part}
-use Rattle.court_file_places.specs.declared.marks.Part.TheVariants.{Value, Item}
+use Rattle.court_file_check.specs.declared.places.marks.Part.{Part}
+use Rattle.court_file_check.specs.declared.places.marks.Part.TheVariants.{Value, Item}
 
 -- the bytes of a text from one place up to another
 abbrev pub cut : List ℕ → (start end : ℕ) → List ℕ

@@ -4,7 +4,7 @@ use Rattle.std.specs.List.{list_any}
 use Rattle.std.proofs.lemmas.Bool.{cases_Bool}
 use Rattle.std.proofs.lemmas.List.{take_more}
 use Rattle.std.proofs.lemmas.List.Sums.{count_by_more_yes, count_by_more_no, sum_by-append}
-use Rattle.court_file_places.specs.Place.{is_line_end, last_line, starts_character}
+use Rattle.court_file_check.specs.Places.Place.{is_line_end, last_line, starts_character}
 
 ended : (xs : List ℕ) (b : ℕ) → is_line_end b ≡ true → list_any is_line_end (xs ++ b ∷ []) ≡ true
 ended [] b h = rw h refl

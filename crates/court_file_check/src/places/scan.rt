@@ -1,8 +1,8 @@
 //! The marks of a text, found from its first byte to its last.
 
-use crate::keys::key_of;
-use crate::marks::{Mark, Part};
-use crate::tokens::{line_end, quoted_end};
+use crate::places::keys::key_of;
+use crate::places::marks::{Mark, Part};
+use crate::places::tokens::{line_end, quoted_end};
 use court_file_text::Key;
 use std::alloc::{AllocError, Global};
 

@@ -1,6 +1,6 @@
 use Rattle.std.proofs.Common.{◌≡◌, ◌+◌, ◌≤◌, take, count_by}
-use Rattle.court_file_places.specs.Place.{is_line_end, last_line, starts_character}
-use Rattle.court_file_places.proofs.place.place_after.Given as goal
+use Rattle.court_file_check.specs.Places.Place.{is_line_end, last_line, starts_character}
+use Rattle.court_file_check.proofs.places.place.place_after.Given as goal
 
 -- the line and the column of the place after the bytes so far
 abbrev pub invariant-loop-byte : goal.invariant-loop-byte

@@ -3,10 +3,10 @@
 ghost use Rattle.std.specs.Prelude.{◌≡◌, true, IfOk, IfSome, Some, option_copied, option_map};
 ghost use Rattle.toml.specs.Data.{as_str};
 ghost use Rattle.toml.specs.View.{table_view, view};
-ghost use Rattle.court_file_places.specs.Marks.{IsPartAt, cut, data_of_part, text_of_part, text_read, value_of};
-ghost use Rattle.court_file_places.specs.declared.marks.Part.TheVariants.{Item};
+ghost use Rattle.court_file_check.specs.Places.Marks.{IsPartAt, cut, data_of_part, text_of_part, text_read, value_of};
+ghost use Rattle.court_file_check.specs.declared.places.marks.Part.TheVariants.{Item};
 
-use crate::scan::marks_of;
+use crate::places::scan::marks_of;
 use court_file_text::Key;
 use std::alloc::{AllocError, Global};
 use toml::{Table, Value};

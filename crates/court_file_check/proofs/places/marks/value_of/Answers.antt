@@ -1,5 +1,5 @@
 use Rattle.toml.proofs.Views.{table_get}
-use Rattle.court_file_places.proofs.marks.value_of.Goals as goal
+use Rattle.court_file_check.proofs.places.marks.value_of.Goals as goal
 
 pub returns : goal.returns
 returns c =
