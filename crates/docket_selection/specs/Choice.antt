@@ -1,10 +1,13 @@
 -- Which judge, which case and which days are chosen.
-use Rattle.std.specs.Prelude.{ℕ, ◌==◌, ℤ, int_le, Bool, true, ◌&&◌, List, Option}
+use Rattle.std.specs.Prelude.{ℕ, ◌==◌, ℤ, int_le, Bool, true, false, ◌&&◌, List, Option}
 use Rattle.std.specs.List.{list_any}
-use Rattle.std.specs.Option.{option_map_or}
+use Rattle.std.specs.Option.{option_and_then, option_map_or}
+use Rattle.court_clock.specs.Words.{ClockView}
 use Rattle.docket_rows.specs.declared.sheet.SheetHearing.{SheetHearing}
 use Rattle.docket_rows.specs.declared.sheet.SheetMotion.{SheetMotion}
 use Rattle.docket_rows.specs.Words.{has_one, sits}
+use Rattle.reason_notes.specs.Margins.Words.{end_day}
+use Rattle.rule6.specs.declared.timeliness.Shown.{Shown}
 use Rattle.docket_selection.specs.declared.choice.Choice.{Choice}
 
 -- the case of that number, or any case
@@ -14,6 +17,10 @@ is_case_chosen choice case = option_map_or (λ chosen. chosen == case) choice.ca
 -- the days from the first to the last
 abbrev pub is_day_chosen : Choice → (day : ℤ) → Bool
 is_day_chosen choice day = int_le choice.from day && int_le day choice.to
+
+-- there is an end, and its day is one of them; an end beyond the days covered has none
+abbrev pub is_end_chosen : ClockView → Choice → Option Shown → Bool
+is_end_chosen clock choice end = option_map_or (is_day_chosen choice) (option_and_then (end_day clock) end) false
 
 -- the panels in which that judge sits, or any panel
 abbrev pub is_panel_chosen : Choice → (panel : List ℕ) → Bool

@@ -1,5 +1,6 @@
--- What is due: the deadlines that end within the chosen days, those with no timely act or all, and the hearings within them.
-use Rattle.std.specs.Prelude.{◌≡◌, ℕ, ℤ, ◌<◌, ◌≤◌, ◌≤ℤ◌, Bool, ◌&&◌, ◌||◌, not, List, ◌++◌, length, filter, slice_index_or, option_map, Option, Some, None, if◌then◌else◌}
+-- What is due: the deadlines that end within the chosen days, as they are shown or by another reading, those with no timely act or
+-- all, and the hearings within them.
+use Rattle.std.specs.Prelude.{◌≡◌, ℕ, ℤ, ◌<◌, ◌≤◌, ◌≤ℤ◌, Bool, false, ◌&&◌, ◌||◌, not, List, ◌++◌, length, filter, slice_index_or, option_map, Option, Some, None, if◌then◌else◌}
 use Rattle.std.specs.List.{filter_map, flat_map}
 use Rattle.std.specs.List.Sorted.{IsPermutation}
 use Rattle.std.specs.Option.{option_and_then}
@@ -15,7 +16,7 @@ use Rattle.docket_selection.specs.declared.choice.Choice.{Choice}
 use Rattle.docket_selection.specs.declared.item.DueItem.{DueItem}
 use Rattle.docket_selection.specs.declared.item.Matter.{Matter}
 use Rattle.docket_selection.specs.declared.item.Matter.TheVariants.{Deadline, Hearing}
-use Rattle.docket_selection.specs.Choice.{is_before, is_case_chosen, is_day_chosen, is_panel_chosen}
+use Rattle.docket_selection.specs.Choice.{is_before, is_case_chosen, is_day_chosen, is_end_chosen, is_panel_chosen}
 use Rattle.docket_selection.specs.Items.{deadline_item, hearing_item, is_met, time_of, with_other}
 use Rattle.docket_selection.specs.Sheets.{open_sheets}
 
@@ -24,19 +25,36 @@ abbrev pub is_matter_chosen : Choice → (before : Bool) → Matter → Bool
 is_matter_chosen choice before (Deadline d) = before
 is_matter_chosen choice before (Hearing h) = is_panel_chosen choice h.hearing.judges
 
--- the item is chosen, and no timely act is recorded unless such deadlines are chosen too
+-- the item is chosen whatever its day, and no timely act is recorded unless such deadlines are chosen too
+abbrev pub is_due_any_day : Choice → (before : Bool) → DueItem → Bool
+is_due_any_day choice before item =
+    is_case_chosen choice item.case && (choice.met || not (is_met item.matter)) && is_matter_chosen choice before item.matter
+
+-- and its day is chosen
 abbrev pub is_due : Choice → (before : Bool) → DueItem → Bool
-is_due choice before item =
-    is_case_chosen choice item.case && is_day_chosen choice item.day && (choice.met || not (is_met item.matter)) && is_matter_chosen choice before item.matter
+is_due choice before item = is_day_chosen choice item.day && is_due_any_day choice before item
+
+-- the day is chosen on which the time of a deadline ends by another reading; a hearing has no other day
+abbrev pub is_other_chosen : ClockView → Choice → Matter → Bool
+is_other_chosen clock choice (Deadline d) = is_end_chosen clock choice d.other
+is_other_chosen clock choice (Hearing h) = false
+
+-- its day is chosen, or that by another reading
+abbrev pub is_due_by_either : ClockView → Choice → (before : Bool) → DueItem → Bool
+is_due_by_either clock choice before item =
+    (is_day_chosen choice item.day || is_other_chosen clock choice item.matter) && is_due_any_day choice before item
 
 -- the item, if there is one and it is due
 abbrev pub due_only : Choice → (before : Bool) → Option DueItem → Option DueItem
 due_only choice before item = option_and_then (λ (x : DueItem). if is_due choice before x then Some x else None) item
 
--- the item of a deadline, with the end by another reading, and that of a motion's hearing, where it is due
+abbrev pub due_by_either : ClockView → Choice → (before : Bool) → Option DueItem → Option DueItem
+due_by_either clock choice before item = option_and_then (λ (x : DueItem). if is_due_by_either clock choice before x then Some x else None) item
+
+-- the item of a deadline, with the end by another reading, where it is due by either, and that of a motion's hearing, where it is due
 abbrev pub due_deadline : DaysView → ClockView → (doubtful : List ℤ) → (case : ℕ) → Choice → (before : Bool) → SheetDeadline → Option DueItem
 due_deadline days clock doubtful case choice before d =
-    option_map (with_other (other_end days clock doubtful d.row)) (due_only choice before (deadline_item clock case d))
+    due_by_either clock choice before (option_map (with_other (other_end days clock doubtful d.row)) (deadline_item clock case d))
 
 abbrev pub due_hearing : (case : ℕ) → Choice → (before : Bool) → SheetMotion → Option DueItem
 due_hearing case choice before m = due_only choice before (hearing_item case m)

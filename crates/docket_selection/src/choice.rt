@@ -2,11 +2,13 @@
 
 ghost use Rattle.std.specs.Prelude.{◌≡◌};
 ghost use Rattle.docket_rows.specs.Words.{sits};
-ghost use Rattle.docket_selection.specs.Choice.{is_before, is_case_chosen, is_day_chosen, is_panel_chosen, sits_in, sits_in_any};
+ghost use Rattle.docket_selection.specs.Choice.{is_before, is_case_chosen, is_day_chosen, is_end_chosen, is_panel_chosen, sits_in, sits_in_any};
 
-use court_clock::Day;
+use court_clock::{Clock, Day};
 use docket_rows::{SheetHearing, SheetMotion};
 use hearing_slots::Panel;
+use reason_notes::end_day;
+use rule6::Shown;
 
 /// What is chosen of a docket. Each part narrows what the others leave.
 #[derive(Clone, Copy, Debug, PartialEq, Eq)]
@@ -39,6 +41,19 @@ pub(crate) fn is_day_chosen(choice: &Choice, day: Day) -> bool
     ensures { result ≡ is_day_chosen choice.now day }
 {
     choice.from.number() <= day.number() && day.number() <= choice.to.number()
+}
+
+/// Whether there is an end and its day is chosen.
+pub(crate) fn is_end_chosen(clock: &Clock, choice: &Choice, end: Option<Shown>) -> bool
+    ensures { result ≡ is_end_chosen clock.now choice.now end }
+{
+    match end {
+        Some(end) => match end_day(clock, &end) {
+            Some(day) => is_day_chosen(choice, day),
+            None => false,
+        },
+        None => false,
+    }
 }
 
 /// Whether a judge of the panel is chosen.

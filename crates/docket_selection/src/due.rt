@@ -5,9 +5,11 @@ ghost use Rattle.std.specs.List.{filter_map, flat_map};
 ghost use Rattle.docket_rows.specs.Words.{Rows, setup_of};
 ghost use Rattle.docket_core.specs.Words.{StandsFor};
 ghost use Rattle.docket_selection.specs.Choice.{is_before};
-ghost use Rattle.docket_selection.specs.Due.{AreInOrder, IsDue, due_deadline, due_hearing, due_in, due_only, is_due, is_matter_chosen};
+ghost use Rattle.docket_selection.specs.Due.{AreInOrder, IsDue, due_by_either, due_deadline, due_hearing, due_in, due_only, is_due, is_due_any_day, is_due_by_either, is_matter_chosen, is_other_chosen};
 
-use crate::choice::{Choice, is_before, is_case_chosen, is_day_chosen, is_panel_chosen};
+use crate::choice::{
+    Choice, is_before, is_case_chosen, is_day_chosen, is_end_chosen, is_panel_chosen,
+};
 use crate::item::{
     DueItem, DueTypes, Matter, deadline_item, hearing_item, is_met, time_of, with_other,
 };
@@ -21,8 +23,8 @@ use reason_notes::other_end;
 use std::alloc::{AllocError, Global};
 
 /// The deadlines that end within the chosen days, those with no timely act or all, and the hearings within them, by time. Each
-/// deadline has its end by another reading, where these days are doubtful.
-/// `Err` says that memory ran out.
+/// deadline has its end by another reading, where these days are doubtful. One whose other end alone is within the chosen days is
+/// there too, in the place of the end that is shown. `Err` says that memory ran out.
 pub fn due_of(
     alloc: Global,
     court: &Court,
@@ -125,7 +127,7 @@ fn push_deadlines(
     Ok(())
 }
 
-/// The item of a deadline, where it is due, with the end by another reading.
+/// The item of a deadline with the end by another reading, where it is due by either end.
 fn due_deadline(
     alloc: Global,
     days: &Days,
@@ -138,12 +140,18 @@ fn due_deadline(
 ) -> Result<Option<DueItem>, AllocError>
     ensures { IfOk result (λ item. item ≡ due_deadline days.now clock.now doubtful.now case choice.now before deadline.now) }
 {
-    match due_only(choice, before, deadline_item(clock, case, deadline)) {
-        Some(item) => {
-            let other = other_end(alloc, days, clock, doubtful, &deadline.row)?;
-            Ok(Some(with_other(item, other)))
-        }
-        None => Ok(None),
+    let Some(item) = deadline_item(clock, case, deadline) else {
+        return Ok(None);
+    };
+    if !is_due_any_day(choice, before, &item) {
+        return Ok(None);
+    }
+    let other = other_end(alloc, days, clock, doubtful, &deadline.row)?;
+    let item = with_other(item, other);
+    if is_due_by_either(clock, choice, before, &item) {
+        Ok(Some(item))
+    } else {
+        Ok(None)
     }
 }
 
@@ -177,14 +185,38 @@ fn due_only(choice: &Choice, before: bool, item: Option<DueItem>) -> Option<DueI
     }
 }
 
-/// Whether an item is chosen and due. `before` says whether its case has a hearing before the chosen judge.
+/// Whether an item is chosen and due on its own day. `before` says whether its case has a hearing before the chosen judge.
 pub fn is_due(choice: &Choice, before: bool, item: &DueItem) -> bool
     ensures { result ≡ is_due choice.now before item.now }
 {
+    is_day_chosen(choice, item.day) && is_due_any_day(choice, before, item)
+}
+
+/// Whether an item is chosen and due, on its own day or on that of its deadline's end by another reading.
+fn is_due_by_either(clock: &Clock, choice: &Choice, before: bool, item: &DueItem) -> bool
+    ensures { result ≡ is_due_by_either clock.now choice.now before item.now }
+{
+    (is_day_chosen(choice, item.day) || is_other_chosen(clock, choice, &item.matter))
+        && is_due_any_day(choice, before, item)
+}
+
+/// Whether an item is chosen and due, whatever its day.
+fn is_due_any_day(choice: &Choice, before: bool, item: &DueItem) -> bool
+    ensures { result ≡ is_due_any_day choice.now before item.now }
+{
     is_case_chosen(choice, item.case)
-        && is_day_chosen(choice, item.day)
         && (choice.met || !is_met(&item.matter))
         && is_matter_chosen(choice, before, &item.matter)
+}
+
+/// Whether the day is chosen on which the time of a deadline ends by another reading.
+fn is_other_chosen(clock: &Clock, choice: &Choice, matter: &Matter) -> bool
+    ensures { result ≡ is_other_chosen clock.now choice.now matter.now }
+{
+    match matter {
+        Matter::Deadline(deadline) => is_end_chosen(clock, choice, deadline.other),
+        Matter::Hearing(_) => false,
+    }
 }
 
 /// Whether a hearing is before the chosen judge, or a deadline in a case that has one.

@@ -18,7 +18,7 @@ pub struct DueDeadline {
     pub shown: Shown,
     /// Whether it was met.
     pub state: State,
-    /// When its time ends by the first other reading of the Rules that gives another end, if one does.
+    /// The earliest of the ends that other readings of the Rules give in place of that one, if one does.
     pub other: Option<Shown>,
 }
 

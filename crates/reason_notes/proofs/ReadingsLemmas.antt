@@ -1,4 +1,5 @@
 pub mod AgainLemmas
+pub mod EarliestLemmas
 pub mod GrantLemmas
 pub mod OtherLemmas
 pub mod SameLemmas

@@ -2,6 +2,7 @@ pub mod Changed
 pub mod Counted
 pub mod Friday
 pub mod Doubtful
+pub mod Earlier
 pub mod Readings
 pub mod Others
 pub mod Lines

@@ -9,8 +9,8 @@ pub use margins::{
     Margin, end_day, margin_of, margins_decide, push_act, push_ahead, push_end_time, push_recorded,
 };
 pub use readings::{
-    Reading, counted_again_shows_the_same, no_other_end_has_no_line, other_end, push_readings,
-    same_act_shows_the_same, shown_by,
+    Reading, counted_again_shows_the_same, no_other_end_has_no_line, other_end,
+    other_end_is_earliest, push_readings, same_act_shows_the_same, shown_by,
 };
 pub use warnings::{
     push_deadline_notes, push_early_act, push_extension_notes, push_hearing_notes, push_start_notes,

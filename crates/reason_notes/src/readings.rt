@@ -3,13 +3,17 @@
 mod changed;
 mod counted;
 mod doubtful;
+mod earlier;
 mod friday;
 mod laws;
 mod lines;
 mod others;
 mod reading;
 
-pub use laws::{counted_again_shows_the_same, no_other_end_has_no_line, same_act_shows_the_same};
+pub use laws::{
+    counted_again_shows_the_same, no_other_end_has_no_line, other_end_is_earliest,
+    same_act_shows_the_same,
+};
 pub use lines::push_readings;
 pub use others::other_end;
 pub use reading::{Reading, shown_by};

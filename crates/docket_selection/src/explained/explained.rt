@@ -18,7 +18,7 @@ pub struct ExplainedDeadline {
     pub deadline: SheetDeadline,
     /// The reasons, each of which follows from those before it.
     pub reasons: Vec<Reason>,
-    /// When its time ends by the first other reading of the Rules that gives another end, if one does.
+    /// The earliest of the ends that other readings of the Rules give in place of the one that is shown, if one does.
     pub other: Option<Shown>,
 }
 

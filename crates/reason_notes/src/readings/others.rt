@@ -1,9 +1,9 @@
 //! Which other readings give a deadline another end.
 
 ghost use Rattle.std.specs.Prelude.{◌≡◌, map, IfOk};
-ghost use Rattle.rule_periods.specs.Words.{first_of};
-ghost use Rattle.reason_notes.specs.Readings.Others.{differs, if_differs, other_by, other_end};
+ghost use Rattle.reason_notes.specs.Readings.Others.{differs, earliest_of, if_differs, other_by, other_end};
 
+use crate::readings::earlier::earlier_of;
 use crate::readings::reading::{ALL, Reading, shown_by};
 use court_clock::{Clock, Day};
 use court_days::Days;
@@ -11,9 +11,10 @@ use rule_periods::{DeadlineRow, shown};
 use rule6::Shown;
 use std::alloc::{AllocError, Global};
 
-/// The end by the first reading that gives the deadline another end than the one that is shown, in the order of the lines, where
-/// these days are doubtful. None where no reading does, which is where the deadline has no line of another reading. `Err` says that
-/// memory ran out.
+/// The earliest of the ends that other readings give the deadline in place of the one that is shown, where these days are doubtful:
+/// by its day on the court's clock, and on one day by its instant, which comes before the end of that day. An end beyond the days
+/// covered comes last. None where no reading gives another end, which is where the deadline has no line of another reading. `Err`
+/// says that memory ran out.
 #[tactic(auto, unfolding(crate::specs::Readings::Others::other_end))]
 pub fn other_end(
     alloc: Global,
@@ -24,11 +25,11 @@ pub fn other_end(
 ) -> Result<Option<Shown>, AllocError>
     ensures { IfOk result (λ other. other ≡ other_end days.now clock.now doubtful.now row.now) }
 {
-    first_other(alloc, days, clock, doubtful, row, &ALL[..])
+    earliest_other(alloc, days, clock, doubtful, row, &ALL[..])
 }
 
-/// The first end that one of these readings gives in place of the one that is shown.
-fn first_other(
+/// The earliest of the ends that these readings give in place of the one that is shown.
+fn earliest_other(
     alloc: Global,
     days: &Days,
     clock: &Clock,
@@ -36,14 +37,14 @@ fn first_other(
     row: &DeadlineRow,
     readings: &[Reading],
 ) -> Result<Option<Shown>, AllocError>
-    ensures { IfOk result (λ other. other ≡ first_of (map (other_by days.now clock.now doubtful.now row.now) readings.now)) }
+    ensures { IfOk result (λ other. other ≡ earliest_of clock.now (map (other_by days.now clock.now doubtful.now row.now) readings.now)) }
 {
+    let mut earliest = None;
     for reading in readings {
-        if let Some(other) = other_by(alloc, days, clock, doubtful, row, *reading)? {
-            return Ok(Some(other));
-        }
+        let other = other_by(alloc, days, clock, doubtful, row, *reading)?;
+        earliest = earlier_of(clock, earliest, other);
     }
-    Ok(None)
+    Ok(earliest)
 }
 
 /// What a reading gives in place of the end that is shown of the deadline. None where it gives the same, or doesn't bear on the
