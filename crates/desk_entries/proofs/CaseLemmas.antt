@@ -1,10 +1,10 @@
 -- The cases that entries opened, after one more; and how lines are read.
-use Rattle.std.proofs.Common.{◌≡◌, ◌∙◌, ◌+◌, ◌<◌, ℕ, Bool, true, false, cond, List, [], ◌∷◌, ◌++◌, Option, Some, None, length, refl, sym, ap, add-zero, arith}
+use Rattle.std.proofs.Common.{◌≡◌, ◌∙◌, ◌<◌, ℕ, Bool, true, false, cond, List, [], ◌∷◌, ◌++◌, Option, Some, None, length, refl, sym, ap, arith}
 use Rattle.std.specs.Prelude.{◌&&◌, IsSome, codes, is_none, option_map}
 use Rattle.std.specs.Str.{bytes_eq}
 use Rattle.case_numbers.specs.Words.{AreApart, CasesView, NameView, after_name, fresh, name_before, no_cases, number_of}
 use Rattle.case_numbers.proofs.CallerLemmas.{names_stay_apart_lem}
-use Rattle.desk_numbers.specs.Strikes.Words.{is_struck}
+use Rattle.court_days.specs.Words.{CourtView}
 use Rattle.desk_entries.specs.declared.standing.Standing.{Standing}
 use Rattle.row_forms.specs.Words.{CourtNames, column, names_of}
 use Rattle.row_forms.specs.declared.line.line.Line.{Line}
@@ -12,53 +12,41 @@ use Rattle.row_forms.specs.declared.line.line.Line.TheVariants as line
 use Rattle.row_forms.specs.Line.Words.{fields_read, line_read}
 use Rattle.desk_entries.specs.CaseLines.{Reading, as_it_is, case_in, finds_no_number, lacks_field, lacks_number, named, named_if, newly, opens_too_many, reading_of}
 use Rattle.desk_entries.specs.Cases.{cases_after, cases_of, cases_with, opened_in, with_opened}
-use Rattle.desk_entries.specs.Entries.{most_clerks, next_number, note_in, row_entries}
-use Rattle.desk_entries.specs.Laws.{ACaseNumberIsOneCase, OtherLinesAreReadAsTheyAre}
+use Rattle.desk_entries.specs.Entries.{most_clerks, note_in, row_entries}
+use Rattle.desk_entries.specs.Laws.{ACaseKeepsItsNumber, ACaseNumberIsOneCase, OtherLinesAreReadAsTheyAre}
 use Rattle.desk_entries.specs.declared.subject.Named.{Named}
 use Rattle.desk_entries.specs.Rows.{found_text, row_in, special_at, unfound_at, unfound_of, with_subject}
 use Rattle.desk_entries.specs.declared.cause.LineCause.TheVariants.{NotFound, TooManyCases}
 use Rattle.desk_entries.specs.Subjects.{named_in}
 use Rattle.desk_entries.proofs.ListLemmas.{row_entries-note, row_entries-row}
 
-next_place : (number : ℕ) (entry : List ℕ) (entries : List (List ℕ)) → number + 1 + length entries ≡ number + length (entry ∷ entries)
-next_place number entry entries = omega arith
-
-cases_after-append : (under : Standing) (cases : CasesView) (number : ℕ) (some more : List (List ℕ)) → cases_after under cases number (some ++ more) ≡ cases_after under (cases_after under cases number some) (number + length some) more
+cases_after-append : (names : CourtNames) (cases : CasesView) (some more : List (List ℕ)) → cases_after names cases (some ++ more) ≡ cases_after names (cases_after names cases some) more
 unfolding cases_after
-cases_after-append under cases number [] more = ap (λ n. cases_after under cases n more) (sym (add-zero number))
-cases_after-append under cases number (entry ∷ some) more =
-    cases_after-append under (cases_with under cases number entry) (number + 1) some more
-    ∙ ap (λ n. cases_after under (cases_after under (cases_with under cases number entry) (number + 1) some) n more) (next_place number entry some)
+cases_after-append names cases [] more = refl
+cases_after-append names cases (entry ∷ some) more = cases_after-append names (cases_with names cases entry) some more
 
-one_entry : (under : Standing) (cases : CasesView) (number : ℕ) (entry : List ℕ) → cases_after under cases number (entry ∷ []) ≡ cases_with under cases number entry
+one_entry : (names : CourtNames) (cases : CasesView) (entry : List ℕ) → cases_after names cases (entry ∷ []) ≡ cases_with names cases entry
 unfolding cases_after
-one_entry under cases number entry = refl
+one_entry names cases entry = refl
 
 -- after a row's entry
-pub cases_of-row : (under : Standing) (kept : List (List ℕ)) (entry : List ℕ) → 0 < length kept → note_in entry ≡ None → cases_of under (kept ++ entry ∷ []) ≡ cases_with under (cases_of under kept) (next_number kept) entry
+pub cases_of-row : (under : Standing) (kept : List (List ℕ)) (entry : List ℕ) → 0 < length kept → note_in entry ≡ None
+    → cases_of under (kept ++ entry ∷ []) ≡ with_opened (cases_of under kept) (opened_in (line_read most_clerks (names_of under.court) (after_name entry))) (name_before entry)
 unfolding cases_of
 cases_of-row under kept entry begun none =
-    let numbered : 1 + length (row_entries kept) ≡ next_number kept = omega arith in
-    ap (cases_after under no_cases 1) (row_entries-row kept entry begun none)
-    ∙ cases_after-append under no_cases 1 (row_entries kept) (entry ∷ [])
-    ∙ one_entry under (cases_after under no_cases 1 (row_entries kept)) (1 + length (row_entries kept)) entry
-    ∙ ap (λ n. cases_with under (cases_after under no_cases 1 (row_entries kept)) n entry) numbered
-
--- that isn't struck
-pub cases_of-live : (under : Standing) (kept : List (List ℕ)) (entry : List ℕ) → 0 < length kept → note_in entry ≡ None → is_struck under.corrections (next_number kept) ≡ false
-    → cases_of under (kept ++ entry ∷ []) ≡ with_opened (cases_of under kept) (opened_in (line_read most_clerks (names_of under.court) (after_name entry))) (name_before entry)
-cases_of-live under kept entry begun none live =
-    cases_of-row under kept entry begun none ∙ ap (λ b. cond b (cases_of under kept) (with_opened (cases_of under kept) (opened_in (line_read most_clerks (names_of under.court) (after_name entry))) (name_before entry))) live
-
--- or that is
-pub cases_of-struck : (under : Standing) (kept : List (List ℕ)) (entry : List ℕ) → 0 < length kept → note_in entry ≡ None → is_struck under.corrections (next_number kept) ≡ true → cases_of under (kept ++ entry ∷ []) ≡ cases_of under kept
-cases_of-struck under kept entry begun none struck =
-    cases_of-row under kept entry begun none ∙ ap (λ b. cond b (cases_of under kept) (with_opened (cases_of under kept) (opened_in (line_read most_clerks (names_of under.court) (after_name entry))) (name_before entry))) struck
+    ap (cases_after (names_of under.court) no_cases) (row_entries-row kept entry begun none)
+    ∙ cases_after-append (names_of under.court) no_cases (row_entries kept) (entry ∷ [])
+    ∙ one_entry (names_of under.court) (cases_after (names_of under.court) no_cases (row_entries kept)) entry
 
 -- and after an entry that is no row
 pub cases_of-note : (under : Standing) (kept : List (List ℕ)) (entry : List ℕ) → 0 < length kept → IsSome (note_in entry) → cases_of under (kept ++ entry ∷ []) ≡ cases_of under kept
 unfolding cases_of
-cases_of-note under kept entry begun some = ap (cases_after under no_cases 1) (row_entries-note kept entry begun some)
+cases_of-note under kept entry begun some = ap (cases_after (names_of under.court) no_cases) (row_entries-note kept entry begun some)
+
+-- corrections change nothing of them
+pub keeps_its_number : ACaseKeepsItsNumber
+unfolding cases_of
+keeps_its_number under other kept same = ap (λ (court : CourtView). cases_after (names_of court) no_cases (row_entries kept)) same
 
 -- what says no row opens no case
 pub none_opened : (said : Line) → row_in said ≡ [] → opened_in said ≡ None
@@ -71,24 +59,18 @@ opened_apart : (cases : CasesView) (number : Option ℕ) (name : Option NameView
 opened_apart cases None name apart = apart
 opened_apart cases (Some number) name apart = names_stay_apart_lem cases number name apart
 
-with_apart : (under : Standing) (cases : CasesView) (number : ℕ) (entry : List ℕ) → AreApart cases.named → AreApart (cases_with under cases number entry).named
-with_apart under cases number entry apart = by (is_struck under.corrections number)
-  where
-    by : (b : Bool) → AreApart (cond b cases (with_opened cases (opened_in (line_read most_clerks (names_of under.court) (after_name entry))) (name_before entry))).named
-    by true = apart
-    by false = opened_apart cases (opened_in (line_read most_clerks (names_of under.court) (after_name entry))) (name_before entry) apart
-
-after_apart : (under : Standing) (cases : CasesView) (number : ℕ) (entries : List (List ℕ)) → AreApart cases.named → AreApart (cases_after under cases number entries).named
+after_apart : (names : CourtNames) (cases : CasesView) (entries : List (List ℕ)) → AreApart cases.named → AreApart (cases_after names cases entries).named
 unfolding cases_after
-after_apart under cases number [] apart = apart
-after_apart under cases number (entry ∷ entries) apart = after_apart under (cases_with under cases number entry) (number + 1) entries (with_apart under cases number entry apart)
+after_apart names cases [] apart = apart
+after_apart names cases (entry ∷ entries) apart =
+    after_apart names (cases_with names cases entry) entries (opened_apart cases (opened_in (line_read most_clerks names (after_name entry))) (name_before entry) apart)
 
 none_apart : AreApart []
 none_apart i j a b at_i at_j same = cc at_i
 
 pub one_case : ACaseNumberIsOneCase
 unfolding cases_of
-one_case under kept = after_apart under no_cases 1 (row_entries kept) none_apart
+one_case under kept = after_apart (names_of under.court) no_cases (row_entries kept) none_apart
 
 -- a line that lacks no third field is read as it is
 pub reads_itself : (names : CourtNames) (cases : CasesView) (bytes : List ℕ) → lacks_field 3 (line_read most_clerks names bytes) ≡ false → reading_of names cases bytes ≡ as_it_is bytes

@@ -13,7 +13,6 @@ use Rattle.desk_entries.specs.Entries.{most_clerks, next_number, note_in, row_en
 use Rattle.desk_entries.specs.Laws.{AStruckRowIsLeftOut}
 use Rattle.desk_entries.specs.Rows.{row_in}
 use Rattle.desk_entries.specs.Run.{Run, opening_run, run_after, run_by, run_entry, run_past, run_said, run_with}
-use Rattle.desk_entries.proofs.CaseLemmas.{cases_of-struck}
 use Rattle.desk_entries.proofs.ListLemmas.{row_entries-note, row_entries-row}
 
 next_place : (number : ℕ) (entry : List ℕ) (entries : List (List ℕ)) → number + 1 + length entries ≡ number + length (entry ∷ entries)
@@ -90,4 +89,4 @@ no_row_in (line.Row row) none = absurd (none row refl)
 
 -- the law
 pub left_out : AStruckRowIsLeftOut
-left_out under kept entry begun none struck = (ap (λ (r : Run). r.docketed) (run_by-struck under kept entry begun none struck), cases_of-struck under kept entry begun none struck)
+left_out under kept entry begun none struck = ap (λ (r : Run). r.docketed) (run_by-struck under kept entry begun none struck)

@@ -15,11 +15,11 @@ use Rattle.case_numbers.specs.Words.{CasesView, NameView, after_name, name_befor
 use Rattle.desk_entries.specs.Subjects.{named_in, one_text, read_apart}
 use Rattle.desk_entries.specs.declared.subject.Named.{Named}
 use Rattle.desk_entries.specs.Cases.{cases_of, opened_as, opened_in, with_opened}
-use Rattle.desk_entries.specs.Entries.{most_clerks, next_number}
+use Rattle.desk_entries.specs.Entries.{most_clerks}
 use Rattle.desk_entries.specs.Rows.{answer_to, cased_at, entry_of, found_text, left_of, plain_leaves, row_in, too_many_at, with_name, within}
-use Rattle.desk_entries.proofs.CaseLemmas.{cases_of-live}
+use Rattle.desk_entries.proofs.CaseLemmas.{cases_of-row}
 use Rattle.desk_entries.proofs.EntryLemmas.{WasRead, is_no_note_named, its_name, past_its_name, reading_read, says_its_row, within_row}
-use Rattle.desk_entries.proofs.ListLemmas.{before-row, not_struck}
+use Rattle.desk_entries.proofs.ListLemmas.{before-row}
 use Rattle.desk_entries.proofs.RegisterLemmas.{none_left}
 use Rattle.row_forms.proofs.LineLemmas.CallerLemmas.{says_row}
 use Rattle.row_forms.specs.declared.row.Row.{Row}
@@ -63,7 +63,7 @@ counts_more under kept bytes row before after cases then is counts one name name
       cases_are = opened ∙ ap (λ (c : CasesView). with_opened c (opened_as row.work) name) counts.cases_are
           ∙ ap (λ (n : Option NameView). with_opened (cases_of under kept) (opened_as row.work) n) (sym (its_name (names_of under.court) (fields_read plain) row answer spelled name was))
           ∙ ap (λ (l : Line). with_opened (cases_of under kept) (opened_in l) (name_before entry)) (sym reads)
-          ∙ sym (cases_of-live under kept entry counts.begun none (not_struck under.corrections (next_number kept) counts.before));
+          ∙ sym (cases_of-row under kept entry counts.begun none);
       begun = omega (arith, long);
       before = before-row under.corrections kept entry counts.begun none counts.before;
     })

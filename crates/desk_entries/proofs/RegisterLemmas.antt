@@ -16,7 +16,7 @@ use Rattle.desk_numbers.specs.declared.given.Given.{Given}
 use Rattle.desk_numbers.specs.Words.{NumbersView, given_by, numbers_after, passed}
 use Rattle.desk_session.specs.Words.{TakesLine}
 use Rattle.std.specs.Prelude.{IsSome, None, Some, option_map}
-use Rattle.case_numbers.specs.Words.{NameView, after_name, name_before, name_line}
+use Rattle.case_numbers.specs.Words.{CasesView, NameView, after_name, name_before, name_line}
 use Rattle.row_forms.specs.declared.fault.RowCause.{RowCause}
 use Rattle.row_forms.specs.declared.fault.RowCause.TheVariants.{BadClerk, BadField, NotText, TooManyRows, UnknownCommand, WrongCount}
 use Rattle.desk_numbers.specs.declared.subjects.Found.{Found}
@@ -38,7 +38,7 @@ use Rattle.desk_entries.specs.Register.{IsDone, IsReadyAt, StandsAt}
 use Rattle.desk_entries.specs.Shifts.{shifts_by, shifts_said, told}
 use Rattle.desk_entries.specs.declared.register.Done.{Done}
 use Rattle.desk_entries.specs.declared.register.DocketRegister.{DocketRegister}
-use Rattle.desk_entries.proofs.CaseLemmas.{cases_of-live, cases_of-note, cases_of-struck, names_nothing, none_opened, too_many_lacks}
+use Rattle.desk_entries.proofs.CaseLemmas.{cases_of-note, cases_of-row, names_nothing, none_opened, too_many_lacks}
 use Rattle.desk_entries.proofs.EntryLemmas.{WasRead, is_no_note_named, its_name, past_its_name, reading_read, says_its_row, within_row}
 use Rattle.desk_entries.proofs.DecidedLemmas.{run_by-more, run_by-none, run_by-note, run_by-struck}
 use Rattle.desk_entries.proofs.ShiftLemmas.{just_answered, none_said}
@@ -65,7 +65,7 @@ stands_row under register kept entry row begun room none live said holds numbers
     record {
       docket = subst (Holds (setup_of under.court) register.docket) (sym (ap (λ (r : Run). r.docketed) more)) holds;
       numbers = numbers ∙ sym (ap (λ (r : Run). r.numbers) more);
-      cases = cases ∙ ap (λ (l : Line). with_opened (cases_of under kept) (opened_in l) (name_before entry)) (sym said) ∙ sym (cases_of-live under kept entry begun none live);
+      cases = cases ∙ ap (λ (l : Line). with_opened (cases_of under kept) (opened_in l) (name_before entry)) (sym said) ∙ sym (cases_of-row under kept entry begun none);
       number = number ∙ sym (next_number-row kept entry begun none);
       count = count ∙ sym long;
       begun = omega (arith, long);
@@ -87,14 +87,14 @@ stands_after under register kept fields row name was begun room live spelled hol
 
 -- the register after an entry that is passed over, which changes nothing but numbers
 stands_past : (under : Standing) (before register : DocketRegister) (kept : List (List ℕ)) (entry : List ℕ) → StandsAt under before kept → before.count < most_entries → docketed_by under (kept ++ entry ∷ []) ≡ docketed_by under kept
-    → cases_of under (kept ++ entry ∷ []) ≡ cases_of under kept → register.docket ≡ before.docket → register.numbers ≡ (run_by under (kept ++ entry ∷ [])).numbers → register.cases ≡ before.cases → register.number ≡ next_number (kept ++ entry ∷ []) → register.count ≡ before.count + 1 → StandsAt under register (kept ++ entry ∷ [])
-stands_past under before register kept entry stands room docketed opened docket numbers cases number count =
+    → register.docket ≡ before.docket → register.numbers ≡ (run_by under (kept ++ entry ∷ [])).numbers → register.cases ≡ cases_of under (kept ++ entry ∷ []) → register.number ≡ next_number (kept ++ entry ∷ []) → register.count ≡ before.count + 1 → StandsAt under register (kept ++ entry ∷ [])
+stands_past under before register kept entry stands room docketed docket numbers cases number count =
     let long : length (kept ++ entry ∷ []) ≡ length kept + 1 = length-append kept (entry ∷ []) in
     let was : before.count ≡ length kept = stands.count in
     record {
       docket = subst (Holds (setup_of under.court) register.docket) (sym docketed) (subst (λ (d : DocketView). Holds (setup_of under.court) d (docketed_by under kept)) (sym docket) stands.docket);
       numbers = numbers;
-      cases = cases ∙ stands.cases ∙ sym opened;
+      cases = cases;
       number = number;
       count = count ∙ ap (λ (n : ℕ). n + 1) was ∙ sym long;
       begun = omega (arith, long);
@@ -103,17 +103,14 @@ stands_past under before register kept entry stands room docketed opened docket 
 
 -- the cases after an entry that says no row
 cases_of-none : (under : Standing) (kept : List (List ℕ)) (entry : List ℕ) → 0 < length kept → note_in entry ≡ None → row_in (line_read most_clerks (names_of under.court) (after_name entry)) ≡ [] → cases_of under (kept ++ entry ∷ []) ≡ cases_of under kept
-cases_of-none under kept entry begun none said = by (is_struck under.corrections (next_number kept)) refl
-  where
-    by : (b : Bool) → is_struck under.corrections (next_number kept) ≡ b → cases_of under (kept ++ entry ∷ []) ≡ cases_of under kept
-    by true struck = cases_of-struck under kept entry begun none struck
-    by false live = cases_of-live under kept entry begun none live ∙ ap (λ (o : Option ℕ). with_opened (cases_of under kept) o (name_before entry)) (none_opened (line_read most_clerks (names_of under.court) (after_name entry)) said)
+cases_of-none under kept entry begun none said =
+    cases_of-row under kept entry begun none ∙ ap (λ (o : Option ℕ). with_opened (cases_of under kept) o (name_before entry)) (none_opened (line_read most_clerks (names_of under.court) (after_name entry)) said)
 
 -- the register after a row that is passed over
 stands_past_row : (under : Standing) (before register : DocketRegister) (kept : List (List ℕ)) (entry : List ℕ) → StandsAt under before kept → before.count < most_entries → note_in entry ≡ None → run_by under (kept ++ entry ∷ []) ≡ run_past under (run_by under kept) (next_number kept)
-    → cases_of under (kept ++ entry ∷ []) ≡ cases_of under kept → register.docket ≡ before.docket → register.numbers ≡ passed under.corrections.kept before.numbers before.number → register.cases ≡ before.cases → register.number ≡ before.number + 1 → register.count ≡ before.count + 1 → StandsAt under register (kept ++ entry ∷ [])
-stands_past_row under before register kept entry stands room none run opened docket numbers cases number count =
-    stands_past under before register kept entry stands room (ap (λ (r : Run). r.docketed) run) opened docket
+    → register.docket ≡ before.docket → register.numbers ≡ passed under.corrections.kept before.numbers before.number → register.cases ≡ cases_of under (kept ++ entry ∷ []) → register.number ≡ before.number + 1 → register.count ≡ before.count + 1 → StandsAt under register (kept ++ entry ∷ [])
+stands_past_row under before register kept entry stands room none run docket numbers cases number count =
+    stands_past under before register kept entry stands room (ap (λ (r : Run). r.docketed) run) docket
     (numbers ∙ ap (λ (n : NumbersView). passed under.corrections.kept n before.number) stands.numbers ∙ ap (passed under.corrections.kept (run_by under kept).numbers) stands.number ∙ sym (ap (λ (r : Run). r.numbers) run)) cases
     (number ∙ ap (λ (n : ℕ). n + 1) stands.number ∙ sym (next_number-row kept entry stands.begun none)) count
 
@@ -121,21 +118,23 @@ stands_past_row under before register kept entry stands room none run opened doc
 pub stands_passed : (under : Standing) (before register : DocketRegister) (kept : List (List ℕ)) (entry : List ℕ) → StandsAt under before kept → before.count < most_entries → note_in entry ≡ None → row_in (line_read most_clerks (names_of under.court) (after_name entry)) ≡ []
     → register.docket ≡ before.docket → register.numbers ≡ passed under.corrections.kept before.numbers before.number → register.cases ≡ before.cases → register.number ≡ before.number + 1 → register.count ≡ before.count + 1 → StandsAt under register (kept ++ entry ∷ [])
 stands_passed under before register kept entry stands room none said docket numbers cases number count =
-    stands_past_row under before register kept entry stands room none (run_by-none under kept entry stands.begun none said) (cases_of-none under kept entry stands.begun none said) docket numbers cases number count
+    stands_past_row under before register kept entry stands room none (run_by-none under kept entry stands.begun none said) docket numbers (cases ∙ stands.cases ∙ sym (cases_of-none under kept entry stands.begun none said)) number count
 
 -- the register after a row that is struck
 pub stands_past_struck : (under : Standing) (before register : DocketRegister) (kept : List (List ℕ)) (entry : List ℕ) → StandsAt under before kept → before.count < most_entries → note_in entry ≡ None → is_struck under.corrections (next_number kept) ≡ true
-    → register.docket ≡ before.docket → register.numbers ≡ passed under.corrections.kept before.numbers before.number → register.cases ≡ before.cases → register.number ≡ before.number + 1 → register.count ≡ before.count + 1 → StandsAt under register (kept ++ entry ∷ [])
+    → register.docket ≡ before.docket → register.numbers ≡ passed under.corrections.kept before.numbers before.number → register.cases ≡ with_opened before.cases (opened_in (line_read most_clerks (names_of under.court) (after_name entry))) (name_before entry)
+    → register.number ≡ before.number + 1 → register.count ≡ before.count + 1 → StandsAt under register (kept ++ entry ∷ [])
 stands_past_struck under before register kept entry stands room none struck docket numbers cases number count =
-    stands_past_row under before register kept entry stands room none (run_by-struck under kept entry stands.begun none struck) (cases_of-struck under kept entry stands.begun none struck) docket numbers cases number count
+    stands_past_row under before register kept entry stands room none (run_by-struck under kept entry stands.begun none struck) docket numbers
+    (cases ∙ ap (λ (c : CasesView). with_opened c (opened_in (line_read most_clerks (names_of under.court) (after_name entry))) (name_before entry)) stands.cases ∙ sym (cases_of-row under kept entry stands.begun none)) number count
 
 -- the register after an entry that is no row
 pub stands_past_note : (under : Standing) (before register : DocketRegister) (kept : List (List ℕ)) (entry : List ℕ) → StandsAt under before kept → before.count < most_entries → IsSome (note_in entry)
     → register.docket ≡ before.docket → register.numbers ≡ before.numbers → register.cases ≡ before.cases → register.number ≡ before.number → register.count ≡ before.count + 1 → StandsAt under register (kept ++ entry ∷ [])
 stands_past_note under before register kept entry stands room some docket numbers cases number count =
     let run = run_by-note under kept entry stands.begun some in
-    stands_past under before register kept entry stands room (ap (λ (r : Run). r.docketed) run) (cases_of-note under kept entry stands.begun some) docket
-    (numbers ∙ stands.numbers ∙ sym (ap (λ (r : Run). r.numbers) run)) cases
+    stands_past under before register kept entry stands room (ap (λ (r : Run). r.docketed) run) docket
+    (numbers ∙ stands.numbers ∙ sym (ap (λ (r : Run). r.numbers) run)) (cases ∙ stands.cases ∙ sym (cases_of-note under kept entry stands.begun some))
     (number ∙ stands.number ∙ sym (next_number-note kept entry stands.begun some)) count
 
 -- the register as it was, but for the fields that it read

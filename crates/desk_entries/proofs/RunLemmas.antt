@@ -32,7 +32,7 @@ use Rattle.desk_entries.specs.Entries.{most_clerks, most_rows, next_number, row_
 use Rattle.desk_entries.specs.Laws.{AnswersAreTheRuns, HasNoFault, plain}
 use Rattle.desk_entries.specs.Rows.{answer_to, answers, entry_of, leaves, left_of, plain_answers, plain_leaves, reading_at, row_in, rows_in, told_of, told_or, with_name, within}
 use Rattle.desk_entries.specs.Run.{Run, docketed_by, docketed_with, numbers_with, opening_run, reply_by_places, reply_under, run_after, run_by, run_entry, run_said}
-use Rattle.desk_entries.proofs.CaseLemmas.{cases_of-live, nothing_special, other_lines}
+use Rattle.desk_entries.proofs.CaseLemmas.{cases_of-row, nothing_special, other_lines}
 use Rattle.desk_entries.proofs.EntryLemmas.{is_no_note, its_name, past_its_name, says_its_row}
 use Rattle.desk_entries.proofs.ListLemmas.{next_number-row}
 use Rattle.desk_entries.proofs.DecidedLemmas.{first_run, run_by-more}
@@ -162,7 +162,7 @@ names_after court kept bytes row begun said names =
     let spelled = says_row most_clerks (names_of court) bytes row said in
     let none = is_no_note (names_of court) (fields_read bytes) row (answer_to (plain court) kept row) spelled in
     let opened = opened_in (line_read most_clerks (names_of court) (after_name entry)) in
-    ap (λ (c : CasesView). c.named) (cases_of-live (plain court) kept entry begun none refl)
+    ap (λ (c : CasesView). c.named) (cases_of-row (plain court) kept entry begun none)
     ∙ ap (λ (n : Option NameView). (with_opened (cases_of (plain court) kept) opened n).named) (its_name (names_of court) (fields_read bytes) row (answer_to (plain court) kept row) spelled None tt)
     ∙ still_no_names (cases_of (plain court) kept) opened names
 

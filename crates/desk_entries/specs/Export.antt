@@ -11,7 +11,7 @@ use Rattle.row_forms.specs.declared.row.Work.{Work}
 use Rattle.row_forms.specs.declared.row.Work.TheVariants.{Command, Query}
 use Rattle.row_forms.specs.Words.{names_of}
 use Rattle.desk_numbers.specs.declared.moved.Moved.{Moved}
-use Rattle.desk_numbers.specs.Words.{placed}
+use Rattle.desk_numbers.specs.Words.{is_apart, placed}
 use Rattle.row_forms.specs.declared.line.line.Line.{Line}
 use Rattle.row_forms.specs.declared.line.line.Line.TheVariants as line
 use Rattle.row_forms.specs.Line.Words.{fields_read, line_read}
@@ -28,13 +28,13 @@ number_asked (Command command) = number_in command
 number_asked (Query query) = None
 
 -- A row with these fields that names this number, where what has the number is at this place: with the place in the fourth
--- field, where it is another. A number that nothing has is at no place, and its row, which was refused, is left out.
+-- field, where it is another. A number that nothing has any more is at a place apart, and its row, which was refused, is left out.
 abbrev pub row_placed : (number place : Option ℕ) → (fields : List (List ℕ)) → List ℕ
 row_placed None place fields = row_text default_writer fields
 row_placed (Some number) None fields = row_text default_writer fields
 row_placed (Some number) (Some place) fields =
     if nat_eq number place then row_text default_writer fields
-    else if nat_eq place 0 then []
+    else if is_apart place then []
     else row_text default_writer (take 3 fields ++ decimal place ∷ drop 4 fields)
 
 -- what is written of a line that says this

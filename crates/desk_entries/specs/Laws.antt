@@ -73,10 +73,14 @@ OtherLinesAreReadAsTheyAre = (under : Standing) (kept : List (List ℕ)) (bytes 
     let said = line_read most_clerks (names_of under.court) bytes in
     lacks_field 3 said ≡ false → lacks_field 4 said ≡ false → reading_at under kept bytes ≡ as_it_is bytes
 
--- A row that is struck is left out: its entry changes neither what is docketed nor the cases.
+-- A row that is struck is left out: its entry changes nothing of what is docketed.
 abbrev pub AStruckRowIsLeftOut : Type 0
 AStruckRowIsLeftOut = (under : Standing) (kept : List (List ℕ)) (entry : List ℕ) → 0 < length kept → note_in entry ≡ None → is_struck under.corrections (next_number kept) ≡ true
-    → (docketed_by under (kept ++ entry ∷ []) ≡ docketed_by under kept) × (cases_of under (kept ++ entry ∷ []) ≡ cases_of under kept)
+    → docketed_by under (kept ++ entry ∷ []) ≡ docketed_by under kept
+
+-- A case keeps its number and its name, whatever is struck or restored: entries name the same cases under all corrections.
+abbrev pub ACaseKeepsItsNumber : Type 0
+ACaseKeepsItsNumber = (under other : Standing) (kept : List (List ℕ)) → other.court ≡ under.court → cases_of other kept ≡ cases_of under kept
 
 -- what stands after entries and one more that strikes the row of that number, and what stands after one that restores it
 abbrev pub with_strike : Standing → (kept : List (List ℕ)) → (row : ℕ) → Standing

@@ -16,7 +16,7 @@ pub use Rattle.desk_entries.specs.Register.{IsReadyAt, StandsAt}
 pub use Rattle.desk_entries.specs.Differences.{Change, change_as, change_in, changes_by}
 unfoldable pub use Rattle.desk_entries.specs.Differences.{changes_after}
 pub use Rattle.desk_entries.specs.Docketed.{AreHistory, HasDocketFault, HasFault, HasHistoryFault, IsDocketed}
-pub use Rattle.desk_entries.specs.Laws.{ACaseNumberIsOneCase, ARestoreLeavesTheDocket, AStruckRowIsLeftOut, AnswersAreTheRuns, FaultlessLinesSayRows, OtherLinesAreReadAsTheyAre, RowsAreWrittenAsTheyAre, RowsKeepTheirNumbers, WhatIsLeftFollows, WhatIsLeftIsHistory, plain}
+pub use Rattle.desk_entries.specs.Laws.{ACaseKeepsItsNumber, ACaseNumberIsOneCase, ARestoreLeavesTheDocket, AStruckRowIsLeftOut, AnswersAreTheRuns, FaultlessLinesSayRows, OtherLinesAreReadAsTheyAre, RowsAreWrittenAsTheyAre, RowsKeepTheirNumbers, WhatIsLeftFollows, WhatIsLeftIsHistory, plain}
 unfoldable pub use Rattle.desk_entries.specs.Laws.{AllSayRows}
 pub use Rattle.desk_entries.specs.Questions.{AsksOf, command_text}
 unfoldable pub use Rattle.desk_entries.specs.Questions.{came_shown, shown}

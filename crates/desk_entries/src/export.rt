@@ -8,7 +8,7 @@ use crate::register::{MOST_CLERKS, RowTypes};
 use crate::standing::Standing;
 use case_numbers::after_name;
 use csv::StringRecord;
-use desk_numbers::MovedNumbers;
+use desk_numbers::{MovedNumbers, is_apart};
 use docket_rows::Command;
 use row_forms::{Line, Work, push_row_text, read_line};
 use std::alloc::{AllocError, Global};
@@ -52,7 +52,7 @@ fn push_placed(
     if number == place {
         return push_row_text(text, fields);
     }
-    if place == 0 {
+    if is_apart(place) {
         return Ok(());
     }
     push_row_text(text, &with_field(alloc, fields, 3, place)?)

@@ -1,7 +1,7 @@
 //! Laws of the definitions, the contracts of functions that do nothing.
 ghost use Rattle.desk_entries.specs.Reported.{ReportsAreOfTheDocket};
 ghost use Rattle.desk_entries.specs.Shifts.{OthersAreToldTheirAnswers, RefusedAreToldTheirAnswers};
-ghost use Rattle.desk_entries.specs.Laws.{ACaseNumberIsOneCase, ARestoreLeavesTheDocket, AStruckRowIsLeftOut, AnAnswerShowsItsNumber, AnswersAreTheRuns, FaultlessLinesSayRows, OtherLinesAreReadAsTheyAre, RowsAreWrittenAsTheyAre, RowsKeepTheirNumbers, WhatIsLeftFollows, WhatIsLeftIsHistory};
+ghost use Rattle.desk_entries.specs.Laws.{ACaseKeepsItsNumber, ACaseNumberIsOneCase, ARestoreLeavesTheDocket, AStruckRowIsLeftOut, AnAnswerShowsItsNumber, AnswersAreTheRuns, FaultlessLinesSayRows, OtherLinesAreReadAsTheyAre, RowsAreWrittenAsTheyAre, RowsKeepTheirNumbers, WhatIsLeftFollows, WhatIsLeftIsHistory};
 
 /// What a line leaves may follow when the journal is opened again, and is no court's file, no strike and no restore.
 #[tactic(auto, using(crate::proofs::EntryLemmas::left_follows))]
@@ -39,9 +39,14 @@ pub fn other_lines_are_read_as_they_are()
     ensures { OtherLinesAreReadAsTheyAre }
 {}
 
-/// A row that is struck changes neither what is docketed nor the cases.
+/// A row that is struck changes nothing of what is docketed.
 pub fn a_struck_row_is_left_out()
     ensures { AStruckRowIsLeftOut }
+{}
+
+/// A case keeps its number and its name, whatever is struck or restored.
+pub fn a_case_keeps_its_number()
+    ensures { ACaseKeepsItsNumber }
 {}
 
 /// A row that is struck and then restored leaves the docket as it was, with the numbers of its deadlines and motions.

@@ -29,9 +29,9 @@ pub use entry::{court_entry, is_row, later_file, standing_file};
 pub use export::push_row;
 pub use fault::{HistoryFault, StrikeFault};
 pub use laws::{
-    a_case_number_is_one_case, a_restore_leaves_the_docket, a_struck_row_is_left_out,
-    an_answer_shows_its_number, answers_are_the_runs, faultless_lines_say_rows,
-    other_lines_are_read_as_they_are, others_are_told_their_answers,
+    a_case_keeps_its_number, a_case_number_is_one_case, a_restore_leaves_the_docket,
+    a_struck_row_is_left_out, an_answer_shows_its_number, answers_are_the_runs,
+    faultless_lines_say_rows, other_lines_are_read_as_they_are, others_are_told_their_answers,
     refused_are_told_their_answers, reports_are_of_the_docket, rows_are_written_as_they_are,
     rows_keep_their_numbers, what_is_left_follows, what_is_left_is_history,
 };

@@ -8,7 +8,8 @@ ghost use Rattle.row_forms.specs.declared.line.line.Line.TheVariants as says;
 ghost use Rattle.desk_entries.specs.Differences.{IsOtherwise};
 ghost use Rattle.desk_entries.specs.Entries.{most_clerks, most_entries, most_rows, next_number, note_in};
 ghost use Rattle.desk_numbers.specs.Strikes.Words.{is_struck};
-ghost use Rattle.desk_entries.specs.Cases.{cases_of};
+ghost use Rattle.case_numbers.specs.Words.{after_name, name_before};
+ghost use Rattle.desk_entries.specs.Cases.{cases_of, opened_in, with_opened};
 ghost use Rattle.desk_entries.specs.declared.standing.Standing.{Standing as StandingOf};
 ghost use Rattle.docket_rows.specs.Words.{setup_of};
 ghost use Rattle.office_texts.specs.Run.Words.{Holds};
@@ -339,7 +340,7 @@ impl DocketRegister {
         self.count = self.count.saturating_add(1);
     }
 
-    // Passes over an entry that says no row of this court, or whose row is struck: the row keeps its number.
+    // Passes over an entry that says no row of this court: the row keeps its number.
     pub(crate) fn pass_row(&mut self, under: &Standing) -> Result<(), AllocError>
         requires { self.old.count < most_entries }
         ensures docket { self.new.docket ≡ self.old.docket }
@@ -352,6 +353,29 @@ impl DocketRegister {
         self.count += 1;
         self.number += 1;
         Ok(())
+    }
+
+    // Passes over an entry whose row is struck: the row keeps its number, and the case that it opened its number and its name.
+    pub(crate) fn pass_struck(
+        &mut self,
+        alloc: Global,
+        under: &Standing,
+        entry: &[u8],
+    ) -> Result<(), AllocError>
+        requires { self.old.count < most_entries }
+        ensures docket { self.new.docket ≡ self.old.docket }
+        ensures numbers { OnOk result (self.new.numbers ≡ passed under.now.corrections.kept self.old.numbers self.old.number) }
+        ensures cases { OnOk result (self.new.cases ≡ with_opened self.old.cases (opened_in (line_read most_clerks (names_of under.now.court) (after_name entry.now))) (name_before entry.now)) }
+        ensures count { OnOk result (self.new.count ≡ self.old.count + 1) }
+        ensures number { OnOk result (self.new.number ≡ self.old.number + 1) }
+    {
+        let _types: RowTypes = None;
+        let name = name_before(alloc, entry)?;
+        match self.said(alloc, under, after_name(entry))? {
+            Line::Row(row) => note_case(alloc, &mut self.cases, &row.work, name)?,
+            Line::Fault(_) | Line::Blank => {}
+        }
+        self.pass_row(under)
     }
 
     /// Decides the row of an entry again. `None` says that it has the answer that it gets; else this is the one that it gets.

@@ -49,7 +49,7 @@ pub(crate) fn decide_entry(
     }
     let number = register.number;
     if under.corrections.is_struck(number) {
-        register.pass_row(under)?;
+        register.pass_struck(alloc, under, entry)?;
         return Ok(());
     }
     if let Some(answer) = register.review(alloc, under, entry)? {

@@ -6,8 +6,8 @@ use Rattle.docket_rows.specs.declared.command.Counted.{Counted}
 use Rattle.docket_rows.specs.declared.command.Counted.TheVariants.{Deadline, Motion}
 use Rattle.desk_numbers.specs.declared.moved.Moved.{Moved}
 use Rattle.docket_rows.specs.Words.{are_alike}
-use Rattle.desk_numbers.specs.Laws.{NumberAndPlaceGoTogether, OthersAreAtTheirPlaces}
-use Rattle.desk_numbers.specs.Moved.{has_number, is_at, number_in, number_of, place_in, place_of}
+use Rattle.desk_numbers.specs.Laws.{APlaceApartTellsItsNumber, NumberAndPlaceGoTogether, OthersAreAtTheirPlaces}
+use Rattle.desk_numbers.specs.Moved.{has_number, is_at, number_in, number_of, place_apart, place_in, place_of}
 
 pub none_found : {X : Type 0} (p : X → Bool) (xs : List X) → list_any p xs ≡ false → find p xs ≡ None
 none_found p [] h = refl
@@ -42,15 +42,16 @@ its_place m = rw (same m.case, alike m.counted, same m.place) refl
 pub go_together : NumberAndPlaceGoTogether
 unfolding number_in place_in
 go_together front back m number place = (
-  ap (λ (found : Option Moved). place_of found (cond (list_any (is_at m.case m.counted m.number) (front ++ m ∷ back)) 0 m.number)) (found_after (has_number m.case m.counted m.number) front back m number (its_number m)),
+  ap (λ (found : Option Moved). place_of found (cond (list_any (is_at m.case m.counted m.number) (front ++ m ∷ back)) (place_apart m.number) m.number)) (found_after (has_number m.case m.counted m.number) front back m number (its_number m)),
   ap (λ (found : Option Moved). number_of found m.place) (found_after (is_at m.case m.counted m.place) front back m place (its_place m)),
 )
 
 -- what a number names that none of these has
-named_by_none : (moved : List Moved) (case : ℕ) (counted : Counted) (n : ℕ) (b : Bool) → list_any (has_number case counted n) moved ≡ false → list_any (is_at case counted n) moved ≡ b → place_in moved case counted n ≡ cond b 0 n
+named_by_none : (moved : List Moved) (case : ℕ) (counted : Counted) (n : ℕ) (b : Bool) → list_any (has_number case counted n) moved ≡ false → list_any (is_at case counted n) moved ≡ b → place_in moved case counted n ≡ cond b (place_apart n) n
 unfolding place_in
 named_by_none moved case counted n b number place =
-    ap (λ (found : Option Moved). place_of found (cond (list_any (is_at case counted n) moved) 0 n)) (none_found (has_number case counted n) moved number) ∙ ap (λ t. cond t 0 n) place
+    ap (λ (found : Option Moved). place_of found (cond (list_any (is_at case counted n) moved) (place_apart n) n)) (none_found (has_number case counted n) moved number)
+    ∙ ap (λ t. cond t (place_apart n) n) place
 
 pub at_their_places : OthersAreAtTheirPlaces
 unfolding number_in
@@ -59,3 +60,6 @@ at_their_places moved case counted n = (
   λ number place. named_by_none moved case counted n false number place,
   λ number place. named_by_none moved case counted n true number place,
 )
+
+pub tells_its_number : APlaceApartTellsItsNumber
+tells_its_number n few = (grind (arith, nat_tests), omega arith)

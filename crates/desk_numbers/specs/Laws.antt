@@ -8,7 +8,7 @@ use Rattle.desk_numbers.specs.declared.given.Given.{Given}
 use Rattle.desk_numbers.specs.declared.moved.Moved.{Moved}
 use Rattle.desk_numbers.specs.Given.{is_of}
 use Rattle.desk_numbers.specs.Kept.{kept_of}
-use Rattle.desk_numbers.specs.Moved.{has_number, is_at, is_moved, number_in, place_in}
+use Rattle.desk_numbers.specs.Moved.{has_number, is_apart, is_at, is_moved, number_in, place_apart, place_in}
 use Rattle.desk_numbers.specs.Numbered.{numbered, placed}
 use Rattle.desk_numbers.specs.Numbers.{NumbersView, last_number, next_for, number_for, numbers_after}
 
@@ -36,12 +36,16 @@ abbrev pub NumberAndPlaceGoTogether : Type 0
 NumberAndPlaceGoTogether = (front back : List Moved) (m : Moved) → list_any (has_number m.case m.counted m.number) front ≡ false → list_any (is_at m.case m.counted m.place) front ≡ false
     → (place_in (front ++ m ∷ back) m.case m.counted m.number ≡ m.place) × (number_in (front ++ m ∷ back) m.case m.counted m.place ≡ m.number)
 
--- All else has its place as its number, and a number that nothing has names nothing.
+-- All else has its place as its number, and a number that nothing has any more has a place apart.
 abbrev pub OthersAreAtTheirPlaces : Type 0
 OthersAreAtTheirPlaces = (moved : List Moved) (case : ℕ) (counted : Counted) (n : ℕ)
     → (list_any (is_at case counted n) moved ≡ false → number_in moved case counted n ≡ n)
     × (list_any (has_number case counted n) moved ≡ false → list_any (is_at case counted n) moved ≡ false → place_in moved case counted n ≡ n)
-    × (list_any (has_number case counted n) moved ≡ false → list_any (is_at case counted n) moved ≡ true → place_in moved case counted n ≡ 0)
+    × (list_any (has_number case counted n) moved ≡ false → list_any (is_at case counted n) moved ≡ true → place_in moved case counted n ≡ place_apart n)
+
+-- A place apart is no other place, and tells its number, so that an event of what is gone keeps its name.
+abbrev pub APlaceApartTellsItsNumber : Type 0
+APlaceApartTellsItsNumber = (n : ℕ) → n ≤ 2_147_483_647 → (is_apart (place_apart n) ≡ true) × (place_apart (place_apart n) ≡ n)
 
 -- Before the first correction no row keeps a number, and all is at its place.
 abbrev pub NothingMovesAtFirst : Type 0

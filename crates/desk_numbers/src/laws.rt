@@ -1,5 +1,5 @@
 //! Laws of the definitions, the contracts of functions that do nothing.
-ghost use Rattle.desk_numbers.specs.Laws.{ANumberIsGivenOnce, ARowKeepsItsNumber, NothingMovesAtFirst, NumberAndPlaceGoTogether, OthersAreAtTheirPlaces, WithNoneMovedNothingChanges};
+ghost use Rattle.desk_numbers.specs.Laws.{ANumberIsGivenOnce, APlaceApartTellsItsNumber, ARowKeepsItsNumber, NothingMovesAtFirst, NumberAndPlaceGoTogether, OthersAreAtTheirPlaces, WithNoneMovedNothingChanges};
 ghost use Rattle.desk_numbers.specs.Said.{WhatIsSaidIsKept};
 
 /// A row keeps the number that it gave.
@@ -20,10 +20,15 @@ pub fn number_and_place_go_together()
     ensures { NumberAndPlaceGoTogether }
 {}
 
-/// All else has its place as its number, and a number that nothing has names nothing.
+/// All else has its place as its number, and a number that nothing has any more has a place apart.
 #[tactic(auto, using(crate::proofs::PlaceLemmas::at_their_places))]
 pub fn others_are_at_their_places()
     ensures { OthersAreAtTheirPlaces }
+{}
+
+/// A place apart is no other place, and tells the number for which it is.
+pub fn a_place_apart_tells_its_number()
+    ensures { APlaceApartTellsItsNumber }
 {}
 
 /// Before the first correction no row keeps a number, and all is at its place.

@@ -1,7 +1,7 @@
 //! What isn't at the place that its number says: some before it were struck, or are done now that were refused before.
 ghost use Rattle.std.specs.Prelude.{◌≡◌, ◌∷◌, ◌++◌, ◌&&◌, [], length, nat_eq, find, option_copied, OnErr, OnOk};
 ghost use Rattle.std.specs.List.{list_any};
-ghost use Rattle.desk_numbers.specs.Moved.{after_it, after_moved, has_number, is_at, is_moved, number_in, place_in};
+ghost use Rattle.desk_numbers.specs.Moved.{after_it, after_moved, has_number, is_apart, is_at, is_moved, number_in, place_apart, place_in};
 
 use docket_rows::Counted;
 use std::alloc::{AllocError, Global};
@@ -52,6 +52,20 @@ impl Moved {
     {
         self.is_of(case, counted) && self.number == number
     }
+}
+
+/// A place apart for a number that nothing has any more, or the number for which a place is one.
+pub fn place_apart(number: u32) -> u32
+    ensures { result ≡ place_apart number }
+{
+    u32::MAX - number
+}
+
+/// Whether a place is one apart, at which there is nothing.
+pub fn is_apart(place: u32) -> bool
+    ensures { result ≡ is_apart place }
+{
+    place > 2_147_483_647
 }
 
 /// What has another number than its place. All else that is counted in a case has its place as its number. With none it is
@@ -141,14 +155,14 @@ impl MovedNumbers {
         }
     }
 
-    /// The place of what has a number in a case, counted from 1. It is 0 where nothing has the number.
+    /// The place of what has a number in a case, counted from 1. Where nothing has the number, nothing is at its place.
     #[tactic(auto, unfolding(crate::specs::Moved::place_in))]
     pub fn place_of(&self, case: u32, counted: Counted, number: u32) -> u32
         ensures { result ≡ place_in self.now case counted number }
     {
         match self.with_number(case, counted, number) {
             Some(moved) => moved.place,
-            None if self.has_at(case, counted, number) => 0,
+            None if self.has_at(case, counted, number) => place_apart(number),
             None => number,
         }
     }

@@ -7,8 +7,8 @@ use docket_rows::Command;
 use row_forms::Work;
 
 impl MovedNumbers {
-    /// What a row asks for, as the docket is asked: a deadline or a motion is named by its place, counted from 1. A retired
-    /// number has place 0, at which there is nothing.
+    /// What a row asks for, as the docket is asked: a deadline or a motion is named by its place, counted from 1. A number
+    /// that nothing has any more has a place at which there is nothing.
     #[tactic(auto, unfolding(crate::specs::Numbered::placed), using(crate::proofs::PlainLemmas::placed_alone))]
     pub fn place(&self, work: &Work) -> Work
         ensures { result ≡ placed self.now work.now }

@@ -1,5 +1,5 @@
--- What sheets show with a number: the ends of deadlines, and the hearings of motions.
-use Rattle.std.specs.Prelude.{ℕ, List, [], ◌∷◌, Option, Some, None, map}
+-- What of sheets is compared: the day on which a case was filed, the ends of its deadlines, and the hearings of its motions.
+use Rattle.std.specs.Prelude.{ℕ, ℤ, List, [], ◌∷◌, Option, Some, None, map}
 use Rattle.std.specs.List.{flat_map}
 use Rattle.court_clock.specs.Words.{ClockView}
 use Rattle.court_days.specs.Words.{CourtView}
@@ -10,6 +10,11 @@ use Rattle.docket_rows.specs.declared.view.View.{View}
 use Rattle.docket_rows.specs.declared.view.View.TheVariants as view
 use Rattle.office_texts.specs.Words.{hearing_text, shown_text}
 use Rattle.docket_shifts.specs.Texts.{NumberedTextView}
+
+-- the day on which the case was filed; none of a case that isn't open
+abbrev pub filed_in : View → Option ℤ
+filed_in (view.Sheet sheet) = Some sheet.filed
+filed_in other = None
 
 -- the end of a deadline
 abbrev pub end_of : ClockView → SheetDeadline → NumberedTextView

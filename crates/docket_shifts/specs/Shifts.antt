@@ -1,4 +1,5 @@
--- What differs between two dockets: each deadline that ends otherwise, and each hearing that is another.
+-- What differs between two dockets: each case that is open in one alone, each deadline that ends otherwise, and each hearing that
+-- is another.
 use Rattle.std.specs.Prelude.{ℕ, List, [], ◌++◌, codes, if◌then◌else◌}
 use Rattle.std.specs.List.{flat_map, list_any, range_with_len}
 use Rattle.case_numbers.specs.declared.names.NamedCase.{NamedCase}
@@ -8,8 +9,9 @@ use Rattle.docket_rows.specs.declared.command.Counted.TheVariants.{Deadline, Mot
 use Rattle.docket_rows.specs.declared.view.View.{View}
 use Rattle.docket_rows.specs.Words.{last_case}
 use Rattle.docket_shifts.specs.Compared.{ShownRows, sheet_in}
+use Rattle.docket_shifts.specs.Filed.{filed_line}
 use Rattle.docket_shifts.specs.Line.{shift_line}
-use Rattle.docket_shifts.specs.Sheets.{ends_in, hearings_in}
+use Rattle.docket_shifts.specs.Sheets.{ends_in, filed_in, hearings_in}
 use Rattle.docket_shifts.specs.Texts.{NumberedTextView, has_number, text_under}
 
 -- what was shown under a number, and what is, or that there is none: `  case 3 deadline 2: last 2025-09-02, now none`
@@ -24,11 +26,11 @@ new_line named case counted was is = if list_any (has_number is.number) was then
 abbrev pub lines_of : (had has : List NamedCase) → (case : ℕ) → Counted → (was is : List NumberedTextView) → List ℕ
 lines_of had has case counted was is = flat_map (kept_line had case counted is) was ++ flat_map (new_line has case counted was) is
 
--- what differs between two sheets of a case, shown by the court before and by the one after: the ends of its deadlines, and then
--- its hearings
+-- what differs between two sheets of a case, shown by the court before and by the one after: whether it is open, the ends of its
+-- deadlines, and then its hearings
 abbrev pub sheet_shifts : (before after : CourtView) → (had has : List NamedCase) → (case : ℕ) → (was is : View) → List ℕ
 sheet_shifts before after had has case was is =
-    lines_of had has case Deadline (ends_in before was) (ends_in after is) ++ lines_of had has case Motion (hearings_in before was) (hearings_in after is)
+    filed_line had has case (filed_in was) (filed_in is) ++ lines_of had has case Deadline (ends_in before was) (ends_in after is) ++ lines_of had has case Motion (hearings_in before was) (hearings_in after is)
 
 -- the lines of a case
 abbrev pub case_shifts : (before after : ShownRows) → (case : ℕ) → List ℕ
@@ -38,6 +40,7 @@ case_shifts before after case = sheet_shifts before.court after.court before.nam
 unfoldable pub shifts_from : (before after : ShownRows) → (first count : ℕ) → List ℕ
 shifts_from before after first count = flat_map (case_shifts before after) (range_with_len first count)
 
--- A line for each deadline that ends otherwise after than before, and for each hearing that is another, by the numbers of the cases.
+-- A line for each case that is open in one docket alone, for each deadline that ends otherwise after than before, and for each
+-- hearing that is another, by the numbers of the cases.
 abbrev pub shifts : (before after : ShownRows) → List ℕ
 shifts before after = shifts_from before after 1 last_case

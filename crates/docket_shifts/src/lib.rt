@@ -1,8 +1,9 @@
-//! What differs between two dockets of the same cases, as one stands now and as it would stand otherwise: the ends of deadlines
-//! and the hearings of motions, by their numbers, with a line for each.
+//! What differs between two dockets of the same cases, as one stands now and as it would stand otherwise: which cases are open, the
+//! ends of deadlines and the hearings of motions, by their numbers, with a line for each.
 #![tactic(auto)]
 
 mod compared;
+mod filed;
 mod line;
 mod sheets;
 mod shifts;

@@ -1,13 +1,24 @@
-//! What sheets show with a number: the ends of deadlines, and the hearings of motions.
+//! What of sheets is compared: the day on which a case was filed, the ends of its deadlines, and the hearings of its motions.
 ghost use Rattle.std.specs.Prelude.{◌≡◌, ◌++◌, map, IfOk, OnOk};
 ghost use Rattle.std.specs.List.{flat_map};
-ghost use Rattle.docket_shifts.specs.Sheets.{end_of, ends_in, hearing_of, hearings_in};
+ghost use Rattle.docket_shifts.specs.Sheets.{end_of, ends_in, filed_in, hearing_of, hearings_in};
 
 use crate::texts::NumberedText;
+use court_clock::Day;
 use court_days::Court;
 use docket_rows::{SheetDeadline, SheetMotion, View};
 use office_texts::{push_hearing, push_shown};
 use std::alloc::{AllocError, Global};
+
+// The day on which the case of a sheet was filed, where the view is one.
+pub(crate) fn filed_in(view: &View) -> Option<Day>
+    ensures { result ≡ filed_in view.now }
+{
+    match view {
+        View::Sheet(sheet) => Some(sheet.filed),
+        _ => None,
+    }
+}
 
 // The end of a deadline, as answers show it.
 fn end_of(

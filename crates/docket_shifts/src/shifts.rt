@@ -10,8 +10,9 @@ ghost use Rattle.docket_shifts.specs.Sheets.{ends_in, hearings_in};
 ghost use Rattle.docket_shifts.specs.Shifts.{case_shifts, kept_line, lines_of, new_line, sheet_shifts, shifts, shifts_from};
 
 use crate::compared::Compared;
+use crate::filed::push_filed;
 use crate::line::push_shift;
-use crate::sheets::{ends_in, hearings_in};
+use crate::sheets::{ends_in, filed_in, hearings_in};
 use crate::texts::{NumberedText, has_number, text_under};
 use case_numbers::Cases;
 use docket_rows::{Counted, LAST_CASE, View};
@@ -161,6 +162,14 @@ fn push_sheets(
 ) -> Result<(), AllocError>
     ensures { OnOk result (AddsText text.old text.new (sheet_shifts before.now.court after.now.court before.now.named after.now.named case was.now is.now)) }
 {
+    push_filed(
+        text,
+        before.cases,
+        after.cases,
+        case,
+        filed_in(was),
+        filed_in(is),
+    )?;
     push_ends(alloc, text, before, after, case, was, is)?;
     push_hearings(alloc, text, before, after, case, was, is)
 }
@@ -208,8 +217,9 @@ fn push_cases(
     Ok(())
 }
 
-/// Adds a line for each deadline that ends otherwise after than before and for each hearing that is another, with both: by the
-/// cases, and in each first what there was before, in its order, then what is new. `Err` says that memory ran out.
+/// Adds a line for each case that is open before or after alone, for each deadline that ends otherwise after than before and for each
+/// hearing that is another, with both: by the cases, and in each first what there was before, in its order, then what is new. `Err`
+/// says that memory ran out.
 pub fn push_shifts(
     alloc: Global,
     text: &mut String,
