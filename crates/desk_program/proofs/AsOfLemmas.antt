@@ -1,42 +1,23 @@
 -- The entries that had come by a moment.
-use Rattle.std.proofs.Common.{◌≡◌, ◌∙◌, ◌+◌, ◌<◌, ◌≤◌, ◌⊎◌, inl, inr, add-one, ℕ, suc, zero, List, [], ◌∷◌, ◌++◌, drop, get_or, length, length-append, min, take, take_all, refl, sym, ap, subst, append_assoc, append-nil, arith}
+use Rattle.std.proofs.Common.{◌≡◌, ◌∙◌, ◌+◌, ◌<◌, ◌≤◌, ◌⊎◌, inl, inr, add-one, ℕ, suc, zero, List, [], ◌∷◌, ◌++◌, drop, get_or, length, length-append, length-take, min, take, take_all, refl, sym, ap, subst, append_assoc, append-nil, arith}
 use Rattle.std.specs.Prelude.{All, Vec}
 use Rattle.std.specs.declared.alloc.Global.{Global}
 use Rattle.std.proofs.lemmas.Bool.{cases_lt}
-use Rattle.std.proofs.lemmas.List.{get_or-take, length-take-le, take-append-drop, take-append-le, take-take}
+use Rattle.std.proofs.lemmas.List.{get_or-take, length-take-le, take-append-le, take-take}
 use Rattle.std.proofs.lemmas.List.Elements.{All-get_or, All-more, All-nil, All-take}
 use Rattle.desk_journal.specs.Words.{StampView, batch_of}
 use Rattle.desk_entries.specs.Words.{note_in, row_entries, row_only}
-use Rattle.desk_entries.proofs.CallerLemmas.{begun_batch, no_rows_first, row_entries-more, take_batch}
+use Rattle.desk_entries.proofs.CallerLemmas.{begun_batch, length_batch, row_entries-more, take_batch}
 use Rattle.desk_program.specs.declared.as_of.Moment.{Moment}
 use Rattle.desk_program.specs.declared.as_of.Moment.TheVariants.{Row, Second}
 use Rattle.desk_program.specs.AsOf.{HadCome, IsKeptAt, WhatComesLaterChangesNothing}
 
--- more entries have no fewer rows
-rows_grow : (entries more : List (List ℕ)) → 0 < length entries → length (row_entries entries) ≤ length (row_entries (entries ++ more))
-rows_grow entries [] begun = omega (arith, ap (λ (l : List (List ℕ)). length (row_entries l)) (append-nil entries))
-rows_grow entries (entry ∷ more) begun =
-    omega (
-      arith,
-      rows_grow (entries ++ entry ∷ []) more (omega (arith, length-append entries (entry ∷ []))),
-      ap length (row_entries-more entries entry begun),
-      length-append (row_entries entries) (row_only (note_in entry) entry),
-      ap (λ (l : List (List ℕ)). length (row_entries l)) (append_assoc entries (entry ∷ []) more),
-    )
-
-no_rows : row_entries [] ≡ []
-no_rows = no_rows_first []
-
-rows_grow_all : (entries more : List (List ℕ)) → length (row_entries entries) ≤ length (row_entries (entries ++ more))
-rows_grow_all [] more = omega (arith, ap length no_rows)
-rows_grow_all (entry ∷ entries) more = rows_grow (entry ∷ entries) more (omega arith)
-
-parted : {A : Type 0} (i j : ℕ) (l : List A) → i ≤ j → take i l ++ drop i (take j l) ≡ take j l
-parted i j l le = ap (λ x. x ++ drop i (take j l)) (sym (take-take i j l le)) ∙ take-append-drop i (take j l)
-
-rows_before : (i j : ℕ) (entries : List (List ℕ)) → i ≤ j → length (row_entries (take i entries)) ≤ length (row_entries (take j entries))
-rows_before i j entries le =
-    omega (arith, rows_grow_all (take i entries) (drop i (take j entries)), ap (λ (l : List (List ℕ)). length (row_entries l)) (parted i j entries le))
+-- what is so before each of some entries is so before each of fewer
+rows_before : (number i j : ℕ) (entries : List (List ℕ)) → i ≤ j → HadCome (Row number) (take j entries) [] → HadCome (Row number) (take i entries) []
+rows_before number i j entries le h = λ place begun within.
+    let few : place < i = omega (arith, within, length-take i entries) in
+    let here : place < length (take j entries) = omega (arith, within, le, length-take i entries, length-take j entries) in
+    subst (λ (l : List (List ℕ)). length (row_entries l) < number) (take-take place j entries (omega (arith, few, le)) ∙ sym (take-take place i entries (omega (arith, few)))) (h place begun here)
 
 times_before : (P : StampView → Type 0) (i j : ℕ) (stamps : List StampView) → i ≤ j → All P (drop 1 (take j stamps)) → All P (drop 1 (take i stamps))
 times_before P zero j stamps le h = All-nil P
@@ -46,7 +27,7 @@ times_before P (suc i) (suc j) (stamp ∷ stamps) le h = subst (All P) (take-tak
 
 -- what had come is so of fewer
 pub had_come_before : (moment : Moment) (entries : List (List ℕ)) (stamps : List StampView) (i j : ℕ) → i ≤ j → HadCome moment (take j entries) (take j stamps) → HadCome moment (take i entries) (take i stamps)
-had_come_before (Row number) entries stamps i j le h = omega (arith, h, rows_before i j entries le)
+had_come_before (Row number) entries stamps i j le h = rows_before number i j entries le h
 had_come_before (Second second) entries stamps i j le h = times_before (λ (stamp : StampView). stamp.time ≤ second) i j stamps le h
 
 -- where the next one hadn't come
@@ -114,6 +95,37 @@ rows_counted entries place entry begun lt is =
     ap (λ (l : List (List ℕ)). length (row_entries l)) (take_batch entries place entry lt is)
     ∙ ap length (row_entries-more kept entry.items (begun_batch entries place begun lt))
     ∙ length-append (row_entries kept) (row_only (note_in entry.items) entry.items)
+
+-- no row more than the number says comes before one entry more, where fewer came before it
+pub one_further : (number : ℕ) (entries : List (Vec ℕ Global)) (place : ℕ) → place < length entries → length (row_entries (batch_of (take place entries))) < number
+    → HadCome (Row number) (batch_of (take place entries)) [] → HadCome (Row number) (batch_of (take (place + 1) entries)) []
+one_further number entries place within fewer had = λ n begun lt. by n begun lt (cases_lt n place)
+  where
+    whole : (k : ℕ) → take k (batch_of entries) ≡ batch_of (take k entries)
+    whole k = batch_taken entries k
+
+    long : (k : ℕ) → length (batch_of (take k entries)) ≡ min k (length (batch_of entries))
+    long k = ap length (sym (whole k)) ∙ length-take k (batch_of entries)
+
+    cut : (n k : ℕ) → n ≤ k → take n (batch_of (take k entries)) ≡ batch_of (take n entries)
+    cut n k le = ap (take n) (sym (whole k)) ∙ take-take n k (batch_of entries) le ∙ whole n
+
+    by : (n : ℕ) → 1 ≤ n → n < length (batch_of (take (place + 1) entries)) → (n < place) ⊎ (place ≤ n) → length (row_entries (take n (batch_of (take (place + 1) entries)))) < number
+    by n begun lt (inl few) =
+        subst (λ (l : List (List ℕ)). length (row_entries l) < number) (cut n place (omega (arith, few)) ∙ sym (cut n (place + 1) (omega (arith, few))))
+        (had n begun (omega (arith, few, lt, long place, long (place + 1))))
+    by n begun lt (inr more) =
+        let is : n ≡ place = omega (arith, more, lt, long (place + 1)) in
+        subst (λ (l : List (List ℕ)). length (row_entries l) < number) (sym (cut n (place + 1) (omega (arith, is)) ∙ ap (λ (k : ℕ). batch_of (take k entries)) is)) fewer
+
+-- where as many came before it, it came later
+pub no_further : (number : ℕ) (entries : List (Vec ℕ Global)) (place : ℕ) → 1 ≤ place → place < length entries → length (row_entries (batch_of (take place entries))) ≡ number → HadCome (Row number) (take (place + 1) (batch_of entries)) [] → ⊥
+no_further number entries place begun within is had =
+    let long : length (take (place + 1) (batch_of entries)) ≡ min (place + 1) (length (batch_of entries)) = length-take (place + 1) (batch_of entries) in
+    let cut : take place (take (place + 1) (batch_of entries)) ≡ batch_of (take place entries) = take-take place (place + 1) (batch_of entries) (omega arith) ∙ batch_taken entries place in
+    let fewer : length (row_entries (batch_of (take place entries))) < number =
+    subst (λ (l : List (List ℕ)). length (row_entries l) < number) cut (had place begun (omega (arith, long, within, length_batch entries))) in
+    absurd (omega (arith, fewer, is))
 
 -- the times of one entry more
 pub times_more : (P : StampView → Type 0) (stamps : List StampView) (place : ℕ) (stamp : StampView) → 1 ≤ place → place < length stamps → stamp ≡ get_or stamps place stamp

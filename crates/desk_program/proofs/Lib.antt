@@ -7,6 +7,7 @@ pub mod FaultWordLemmas
 pub mod FileLemmas
 pub mod LogJsonLemmas
 pub mod LogLemmas
+pub mod LogReadLemmas
 pub mod NoteLemmas
 pub mod OpenLemmas
 pub mod RowCaseLemmas

@@ -1,14 +1,15 @@
 -- The entries that had come by a moment.
-use Rattle.std.specs.Prelude.{◌≡◌, ◌≤◌, ℕ, List, [], ◌∷◌, ◌++◌, All, drop, length, take}
+use Rattle.std.specs.Prelude.{◌≡◌, ◌≤◌, ◌<◌, ℕ, List, [], ◌∷◌, ◌++◌, All, drop, length, take}
 use Rattle.desk_journal.specs.Words.{StampView}
 use Rattle.desk_entries.specs.Words.{row_entries}
 use Rattle.desk_program.specs.declared.as_of.Moment.{Moment}
 use Rattle.desk_program.specs.declared.as_of.Moment.TheVariants.{Row, Second}
 
--- These entries, with these stamps, had all come by that moment: there is no row among them after that of this number, or each
--- after the first is of that second or an earlier one. The first, a court's file, always counts.
+-- These entries, with these stamps, had all come by that moment: before each after the first there are fewer rows than the number says,
+-- so that none comes after the row of that number, a correction neither; or each after the first is of that second or an earlier
+-- one. The first, a court's file, always counts.
 abbrev pub HadCome : Moment → (entries : List (List ℕ)) → (stamps : List StampView) → Type 0
-HadCome (Row number) entries stamps = length (row_entries entries) ≤ number
+HadCome (Row number) entries stamps = (place : ℕ) → 1 ≤ place → place < length entries → length (row_entries (take place entries)) < number
 HadCome (Second second) entries stamps = All (λ (stamp : StampView). stamp.time ≤ second) (drop 1 stamps)
 
 -- this many of the entries had come by that moment: it is the longest beginning of them that had

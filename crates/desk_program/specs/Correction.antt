@@ -25,12 +25,12 @@ head_text entries (Restore row) = row_head entries (Restore row) row
 head_text entries CourtFile = []
 head_text entries Row = []
 
--- What is written of a correction: the row that it is about, each row that would be answered otherwise than now, and each deadline and
--- hearing that would be another than now.
+-- What is written of a correction: the row that it is about, each row that would be answered otherwise than now, and each case, deadline
+-- and hearing that would be another than now.
 abbrev pub correction_text : (now after : Standing) → (entries : List (List ℕ)) → EntryKind → List ℕ
 correction_text now after entries kind = head_text entries kind ++ changes_text (changes_between now after entries) ++ shifts (shown_at now entries) (shown_at after entries)
 
--- It is written. Without leave no row is answered otherwise than now; that deadlines and hearings move needs no leave.
+-- It is written. Without leave no row is answered otherwise than now; that cases, deadlines and hearings change needs no leave.
 pub record IsListed (now after : Standing) (entries : List (List ℕ)) (kind : EntryKind) (accept : Bool) (old new : Option (List ℕ)) : Type 0 where
   pub written : Appends old new (correction_text now after entries kind)
   pub without_leave : accept ≡ false → changes_between now after entries ≡ []

@@ -45,7 +45,8 @@ session_status session.Unfinished = 4
 session_status session.OutOfMemory = 5
 
 -- the status of a fault: 2 for the court's file, 3 for rows, and for one that can't be struck, 4 for files and streams, 5 for want of memory,
--- 7 for a court's file or a strike that isn't taken since answers would differ, 8 for rows that had faults among others that were taken, 10 for the journal
+-- 7 for a court's file or a strike that isn't taken since answers would differ, 8 for rows that had faults or were held back among others
+-- that were taken, 10 for the journal
 abbrev pub desk_status : DeskFault → ℕ
 desk_status (Court court.OutOfMemory) = 5
 desk_status (Court _) = 2

@@ -1,11 +1,11 @@
 -- An entry as a line of JSON: an object of what the log's text says of it.
-use Rattle.std.specs.Prelude.{◌≡◌, ℕ, ◌-◌, ◌%◌, ℤ, List, [], ◌∷◌, ◌++◌, Option, Some, None, codes, length, take, if◌then◌else◌}
+use Rattle.std.specs.Prelude.{◌≡◌, ℕ, ◌-◌, ◌%◌, ◌<◌, ◌^◌, ℤ, List, [], ◌∷◌, ◌++◌, Option, Some, None, IfSome, codes, length, take, if◌then◌else◌, ⊤}
 use Rattle.std.specs.Fmt.{decimal}
 use Rattle.std.specs.Str.{is_utf8}
 use Rattle.case_numbers.specs.Words.{after_name}
 use Rattle.court_clock.specs.Words.{day_text}
 use Rattle.reason_texts.specs.Words.{second_time}
-use Rattle.json.specs.Json.{Json, Members, member, no_members, null, number, object, string}
+use Rattle.json.specs.Json.{Json, Members, document, member, no_members, null, number, object, string}
 use Rattle.json.specs.Print.{print}
 use Rattle.json.specs.Token.{Token}
 use Rattle.json.specs.Tree.{json_tokens, members_tokens}
@@ -60,9 +60,25 @@ entry_members CourtFile row case entry stamp = member (codes "kind") (string (co
 entry_members (Strike of) row case entry stamp = correction_members (codes "strike") of case entry stamp
 entry_members (Restore of) row case entry stamp = correction_members (codes "restore") of case entry stamp
 
+-- the object of an entry
+abbrev pub entry_object : EntryKind → (row : ℕ) → (case : Option ℕ) → (entry : List ℕ) → StampView → Json
+entry_object kind row case entry stamp = object (entry_members kind row case entry stamp)
+
 -- the object as a line, without spaces
 abbrev pub entry_json : EntryKind → (row : ℕ) → (case : Option ℕ) → (entry : List ℕ) → StampView → List ℕ
-entry_json kind row case entry stamp = print (json_tokens (object (entry_members kind row case entry stamp))) ++ 10 ∷ []
+entry_json kind row case entry stamp = print (json_tokens (entry_object kind row case entry stamp)) ++ 10 ∷ []
+
+-- the row that a strike or a restore names has at most 64 bits
+abbrev pub NamesFew : EntryKind → Type 0
+NamesFew (Strike row) = row < 2 ^ 64
+NamesFew (Restore row) = row < 2 ^ 64
+NamesFew Row = ⊤
+NamesFew CourtFile = ⊤
+
+-- What is written of an entry's object reads back as that object, whatever bytes the entry has, where its numbers have at most 64 bits.
+abbrev pub LogReadsBack : Type 0
+LogReadsBack = (kind : EntryKind) (row : ℕ) (case : Option ℕ) (entry : List ℕ) (stamp : StampView) → NamesFew kind → row < 2 ^ 64 → IfSome case (λ number. number < 2 ^ 64)
+    → document (print (json_tokens (entry_object kind row case entry stamp))) ≡ Some (entry_object kind row case entry stamp)
 
 -- ---- what it means to write members, a token at a time
 

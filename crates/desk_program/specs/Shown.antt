@@ -12,3 +12,10 @@ shown_byte byte = if nat_lt byte 32 || nat_eq byte 127 then codes "\\x" ++ hex_d
 
 abbrev pub shown : List ℕ → List ℕ
 shown bytes = flat_map shown_byte bytes
+
+-- a byte of a text with lines, of which the ends stay
+abbrev pub line_byte_shown : ℕ → List ℕ
+line_byte_shown byte = if nat_eq byte 10 then 10 ∷ [] else shown_byte byte
+
+abbrev pub lines_shown : List ℕ → List ℕ
+lines_shown bytes = flat_map line_byte_shown bytes

@@ -11,6 +11,7 @@ pub use Rattle.desk_program.specs.Faults.{desk_status}
 pub use Rattle.desk_program.specs.Log.{log_text}
 pub use Rattle.desk_program.specs.Restore.{IsRestored, RefusesRestore, RestoresRow}
 pub use Rattle.desk_program.specs.Rows.{written_rows}
+pub use Rattle.desk_program.specs.Shown.{lines_shown}
 pub use Rattle.desk_program.specs.Strike.{IsStruck, RefusesStrike, StrikesRow}
 pub use Rattle.desk_program.specs.Struck.{struck_text}
 pub use Rattle.desk_program.specs.Together.{IsAtFault, IsDocketAllOrNone, KeepsTogether, RefusesLines, SaysWhatIsKept, StopsList, faults_in, line_faults_text, stop_of, stopped_text}

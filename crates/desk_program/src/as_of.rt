@@ -9,22 +9,23 @@ use desk_journal::Stamp;
 /// A moment in the course of a journal.
 #[derive(Clone, Copy, Debug, PartialEq, Eq)]
 pub enum Moment {
-    /// After the row of that number, counted from 1, and what was kept before the next row. Before the first row it is 0.
+    /// Right after the row of that number, counted from 1; a correction that was kept after the row counts for nothing. Right after the
+    /// first court's file it is 0.
     Row(u32),
     /// The end of that second of UTC, counted from 1970-01-01T00:00:00.
     Second(u64),
 }
 
-// How many entries there are before the row after that of this number.
+// How many entries there are up to the row of this number.
 fn kept_at_row(entries: &[Vec<u8>], number: u32) -> usize
     ensures { (stamps : List StampView) → IsKeptAt (Moment.Row number) (batch_of entries.now) stamps result }
 {
     let mut left = number;
     for place in 1..entries.len() {
+        if left == 0 {
+            return place;
+        }
         if is_row(&entries[place]) {
-            if left == 0 {
-                return place;
-            }
             left -= 1;
         }
     }

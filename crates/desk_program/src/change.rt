@@ -58,8 +58,9 @@ impl<D: Disk> Desk<D> {
     }
 
     /// Goes by another court's file from here on, which is kept as the next entry: the answers before stay those of the files
-    /// before. The rows that it answers otherwise than now are written, each with its answers, and then each deadline and hearing that
-    /// moves. If there are such rows, the file is taken only with leave; without it, at `Differs`, the journal is as it was.
+    /// before. The rows that it answers otherwise than now are written, each with its answers, and then each case, deadline and
+    /// hearing that changes. If there are such rows, the file is taken only with leave; without it, at `Differs`, the journal is as
+    /// it was.
     pub fn change<W: Write>(
         &mut self,
         alloc: Global,

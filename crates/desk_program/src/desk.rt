@@ -175,8 +175,8 @@ impl<D: Disk> Desk<D> {
     /// Serves rows, one in a line, until the input ends: each is kept, and then it is answered. One that is held back is
     /// answered with its warnings, and not kept. What is kept has the second that the clock showed when it was read. However it ends, and
     /// wherever a crash comes, no answered row is lost. So it is where the program is killed, by a signal or otherwise:
-    /// then a crash leaves what the disk holds at that moment. At the end it says how many rows there were, and how many of
-    /// them had faults.
+    /// then a crash leaves what the disk holds at that moment. At the end it says how many rows there were, how many of them
+    /// had faults, and how many were held back.
     pub fn enter<C: Clock, R: Read, W: Write>(
         &mut self,
         alloc: Global,

@@ -43,7 +43,7 @@ pub enum DeskFault {
     Refused(usize),
     /// The row in this line draws a warning, and none of the rows that were to be kept together is kept.
     Held(usize),
-    /// Some rows had faults and weren't taken, and the others were: how many of each.
+    /// Some rows had faults or were held back and weren't taken, and the others were: how many of each.
     Faulty(Tally),
     /// There is more than can be kept together.
     LongInput,

@@ -103,6 +103,37 @@ fn write_unkept<W: fmt::Write>(fault: &SessionFault, f: &mut fmt::Formatter<W>) 
     }
 }
 
+// How many rows had faults, and how many were held back.
+fn write_faulty<W: fmt::Write>(tally: Tally, f: &mut fmt::Formatter<W>) -> fmt::Result {
+    let Tally { rows, faults, held } = tally;
+    match (faults, held) {
+        (1, 0) => write!(
+            f,
+            "1 of {rows} rows had a fault and wasn't taken: mend it and enter it again"
+        ),
+        (_, 0) => write!(
+            f,
+            "{faults} of {rows} rows had faults and weren't taken: mend them and enter them again"
+        ),
+        (0, 1) => write!(
+            f,
+            "1 of {rows} rows was held back and isn't kept: mend it, or enter it with a '!' before it"
+        ),
+        (0, _) => write!(
+            f,
+            "{held} of {rows} rows were held back and aren't kept: mend them, or enter them with a '!' before them"
+        ),
+        _ => {
+            let with = if faults == 1 { "a fault" } else { "faults" };
+            let were = if held == 1 { "was" } else { "were" };
+            write!(
+                f,
+                "{faults} of {rows} rows had {with} and {held} {were} held back, and none of these is kept"
+            )
+        }
+    }
+}
+
 // What is wrong with the rows of an input.
 fn write_row_fault<W: fmt::Write>(fault: &DeskFault, f: &mut fmt::Formatter<W>) -> fmt::Result {
     match fault {
@@ -115,20 +146,13 @@ fn write_row_fault<W: fmt::Write>(fault: &DeskFault, f: &mut fmt::Formatter<W>) 
         ),
         DeskFault::Refused(line) => write!(
             f,
-            "line {line} wouldn't be done, so nothing is kept: mend the list and enter all of it again, or give --keep-refused, which keeps a refused command"
+            "line {line} wouldn't be done, so nothing is kept: mend the list and enter all of it again; --keep-refused keeps a list in which a command is refused"
         ),
         DeskFault::Held(line) => write!(
             f,
             "the row in line {line} draws a warning, so nothing is kept: mend it, or put a '!' before it, and enter all lines again"
         ),
-        DeskFault::Faulty(Tally { rows, faults: 1 }) => write!(
-            f,
-            "1 of {rows} rows had a fault and wasn't taken: mend it and enter it again"
-        ),
-        DeskFault::Faulty(Tally { rows, faults }) => write!(
-            f,
-            "{faults} of {rows} rows had faults and weren't taken: mend them and enter them again"
-        ),
+        DeskFault::Faulty(tally) => write_faulty(*tally, f),
         DeskFault::LongInput => f.write_str(
             "the input has more than 16777216 bytes, and nothing is kept: enter it in parts",
         ),

@@ -40,6 +40,8 @@ pub use fault::DeskFault;
 pub use fault_lines::{DeskFaultLine, ended_by, status_of};
 pub use file::{file_fault, open_file};
 pub use log::{LogChoice, write_log};
+pub use log_json::the_log_reads_back;
 pub use rows::{checked_rows, write_count, write_rows};
+pub use shown::lines_shown;
 pub use struck::write_struck;
 pub use tally::all_taken;

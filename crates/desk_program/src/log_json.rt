@@ -3,7 +3,7 @@ ghost use Rattle.std.specs.Prelude.{◌≡◌, ◌++◌, ◌∷◌, ℕ, List, O
 ghost use Rattle.json.specs.Json.{string};
 ghost use Rattle.json.specs.Tree.{json_tokens};
 ghost use Rattle.json.specs.Token.{key};
-ghost use Rattle.desk_program.specs.LogJson.{Adds, AddsMember, AddsMembers, amount_json, bytes_json, case_json, correction_members, entry_json, entry_members, row_answer, row_line, time_json};
+ghost use Rattle.desk_program.specs.LogJson.{Adds, AddsMember, AddsMembers, LogReadsBack, amount_json, bytes_json, case_json, correction_members, entry_json, entry_members, row_answer, row_line, time_json};
 
 use crate::entry_kind::EntryKind;
 use crate::log_text::{dated_day, without_end};
@@ -187,3 +187,8 @@ pub(crate) fn push_entry_json(
     text.push(b'\n')?;
     Ok(())
 }
+
+/// A law, the contract of a function that does nothing: each line reads back as the object of its entry.
+pub fn the_log_reads_back()
+    ensures { LogReadsBack }
+{}

@@ -76,10 +76,10 @@ impl<D: Disk> Desk<D> {
     }
 
     /// Restores a row that was struck, which is counted from 1: from here on it is in its place again, and each deadline and each
-    /// motion has the number that its row gave it. The restore is kept as the next entry, with the numbers that rows gave since the last
-    /// correction and a remark. The row is written, then the
-    /// rows that are answered otherwise with it than now, each with its answers, and then each deadline and hearing that moves. If
-    /// there are such rows, the row is restored only with leave; without it, at `Differs`, the journal is as it was.
+    /// motion has the number that its row gave it. The restore is kept as the next entry, with the numbers that rows gave since the
+    /// last correction and a remark. The row is written, then the rows that are answered otherwise with it than now, each with its
+    /// answers, and then each case, deadline and hearing that changes. If there are such rows, the row is restored only with leave;
+    /// without it, at `Differs`, the journal is as it was.
     pub fn restore<W: Write>(
         &mut self,
         alloc: Global,

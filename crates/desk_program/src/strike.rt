@@ -82,10 +82,10 @@ impl<D: Disk> Desk<D> {
     }
 
     /// Strikes a row, which is counted from 1: from here on the docket is that of the other rows. Each deadline and each motion
-    /// keeps the number that its row gave it, and no number is given again. The strike is kept as the next entry,
-    /// with the numbers that rows gave since the last correction and a remark, and the row's entry stays. The row is written, then the rows that are answered otherwise without it than now,
-    /// each with its answers, and then each deadline and hearing that moves. If there are such rows, the row is struck only with
-    /// leave; without it, at `Differs`, the journal is as it was.
+    /// keeps the number that its row gave it, and no number is given again. The strike is kept as the next entry, with the numbers
+    /// that rows gave since the last correction and a remark, and the row's entry stays. The row is written, then the rows that are
+    /// answered otherwise without it than now, each with its answers, and then each case, deadline and hearing that changes. If there
+    /// are such rows, the row is struck only with leave; without it, at `Differs`, the journal is as it was.
     pub fn strike<W: Write>(
         &mut self,
         alloc: Global,

@@ -13,15 +13,15 @@ is_held Held = true
 is_held Taken = false
 
 abbrev pub no_lines : Tally
-no_lines = record { rows = 0; faults = 0 }
+no_lines = record { rows = 0; faults = 0; held = 0 }
 
 -- with a line of which this comes
 abbrev pub counted_with : Tally → Outcome → Tally
 counted_with tally Blank = tally
-counted_with tally Fault = record { rows = counted tally.rows 1; faults = counted tally.faults 1 }
-counted_with tally Refused = record { rows = counted tally.rows 1; faults = tally.faults }
-counted_with tally Held = record { rows = counted tally.rows 1; faults = tally.faults }
-counted_with tally Taken = record { rows = counted tally.rows 1; faults = tally.faults }
+counted_with tally Fault = record { rows = counted tally.rows 1; faults = counted tally.faults 1; held = tally.held }
+counted_with tally Refused = record { rows = counted tally.rows 1; faults = tally.faults; held = tally.held }
+counted_with tally Held = record { rows = counted tally.rows 1; faults = tally.faults; held = counted tally.held 1 }
+counted_with tally Taken = record { rows = counted tally.rows 1; faults = tally.faults; held = tally.held }
 
 -- with lines, after the entries `kept`: each counts by what comes of it after what those before it leave
 unfoldable pub tally_after : (leaves : List (List ℕ) → List ℕ → List (List ℕ)) → (outcome : List (List ℕ) → List ℕ → Outcome) → Tally → (kept : List (List ℕ)) → List (List ℕ) → Tally

@@ -41,13 +41,15 @@ impl Outcome {
     }
 }
 
-/// How many lines had something in them, and how many of these had a fault. Both stop at 2^64 - 1.
+/// How many lines had something in them, how many of these had a fault, and how many were held back. Each stops at 2^64 - 1.
 #[derive(Clone, Copy, Debug, PartialEq, Eq)]
 pub struct Tally {
     /// How many lines had something in them.
     pub rows: u64,
     /// How many of them had a fault.
     pub faults: u64,
+    /// How many of them were held back.
+    pub held: u64,
 }
 
 impl Tally {
@@ -55,23 +57,34 @@ impl Tally {
     pub fn new() -> Tally
         ensures { result ≡ no_lines }
     {
-        Tally { rows: 0, faults: 0 }
+        Tally {
+            rows: 0,
+            faults: 0,
+            held: 0,
+        }
     }
 
     // With a line of which this comes.
     pub(crate) fn counted(&self, outcome: Outcome) -> Tally
         ensures { result ≡ counted_with self.now outcome }
     {
-        let Tally { rows, faults } = *self;
+        let Tally { rows, faults, held } = *self;
         match outcome {
             Outcome::Blank => *self,
             Outcome::Fault => Tally {
                 rows: rows.saturating_add(1),
                 faults: faults.saturating_add(1),
+                held,
             },
-            Outcome::Refused | Outcome::Held | Outcome::Taken => Tally {
+            Outcome::Held => Tally {
                 rows: rows.saturating_add(1),
                 faults,
+                held: held.saturating_add(1),
+            },
+            Outcome::Refused | Outcome::Taken => Tally {
+                rows: rows.saturating_add(1),
+                faults,
+                held,
             },
         }
     }
