@@ -3,6 +3,7 @@ use Rattle.std.specs.Prelude.{ℕ, ℤ, ◌==◌, Bool, true, false, ◌&&◌, �
 use Rattle.std.specs.List.{flat_map, list_all, list_any, range_with_len}
 use Rattle.std.specs.Option.{option_and_then}
 use Rattle.docket_rows.specs.Words.{last_case, most_motions}
+use Rattle.desk_numbers.specs.Words.{place_apart}
 use Rattle.docket_selection.specs.declared.choice.Choice.{Choice}
 use Rattle.docket_selection.specs.declared.item.DueItem.{DueItem}
 use Rattle.docket_selection.specs.declared.item.Matter.{Matter}
@@ -34,20 +35,32 @@ abbrev pub off_hearing : Choice → FollowedChanges → (case number : ℕ) → 
 off_hearing choice followed case number =
     chosen_only choice (set_off (revision_of case followed.changes) case number (history_of followed.judge case number followed.changes))
 
--- those of some motions of a case, and of some cases, from a first number on
+-- those of some motions of a case, from a first place on, and of some cases
 unfoldable pub off_in_case : Choice → FollowedChanges → (case first count : ℕ) → List Appointment
 off_in_case choice followed case first count = flat_map (λ number. option_to_list (off_hearing choice followed case number)) (range_with_len first count)
 
-unfoldable pub off_from : Choice → FollowedChanges → (first count : ℕ) → List Appointment
-off_from choice followed first count = flat_map (λ case. off_in_case choice followed case 1 most_motions) (range_with_len first count)
+-- the first of the places at which a folder has motions that are none any more, since their rows are struck
+abbrev pub first_apart : ℕ
+first_apart = place_apart most_motions
 
--- those of all cases, by case and motion
+-- those of the motions of a case, and of those that are none any more
+abbrev pub off_of_case : Choice → FollowedChanges → (case : ℕ) → List Appointment
+off_of_case choice followed case = off_in_case choice followed case 1 most_motions ++ off_in_case choice followed case first_apart most_motions
+
+unfoldable pub off_from : Choice → FollowedChanges → (first count : ℕ) → List Appointment
+off_from choice followed first count = flat_map (off_of_case choice followed) (range_with_len first count)
+
+-- those of all cases
 abbrev pub off_hearings : Choice → FollowedChanges → List Appointment
 off_hearings choice followed = off_from choice followed 1 last_case
 
--- the hearings that the judge had, of some motions of a case, from a first number on
+-- the hearings that the judge had, of some motions of a case, from a first place on
 unfoldable pub histories_in : FollowedChanges → (case first count : ℕ) → List HearingHistory
 histories_in followed case first count = flat_map (λ number. option_to_list (history_of followed.judge case number followed.changes)) (range_with_len first count)
+
+-- of the motions of a case, and of those that are none any more
+abbrev pub histories_of_case : FollowedChanges → (case : ℕ) → List HearingHistory
+histories_of_case followed case = histories_in followed case 1 most_motions ++ histories_in followed case first_apart most_motions
 
 abbrev pub is_off : HearingHistory → Bool
 is_off h = h.cancelled
@@ -58,7 +71,7 @@ are_off had = list_any is_off had && list_all is_off had
 
 -- the judge had a hearing in the case, and has none there now
 abbrev pub has_left : FollowedChanges → (case : ℕ) → Bool
-has_left followed case = is_some followed.judge && are_off (histories_in followed case 1 most_motions)
+has_left followed case = is_some followed.judge && are_off (histories_of_case followed case)
 
 -- a deadline of a case in which the judge has no hearing any more
 abbrev pub off_matter : FollowedChanges → DueItem → Matter → Option Appointment
@@ -75,7 +88,7 @@ off_deadlines followed others = flat_map (λ item. option_to_list (off_item foll
 
 -- any judge is followed, or the one who is had a hearing in the case
 abbrev pub has_had : FollowedChanges → (case : ℕ) → Bool
-has_had followed case = not (is_some followed.judge) || not (length (histories_in followed case 1 most_motions) == 0)
+has_had followed case = not (is_some followed.judge) || not (length (histories_of_case followed case) == 0)
 
 -- the same choice, of that day alone
 abbrev pub of_day : Choice → (day : ℤ) → Choice

@@ -1,15 +1,16 @@
 //! Hearings that are off.
 
 ghost use Rattle.std.specs.Prelude.{◌≡◌, ◌+◌, ◌≤◌, ◌++◌, OnOk};
-ghost use Rattle.report_ics.specs.Appointments.{chosen_only, item_of, off_from, off_hearing, off_hearings, off_in_case, set_off};
+ghost use Rattle.report_ics.specs.Appointments.{chosen_only, item_of, off_from, off_hearing, off_hearings, off_in_case, off_of_case, set_off};
 
 use crate::appointment::{Appointment, AppointmentTypes};
+use crate::left::FIRST_APART;
 use crate::lists::push_if;
 use docket_rows::{LAST_CASE, MOST_MOTIONS, SheetHearing};
 use docket_selection::{Choice, DueItem, HearingHistories, HearingHistory, Matter, is_due};
 use std::alloc::AllocError;
 
-/// Adds the chosen hearings that are off, by case and motion.
+/// Adds the chosen hearings that are off, by case.
 pub(crate) fn push_off(
     list: &mut Vec<Appointment>,
     choice: &Choice,
@@ -33,12 +34,32 @@ fn push_off_from(
 {
     let _types: AppointmentTypes = None;
     for case in first..first + count {
-        push_off_in(list, choice, histories, case, 1, MOST_MOTIONS as u32)?;
+        push_off_of(list, choice, histories, case)?;
     }
     Ok(())
 }
 
-/// Adds those of some motions of a case, from the first number on.
+/// Adds those of the motions of a case, and of those that are none any more.
+fn push_off_of(
+    list: &mut Vec<Appointment>,
+    choice: &Choice,
+    histories: &HearingHistories,
+    case: u32,
+) -> Result<(), AllocError>
+    ensures { OnOk result (list.new.items ≡ list.old.items ++ off_of_case choice.now histories.now case) }
+{
+    push_off_in(list, choice, histories, case, 1, MOST_MOTIONS as u32)?;
+    push_off_in(
+        list,
+        choice,
+        histories,
+        case,
+        FIRST_APART,
+        MOST_MOTIONS as u32,
+    )
+}
+
+/// Adds those of some motions of a case, from the first place on.
 fn push_off_in(
     list: &mut Vec<Appointment>,
     choice: &Choice,
@@ -47,7 +68,7 @@ fn push_off_in(
     first: u32,
     count: u32,
 ) -> Result<(), AllocError>
-    requires numbers { first + count ≤ 5_000 }
+    requires numbers { first + count ≤ 4_294_967_295 }
     ensures { OnOk result (list.new.items ≡ list.old.items ++ off_in_case choice.now histories.now case first count) }
 {
     let _types: AppointmentTypes = None;

@@ -2,7 +2,7 @@
 
 ghost use Rattle.std.specs.Prelude.{◌≡◌, ◌+◌, ◌≤◌, ◌++◌, IfOk, OnOk};
 ghost use Rattle.std.specs.List.{list_all, list_any};
-ghost use Rattle.report_ics.specs.Appointments.{are_off, has_left, histories_in, is_off, off_deadlines, off_item};
+ghost use Rattle.report_ics.specs.Appointments.{are_off, first_apart, has_left, histories_in, histories_of_case, is_off, off_deadlines, off_item};
 
 use crate::appointment::{Appointment, AppointmentTypes};
 use crate::lists::push_if;
@@ -10,6 +10,9 @@ use docket_rows::{Hearing, MOST_MOTIONS};
 use docket_selection::{DueItem, HearingHistories, HearingHistory, Matter};
 use hearing_slots::Panel;
 use std::alloc::{AllocError, Global};
+
+/// The first of the places at which a folder has motions that are none any more.
+pub(crate) const FIRST_APART: u32 = u32::MAX - MOST_MOTIONS as u32;
 
 /// Adds the deadlines among the items of cases in which the judge of the histories has no hearing any more.
 pub(crate) fn push_off_deadlines(
@@ -58,7 +61,7 @@ fn has_left(alloc: Global, histories: &HearingHistories, case: u32) -> Result<bo
     if histories.judge().is_none() {
         return Ok(false);
     }
-    let had = histories_in(alloc, histories, case, 1, MOST_MOTIONS as u32)?;
+    let had = histories_of(alloc, histories, case)?;
     Ok(are_off(&had))
 }
 
@@ -81,15 +84,30 @@ fn are_all_off(had: &[HearingHistory]) -> bool
     had.iter().all(|history| history.cancelled)
 }
 
-/// The hearings that the judge had, of some motions of a case, from the first number on.
-pub(crate) fn histories_in(
+/// The hearings that the judge had, of the motions of a case and of those that are none any more.
+pub(crate) fn histories_of(
+    alloc: Global,
+    histories: &HearingHistories,
+    case: u32,
+) -> Result<Vec<HearingHistory>, AllocError>
+    ensures { IfOk result (λ list. list.items ≡ histories_of_case histories.now case) }
+{
+    let _types: Option<(Hearing, Panel)> = None;
+    let mut list = histories_in(alloc, histories, case, 1, MOST_MOTIONS as u32)?;
+    let gone = histories_in(alloc, histories, case, FIRST_APART, MOST_MOTIONS as u32)?;
+    list.extend_from_slice(&gone)?;
+    Ok(list)
+}
+
+/// The hearings that the judge had, of some motions of a case, from the first place on.
+fn histories_in(
     alloc: Global,
     histories: &HearingHistories,
     case: u32,
     first: u32,
     count: u32,
 ) -> Result<Vec<HearingHistory>, AllocError>
-    requires numbers { first + count ≤ 5_000 }
+    requires numbers { first + count ≤ 4_294_967_295 }
     ensures { IfOk result (λ list. list.items ≡ histories_in histories.now case first count) }
 {
     let _types: Option<(Hearing, Panel)> = None;

@@ -4,10 +4,9 @@ ghost use Rattle.std.specs.Prelude.{◌≡◌, ◌++◌, IfOk, OnOk};
 ghost use Rattle.report_ics.specs.Appointments.{has_had, lost_deadlines, lost_only, of_day};
 
 use crate::appointment::{Appointment, AppointmentTypes};
-use crate::left::histories_in;
+use crate::left::histories_of;
 use crate::lists::push_if;
 use court_clock::Day;
-use docket_rows::MOST_MOTIONS;
 use docket_selection::{Choice, DueItem, HearingHistories, is_due};
 use std::alloc::{AllocError, Global};
 
@@ -65,6 +64,6 @@ fn has_had(alloc: Global, histories: &HearingHistories, case: u32) -> Result<boo
     if histories.judge().is_none() {
         return Ok(true);
     }
-    let had = histories_in(alloc, histories, case, 1, MOST_MOTIONS as u32)?;
+    let had = histories_of(alloc, histories, case)?;
     Ok(!had.is_empty())
 }

@@ -34,7 +34,7 @@ const CASE: &str = "The sheet of this case alone, after all rows, by its number 
 
 const TODAY: &str = "With --case: how far pending deadlines lie from this day, as 2025-08-21";
 
-const AS_OF: &str = "The folder as it was after this row, or at the end of this day";
+const AS_OF: &str = "The folder as it was after this row, or at the end of this day or time";
 
 /// The subcommand.
 fn memo<'a>(alloc: Global) -> Result<Command<'a>, AllocError>
@@ -42,7 +42,7 @@ fn memo<'a>(alloc: Global) -> Result<Command<'a>, AllocError>
 {
     let command = Command::new(alloc, "memo").about(ABOUT).after_help(TEXTS);
     let command = with_source(alloc, command)?;
-    let command = with_text(alloc, command, "as-of", "ROW|DAY", AS_OF)?;
+    let command = with_text(alloc, command, "as-of", "ROW|DAY|TIME", AS_OF)?;
     let command = with_text(alloc, command, "case", "N", CASE)?;
     with_text(alloc, command, "today", "DAY", TODAY)
 }

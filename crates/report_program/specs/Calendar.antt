@@ -35,7 +35,7 @@ use Rattle.report_program.specs.declared.chosen.Chosen.TheVariants.{Json, Lines,
 use Rattle.report_program.specs.declared.chosen.Listing.{Listing}
 use Rattle.report_program.specs.declared.chosen.Listing.TheVariants.{Due, Ics, Page, Sheet, Week}
 use Rattle.report_program.specs.declared.chosen.Missing.{Missing}
-use Rattle.report_program.specs.declared.chosen.Missing.TheVariants.{Case, Closed, Day, Judge}
+use Rattle.report_program.specs.declared.chosen.Missing.TheVariants.{Backwards, Case, Closed, Day, Judge}
 use Rattle.report_program.specs.Appointments.{numbered_appointment}
 use Rattle.report_program.specs.Changes.{changes_made, lost_made}
 use Rattle.report_program.specs.Opened.{found_of}
@@ -142,6 +142,16 @@ to_words to = codes " to " ++ day_text to ++ codes "\n"
 abbrev pub not_covered : (day from to : ℤ) → List ℕ
 not_covered day from to = uncovered_words day ++ from_words from ++ to_words to
 
+-- the line of days of which the last comes before the first
+unfoldable pub last_words : (to : ℤ) → List ℕ
+last_words to = codes "docket: the last day, " ++ day_text to
+
+unfoldable pub first_words : (from : ℤ) → List ℕ
+first_words from = codes ", is before the first, " ++ day_text from ++ codes "\n"
+
+abbrev pub backwards_line : (from to : ℤ) → List ℕ
+backwards_line from to = last_words to ++ first_words from
+
 -- the line of a case that isn't open
 abbrev pub closed_line : List NamedCase → (case : ℕ) → List ℕ
 closed_line named case = codes "docket: case " ++ case_text named case ++ codes " isn't open: no row has opened it\n"
@@ -151,6 +161,7 @@ abbrev pub missing_line : CourtView → List NamedCase → Asked → Missing →
 missing_line court named asked Case = no_case asked.case
 missing_line court named asked Judge = no_judge asked.judge
 missing_line court named asked (Day day) = not_covered day court.days.from court.days.to
+missing_line court named asked (Backwards from to) = backwards_line from to
 missing_line court named asked (Closed case) = closed_line named case
 
 -- the text of what is asked for, where this is what cases, deadlines, motions and holidays are called

@@ -1,6 +1,6 @@
 -- What is chosen of a court by what was asked for.
-use Rattle.std.specs.Prelude.{ℕ, ℤ, Bool, true, false, List, Option, Some, None, Result, Ok, Err, ok_or, option_map, string_bytes, unwrap_or, if◌then◌else◌}
-use Rattle.std.specs.Option.{option_and_then}
+use Rattle.std.specs.Prelude.{ℕ, ℤ, Bool, true, false, List, Option, Some, None, Result, Ok, Err, int_lt, ok_or, option_map, string_bytes, unwrap_or, if◌then◌else◌}
+use Rattle.std.specs.Option.{option_and_then, option_or}
 use Rattle.office_texts.specs.Names.Words.{number_called}
 use Rattle.office_texts.specs.declared.names.called.CaseCalled.{CaseCalled}
 use Rattle.case_numbers.specs.declared.names.NamedCase.{NamedCase}
@@ -14,6 +14,7 @@ use Rattle.report_program.specs.declared.asked.Task.TheVariants as task
 use Rattle.report_program.specs.declared.asked.Task.{Task}
 use Rattle.report_program.specs.declared.chosen.Chosen.{Chosen}
 use Rattle.report_program.specs.declared.chosen.Chosen.TheVariants.{Json, Lines, Listed, Sql}
+use Rattle.report_program.specs.declared.chosen.Listing.{Listing}
 use Rattle.report_program.specs.declared.chosen.Listing.TheVariants.{Due, Ics, Page, Sheet, Week}
 use Rattle.report_program.specs.declared.chosen.Missing.{Missing}
 use Rattle.report_program.specs.declared.chosen.Missing.TheVariants as missing
@@ -96,22 +97,38 @@ abbrev pub ◌>>=◌ : {A B : Type 0} → Result A Missing → (A → Result B M
 (Ok x) >>= more = more x
 (Err missing) >>= more = Err missing
 
--- the day, where the court's file doesn't cover it
-abbrev pub uncovered : DaysView → (day : ℤ) → Option ℤ
-uncovered days day = if is_covered days day then None else Some day
+-- the day isn't there where the court's file doesn't cover it
+abbrev pub missing_day : DaysView → (day : ℤ) → Option Missing
+missing_day days day = if is_covered days day then None else Some (missing.Day day)
 
--- the day of the week that is chosen, where the court's file doesn't cover it
-abbrev pub day_missing : DaysView → Chosen → Option ℤ
-day_missing days (Listed (Week judge day)) = uncovered days day
-day_missing days chosen = None
+-- of the days from a first to a last one, the first or the last isn't covered, or the last comes before the first
+abbrev pub missing_backwards : (from to : ℤ) → Option Missing
+missing_backwards from to = if int_lt to from then Some (missing.Backwards from to) else None
 
-abbrev pub unless_missing : Chosen → (day : Option ℤ) → Result Chosen Missing
-unless_missing chosen (Some day) = Err (missing.Day day)
+abbrev pub missing_between : DaysView → Choice → Option Missing
+missing_between days choice = option_or (missing_day days choice.from) (option_or (missing_day days choice.to) (missing_backwards choice.from choice.to))
+
+-- which of the days that are chosen isn't there
+abbrev pub missing_listed : DaysView → Listing → Option Missing
+missing_listed days (Due choice) = missing_between days choice
+missing_listed days (Week judge day) = missing_day days day
+missing_listed days (Page choice) = missing_between days choice
+missing_listed days (Ics choice stamp) = missing_between days choice
+missing_listed days (Sheet case) = None
+
+abbrev pub missing_days : DaysView → Chosen → Option Missing
+missing_days days (Listed listing) = missing_listed days listing
+missing_days days (Json choice) = missing_between days choice
+missing_days days Lines = None
+missing_days days Sql = None
+
+abbrev pub unless_missing : Chosen → Option Missing → Result Chosen Missing
+unless_missing chosen (Some missing) = Err missing
 unless_missing chosen None = Ok chosen
 
--- what is chosen, or the first that isn't there: the case by its name, the judge, the day of a week
+-- what is chosen, or the first that isn't there: the case by its name, the judge, a day
 unfoldable pub chosen_of : CourtView → List NamedCase → Asked → Result Chosen Missing
 chosen_of court named asked = do
   case ← ok_or (case_given named asked.case) missing.Case
   chosen ← ok_or (chosen_by court case asked) missing.Judge
-  unless_missing chosen (day_missing court.days chosen)
+  unless_missing chosen (missing_days court.days chosen)

@@ -8,7 +8,7 @@ use Rattle.program_main.specs.Texts.Words.{needed_rule, text_rule, with_source}
 abbrev pub lines_rule : Rule
 lines_rule = record (new_rule (codes "lines")) { long = Some (codes "lines"); action = Some SetTrue }
 
--- a subcommand that takes where the rows are: a docket's folder, and `--as-of ROW|DAY`, or `--input FILE`
+-- a subcommand that takes where the rows are: a docket's folder, and `--as-of ROW|DAY|TIME`, or `--input FILE`
 abbrev pub sourced_shape : (name : Text) → Shape
 sourced_shape name = (with_rule (with_source (new_app name)) (text_rule (codes "as-of"))).top
 

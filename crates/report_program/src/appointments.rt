@@ -2,10 +2,10 @@
 
 ghost use Rattle.std.specs.Prelude.{◌≡◌, map, IfOk};
 ghost use Rattle.report_ics.specs.Words.{appointments_of};
-ghost use Rattle.report_program.specs.Appointments.{is_lost, numbered_appointment};
+ghost use Rattle.report_program.specs.Appointments.{is_lost, numbered_appointment, numbered_by_place};
 
 use crate::past::later_by;
-use desk_numbers::MovedNumbers;
+use desk_numbers::{MovedNumbers, is_apart, place_apart};
 use docket_selection::{Choice, DueItem, DueTypes, HearingHistories, Matter};
 use report_ics::{Appointment, appointments_of};
 use report_texts::{Labels, number_item};
@@ -22,12 +22,24 @@ fn is_lost(matter: &Matter) -> bool
     }
 }
 
+/// Gives an item, which has the place of its deadline or its motion, the number of that. A motion that is none any more has a place
+/// apart.
+fn number_by_place(moved: &MovedNumbers, item: &mut DueItem)
+    ensures { item.new ≡ numbered_by_place moved.now item.old }
+{
+    if is_apart(item.number) {
+        item.number = place_apart(item.number);
+    } else {
+        number_item(moved, item);
+    }
+}
+
 /// Gives an event, which has the place of its deadline or its motion, the number of that, and counts corrections in its revision.
 fn number_appointment(moved: &MovedNumbers, corrections: u64, appointment: &mut Appointment)
     ensures { appointment.new ≡ numbered_appointment moved.now corrections appointment.old }
 {
     if !is_lost(&appointment.item.matter) {
-        number_item(moved, &mut appointment.item);
+        number_by_place(moved, &mut appointment.item);
     }
     appointment.revision = later_by(corrections, appointment.revision);
 }

@@ -1,7 +1,7 @@
 //! What is chosen of a court by what was asked for.
 
 ghost use Rattle.std.specs.Prelude.{◌≡◌, option_map, string_bytes};
-ghost use Rattle.report_program.specs.Chosen.{case_given, choice_asked, choice_of, chosen_by, chosen_of, day_asked, day_missing, due_chosen, ics_chosen, json_chosen, judge_given, page_chosen, sheet_chosen, today_of, uncovered, week_chosen};
+ghost use Rattle.report_program.specs.Chosen.{case_given, choice_asked, choice_of, chosen_by, chosen_of, day_asked, due_chosen, ics_chosen, json_chosen, judge_given, missing_backwards, missing_between, missing_day, missing_days, missing_listed, page_chosen, sheet_chosen, today_of, week_chosen};
 
 use crate::asked::{Asked, Task};
 use court_clock::{Day, Instant};
@@ -46,8 +46,10 @@ pub enum Missing {
     Case,
     /// No judge has the name there.
     Judge,
-    /// The day of a week isn't covered.
+    /// The day isn't covered: that of a week, or the first or the last of the days of which something is listed.
     Day(Day),
+    /// There are no days from the first of these to the last, which comes before it.
+    Backwards(Day, Day),
     /// No row has opened the case of this number.
     Closed(u32),
 }
@@ -71,8 +73,8 @@ pub(crate) fn chosen_of(
     let Some(chosen) = chosen_by(court, case, asked) else {
         return Err(Missing::Judge);
     };
-    match day_missing(court, &chosen) {
-        Some(day) => Err(Missing::Day(day)),
+    match missing_days(court, &chosen) {
+        Some(missing) => Err(missing),
         None => Ok(chosen),
     }
 }
@@ -106,24 +108,60 @@ fn chosen_by(court: &Court, case: Option<u32>, asked: &Asked) -> Option<Chosen>
     }
 }
 
-/// The day of the week that is chosen, where the court's file doesn't cover it.
-fn day_missing(court: &Court, chosen: &Chosen) -> Option<Day>
-    ensures { result ≡ day_missing court.now.days chosen.now }
+/// Which of the days that are chosen isn't there.
+fn missing_days(court: &Court, chosen: &Chosen) -> Option<Missing>
+    ensures { result ≡ missing_days court.now.days chosen.now }
 {
     match chosen {
-        Chosen::Listed(Listing::Week(_, day)) => uncovered(court, *day),
-        _ => None,
+        Chosen::Listed(listing) => missing_listed(court, listing),
+        Chosen::Json(choice) => missing_between(court, choice),
+        Chosen::Lines | Chosen::Sql => None,
     }
 }
 
+fn missing_listed(court: &Court, listing: &Listing) -> Option<Missing>
+    ensures { result ≡ missing_listed court.now.days listing.now }
+{
+    match listing {
+        Listing::Due(choice) => missing_between(court, choice),
+        Listing::Week(_, day) => missing_day(court, *day),
+        Listing::Page(choice) => missing_between(court, choice),
+        Listing::Ics(choice, _) => missing_between(court, choice),
+        Listing::Sheet(_) => None,
+    }
+}
+
+/// Whether the first or the last of the chosen days isn't covered, or the last comes before the first.
+fn missing_between(court: &Court, choice: &Choice) -> Option<Missing>
+    ensures { result ≡ missing_between court.now.days choice.now }
+{
+    if let Some(missing) = missing_day(court, choice.from) {
+        return Some(missing);
+    }
+    if let Some(missing) = missing_day(court, choice.to) {
+        return Some(missing);
+    }
+    missing_backwards(choice.from, choice.to)
+}
+
 /// The day, where the court's file doesn't cover it.
-fn uncovered(court: &Court, day: Day) -> Option<Day>
-    ensures { result ≡ uncovered court.now.days day }
+fn missing_day(court: &Court, day: Day) -> Option<Missing>
+    ensures { result ≡ missing_day court.now.days day }
 {
     if court.days().covered(day) {
         return None;
     }
-    Some(day)
+    Some(Missing::Day(day))
+}
+
+/// The two days, where the last comes before the first.
+fn missing_backwards(from: Day, to: Day) -> Option<Missing>
+    ensures { result ≡ missing_backwards from to }
+{
+    if to.number() < from.number() {
+        return Some(Missing::Backwards(from, to));
+    }
+    None
 }
 
 fn due_chosen(court: &Court, case: Option<u32>, asked: &Asked) -> Option<Chosen>

@@ -2,7 +2,7 @@
 
 ghost use Rattle.std.specs.Prelude.{◌≡◌, string_bytes, IfOk, OnOk};
 ghost use Rattle.office_texts.specs.Words.{AddsText};
-ghost use Rattle.report_program.specs.Calendar.{called_given, closed_line, from_words, missing_line, no_case, no_judge, not_covered, to_words, uncovered_words, word_given};
+ghost use Rattle.report_program.specs.Calendar.{backwards_line, called_given, closed_line, first_words, from_words, last_words, missing_line, no_case, no_judge, not_covered, to_words, uncovered_words, word_given};
 
 use crate::asked::Asked;
 use crate::chosen::Missing;
@@ -28,6 +28,7 @@ pub(crate) fn missing_line(
         Missing::Case => no_case(alloc, &asked.case),
         Missing::Judge => no_judge(alloc, &asked.judge),
         Missing::Day(day) => not_covered(alloc, *day, court.days().from(), court.days().to()),
+        Missing::Backwards(from, to) => backwards_line(alloc, *from, *to),
         Missing::Closed(case) => closed_line(alloc, labels, *case),
     }
 }
@@ -104,6 +105,32 @@ fn push_to(line: &mut String, to: Day) -> Result<(), AllocError>
     ensures { OnOk result (AddsText line.old line.new (to_words to)) }
 {
     write!(line, " to {to}\n")
+}
+
+/// The line of days of which the last comes before the first.
+fn backwards_line(alloc: Global, from: Day, to: Day) -> Result<String, AllocError>
+    ensures { IfOk result (λ line. string_bytes line ≡ backwards_line from to) }
+{
+    let mut line = String::new(alloc);
+    push_last(&mut line, to)?;
+    push_first(&mut line, from)?;
+    Ok(line)
+}
+
+/// Adds which day is the last.
+#[tactic(auto, unfolding(crate::specs::Calendar::last_words))]
+fn push_last(line: &mut String, to: Day) -> Result<(), AllocError>
+    ensures { OnOk result (AddsText line.old line.new (last_words to)) }
+{
+    write!(line, "docket: the last day, {to}")
+}
+
+/// Adds which day, the first, it comes before, and the end of the line.
+#[tactic(auto, unfolding(crate::specs::Calendar::first_words))]
+fn push_first(line: &mut String, from: Day) -> Result<(), AllocError>
+    ensures { OnOk result (AddsText line.old line.new (first_words from)) }
+{
+    write!(line, ", is before the first, {from}\n")
 }
 
 /// The line of a case that isn't open.

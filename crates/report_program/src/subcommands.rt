@@ -42,14 +42,14 @@ const ONE_JUDGE: &str = "The judge, as the court's file names one";
 
 const CASE: &str = "This case alone: its number, or the number that the court gives it";
 
-const AS_OF: &str = "The folder as it was after this row, or at the end of this day";
+const AS_OF: &str = "The folder as it was after this row, or at the end of this day or time";
 
 /// The subcommand of that name, which takes a docket's folder, and as of when, or else the file of an input.
 fn sourced<'a>(alloc: Global, name: &'a str, about: &'a str) -> Result<Command<'a>, AllocError>
     ensures { IfOk result (λ command. app_of command ≡ record { top = sourced_shape name.now; subs = [] }) }
 {
     let command = with_source(alloc, Command::new(alloc, name).about(about))?;
-    with_text(alloc, command, "as-of", "ROW|DAY", AS_OF)
+    with_text(alloc, command, "as-of", "ROW|DAY|TIME", AS_OF)
 }
 
 /// The subcommand of that name, which also takes the days, the judge and the case that are chosen.
