@@ -1,5 +1,5 @@
 -- Sessions of lines, and what is said of a row that is struck or restored.
-use Rattle.std.specs.Prelude.{◌≡◌, ℕ, ℤ, List, ◌++◌, ⊤, Result, Ok, Err, codes, string_bytes}
+use Rattle.std.specs.Prelude.{◌≡◌, ◌<◌, ◌⊎◌, ℕ, ℤ, List, ◌++◌, ⊤, Result, Ok, Err, codes, string_bytes}
 use Rattle.court_clock.specs.Words.{day_text}
 use Rattle.desk_entries.specs.declared.standing.Standing.{Standing}
 use Rattle.program_main.specs.Texts.Words.{today_by}
@@ -9,10 +9,10 @@ use Rattle.desk_program.specs.declared.fault.DeskFault.TheVariants.{Faulty}
 use Rattle.docket.specs.declared.fault.Fault.{Fault}
 use Rattle.docket.specs.declared.fault.Fault.TheVariants.{Desk}
 
--- this is so of the tally of all lines: all were taken, or, as the fault says, some had faults
+-- this is so of the tally of all lines: all were taken, or, as the fault says, some had faults or were held back
 abbrev pub WithTally : (IsSo : Tally → Type 0) → Result ⊤ Fault → Type 0
-WithTally IsSo (Ok done) = (tally : Tally) × (tally.faults ≡ 0) × IsSo tally
-WithTally IsSo (Err (Desk (Faulty tally))) = IsSo tally
+WithTally IsSo (Ok done) = (tally : Tally) × (tally.faults ≡ 0) × (tally.held ≡ 0) × IsSo tally
+WithTally IsSo (Err (Desk (Faulty tally))) = ((0 < tally.faults) ⊎ (0 < tally.held)) × IsSo tally
 WithTally IsSo (Err other) = Unit {0}
 
 -- what was done with a row, struck or restored, when, by which account and why

@@ -95,7 +95,7 @@ fn answered<R: Read + Drop, W: Write>(
 ) -> Result<(), Fault>
     requires { has_failed writer.old ≡ false }
     ensures { (entries : List (List ℕ)) → IsDocketed docketed entries → OnOk result (IfSome (R.remaining reader) (λ input.
-        (tally : Tally) × (tally.faults ≡ 0) × AnswersQuestions entries (lines_of input) tally (W.contents (watched writer.old)) (W.contents (watched writer.new)))) }
+        (tally : Tally) × (tally.faults ≡ 0) × (tally.held ≡ 0) × AnswersQuestions entries (lines_of input) tally (W.contents (watched writer.old)) (W.contents (watched writer.new)))) }
 {
     let mut reader = Watched::new(reader);
     match answer(alloc, docketed, &mut reader, writer) {

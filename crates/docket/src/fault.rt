@@ -1,16 +1,17 @@
 //! Why the program ends early, what is said of that, and with which status.
-ghost use Rattle.std.specs.Prelude.{◌≡◌, ◌⊎◌, IfErr, OnOk};
+ghost use Rattle.std.specs.Prelude.{◌≡◌, ◌<◌, ◌⊎◌, IfErr, OnOk};
 ghost use Rattle.docket.specs.Endings.{IsTold, write_status};
 ghost use Rattle.docket.specs.declared.fault.Fault.TheVariants.{Desk, Input};
+ghost use Rattle.desk_program.specs.Words.{lines_shown};
 ghost use Rattle.desk_program.specs.declared.fault.DeskFault.TheVariants.{Faulty, OutOfMemory};
 ghost use Rattle.program_streams.specs.Words.{IsGiven};
 
 use court_writing::WriteFault;
 use desk_entries::HistoryFault;
-use desk_program::{DeskFault, all_taken, ended_by};
+use desk_program::{DeskFault, all_taken, ended_by, lines_shown};
 use desk_session::Tally;
 use program_runs::{self as runs, OfficeFault, missing, refused};
-use program_streams::Watched;
+use program_streams::{Watched, write_all};
 use std::alloc::{AllocError, AllocFailed, Global};
 use std::io::Write;
 
@@ -73,10 +74,10 @@ impl<T: Drop> From<AllocFailed<T>> for Fault {
     }
 }
 
-/// Whether all lines were taken, by their tally.
+/// Whether all lines were taken, by their tally: none had a fault, and none was held back.
 pub fn taken(tally: Tally) -> Result<(), Fault>
-    ensures none { OnOk result (tally.faults ≡ 0) }
-    ensures some { IfErr result (λ fault. fault ≡ Desk (Faulty tally)) }
+    ensures none { OnOk result ((tally.faults ≡ 0) × (tally.held ≡ 0)) }
+    ensures some { IfErr result (λ fault. (fault ≡ Desk (Faulty tally)) × ((0 < tally.faults) ⊎ (0 < tally.held))) }
 {
     match all_taken(tally) {
         Ok(()) => Ok(()),
@@ -122,5 +123,21 @@ pub fn told<E: Write>(alloc: Global, errors: &mut Watched<E>, fault: &Fault) -> 
         Fault::Unusable(line) => unusable(errors, line.as_str()),
         Fault::NotWritten(fault) => not_written(alloc, errors, fault),
         Fault::Told(status) => *status,
+    }
+}
+
+/// Tells what is wrong with the words of the command line, of which no control character reaches a terminal, and gives the status: 1,
+/// or 5 where there is no memory for the text.
+pub fn misspoken<E: Write>(alloc: Global, errors: &mut Watched<E>, text: &str) -> u8
+    ensures { ((result ≡ 1) × IsGiven E.contents errors.old errors.new (lines_shown text.now)) ⊎ (result ≡ 5) }
+{
+    match lines_shown(alloc, text.as_bytes()) {
+        Ok(shown) => {
+            if !errors.failed() {
+                let _ = write_all(errors, &shown);
+            }
+            1
+        }
+        Err(_) => ended_by(alloc, errors, &DeskFault::OutOfMemory),
     }
 }

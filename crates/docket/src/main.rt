@@ -20,9 +20,9 @@ mod tasks;
 mod times;
 
 use desk_program::{DeskFault, ended_by};
-use fault::told;
+use fault::{misspoken, told};
 use program_main::{OptionsFault, argument_texts, arguments_of};
-use program_runs::{helped, refused, unread};
+use program_runs::{helped, unread};
 use program_streams::Watched;
 use program_words::{Task, asked_of};
 use report_program::clock_time;
@@ -52,7 +52,7 @@ fn main(rt: HostRuntime) -> ExitCode {
             Err(fault) => told(rt.alloc(), &mut errors, &fault),
         },
         Err(OptionsFault::Help(text)) => helped(&mut writer, &mut errors, text.as_str()),
-        Err(OptionsFault::BadWords(text)) => refused(&mut errors, text.as_str()),
+        Err(OptionsFault::BadWords(text)) => misspoken(rt.alloc(), &mut errors, text.as_str()),
         Err(OptionsFault::OutOfMemory) => {
             ended_by(rt.alloc(), &mut errors, &DeskFault::OutOfMemory)
         }

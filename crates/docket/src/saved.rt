@@ -11,7 +11,7 @@ use desk_session::second_of;
 use program_runs::refused;
 use program_streams::Watched;
 use std::alloc::{AllocError, Global};
-use std::fs::File;
+use std::fs::{self, File};
 use std::io::{self, ErrorKind, Write};
 
 // How many files there may be of what was cut off on one day.
@@ -100,7 +100,8 @@ fn put_tail<W: Write>(writer: &mut W, tail: &[u8]) -> io::Result<()>
     writer.write_all(tail)
 }
 
-// Saves what is cut off in a new file of the folder, through a crash, and gives the file's name.
+// Saves what is cut off in a new file of the folder, through a crash, and gives the file's name. A file that can't be written in full
+// is taken away again.
 fn saved(rt: &HostRuntime, folder: &str, tail: &[u8]) -> Result<String, DeskFault> {
     let (name, mut file) = cut_file(rt, folder, day_at(second_of(rt)))?;
     let ended = match put_tail(&mut file, tail) {
@@ -112,7 +113,10 @@ fn saved(rt: &HostRuntime, folder: &str, tail: &[u8]) -> Result<String, DeskFaul
             sync_folder(rt, folder)?;
             Ok(name)
         }
-        Err(error) => Err(file_fault(rt.alloc(), name.as_str(), error)),
+        Err(error) => {
+            let _ = fs::remove_file(rt, name.as_str());
+            Err(file_fault(rt.alloc(), name.as_str(), error))
+        }
     }
 }
 

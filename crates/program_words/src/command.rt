@@ -32,7 +32,7 @@ It ends with a status, which is the same in every command:
   5  there is no memory
   6  what is asked for isn't there: a judge, a case, or a day
   7  answers would change, so nothing is
-  8  some rows had faults, and the others were taken
+  8  some rows had faults or were held back, and the others were taken
   9  the court's file has no fault, but something may be wrong with it
   10 the folder's journal can't be used, or another program has it open
 What is wrong goes to standard error. Nothing but what was asked for goes to

@@ -17,7 +17,7 @@ pub(crate) const CODES: [&str; 10] = [
     "59e",
 ];
 
-/// The periods of docs/RULES.md that are entered, in its order: the section of the Rule or the statute, and the
+/// The periods of docs/law/RULES.md that are entered, in its order: the section of the Rule or the statute, and the
 /// text.
 const ENTERED: [(&str, &str); 81] = [
     ("4(d)(1)(F)", "30d/after/service/event/plain"),
@@ -178,16 +178,16 @@ fn begins_a_code(alloc: Global, number: &str) -> Result<bool, AllocError> {
 /// What is said of a number of entered periods: all of them, or where they are.
 fn said_of(alloc: Global, listed: String, count: usize) -> Result<String, AllocError> {
     if count > MOST_LISTED {
-        return String::from_str(alloc, "docs/RULES.md says how its periods are entered");
+        return String::from_str(alloc, "docs/law/RULES.md says how its periods are entered");
     }
     if count > 1 {
         let listed = listed.as_str();
-        return format!(in alloc; "{listed}: docs/RULES.md says when");
+        return format!(in alloc; "{listed}: docs/law/RULES.md says when");
     }
     Ok(listed)
 }
 
-/// How the period that was meant is entered; empty where docs/RULES.md has none of that section.
+/// How the period that was meant is entered; empty where docs/law/RULES.md has none of that section.
 pub(crate) fn entered_as(alloc: Global, found: &str) -> Result<String, AllocError> {
     let word = folded(alloc, found)?;
     let number = number_cited(word.as_str());
