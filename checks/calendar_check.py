@@ -21,10 +21,11 @@ import sys
 import tempfile
 from collections import namedtuple
 
+from lib.asked_days import asked_days, missing_days
 from lib.case_names import asked, called, made_name, read
 from lib.given_docket import LAST_ROW, given_docket
 from lib.made_inputs import INPUTS, made_input
-from lib.memo_lines import closing_of, other_of, reasons_of
+from lib.memo_lines import closing_of, other_day, other_of, reasons_of
 from lib.pages import faults_of, parts_of
 from lib.programs import programs_of, seed_and_count
 
@@ -137,7 +138,7 @@ def docket_of(names, lines, reasons):
 
 def due_text(names, court, docket, first, last, judge, case):
     def is_chosen(item):
-        if case is not None and item.case != case or not first <= item.day <= last:
+        if case is not None and item.case != case or not any(day and first <= day <= last for day in (item.day, other_day(item.line))):
             return False
         return judge is None or judge in (item.panel or docket.before.get(item.case, ()))
     chosen = sorted(filter(is_chosen, docket.items), key=lambda i: (i.day, i.second, i.case, i.kind, i.number))
@@ -348,13 +349,16 @@ def made_words(chance, names, court, docket, sheets, reasons):
         key, shown = read(name)
         if key not in [read(other)[0] for other in names.values()]:
             return [chance.choice(CHOOSING), "--case", name], is_missing("no case is named '{}'".format(shown))
-    words, first, last, judge, case = [chance.choice(["due", "page"])], day_of(court["from"]), day_of(court["to"]), None, None
-    if chance.random() < 0.6:
-        first = chance.choice(days)
-        words += ["--from", str(first)]
-    if chance.random() < 0.6:
-        last = chance.choice(days) + datetime.timedelta(chance.randrange(8))
-        words += ["--to", str(last)]
+    span = day_of(court["from"]), day_of(court["to"])
+    if chance.random() < 0.1:
+        first, last = (day + datetime.timedelta(chance.randint(-9, 9)) for day in span)
+        first, last = chance.choice([(first, last), (first, span[1]), (span[0], last), (span[1], span[0])])
+        said = missing_days(first, last, *span)
+        if said:
+            return [chance.choice(["due", "page", "ics", "json"]), "--from", str(first), "--to", str(last)], is_missing(said)
+    words, judge, case = [chance.choice(["due", "page"])], None, None
+    first, last, asked_for = asked_days(chance, days, *span, 0.6)
+    words += asked_for
     if judges and chance.random() < 0.4:
         judge = chance.choice(judges)
         words += ["--judge", judge]

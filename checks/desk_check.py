@@ -168,8 +168,10 @@ def check_trial(programs, draw):
     return "rows that are tried are answered as they are when they are entered, and none is kept"
 
 
-# Rows that are entered with --warn, and the answer to each.
+# What is said last of a row that is held back, and at the end of a session of one row, which was.
 HELD_LAST = b"enter the row with '!' before it to keep it all the same\n"
+HELD_ALONE = b"1 of 1 rows was held back and isn't kept: mend it, or enter it with a '!' before it\n"
+# Rows that are entered with --warn, and the answer to each.
 CAREFUL = [
     (b"1,open,7,2025-03-03\n", b"1 1 opened\n"),
     (b"1,start,7,59e,2025-02-03,,,\n", b"row 2 not kept:\n"
@@ -233,21 +235,36 @@ CAREFUL = [
 ]
 
 
+def said_alone(answer):
+    """What a session of lines with this answer says at its end: nothing where they are kept."""
+    if b" fault " in answer:
+        return b"3 of 3 rows had faults and weren't taken: mend them and enter them again\n"
+    return HELD_ALONE if answer.startswith(b"row ") else b""
+
+
 def check_warnings(programs):
     """With --warn a row that draws a warning, or would be refused, is answered with why and leaves the journal as it was; with '!'
-    it is kept."""
+    it is kept. At its end a session says how many were held back, beside those that had faults."""
     with tempfile.TemporaryDirectory() as parent:
         desk = Desk(programs, parent, SHORT_COURT)
         tried = desk.call("try", "--warn", given=b"".join(given for given, answer in CAREFUL))
         assert tried.status == FAULTY and tried.output == b"".join(answer for given, answer in CAREFUL), tried
+        assert tried.errors == b"3 of 25 rows had faults and 12 were held back, and none of these is kept\n", tried
         for given, answer in CAREFUL:
-            whole = desk.journal.read_bytes()
+            whole, said = desk.journal.read_bytes(), said_alone(answer)
             ended = desk.call("enter", "--warn", given=given)
-            assert ended.status == (FAULTY if b" fault " in answer else 0) and ended.output == answer, (given, ended)
+            assert ended == (FAULTY if said else 0, answer, said), (given, ended)
             assert (desk.journal.read_bytes() == whole) == answer.startswith(b"row "), given
         ended = desk.call("try", "--warn", "--today", "2026-04-01", given=b"1,start,7,59e,2025-03-04,,,\n")
-        assert ended.output == (b"row 11 not kept:\n"
-            b"  Tue 2025-03-04  the event lies a year or more before 2026-04-01     note\n" + HELD_LAST), ended
+        assert ended == (FAULTY, b"row 11 not kept:\n"
+            b"  Tue 2025-03-04  the event lies a year or more before 2026-04-01     note\n" + HELD_LAST, HELD_ALONE), ended
+        held, faulty = b"1,start,7,59e,2025-02-03,,,\n", b"1,no,row\n"
+        for given, said in ((2 * held, b"2 of 2 rows were held back and aren't kept: mend them, or enter them with a '!' before them\n"),
+                            (held + faulty, b"1 of 2 rows had a fault and 1 was held back, and none of these is kept\n"),
+                            (faulty + 2 * held, b"1 of 3 rows had a fault and 2 were held back, and none of these is kept\n")):
+            for task in ("try", "enter"):
+                ended = desk.call(task, "--warn", given=given)
+                assert (ended.status, ended.errors) == (FAULTY, said), (task, given, ended)
         ended = desk.call("enter", given=b"!1,sheet,7\n")
         assert ended.status == FAULTY and ended.output == b"row 11 fault 1 BadClerk\n", ended
         for words in (("enter", "--today", "2025-03-03"), ("ask", "--warn"), ("try", "--warn", "--today", "3/3/2025")):
@@ -301,9 +318,11 @@ def check_choices(programs, draw):
         with tempfile.TemporaryDirectory() as parent:
             desk = Desk(programs, parent, SHORT_COURT)
             tried = desk.call("try", "--warn", given=b"".join(lines))
-            assert tried.status == 0 and desk.call("try", "--warn", "--as-written", given=written) == tried, (lines, tried)
+            assert desk.call("try", "--warn", "--as-written", given=written) == tried, (lines, tried)
             answers = answers_in(tried.output)
             held = [at for at, answer in enumerate(answers) if HELD.match(answer)]
+            said = b"%d of %d rows w" % (len(held), len(lines)) if held else b""
+            assert tried.status == (FAULTY if held else 0) and tried.errors.startswith(said) and bool(tried.errors) == bool(held), (lines, tried)
             refused = [at for at, (line, answer) in enumerate(zip(lines, answers)) if b" refused " in answer.splitlines()[0] and b",sheet," not in line]
             if is_kept_together(desk, lines, written, tried, [], held + refused) or \
                     is_kept_together(desk, lines, written, tried, [KEEP_REFUSED], held):

@@ -39,6 +39,7 @@ except ImportError:
 if icalendar is None or shutil.which("khal") is None:
     sys.exit("ics_check.py: nothing was checked: install Debian's python3-icalendar and khal")
 
+from lib.asked_days import asked_days
 from lib.case_names import asked
 from lib.given_docket import given_docket, input_of
 from lib.ics_inputs import ZONES, cut, zoned_input
@@ -172,14 +173,9 @@ def says(event):
 def made_words(chance, names, court, docket):
     days = [item.day for item in docket.items] or [day_of(court["from"])]
     judges = sorted({judge for panels in docket.before.values() for judge in panels})
-    words, first, last, judge, case = ["ics"], day_of(court["from"]), day_of(court["to"]), None, None
-    stamp = None
-    if chance.random() < 0.3:
-        first = chance.choice(days)
-        words += ["--from", str(first)]
-    if chance.random() < 0.3:
-        last = chance.choice(days) + datetime.timedelta(chance.randrange(8))
-        words += ["--to", str(last)]
+    words, judge, case, stamp = ["ics"], None, None, None
+    first, last, asked_for = asked_days(chance, days, day_of(court["from"]), day_of(court["to"]), 0.3)
+    words += asked_for
     if judges and chance.random() < 0.3:
         judge = chance.choice(judges)
         words += ["--judge", judge]

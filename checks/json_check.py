@@ -145,14 +145,14 @@ def part_of(whole, first, last, judge, case):
 def made_words(chance, names, whole):
     """Words, and what they choose."""
     court = whole["court"]
-    words, first, last, judge, case = ["json"], court["from"], court["to"], None, None
+    first, last, judge, case = court["from"], court["to"], None, None
     days = [o["day"] for o in objects(whole["calendars"]) if "day" in o] or [court["from"]]
     if chance.random() < 0.3:
         first = chance.choice(days)
-        words += ["--from", first]
     if chance.random() < 0.3:
         last = chance.choice(days)
-        words += ["--to", last]
+    first, last = sorted((first, last))
+    words = ["json", "--from", first, "--to", last] if (first, last) != (court["from"], court["to"]) else ["json"]
     if court["judges"] and chance.random() < 0.5:
         judge = chance.choice(court["judges"])
         words += ["--judge", judge]

@@ -184,6 +184,14 @@ def due_text(database, names, closes, first, last):
     return "".join(line + "\n" for line in (lines if before else lines + ["", "Nothing is due."]))
 
 
+def due_alone(text, first, last):
+    """What is due without the other readings, which the tables don't have: without their marks, and without the days on which something is
+    due by them alone."""
+    head, *days = re.sub(r", other reading.*", "", text).rstrip("\n").split("\n\n")
+    days = [day for day in days if not re.match(r"[A-Z][a-z]{2} \d{4}-\d\d-\d\d\n", day) or first <= day[4:14] <= last]
+    return "\n\n".join([head, *(days or ["Nothing is due."])]) + "\n"
+
+
 def week_lines(database, names, judge, of):
     monday = datetime.date.fromisoformat(of)
     monday -= datetime.timedelta(monday.weekday())
@@ -327,8 +335,7 @@ def differs(chance, given, databases):
         first, last = sorted([chance.choice(days), chance.choice(days)])
     judge = chance.choice(whole["court"]["judges"]) if whole["court"]["judges"] else None
     of = chance.choice([b["day"] for c in whole["calendars"] for b in c["bookings"]] or [first])
-    # The tables have no other readings, which what is due marks at the end of a line.
-    due = re.sub(r", other reading.*", "", given.report(["due", "--from", first, "--to", last]).output.decode())
+    due = due_alone(given.report(["due", "--from", first, "--to", last]).output.decode(), first, last)
     for database in databases:
         fault = database.load(found.output) or table_fault(database, wanted) or zone_fault(database, given.plain) or \
             names_fault(database, given.names, whole)

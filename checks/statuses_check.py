@@ -65,7 +65,9 @@ def of_report(words):
     if name not in ("sql", "memo", "week"):
         yield words + " F --judge Nobody", b"", ABSENT
         yield words + " F --from 2025-02-29", b"", WORDS
-        yield from ((words + " F --today 2025-03-10 --from today --to=" + day, b"", 0) for day in ("tomorrow", "sunday", "+7d", "-3d", "2025-04-01"))
+        yield from ((words + " F --today 2025-03-10 --from today --to=" + day, b"", 0) for day in ("tomorrow", "sunday", "+7d", "2025-04-01"))
+        if "--lines" not in words:
+            yield from ((words + " F --today 2025-03-10 --from=" + days, b"", ABSENT) for days in ("today --to=-3d", "2030-03-03", "today --to 2030-03-03"))
         yield from ((words + " F --from=" + day, b"", WORDS) for day in ("Today", "+d", "+7", "7d", "-7h", "+1000000000d", "", "mon"))
         yield words + " F --today today", b"", WORDS
 
@@ -128,7 +130,8 @@ TABLE = [
     ("enter F" + BESIDE, NEW, JOURNAL), ("try F" + BESIDE, NEW, 0), ("ask F" + BESIDE, QUESTION, 0),
     ("enter F", REFUSED, 0), ("enter F --all-or-nothing", REFUSED, LINES), ("enter F --all-or-nothing --keep-refused", REFUSED, 0),
     ("enter F --all-or-nothing", NEW + FAULT, LINES), ("enter F --all-or-nothing", NEW + CUT, STREAM), ("enter F --all-or-nothing", NEW, 0),
-    ("enter F --warn", REFUSED, 0), ("try F --warn --today 2025-03-03", NEW, 0), ("enter F --warn --all-or-nothing", REFUSED, LINES),
+    ("enter F --warn", REFUSED, SOME), ("try F --warn", REFUSED, SOME), ("enter F --warn", FAULT + REFUSED, SOME), ("enter F --warn", b"!" + REFUSED, 0),
+    ("enter F --warn", NEW, 0), ("try F --warn --today 2025-03-03", NEW, 0), ("enter F --warn --all-or-nothing", REFUSED, LINES),
     ("enter F --as-written --warn --all-or-nothing", AS_WRITTEN, 0),
     ("enter F --today 2025-03-03", NEW, WORDS), ("enter F --warn --today yesterday", NEW, WORDS), ("enter F --keep-refused", NEW, WORDS),
     ("ask F --warn", NEW, WORDS), ("try F --all-or-nothing", NEW, WORDS),

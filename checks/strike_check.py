@@ -13,7 +13,7 @@ later rows, what clerk_office makes of the rows that the desk writes, which coun
 the reports of the folder, which show the numbers of rows, deadlines and motions that `enter` answered. Without --accept a
 strike or a restore that changes an answer changes nothing; a row that is struck isn't struck again, and only such a row is
 restored. The first line of each correction must say the numbers that rows gave since the one before it and don't keep yet: those of
-the replay, and those that the answers and the lists of the folder show. A journal in which one correction says others, or a row has another answer,
+the replay, and those that the answers and the lists of the folder show. A case keeps its number and its name. A journal in which one correction says others, or a row has another answer,
 is refused by `docket check`, and nothing opens it where that row comes after the last correction. It needs Python 3.8 or later.
 """
 import json
@@ -28,6 +28,7 @@ from lib.journal import CORRECTIONS, Said, corrections_in, packed, rows_of as ro
 from lib.json_text import office_text
 from lib.kept_numbers import GIVES, Numbers, said_wanted, to_say
 from lib.programs import programs_of, seed_and_count
+from reference.civil import day_text
 from reference.court_file import court_of
 from reference.docket import STEPS, deadlines_of, hearing_of, motions_of, opening, step, view
 from reference.periods import shown
@@ -237,10 +238,25 @@ def hearings_in(replay, case):
     return {number: hearing_line(replay.court, replay.docket, hearing) for number, hearing in found.items() if hearing is not None}
 
 
+def filed_in(replay, case):
+    """When a case was filed; None of one that isn't open."""
+    return next((day_text(each.filed) for each in replay.docket.cases if each.number == case), None)
+
+
+def filed_line(case, was, then):
+    """What the desk has to list of a case that is open before or after alone, or was filed on another day."""
+    if was == then:
+        return ""
+    if then is None:
+        return "  case {}: filed {}, now not open; its number is given to no other case\n".format(case, was)
+    return "  case {}: {}, now filed {}\n".format(case, "not open" if was is None else "filed " + was, then)
+
+
 def shifts(now, after):
-    """What the desk has to list of deadlines and hearings: those that are shown otherwise after a correction than now."""
+    """What the desk has to list of cases, deadlines and hearings: those that are shown otherwise after a correction than now."""
     text = ""
     for case in CASES:
+        text += filed_line(case, filed_in(now, case), filed_in(after, case))
         for word, shown_in in (("deadline", ends_of), ("motion", hearings_in)):
             was, then = shown_in(now, case), shown_in(after, case)
             for number in [*was, *(number for number in then if number not in was)]:
@@ -296,12 +312,9 @@ def beyond(replay):
     return found
 
 
-def unsaid(kept, replay):
+def unsaid(kept):
     """The hearings whose events may vanish without a word: those that only rows set which were refused when they were entered, as an
-    entry keeps the first answer alone; and those of a motion that is none any more, where another motion is at the place of its
-    number."""
-    numbers = replay.moved()["motion"]
-    having = {(case, number) for (case, _), number in numbers.items()}
+    entry keeps the first answer alone."""
     named, done = set(), set()
     for number, (row, answer) in enumerate(kept, 1):
         fields = row.decode().rstrip("\n").split(",")
@@ -310,8 +323,7 @@ def unsaid(kept, replay):
             named.add(motion)
             if is_done(number, answer):
                 done.add(motion)
-    return {"case-{}-motion-{}@jerghuma".format(*motion) for motion in named
-            if motion not in done or motion in numbers and motion not in having}
+    return {"case-{}-motion-{}@jerghuma".format(*motion) for motion in named - done}
 
 
 def compare_calendars(before, after, kept, replay, what):
@@ -321,7 +333,7 @@ def compare_calendars(before, after, kept, replay, what):
     for uid, (old, said) in before.items():
         new, says = after.get(uid, (old, said))
         assert new > old or new == old and said == says, (what, uid, before[uid], after[uid])
-        assert uid in after or uid in beyond(replay) or uid in unsaid(kept, replay), (what, uid)
+        assert uid in after or uid in beyond(replay) or uid in unsaid(kept), (what, uid)
     started = {uid_of(case, number) for word, case, number in replay.given.values() if word == "start"}
     cancelled = {uid for uid, (_, says) in after.items() if "-deadline-" in uid and says.get("STATUS") == "CANCELLED"}
     assert cancelled == started - {uid_of(item.case, item.number) for item in replay.docket.deadlines}, (what, cancelled)
@@ -434,6 +446,35 @@ def correct(desk, word, row, now, after):
     return differs.count(b" is kept as\n"), text
 
 
+def check_names(programs):
+    """A case keeps its number and its name, whatever row is struck or restored: no other case is given them, and no deadline comes to
+    be another case's. The row that named a case first may be one that was refused."""
+    with tempfile.TemporaryDirectory() as parent:
+        desk = Desk(programs, parent, SHORT_COURT)
+
+        def corrected(word, row):
+            """What a correction writes, and the cases that have names after it."""
+            ended = desk.call(word, row, "--accept", *WHY)
+            assert ended.status == 0, ended
+            return ended.output, desk.call("cases").output
+
+        entered = desk.enter([b"1,open,1:25-cv-5,1999-01-04\n", b"1,open,1:25-cv-5,2025-01-06\n", b"1,start,1:25-cv-5,59e,2025-08-04,,,\n"])
+        assert entered == b"1 1 refused 5 BadDay\n2 1 opened\n3 1 deadline 1 last 2025-09-02\n", entered
+        named, other = b"1 1:25-cv-00005\n", b"2 1:25-cv-00099\n"
+        for word in ("strike", "restore"):
+            assert corrected(word, 1)[1] == named, word
+        written, cases = corrected("strike", 2)
+        assert cases == named and b"\n  case 1:25-cv-00005: filed 2025-01-06, now not open; its number is given to no other case\n" in written, written
+        entered = desk.enter([b"1,open,1:25-cv-99,2025-01-07\n", b"1,start,1:25-cv-99,59b,2025-08-04,,,\n"])
+        assert entered == b"4 1 opened\n5 1 deadline 1 last 2025-09-02\n" and desk.call("cases").output == named + other, entered
+        written, cases = corrected("restore", 2)
+        assert cases == named + other and b"\n  case 1:25-cv-00005: not open, now filed 2025-01-06\n" in written and b"00099" not in written, written
+        for name, deadline in (("1:25-cv-5", b"59e"), ("1:25-cv-99", b"59b")):
+            assert b" 1 " + deadline + b" last 2025-09-02 pending" in desk.call("sheet", name).output, name
+        logged = desk.call("log", "--case", "1:25-cv-99").output
+        assert logged.startswith(b"row 4 ") and b"00005" not in logged, logged
+
+
 def check_docket(programs, draw):
     """One docket, of which rows are struck and restored. Gives how many were struck, how many restored, how many answers
     changed, and how many numbers were said."""
@@ -496,6 +537,7 @@ def main(words):
         return 1
     programs, (seed, count) = programs_of(words[:2]), seed_and_count(words[2:], 100)
     draw = random.Random(seed)
+    check_names(programs)
     counted = [check_docket(programs, draw) for _ in range(count)]
     print("{} dockets: {} rows were struck, {} were restored, {} answers changed, and corrections said {} numbers, each as a replay of the rows that stand says".format(
         count, *map(sum, zip(*counted))))

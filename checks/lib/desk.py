@@ -11,7 +11,8 @@ REFUSED = 10
 # The option with which all rows are kept or none, the one with which commands that are refused are kept too, and the status with
 # which a call ends whose rows have faults.
 TOGETHER, KEEP_REFUSED, FAULTS = "--all-or-nothing", "--keep-refused", 3
-# The status with which a session ends in which some rows had faults, and the line with which such a row is answered.
+# The status with which a session ends in which some rows had faults or were held back, and the line with which a row is answered
+# that has a fault.
 FAULTY, FAULT_LINE = 8, re.compile(rb"row \d+ fault ")
 # What a session says first where the one before it was cut off.
 CUT_OFF = re.compile(rb"docket: the session before this one was cut off; the last row that is kept is row (\d+): see 'docket log [^\n]* --row \1'\n")

@@ -7,7 +7,7 @@ from collections import namedtuple
 
 from lib.case_names import called
 from lib.given_docket import LAST_ROW
-from lib.memo_lines import closing_of, other_of, reasons_of
+from lib.memo_lines import closing_of, other_day, other_of, reasons_of
 from lib.period_words import RULES
 from reference.periods import period_of_text
 from reference.rule6 import FILING
@@ -201,7 +201,7 @@ def entries_wanted(names, docket, rows, answers, choice, lost=()):
     histories = histories_of(rows, answers, judge)
 
     def is_chosen(item):
-        return (case is None or item.case == case) and first <= item.day <= last
+        return (case is None or item.case == case) and any(day and first <= day <= last for day in (item.day, other_day(item.description)))
 
     def is_judged(item):
         return judge is None or judge in (item.panel or docket.before.get(item.case, ()))

@@ -1,4 +1,5 @@
 """The lines of `docket memo` and of clerk_office after the last answer: sheets, with reasons or without, and calendars."""
+import datetime
 import re
 
 
@@ -24,9 +25,16 @@ def reasons_of(lines):
 
 
 def other_of(reasons):
-    """The first other reading among the reasons of a deadline, as what is due marks it, or none."""
-    found = re.search(r"^  (?:... (\S+)| {14})  other reading: .*?(, beyond|, [0-9:]+)? +ours$", reasons, re.MULTILINE)
-    if not found:
+    """The other reading among the reasons of a deadline that ends first, as what is due marks it, or none. A whole day ends after each
+    time of it."""
+    lines = re.findall(r"^  (?:... (\S+)| {14})  other reading: .*?(?:, (beyond|[0-9:]+))? +ours$", reasons, re.MULTILINE)
+    if not lines:
         return None
-    time = (found[2] or "").replace(",", "")
-    return "other reading" + (time if found[1] is None else " " + found[1] + time)
+    day, time = min(lines, key=lambda line: (line[0] or "9999-12-31", line[1] or "24:00:00"))
+    return " ".join(["other reading", *filter(None, (day, time))])
+
+
+def other_day(text):
+    """The day of the other reading that a text of a deadline names, or none."""
+    found = re.search(r"other reading(?: of the Rules:)? (\d{4}-\d\d-\d\d)", text or "")
+    return found and datetime.date.fromisoformat(found[1])
